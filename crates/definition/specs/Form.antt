@@ -1,0 +1,137 @@
+-- The form pass (document 01, "A job" and "Refusal numbers"): bytes to a job, or refusal 3, 5 or 4 at a record. Assumes nothing.
+use mathlib.Core.Bool.{Bool, true, false}
+use mathlib.Core.List.{List, [], _∷_}
+use mathlib.Core.Option.{Option, none, some}
+use Prim.Native.Nat.{ℕ, zero, suc}
+use lib.Dec.{eqb, ltb}
+use lib.ListN.{length}
+use Rattle.definition.specs.Basics.{Result, good, bad, _>>=_, Refusal, atRecord, unless, every, lookup}
+use Rattle.definition.specs.Shapes.{Kind, constant, bootstrap, bootstrapTag}
+use Rattle.definition.specs.Job.{Reference, raw, entry, name, Definition, define, named, placed, Request, ClassSlot, slot, request, Build, Job, readDefinition, asks, readRequest, readBuild}
+
+-- how many entries each table takes
+abbrev pub tableSize : ℕ
+tableSize = 65536
+
+-- the entries so far, constants and bootstraps apart
+pub record Counts : Type 0 where
+  pub constants : ℕ
+  pub bootstraps : ℕ
+
+unfoldable pub countOf : Kind → Counts → ℕ
+countOf constant n = n .constants
+countOf bootstrap n = n .bootstraps
+
+-- the table that an entry goes into
+unfoldable pub kindOf : ℕ → Kind
+kindOf tag = elim (eqb tag bootstrapTag) [ true ↦ bootstrap | false ↦ constant ]
+
+unfoldable pub oneMore : Kind → Counts → Counts
+oneMore constant n = record { constants = suc (n .constants); bootstraps = n .bootstraps }
+oneMore bootstrap n = record { constants = n .constants; bootstraps = suc (n .bootstraps) }
+
+unfoldable pub counted : Definition (List ℕ) → Counts → Counts
+counted (define e) n = oneMore (kindOf (e .tag)) n
+counted (named kind s r) n = n
+counted (placed kind at number) n = n
+
+-- 3: a cut record, or a byte that isn't one of its forms
+unfoldable pub whole : {A : Type 0} → Option A → Result ℕ A
+whole none = bad 3
+whole (some a) = good a
+
+-- 5: the table that an entry goes into isn't full
+unfoldable pub hasRoom : Counts → Definition (List ℕ) → Bool
+hasRoom n (define e) = ltb (countOf (kindOf (e .tag)) n) tableSize
+hasRoom n (named kind s r) = true
+hasRoom n (placed kind at number) = true
+
+-- 4: an entry that is cited by number stands earlier
+unfoldable pub cites : Counts → Reference → Bool
+cites n (raw number) = true
+cites n (entry kind number) = ltb number (countOf kind n)
+cites n (name kind s) = true
+
+unfoldable pub citesEarlier : Counts → Definition (List ℕ) → Bool
+citesEarlier n (define e) = every (cites n) (e .kids)
+citesEarlier n (named kind s r) = cites n r
+citesEarlier n (placed kind at number) = ltb number (countOf kind n)
+
+-- 4: so does a request that gives the class slot
+unfoldable pub citesRequest : ℕ → ClassSlot → Bool
+citesRequest requests (slot n) = true
+citesRequest requests (request n) = ltb n requests
+
+-- one definition, behind its first byte: 3, 5, 4 in this order
+unfoldable pub formDefinition : Counts → ℕ → List ℕ → Result ℕ (Definition (List ℕ) × List ℕ)
+formDefinition n first bytes = do
+  r ← whole (readDefinition first bytes)
+  _ ← unless (hasRoom n (r .0)) 5
+  _ ← unless (citesEarlier n (r .0)) 4
+  good r
+
+-- the definitions and 50: what they are, how many entries there are, and the bytes behind 50
+pub record Definitions : Type 0 where
+  pub list : List (Definition (List ℕ))
+  pub counts : Counts
+  pub rest : List ℕ
+
+-- bytes where records are expected; fuel is the bytes' number or more, and 0 would tell that it ran out
+unfoldable pub formDefinitions : ℕ → Counts → ℕ → List ℕ → Result Refusal Definitions
+formDefinitions zero n place [] = bad (record { code = 3; place = place })
+formDefinitions zero n place (first ∷ bytes) = bad (record { code = 0; place = place })
+formDefinitions (suc fuel) n place [] = bad (record { code = 3; place = place })
+formDefinitions (suc fuel) n place (first ∷ bytes) =
+    elim (eqb first 0x50) [
+      | true ↦ good (record { list = []; counts = n; rest = bytes })
+      | false ↦
+          atRecord place (formDefinition n first bytes) >>= λ r.
+          formDefinitions fuel (counted (r .0) n) (suc place) (r .1) >>= λ d.
+          good (record { list = r .0 ∷ d .list; counts = d .counts; rest = d .rest })
+    ]
+
+-- one request, behind its first byte: 3, then 4
+unfoldable pub formRequest : Counts → ℕ → List ℕ → Result ℕ (Request × List ℕ)
+formRequest n first bytes = do
+  r ← whole (readRequest (lookup first asks) bytes)
+  _ ← unless (cites n (r .0 .what)) 4
+  good r
+
+-- 60 behind its first byte, after so many requests: 3, then 4; then 3 at the next record if bytes follow
+unfoldable pub nothingBehind : List ℕ → Bool
+nothingBehind [] = true
+nothingBehind (b ∷ bytes) = false
+
+unfoldable pub formBuild : ℕ → ℕ → List ℕ → Result Refusal Build
+formBuild requests place bytes = do
+  r ← atRecord place (whole (readBuild bytes))
+  _ ← atRecord place (unless (citesRequest requests (r .0 .class)) 4)
+  _ ← atRecord (suc place) (unless (nothingBehind (r .1)) 3)
+  good (r .0)
+
+-- the requests and 60
+pub record Requests : Type 0 where
+  pub list : List Request
+  pub build : Build
+
+unfoldable pub formRequests : ℕ → Counts → ℕ → ℕ → List ℕ → Result Refusal Requests
+formRequests zero n requests place [] = bad (record { code = 3; place = place })
+formRequests zero n requests place (first ∷ bytes) = bad (record { code = 0; place = place })
+formRequests (suc fuel) n requests place [] = bad (record { code = 3; place = place })
+formRequests (suc fuel) n requests place (first ∷ bytes) =
+    elim (eqb first 0x60) [
+      | true ↦
+          formBuild requests place bytes >>= λ b.
+          good (record { list = []; build = b })
+      | false ↦
+          atRecord place (formRequest n first bytes) >>= λ r.
+          formRequests fuel n (suc requests) (suc place) (r .1) >>= λ rest.
+          good (record { list = r .0 ∷ rest .list; build = rest .build })
+    ]
+
+-- the whole job
+unfoldable pub form : List ℕ → Result Refusal (Job (List ℕ))
+form bytes = do
+  d ← formDefinitions (length bytes) (record { constants = 0; bootstraps = 0 }) 0 bytes
+  r ← formRequests (length bytes) (d .counts) 0 (suc (length (d .list))) (d .rest)
+  good (record { definitions = d .list; requests = r .list; build = r .build })

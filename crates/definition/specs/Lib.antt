@@ -1,0 +1,16 @@
+pub mod Basics
+pub mod Ascii
+pub mod Bytes
+pub mod Shapes
+pub mod Job
+pub mod Form
+pub mod Numbering
+pub mod Definitions
+pub mod Resolving
+pub mod Slots
+pub mod Building
+pub mod Layout
+pub mod Run
+pub mod Blocks
+pub mod Jvms
+pub mod Opened

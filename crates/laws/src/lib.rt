@@ -1,0 +1,1 @@
+// Theorems about the definition, with no code: they stand in specs/.

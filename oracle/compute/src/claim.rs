@@ -1,0 +1,174 @@
+//! A job and the Rust's answer as a claim about the definition, in antt.
+
+use driver::form::decode;
+use driver::outcome::push_hex;
+use driver::{Outcome, run_job};
+use jobs::record::Record;
+
+/// The lengths that a caller lends; document 01, "Lent memory".
+#[derive(Clone, Copy)]
+struct Lent {
+    work: usize,
+    gaps: usize,
+    outputs: [usize; 4],
+}
+
+/// What is lent: plenty, just enough, or one too little of something.
+#[derive(Clone, Copy, Debug, PartialEq, Eq)]
+pub enum Lending {
+    Plenty,
+    JustEnough,
+    ShortWork,
+    ShortGaps,
+    /// The output of this number is one short, if it needs anything.
+    ShortOutput(usize),
+}
+
+/// Half of the claims lend plenty, the others go through the rest in turn.
+pub fn lending(index: usize) -> Lending {
+    match index % 14 {
+        1 | 3 | 5 => Lending::JustEnough,
+        7 => Lending::ShortWork,
+        9 => Lending::ShortGaps,
+        11 => Lending::ShortOutput(index / 14 % 4),
+        13 => Lending::ShortOutput(1),
+        _ => Lending::Plenty,
+    }
+}
+
+/// The claim's statement: what `run` is of this job.
+pub fn statement(job: &[u8], lending: Lending) -> String {
+    let outcome = run_job(job);
+    let lent = lent(job, &outcome, lending);
+    let run = format!("run {} ({})", lent_text(&lent), packed(job));
+    match refused_for_room(job, &outcome, lending) {
+        Some((code, place)) => format!("{run} ≡ {}", refused(code, place)),
+        None => answered(&run, job, &outcome),
+    }
+}
+
+fn needs(outcome: &Outcome) -> [usize; 4] {
+    match outcome {
+        Outcome::Built { answers, pool, bootstraps, class_name, .. } => [
+            answers.len(),
+            pool.len(),
+            bootstraps.len(),
+            class_name.as_ref().map_or(0, Vec::len),
+        ],
+        _ => [0; 4],
+    }
+}
+
+fn lent(job: &[u8], outcome: &Outcome, lending: Lending) -> Lent {
+    let least = Lent { work: 6 * job.len() + 1024, gaps: job.len() / 5 + 2, outputs: needs(outcome) };
+    match lending {
+        Lending::Plenty => Lent { work: least.work + 5, gaps: least.gaps + 5, outputs: [1 << 20; 4] },
+        Lending::JustEnough => least,
+        Lending::ShortWork => Lent { work: least.work - 1, ..least },
+        Lending::ShortGaps => Lent { gaps: least.gaps - 1, ..least },
+        Lending::ShortOutput(at) => {
+            let mut outputs = least.outputs;
+            outputs[at] = outputs[at].saturating_sub(1);
+            Lent { outputs, ..least }
+        }
+    }
+}
+
+/// Refusals 2 and 18, which the Rust lacks, as document 01 orders them.
+fn refused_for_room(job: &[u8], outcome: &Outcome, lending: Lending) -> Option<(u8, usize)> {
+    let too_long = matches!(outcome, Outcome::Refused { code: 1, .. });
+    match (lending, outcome) {
+        (Lending::ShortWork | Lending::ShortGaps, _) if !too_long => Some((2, 0)),
+        (Lending::ShortOutput(at), Outcome::Built { .. }) if needs(outcome)[at] > 0 => {
+            Some((18, records(job).len() - 1))
+        }
+        _ => None,
+    }
+}
+
+fn records(job: &[u8]) -> Vec<Record> {
+    decode(job).expect("a built job is well formed")
+}
+
+fn answered(run: &str, job: &[u8], outcome: &Outcome) -> String {
+    match outcome {
+        Outcome::Refused { code: 12 | 13, place } if is_end_of_definitions(job, *place) => {
+            // Which of several faults at record 50 is met first is a hash map's choice in the Rust.
+            format!("refusedAsUnresolved ({run}) ≡ some {place}")
+        }
+        Outcome::Refused { code, place } => format!("{run} ≡ {}", refused(*code, *place)),
+        Outcome::Built { .. } => format!("{run} ≡ {}", built(outcome)),
+        _ => panic!("the Rust has no answer: {}", outcome.line()),
+    }
+}
+
+fn is_end_of_definitions(job: &[u8], place: usize) -> bool {
+    decode(job).is_ok_and(|records| records[place] == Record::EndOfDefinitions)
+}
+
+fn refused(code: u8, place: usize) -> String {
+    format!("bad (record {{ code = {code}; place = {place} }})")
+}
+
+fn built(outcome: &Outcome) -> String {
+    let Outcome::Built { answers, pool, bootstrap_count, bootstraps, name_slot, class_name, visits } = outcome
+    else {
+        unreachable!("only built jobs are shown as built");
+    };
+    let class = class_name.as_ref().map_or("none".into(), |name| format!("some ({})", packed(name)));
+    format!(
+        "good (record {{ answers = {}; pool = {}; bootstrapCount = {bootstrap_count}; bootstraps = {}; \
+         name = {name_slot}; class = {class}; visits = {visits} }})",
+        numbers(answers),
+        packed(pool),
+        packed(bootstraps),
+    )
+}
+
+fn lent_text(lent: &Lent) -> String {
+    let [answers, pool, bootstraps, class] = lent.outputs;
+    format!(
+        "(record {{ work = {}; gaps = {}; answers = {answers}; pool = {pool}; bootstraps = {bootstraps}; \
+         class = {class} }})",
+        lent.work, lent.gaps
+    )
+}
+
+fn numbers(numbers: &[u16]) -> String {
+    let mut text: String = numbers.iter().map(|n| format!("{n} ∷ ")).collect();
+    text.push_str("[]");
+    text
+}
+
+/// Bytes as hex texts, with long runs of empty texts (unowned slots) as a count.
+fn packed(bytes: &[u8]) -> String {
+    const LEAST_RUN: usize = 40;
+    let mut parts = Vec::new();
+    let (mut from, mut at) = (0, 0);
+    while at < bytes.len() {
+        let run = bytes[at..].chunks(3).take_while(|c| *c == [1, 0, 0]).count();
+        if run < LEAST_RUN {
+            at += 1;
+            continue;
+        }
+        parts.push(hex(&bytes[from..at]));
+        parts.push(format!("emptyTexts {run}"));
+        at += 3 * run;
+        from = at;
+    }
+    parts.push(hex(&bytes[from..]));
+    format!("concat ({} ∷ [])", parts.join(" ∷ "))
+}
+
+/// Hex texts of at most 64 bytes each: a long text is slow to take apart.
+fn hex(bytes: &[u8]) -> String {
+    let texts: Vec<String> = bytes
+        .chunks(64)
+        .map(|chunk| {
+            let mut text = String::new();
+            push_hex(&mut text, chunk);
+            format!("bytes \"{text}\"")
+        })
+        .collect();
+    if texts.is_empty() { "[]".into() } else { texts.join(" ∷ ") }
+}

@@ -1,0 +1,241 @@
+//! The form pass of document 01 ("A job"): bytes to records, or refusal 1, 3, 5 or 4.
+
+use jobs::record::{ClassSlot, Constant, Record, Reference};
+
+const LONGEST_JOB: usize = 1_048_576;
+const TABLE_ENTRIES: usize = 65_536;
+
+const TOO_LONG: u8 = 1;
+const BAD_FORM: u8 = 3;
+const NOT_THERE: u8 = 4;
+const TABLE_FULL: u8 = 5;
+
+#[derive(Clone, Copy, Debug, PartialEq, Eq)]
+pub struct Fault {
+    pub code: u8,
+    pub place: usize,
+}
+
+/// The records of a well-formed job. The first faulty record decides the fault.
+pub fn decode(job: &[u8]) -> Result<Vec<Record>, Fault> {
+    if job.len() > LONGEST_JOB {
+        let (code, place) = (TOO_LONG, 0);
+        return Err(Fault { code, place });
+    }
+    let mut reader = Reader { rest: job };
+    let mut seen = Seen::default();
+    let mut records = Vec::new();
+    while seen.phase != Phase::Finished {
+        let fault = |code| Fault {
+            code,
+            place: records.len(),
+        };
+        // A cut record, an unknown byte and a missing record are all `None` here.
+        let record = reader.record().ok_or(fault(BAD_FORM))?;
+        seen.check(&record).map_err(fault)?;
+        seen.add(&record);
+        records.push(record);
+    }
+    if !reader.rest.is_empty() {
+        let (code, place) = (BAD_FORM, records.len());
+        return Err(Fault { code, place });
+    }
+    Ok(records)
+}
+
+/// Reads fields from the front; `None` means cut or an unknown byte.
+struct Reader<'a> {
+    rest: &'a [u8],
+}
+
+impl Reader<'_> {
+    fn bytes(&mut self, count: usize) -> Option<Vec<u8>> {
+        let (front, rest) = self.rest.split_at_checked(count)?;
+        self.rest = rest;
+        Some(front.to_vec())
+    }
+
+    fn byte(&mut self) -> Option<u8> {
+        let (&front, rest) = self.rest.split_first()?;
+        self.rest = rest;
+        Some(front)
+    }
+
+    fn number(&mut self) -> Option<u16> {
+        Some(u16::from_be_bytes([self.byte()?, self.byte()?]))
+    }
+
+    fn name(&mut self) -> Option<Vec<u8>> {
+        let length = self.byte()?;
+        self.bytes(length.into())
+    }
+
+    fn reference(&mut self) -> Option<Reference> {
+        match self.byte()? {
+            0 => Some(Reference::Raw(self.number()?)),
+            1 => Some(Reference::Entry(self.number()?)),
+            2 => Some(Reference::Name(self.name()?)),
+            _ => None,
+        }
+    }
+
+    fn references(&mut self, count: usize) -> Option<Vec<Reference>> {
+        (0..count).map(|_| self.reference()).collect()
+    }
+
+    fn record(&mut self) -> Option<Record> {
+        match self.byte()? {
+            tag @ (1 | 3..=12 | 15..=20) => self.constant(tag),
+            0x40 => self.bootstrap(),
+            0x41 => Some(Record::NameConstant(self.name()?, self.reference()?)),
+            0x42 => Some(Record::NameBootstrap(self.name()?, self.reference()?)),
+            0x43 => Some(Record::RawConstant {
+                slot: self.number()?,
+                entry: self.number()?,
+            }),
+            0x44 => Some(Record::RawBootstrap {
+                index: self.number()?,
+                entry: self.number()?,
+            }),
+            0x50 => Some(Record::EndOfDefinitions),
+            0x51 => Some(Record::Ask(self.reference()?)),
+            0x52 => Some(Record::AskLdc(self.reference()?)),
+            0x60 => self.build(),
+            _ => None,
+        }
+    }
+
+    /// The fields in the order of `FlatConst`: a literal or a kind byte, then references.
+    fn constant(&mut self, tag: u8) -> Option<Record> {
+        let (literal_length, reference_count) = match tag {
+            1 => (self.number()?.into(), 0),
+            3 | 4 => (4, 0),
+            5 | 6 => (8, 0),
+            7 | 8 | 16 | 19 | 20 => (0, 1),
+            15 => (1, 1),
+            _ => (0, 2),
+        };
+        Some(Record::Constant(Constant {
+            tag,
+            literal: self.bytes(literal_length)?,
+            references: self.references(reference_count)?,
+        }))
+    }
+
+    fn bootstrap(&mut self) -> Option<Record> {
+        let handle = self.reference()?;
+        let count = self.number()?;
+        let arguments = self.references(count.into())?;
+        Some(Record::Bootstrap { handle, arguments })
+    }
+
+    fn build(&mut self) -> Option<Record> {
+        let name = self.byte().filter(|name| *name <= 2)?;
+        let class = match self.byte()? {
+            0 => ClassSlot::Slot(self.number()?),
+            1 => ClassSlot::Request(self.number()?),
+            _ => return None,
+        };
+        Some(Record::Build { name, class })
+    }
+}
+
+#[derive(Clone, Copy, Default, PartialEq, Eq)]
+enum Phase {
+    #[default]
+    Definitions,
+    Requests,
+    Finished,
+}
+
+/// What the records so far leave to cite, and what may come next.
+#[derive(Default)]
+struct Seen {
+    phase: Phase,
+    constants: usize,
+    bootstraps: usize,
+    requests: usize,
+}
+
+impl Seen {
+    /// 3, then 5, then 4: the order within a record.
+    fn check(&self, record: &Record) -> Result<(), u8> {
+        if place_of(record) != self.phase {
+            Err(BAD_FORM)
+        } else if self.table_is_full(record) {
+            Err(TABLE_FULL)
+        } else if !self.has_all_cited(record) {
+            Err(NOT_THERE)
+        } else {
+            Ok(())
+        }
+    }
+
+    fn table_is_full(&self, record: &Record) -> bool {
+        match record {
+            Record::Constant(_) => self.constants >= TABLE_ENTRIES,
+            Record::Bootstrap { .. } => self.bootstraps >= TABLE_ENTRIES,
+            _ => false,
+        }
+    }
+
+    fn has_all_cited(&self, record: &Record) -> bool {
+        match record {
+            Record::Constant(c) => match &c.references[..] {
+                [first, second] if matches!(c.tag, 17 | 18) => {
+                    self.has_bootstrap(first) && self.has_constant(second)
+                }
+                references => references.iter().all(|r| self.has_constant(r)),
+            },
+            Record::Bootstrap { handle, arguments } => {
+                self.has_constant(handle) && arguments.iter().all(|r| self.has_constant(r))
+            }
+            Record::NameConstant(_, to) | Record::Ask(to) | Record::AskLdc(to) => {
+                self.has_constant(to)
+            }
+            Record::NameBootstrap(_, to) => self.has_bootstrap(to),
+            Record::RawConstant { entry, .. } => usize::from(*entry) < self.constants,
+            Record::RawBootstrap { entry, .. } => usize::from(*entry) < self.bootstraps,
+            Record::Build { class, .. } => match class {
+                ClassSlot::Slot(_) => true,
+                ClassSlot::Request(request) => usize::from(*request) < self.requests,
+            },
+            Record::EndOfDefinitions => true,
+        }
+    }
+
+    fn has_constant(&self, reference: &Reference) -> bool {
+        is_there(reference, self.constants)
+    }
+
+    fn has_bootstrap(&self, reference: &Reference) -> bool {
+        is_there(reference, self.bootstraps)
+    }
+
+    fn add(&mut self, record: &Record) {
+        match record {
+            Record::Constant(_) => self.constants += 1,
+            Record::Bootstrap { .. } => self.bootstraps += 1,
+            Record::Ask(_) | Record::AskLdc(_) => self.requests += 1,
+            Record::EndOfDefinitions => self.phase = Phase::Requests,
+            Record::Build { .. } => self.phase = Phase::Finished,
+            _ => {}
+        }
+    }
+}
+
+/// Raw slots and names need not be there: only an entry number can be missing.
+fn is_there(reference: &Reference, entries: usize) -> bool {
+    match reference {
+        Reference::Entry(number) => usize::from(*number) < entries,
+        Reference::Raw(_) | Reference::Name(_) => true,
+    }
+}
+
+/// Requests and the build stand behind 50, everything else (50 too) before it.
+fn place_of(record: &Record) -> Phase {
+    match record {
+        Record::Ask(_) | Record::AskLdc(_) | Record::Build { .. } => Phase::Requests,
+        _ => Phase::Definitions,
+    }
+}

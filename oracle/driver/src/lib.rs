@@ -1,0 +1,18 @@
+//! Runs jobs of document 01 through Krakatau's `cpool` module and shows what it answered.
+
+pub mod bench;
+pub mod form;
+pub mod frames;
+pub mod outcome;
+pub mod run;
+pub mod tally;
+
+pub use outcome::Outcome;
+
+/// The form pass, then the module.
+pub fn run_job(job: &[u8]) -> Outcome {
+    match form::decode(job) {
+        Ok(records) => run::run(&records),
+        Err(form::Fault { code, place }) => Outcome::Refused { code, place },
+    }
+}

@@ -1,0 +1,132 @@
+//! What a job came to, and its one-line text.
+
+use std::fmt::Write;
+
+#[derive(Clone, Debug, PartialEq, Eq)]
+pub enum Outcome {
+    Refused {
+        code: u8,
+        place: usize,
+    },
+    Built {
+        answers: Vec<u16>,
+        pool: Vec<u8>,
+        bootstrap_count: u16,
+        bootstraps: Vec<u8>,
+        /// 0 means none.
+        name_slot: u16,
+        class_name: Option<Vec<u8>>,
+        visits: u64,
+    },
+    /// A panic of the module, which document 01 has no number for.
+    Panicked(String),
+    /// An error of the module that stands for none of document 01's numbers.
+    UnknownMessage {
+        message: String,
+        place: usize,
+    },
+}
+
+impl Outcome {
+    /// One line, without its newline.
+    pub fn line(&self) -> String {
+        match self {
+            Outcome::Refused { code, place } => format!("refused {code} {place}"),
+            Outcome::Built {
+                answers,
+                pool,
+                bootstrap_count,
+                bootstraps,
+                name_slot,
+                class_name,
+                visits,
+            } => format!(
+                "built answers {} pool {} bootstraps {bootstrap_count} {} \
+                 name {name_slot} class {} visits {visits}",
+                count_and_numbers(answers),
+                length_and_hex(pool),
+                length_and_hex(bootstraps),
+                class_name.as_deref().map_or("none".into(), length_and_hex),
+            ),
+            Outcome::Panicked(message) => format!("panic {}", on_one_line(message)),
+            Outcome::UnknownMessage { message, place } => {
+                format!("unknown message at {place}: {}", on_one_line(message))
+            }
+        }
+    }
+}
+
+fn count_and_numbers(numbers: &[u16]) -> String {
+    let mut text = numbers.len().to_string();
+    for number in numbers {
+        write!(text, " {number}").unwrap();
+    }
+    text
+}
+
+/// `LENGTH HEX`, with `-` for no bytes.
+fn length_and_hex(bytes: &[u8]) -> String {
+    let mut text = format!("{} ", bytes.len());
+    if bytes.is_empty() {
+        text.push('-');
+    }
+    push_hex(&mut text, bytes);
+    text
+}
+
+pub fn push_hex(text: &mut String, bytes: &[u8]) {
+    const DIGITS: &[u8; 16] = b"0123456789abcdef";
+    text.reserve(2 * bytes.len());
+    for byte in bytes {
+        text.push(DIGITS[usize::from(byte >> 4)].into());
+        text.push(DIGITS[usize::from(byte & 15)].into());
+    }
+}
+
+fn on_one_line(message: &str) -> String {
+    message.replace(['\n', '\r'], " ")
+}
+
+#[cfg(test)]
+mod tests {
+    use super::*;
+
+    #[test]
+    fn refusals_panics_and_unknown_messages_have_a_line_each() {
+        let refused = Outcome::Refused { code: 4, place: 70 };
+        assert_eq!(refused.line(), "refused 4 70");
+        let panicked = Outcome::Panicked("two\nlines".into());
+        assert_eq!(panicked.line(), "panic two lines");
+        let message = "odd".to_owned();
+        let unknown = Outcome::UnknownMessage { message, place: 3 };
+        assert_eq!(unknown.line(), "unknown message at 3: odd");
+    }
+
+    fn built(answers: Vec<u16>, bytes: &[u8], class_name: Option<Vec<u8>>) -> Outcome {
+        Outcome::Built {
+            answers,
+            pool: bytes.to_vec(),
+            bootstrap_count: 2,
+            bootstraps: bytes.to_vec(),
+            name_slot: 7,
+            class_name,
+            visits: 5,
+        }
+    }
+
+    #[test]
+    fn a_built_line_shows_every_field() {
+        let line = built(vec![3, 65534], &[0, 0xaf], Some(vec![0x41])).line();
+        let expected = "built answers 2 3 65534 pool 2 00af bootstraps 2 2 00af name 7 \
+                        class 1 41 visits 5";
+        assert_eq!(line, expected);
+    }
+
+    #[test]
+    fn no_bytes_are_a_dash_and_no_class_is_none() {
+        let expected = "built answers 0 pool 0 - bootstraps 2 0 - name 7 class 0 - visits 5";
+        assert_eq!(built(vec![], &[], Some(vec![])).line(), expected);
+        let expected = "built answers 0 pool 0 - bootstraps 2 0 - name 7 class none visits 5";
+        assert_eq!(built(vec![], &[], None).line(), expected);
+    }
+}

@@ -1,0 +1,94 @@
+//! What the tests share: jobs from hex text or from records, and ranges of raw definitions.
+
+// Each test file uses only some of these.
+#![allow(dead_code)]
+
+use driver::{Outcome, run_job};
+use jobs::record::{ClassSlot, Constant, Record, Reference, encode};
+use std::ops::RangeInclusive;
+
+/// "BootstrapMethods" in hex.
+pub const NAME: &str = "426f6f7473747261704d6574686f6473";
+
+pub fn bytes(hex: &str) -> Vec<u8> {
+    let digits: Vec<u8> = hex
+        .chars()
+        .filter(|c| *c != ' ')
+        .map(|c| c.to_digit(16).unwrap() as u8)
+        .collect();
+    assert_eq!(digits.len() % 2, 0, "half a byte in {hex:?}");
+    digits
+        .chunks(2)
+        .map(|pair| pair[0] << 4 | pair[1])
+        .collect()
+}
+
+/// The line of a job in hex.
+pub fn line(hex: &str) -> String {
+    run_job(&bytes(hex)).line()
+}
+
+/// The outcome of a job of records.
+pub fn outcome(records: &[Record]) -> Outcome {
+    run_job(&encode(records))
+}
+
+pub fn refused(code: u8, place: usize) -> Outcome {
+    Outcome::Refused { code, place }
+}
+
+pub fn int(value: u32) -> Record {
+    constant(3, &value.to_be_bytes(), vec![])
+}
+
+pub fn long(value: u64) -> Record {
+    constant(5, &value.to_be_bytes(), vec![])
+}
+
+pub fn dynamic(bootstrap: u16, raw_name_and_type: u16) -> Record {
+    let references = vec![
+        Reference::Entry(bootstrap),
+        Reference::Raw(raw_name_and_type),
+    ];
+    constant(17, &[], references)
+}
+
+pub fn constant(tag: u8, literal: &[u8], references: Vec<Reference>) -> Record {
+    Record::Constant(Constant {
+        tag,
+        literal: literal.to_vec(),
+        references,
+    })
+}
+
+/// A bootstrap without arguments.
+pub fn bootstrap(handle: Reference) -> Record {
+    Record::Bootstrap {
+        handle,
+        arguments: vec![],
+    }
+}
+
+pub fn raw_constants(slots: RangeInclusive<u16>, entry: u16) -> impl Iterator<Item = Record> {
+    slots.map(move |slot| Record::RawConstant { slot, entry })
+}
+
+pub fn raw_bootstraps(indexes: RangeInclusive<u16>, entry: u16) -> impl Iterator<Item = Record> {
+    indexes.map(move |index| Record::RawBootstrap { index, entry })
+}
+
+pub fn ask(entry: u16) -> Record {
+    Record::Ask(Reference::Entry(entry))
+}
+
+pub fn ask_ldc(entry: u16) -> Record {
+    Record::AskLdc(Reference::Entry(entry))
+}
+
+/// A build without the name and with class slot 0.
+pub fn build() -> Record {
+    Record::Build {
+        name: 2,
+        class: ClassSlot::Slot(0),
+    }
+}

@@ -1,0 +1,13 @@
+//! Jobs of document 01: their records, and seeded generators of them.
+
+pub mod damaged;
+pub mod heavy;
+pub mod large;
+pub mod make;
+pub mod pairs;
+pub mod random;
+pub mod record;
+pub mod small;
+
+/// The longest job that is not refused for its length.
+pub const JOB_LIMIT: usize = 1_048_576;
