@@ -10,7 +10,7 @@ use Rattle.definition.specs.Bytes.{be2}
 use Rattle.definition.specs.Shapes.{shapes, bootstrapShape, bootstrapTag, Entry, withLiteral, writeFields}
 use Rattle.definition.specs.Form.{form}
 use Rattle.definition.specs.Numbering.{Literal, literals, literalOf, numbered}
-use Rattle.definition.specs.Slots.{highestSlot}
+use Rattle.definition.specs.Slots.{highestSlot, Gap}
 use Rattle.definition.specs.Building.{Row, Content, nothing, emptyText, holds}
 use Rattle.definition.specs.Layout.{Layout, layout}
 
@@ -72,7 +72,16 @@ build bytes = do
   l ← layout highestSlot (numbered job)
   good (suc (length (job .definitions) + length (job .requests)), render (literals job) l)
 
--- how much the caller lends: work in words, gaps, answers in u16, the other outputs in bytes
+-- what the caller lends: work in words, gaps, answers in u16, the other outputs in bytes
+pub record Memory : Type 0 where
+  pub work : List ℕ
+  pub gaps : List Gap
+  pub answers : List ℕ
+  pub pool : List ℕ
+  pub bootstraps : List ℕ
+  pub class : List ℕ
+
+-- how much of each
 pub record Lent : Type 0 where
   pub work : ℕ
   pub gaps : ℕ
@@ -80,6 +89,17 @@ pub record Lent : Type 0 where
   pub pool : ℕ
   pub bootstraps : ℕ
   pub class : ℕ
+
+unfoldable pub lentOf : Memory → Lent
+lentOf m =
+    record {
+      work = length (m .work);
+      gaps = length (m .gaps);
+      answers = length (m .answers);
+      pool = length (m .pool);
+      bootstraps = length (m .bootstraps);
+      class = length (m .class);
+    }
 
 -- a job is at most 1,048,576 bytes
 abbrev pub longestJob : ℕ
@@ -127,8 +147,8 @@ untouched (bad r) = eqb (r .code) 1 || eqb (r .code) 2
 untouched (good b) = false
 
 -- and wholly zero after every other ending: `blank` is 0 for work and a gap of 0 and 0 for gaps
-unfoldable pub workAfter : {A : Type 0} → A → Result Refusal Built → List A → List A
-workAfter blank outcome before = elim (untouched outcome) [ true ↦ before | false ↦ replicate (length before) blank ]
+unfoldable pub clearedAfter : {A : Type 0} → A → Result Refusal Built → List A → List A
+clearedAfter blank outcome before = elim (untouched outcome) [ true ↦ before | false ↦ replicate (length before) blank ]
 
 -- success writes a prefix of an output and nothing behind it
 unfoldable pub overwrite : List ℕ → List ℕ → List ℕ
@@ -138,3 +158,15 @@ overwrite new before = new ++ drop (length new) before
 unfoldable pub outputAfter : (Built → List ℕ) → Result Refusal Built → List ℕ → List ℕ
 outputAfter part (bad r) before = before
 outputAfter part (good b) before = overwrite (part b) before
+
+-- all that was lent, afterwards
+unfoldable pub memoryAfter : Result Refusal Built → Memory → Memory
+memoryAfter outcome m =
+    record {
+      work = clearedAfter 0 outcome (m .work);
+      gaps = clearedAfter (record { first = 0; last = 0 }) outcome (m .gaps);
+      answers = outputAfter (λ b. b .answers) outcome (m .answers);
+      pool = outputAfter (λ b. b .pool) outcome (m .pool);
+      bootstraps = outputAfter (λ b. b .bootstraps) outcome (m .bootstraps);
+      class = outputAfter (λ b. classOut (b .class)) outcome (m .class);
+    }

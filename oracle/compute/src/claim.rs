@@ -49,7 +49,13 @@ pub fn statement(job: &[u8], lending: Lending) -> String {
 
 fn needs(outcome: &Outcome) -> [usize; 4] {
     match outcome {
-        Outcome::Built { answers, pool, bootstraps, class_name, .. } => [
+        Outcome::Built {
+            answers,
+            pool,
+            bootstraps,
+            class_name,
+            ..
+        } => [
             answers.len(),
             pool.len(),
             bootstraps.len(),
@@ -60,12 +66,26 @@ fn needs(outcome: &Outcome) -> [usize; 4] {
 }
 
 fn lent(job: &[u8], outcome: &Outcome, lending: Lending) -> Lent {
-    let least = Lent { work: 6 * job.len() + 1024, gaps: job.len() / 5 + 2, outputs: needs(outcome) };
+    let least = Lent {
+        work: 6 * job.len() + 1024,
+        gaps: job.len() / 5 + 2,
+        outputs: needs(outcome),
+    };
     match lending {
-        Lending::Plenty => Lent { work: least.work + 5, gaps: least.gaps + 5, outputs: [1 << 20; 4] },
+        Lending::Plenty => Lent {
+            work: least.work + 5,
+            gaps: least.gaps + 5,
+            outputs: [1 << 20; 4],
+        },
         Lending::JustEnough => least,
-        Lending::ShortWork => Lent { work: least.work - 1, ..least },
-        Lending::ShortGaps => Lent { gaps: least.gaps - 1, ..least },
+        Lending::ShortWork => Lent {
+            work: least.work - 1,
+            ..least
+        },
+        Lending::ShortGaps => Lent {
+            gaps: least.gaps - 1,
+            ..least
+        },
         Lending::ShortOutput(at) => {
             let mut outputs = least.outputs;
             outputs[at] = outputs[at].saturating_sub(1);
@@ -92,7 +112,10 @@ fn records(job: &[u8]) -> Vec<Record> {
 
 fn answered(run: &str, job: &[u8], outcome: &Outcome) -> String {
     match outcome {
-        Outcome::Refused { code: 12 | 13, place } if is_end_of_definitions(job, *place) => {
+        Outcome::Refused {
+            code: 12 | 13,
+            place,
+        } if is_end_of_definitions(job, *place) => {
             // Which of several faults at record 50 is met first is a hash map's choice in the Rust.
             format!("refusedAsUnresolved ({run}) ≡ some {place}")
         }
@@ -111,11 +134,21 @@ fn refused(code: u8, place: usize) -> String {
 }
 
 fn built(outcome: &Outcome) -> String {
-    let Outcome::Built { answers, pool, bootstrap_count, bootstraps, name_slot, class_name, visits } = outcome
+    let Outcome::Built {
+        answers,
+        pool,
+        bootstrap_count,
+        bootstraps,
+        name_slot,
+        class_name,
+        visits,
+    } = outcome
     else {
         unreachable!("only built jobs are shown as built");
     };
-    let class = class_name.as_ref().map_or("none".into(), |name| format!("some ({})", packed(name)));
+    let class = class_name
+        .as_ref()
+        .map_or("none".into(), |name| format!("some ({})", packed(name)));
     format!(
         "good (record {{ answers = {}; pool = {}; bootstrapCount = {bootstrap_count}; bootstraps = {}; \
          name = {name_slot}; class = {class}; visits = {visits} }})",
@@ -146,7 +179,10 @@ fn packed(bytes: &[u8]) -> String {
     let mut parts = Vec::new();
     let (mut from, mut at) = (0, 0);
     while at < bytes.len() {
-        let run = bytes[at..].chunks(3).take_while(|c| *c == [1, 0, 0]).count();
+        let run = bytes[at..]
+            .chunks(3)
+            .take_while(|c| *c == [1, 0, 0])
+            .count();
         if run < LEAST_RUN {
             at += 1;
             continue;
@@ -170,5 +206,9 @@ fn hex(bytes: &[u8]) -> String {
             format!("bytes \"{text}\"")
         })
         .collect();
-    if texts.is_empty() { "[]".into() } else { texts.join(" ∷ ") }
+    if texts.is_empty() {
+        "[]".into()
+    } else {
+        texts.join(" ∷ ")
+    }
 }

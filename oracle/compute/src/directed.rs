@@ -45,7 +45,13 @@ pub fn jobs() -> Vec<Vec<u8>> {
 }
 
 fn bytes(text: &str) -> Vec<u8> {
-    let digits: Vec<u8> =
-        text.chars().filter(|c| *c != ' ').map(|c| c.to_digit(16).expect("a hex digit") as u8).collect();
-    digits.chunks_exact(2).map(|pair| 16 * pair[0] + pair[1]).collect()
+    let digits: Vec<u8> = text
+        .chars()
+        .filter(|c| *c != ' ')
+        .map(|c| c.to_digit(16).expect("a hex digit") as u8)
+        .collect();
+    digits
+        .chunks_exact(2)
+        .map(|pair| 16 * pair[0] + pair[1])
+        .collect()
 }

@@ -33,12 +33,23 @@ struct Set {
 }
 
 const fn set(kind: &'static str, make: Make, seed: u64, count: usize) -> Set {
-    Set { kind, make, seed, count, lending: claim::lending }
+    Set {
+        kind,
+        make,
+        seed,
+        count,
+        lending: claim::lending,
+    }
 }
 
 /// Each of these is there for one point, so nothing may be short.
-const DIRECTED: Set =
-    Set { kind: "directed", make: directed_jobs, seed: 0, count: 1, lending: |_| Lending::Plenty };
+const DIRECTED: Set = Set {
+    kind: "directed",
+    make: directed_jobs,
+    seed: 0,
+    count: 1,
+    lending: |_| Lending::Plenty,
+};
 
 const AGREE: &[Set] = &[
     DIRECTED,
@@ -83,7 +94,13 @@ fn agree(definition: &Path) -> Result<bool, Box<dyn Error>> {
     for set in AGREE {
         let claims = claims(set, |_| true);
         let verdict = Scratch::new(definition, set.kind)?.check(&claims)?;
-        println!("{} seed {}: {} claims, {} differ", set.kind, set.seed, claims.len(), verdict.failed.len());
+        println!(
+            "{} seed {}: {} claims, {} differ",
+            set.kind,
+            set.seed,
+            claims.len(),
+            verdict.failed.len()
+        );
         for claim in &verdict.failed {
             println!("  {}", claims[*claim]);
         }
@@ -97,7 +114,10 @@ fn agree(definition: &Path) -> Result<bool, Box<dyn Error>> {
 
 /// Every wrong version fails some claim that the definition meets.
 fn all_noticed(definition: &Path, name: &str) -> Result<bool, Box<dyn Error>> {
-    let claims: Vec<String> = NOTICE.iter().flat_map(|set| claims(set, is_quick)).collect();
+    let claims: Vec<String> = NOTICE
+        .iter()
+        .flat_map(|set| claims(set, is_quick))
+        .collect();
     if !Scratch::new(definition, "right")?.check(&claims)?.proved {
         return Err("the definition itself fails a claim".into());
     }
@@ -115,16 +135,29 @@ fn noticed(definition: &Path, wrong: &Wrong, claims: &[String]) -> Result<bool, 
     }
     let verdict = scratch.check(claims)?;
     if !verdict.judged {
-        return Err(format!("{}: the edited definition isn't one:\n{}", wrong.name, verdict.output).into());
+        return Err(format!(
+            "{}: the edited definition isn't one:\n{}",
+            wrong.name, verdict.output
+        )
+        .into());
     }
-    println!("{}: {} of {} claims fail", wrong.name, verdict.failed.len(), claims.len());
+    println!(
+        "{}: {} of {} claims fail",
+        wrong.name,
+        verdict.failed.len(),
+        claims.len()
+    );
     Ok(!verdict.failed.is_empty())
 }
 
 /// The claims of a set, for those jobs that pass.
 fn claims(set: &Set, passes: fn(&[u8]) -> bool) -> Vec<String> {
-    let jobs = jobs_of(set).into_iter().filter(|job| passes(job)).enumerate();
-    jobs.map(|(index, job)| claim::statement(&job, (set.lending)(index))).collect()
+    let jobs = jobs_of(set)
+        .into_iter()
+        .filter(|job| passes(job))
+        .enumerate();
+    jobs.map(|(index, job)| claim::statement(&job, (set.lending)(index)))
+        .collect()
 }
 
 fn is_quick(job: &[u8]) -> bool {
@@ -133,7 +166,9 @@ fn is_quick(job: &[u8]) -> bool {
 
 fn jobs_of(set: &Set) -> Vec<Vec<u8>> {
     let mut random = Random::new(set.seed);
-    (0..set.count).flat_map(|_| (set.make)(&mut random)).collect()
+    (0..set.count)
+        .flat_map(|_| (set.make)(&mut random))
+        .collect()
 }
 
 fn directed_jobs(_: &mut Random) -> Vec<Vec<u8>> {

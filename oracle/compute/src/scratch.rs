@@ -54,12 +54,17 @@ impl Scratch {
             self.write_batch(number, batch)?;
         }
         fs::write(self.folder.join("crates.txt"), list)?;
-        let said = Command::new("rt").arg("check").current_dir(&self.folder).output()?;
+        let said = Command::new("rt")
+            .arg("check")
+            .current_dir(&self.folder)
+            .output()?;
         let output = String::from_utf8_lossy(&said.stdout) + String::from_utf8_lossy(&said.stderr);
         Ok(Verdict {
             proved: said.status.success(),
             judged: output.contains("rt: definition proved"),
-            failed: (0..claims.len()).filter(|n| output.contains(&format!("error: `claim{n}`"))).collect(),
+            failed: (0..claims.len())
+                .filter(|n| output.contains(&format!("error: `claim{n}`")))
+                .collect(),
             output: output.into_owned(),
         })
     }
@@ -73,7 +78,9 @@ impl Scratch {
         let mut text = String::from(HEADER);
         for (at, claim) in batch.iter().enumerate() {
             let name = format!("claim{}", number * BATCH + at);
-            text.push_str(&format!("\n{name} : {claim}\nunfolding opened digit bytes emptyTexts\n{name} = refl\n"));
+            text.push_str(&format!(
+                "\n{name} : {claim}\nunfolding opened digit bytes emptyTexts\n{name} = refl\n"
+            ));
         }
         fs::write(folder.join("specs/Claims.antt"), text)
     }

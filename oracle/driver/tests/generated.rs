@@ -52,10 +52,21 @@ fn layout_depends_on_shape_alone() {
 /// What two jobs alike but for their literals share; several faults at record 50 share only the place.
 fn shape(records: &[Record]) -> String {
     match run_job(&encode(records)) {
-        Outcome::Refused { code: 12 | 13, place } if records[place] == Record::EndOfDefinitions => {
+        Outcome::Refused {
+            code: 12 | 13,
+            place,
+        } if records[place] == Record::EndOfDefinitions => {
             format!("unresolved at {place}")
         }
-        Outcome::Built { answers, bootstrap_count, bootstraps, name_slot, class_name, visits, pool } => format!(
+        Outcome::Built {
+            answers,
+            bootstrap_count,
+            bootstraps,
+            name_slot,
+            class_name,
+            visits,
+            pool,
+        } => format!(
             "{answers:?} {:?} {bootstrap_count} {bootstraps:?} {name_slot} {} {visits}",
             &pool[..2],
             class_name.is_some()

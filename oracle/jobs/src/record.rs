@@ -26,15 +26,27 @@ pub enum ClassSlot {
 #[derive(Clone, Debug, PartialEq, Eq)]
 pub enum Record {
     Constant(Constant),
-    Bootstrap { handle: Reference, arguments: Vec<Reference> },
+    Bootstrap {
+        handle: Reference,
+        arguments: Vec<Reference>,
+    },
     NameConstant(Vec<u8>, Reference),
     NameBootstrap(Vec<u8>, Reference),
-    RawConstant { slot: u16, entry: u16 },
-    RawBootstrap { index: u16, entry: u16 },
+    RawConstant {
+        slot: u16,
+        entry: u16,
+    },
+    RawBootstrap {
+        index: u16,
+        entry: u16,
+    },
     EndOfDefinitions,
     Ask(Reference),
     AskLdc(Reference),
-    Build { name: u8, class: ClassSlot },
+    Build {
+        name: u8,
+        class: ClassSlot,
+    },
 }
 
 impl Reference {

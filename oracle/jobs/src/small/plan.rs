@@ -239,7 +239,7 @@ impl Plan {
             LONG | DOUBLE => (tag, EIGHTS),
             _ => (TEXT, TEXTS),
         };
-        let literal: &[u8] = random.weighted(literals);
+        let literal = *random.weighted(literals);
         self.add_constant(tag, literal, vec![])
     }
 
