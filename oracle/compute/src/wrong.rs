@@ -193,14 +193,6 @@ pub const LIST: &[Wrong] = &[
         )],
     },
     Wrong {
-        name: "the odd position forgets the even gaps that it skipped",
-        edits: &[edit(
-            SLOTS,
-            "plainSlot ldc (record { gaps = s .gaps; odd = at;",
-            "plainSlot ldc (record { gaps = s .gaps; odd = s .odd;",
-        )],
-    },
-    Wrong {
         name: "ldc reaches slot 256",
         edits: &[edit(SLOTS, "highestLdc = 255", "highestLdc = 256")],
     },
@@ -272,7 +264,7 @@ pub const LIST: &[Wrong] = &[
         edits: &[edit(
             BUILDING,
             "rawRows nodes (reverse indexes) p [] >>= λ r.",
-            "rawRows nodes indexes p [] >>= λ q. good (reverse (q .0), q .1) >>= λ r.",
+            "rawRows nodes indexes p [] >>= λ q. let r : List (ℕ × Row) × Pool = (reverse (q .0), q .1) in",
         )],
     },
     Wrong {
