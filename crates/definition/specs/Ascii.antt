@@ -12,7 +12,7 @@ unfoldable pub ascii : String → List ℕ
 ascii [] = []ᴸ
 ascii (c ∷ s) = code c ∷ᴸ ascii s
 
--- a number in decimal, its last digit behind the others; fuel is more than its digits
+-- a number in decimal, its last digit behind the others; fuel is at least the number of its digits
 unfoldable pub digits : ℕ → ℕ → List ℕ
 digits zero n = []ᴸ
 digits (suc fuel) n = elim (ltb n 10) [ true ↦ (48 + n) ∷ᴸ []ᴸ | false ↦ digits fuel (n / 10) ++ᴸ ((48 + n % 10) ∷ᴸ []ᴸ) ]

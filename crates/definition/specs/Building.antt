@@ -12,7 +12,7 @@ use Rattle.definition.specs.Definitions.{tagAt}
 use Rattle.definition.specs.Resolving.{Node, firstNode, sameNode, intern}
 use Rattle.definition.specs.Slots.{Slots, slotFor}
 
--- slots given out, by node; and the building stack: slots whose nodes still need their children's, the next on top
+-- the gaps and positions; slots given out, as node and slot; and the building stack, its top first, as slot and node
 pub record Pool : Type 0 where
   pub slots : Slots
   pub given : List (ℕ × ℕ)
@@ -23,11 +23,12 @@ unfoldable pub noSlot : Bool → ℕ
 noSlot true = 15
 noSlot false = 14
 
--- a slot for a node: the one that it has, else a new one, which goes onto the stack
+-- a new slot for a node, which goes onto the stack; 14 or 15 if there is none
 unfoldable pub give : Bool → ℕ → Pool → Option (ℕ × Slots) → Result ℕ (ℕ × Pool)
 give ldc k p none = bad (noSlot ldc)
 give ldc k p (some r) = good (r .0, record { slots = r .1; given = (k, r .0) ∷ p .given; pending = (r .0, k) ∷ p .pending })
 
+-- a slot for a node: the one that it has, else a new one
 unfoldable pub allocate : List Node → Bool → ℕ → Pool → Result ℕ (ℕ × Pool)
 allocate nodes ldc k p =
     elim (lookup k (p .given)) [
@@ -146,7 +147,8 @@ rawRows nodes [] p rows = good (rows, p)
 rawRows nodes (r ∷ falling) p rows =
     slotsOf nodes (kidsOf nodes (r .1)) p >>= λ row. rawRows nodes falling (row .1) ((r .0, row .0) ∷ rows)
 
--- raw bootstraps, then the stack; each node gets at most one slot, so the stack is taken from no more often than that
+-- raw bootstraps, then the stack; each node gets at most one slot, so it is taken from no more often than it has items now and there
+-- are nodes
 unfoldable pub buildAll : List Node → List (ℕ × ℕ) → Pool → Result ℕ Made
 buildAll nodes indexes p =
     rawRows nodes (reverse indexes) p [] >>= λ r.
@@ -179,11 +181,12 @@ pub data Content : Type 0 where
   emptyText : Content
   holds : Entry ℕ ℕ → Content
 
--- a slot that holds no entry of its own, behind one that holds this
+-- a slot with no entry of its own, by what the slot before it holds: nothing behind a wide one, else the empty text
 unfoldable pub behind : Option (Entry ℕ ℕ) → Content
 behind none = emptyText
 behind (some e) = elim (isWide (e .tag)) [ true ↦ nothing | false ↦ emptyText ]
 
+-- what a slot holds; nothing is owned at or past the count, so such a slot holds the empty text
 unfoldable pub contentOf : List (ℕ × Entry ℕ ℕ) → ℕ → Content
 contentOf owned zero = nothing
 contentOf owned (suc s) = elim (lookup (suc s) owned) [ none ↦ behind (lookup s owned) | some e ↦ holds e ]

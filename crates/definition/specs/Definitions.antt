@@ -62,7 +62,7 @@ unfoldable pub hold : Bool → ℕ → ℕ → List (ℕ × Held) → List (ℕ 
 hold true n e held = insert n (starts e) (insert (suc n) half held)
 hold false n e held = insert n (starts e) held
 
--- raw constant e at slot n, where `top` is the highest slot: 6; then 7 if slot n + 1 of a wide one is taken; then slot n
+-- raw constant e at slot n: 6 unless it lies within 1 to the highest slot; then 7 if slot n + 1 of a wide one is taken; then slot n
 unfoldable pub placeConstant : ℕ → Bool → ℕ → ℕ → List (ℕ × Held) → Result ℕ (List (ℕ × Held))
 placeConstant top wide n e held = do
   _ ← unless (not (eqb n 0) && leb (lastSlot wide n) top) 6

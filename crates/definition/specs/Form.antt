@@ -35,7 +35,7 @@ counted (define e) n = oneMore (kindOf (e .tag)) n
 counted (named kind s r) n = n
 counted (placed kind at number) n = n
 
--- 3: a cut record, or a byte that isn't one of its forms
+-- 3: an unknown kind or one out of place, a cut record, or a byte that isn't one of its forms
 unfoldable pub whole : {A : Type 0} → Option A → Result ℕ A
 whole none = bad 3
 whole (some a) = good a
@@ -57,7 +57,7 @@ citesEarlier n (define e) = every (cites n) (e .kids)
 citesEarlier n (named kind s r) = cites n r
 citesEarlier n (placed kind at number) = ltb number (countOf kind n)
 
--- 4: so does a request that gives the class slot
+-- 4: the request whose answer is the class slot is one of those before
 unfoldable pub citesRequest : ℕ → ClassSlot → Bool
 citesRequest requests (slot n) = true
 citesRequest requests (request n) = ltb n requests
@@ -97,11 +97,11 @@ formRequest n first bytes = do
   _ ← unless (cites n (r .0 .what)) 4
   good r
 
--- 60 behind its first byte, after so many requests: 3, then 4; then 3 at the next record if bytes follow
 unfoldable pub nothingBehind : List ℕ → Bool
 nothingBehind [] = true
 nothingBehind (b ∷ bytes) = false
 
+-- 60 behind its first byte, after so many requests: 3, then 4; then 3 at the next record if bytes follow
 unfoldable pub formBuild : ℕ → ℕ → List ℕ → Result Refusal Build
 formBuild requests place bytes = do
   r ← atRecord place (whole (readBuild bytes))

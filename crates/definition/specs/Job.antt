@@ -77,7 +77,7 @@ bodies =
     map (λ s. (s .0, ofEntry (s .1))) shapes
     ++ ((bootstrapTag, ofEntry bootstrapShape) ∷ (0x41, ofName constant) ∷ (0x42, ofName bootstrap) ∷ (0x43, ofRaw constant) ∷ (0x44, ofRaw bootstrap) ∷ [])
 
--- a definition behind its first byte; none: an unknown kind
+-- a definition behind its first byte; none: an unknown kind, or one out of place
 unfoldable pub readBody : ℕ → Option Body → Parser (Definition (List ℕ))
 readBody first none = fail
 readBody first (some (ofEntry fields)) = do
@@ -99,7 +99,7 @@ readDefinition first = readBody first (lookup first bodies)
 unfoldable pub asks : List (ℕ × Bool)
 asks = (0x51, false) ∷ (0x52, true) ∷ []
 
--- a request behind its first byte; none: an unknown kind
+-- a request behind its first byte; none: an unknown kind, or one out of place
 unfoldable pub readRequest : Option Bool → Parser Request
 readRequest none = fail
 readRequest (some ldc) = do

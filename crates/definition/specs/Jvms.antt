@@ -1,4 +1,5 @@
--- Reading a constant pool and bootstraps as JVMS 4.4 and 4.7.23 lay them down, from their pages alone. Assumes nothing.
+-- Reading a constant pool and bootstraps as JVMS 4.4 and 4.7.23 lay them down, by the table of shapes, which follows those pages.
+-- Assumes nothing.
 use mathlib.Core.Bool.{true, false}
 use mathlib.Core.List.{List, [], _∷_}
 use mathlib.Core.Option.{Option, none, some}
@@ -25,7 +26,7 @@ cpInfo = do
   tag ← one
   ofTag tag (lookup tag shapes)
 
--- entries that fill exactly so many slots: a Long or a Double takes two (4.4.5), of which the second is there
+-- entries that fill exactly so many slots: a Long or a Double takes two, which both lie below the count (4.4.5)
 unfoldable pub readSlots : ℕ → Parser (List Shown)
 readSlots zero = return []
 readSlots (suc zero) = do

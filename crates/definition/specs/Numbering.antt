@@ -1,4 +1,5 @@
--- Literals become numbers before anything else is decided, so that slots can depend on nothing else of them (demand 3 of the request).
+-- Literals become numbers before anything else is decided, so that slots can depend on them only through which of them are equal
+-- (demand 3 of the request).
 -- Assumes nothing.
 use mathlib.Core.Bool.{Bool, _&&_, not}
 use mathlib.Core.List.{List, [], _∷_, map}
@@ -10,7 +11,7 @@ use Rattle.definition.specs.Basics.{same, position, only}
 use Rattle.definition.specs.Shapes.{bootstrapTag, Entry, withLiteral}
 use Rattle.definition.specs.Job.{Reference, Definition, define, named, placed, Job}
 
--- a literal: the tag says its kind (text and the four kinds of number), then its bytes
+-- a literal: the tag says its kind (text and the four kinds of number), then its bytes; an entry that has none counts as one of no bytes
 abbrev pub Literal : Type 0
 Literal = ℕ × List ℕ
 
@@ -28,7 +29,7 @@ entries (define e ∷ rest) = e ∷ entries rest
 entries (named kind s r ∷ rest) = entries rest
 entries (placed kind at number ∷ rest) = entries rest
 
--- one table: the constants, then the bootstraps, so that bootstrap b stands b places behind the last constant
+-- the entries of each table
 unfoldable pub isBootstrap : {L R : Type 0} → Entry L R → Bool
 isBootstrap e = eqb (e .tag) bootstrapTag
 

@@ -17,7 +17,7 @@ pub data Goal : Type 0 where
   tableEntry : ℕ → Goal
   refusal : ℕ → Goal
 
--- an entry's place in the one table: the constants, then the bootstraps
+-- an entry's place in the one table: constant n stands at n, and bootstrap n at the number of constants + n
 unfoldable pub placeOf : ℕ → Kind → ℕ → ℕ
 placeOf constants constant n = n
 placeOf constants bootstrap n = constants + n

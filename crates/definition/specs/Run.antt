@@ -122,7 +122,7 @@ fits b lent =
     && (leb (length (b .bootstraps)) (lent .bootstraps)
     && leb (length (classOut (b .class))) (lent .class)))
 
--- THE DEFINITION: 1, 2, then the form and the records in turn, last 18 at the build record
+-- THE DEFINITION, for a job of bytes, numbers below 256: 1, 2, then the form and the records in turn, last 18 at the build record
 unfoldable pub run : Lent → List ℕ → Result Refusal Built
 run lent bytes = do
   _ ← atRecord 0 (unless (leb (length bytes) longestJob) 1)
@@ -146,7 +146,7 @@ unfoldable pub untouched : Result Refusal Built → Bool
 untouched (bad r) = eqb (r .code) 1 || eqb (r .code) 2
 untouched (good b) = false
 
--- and wholly zero after every other ending: `blank` is 0 for work and a gap of 0 and 0 for gaps
+-- work or gaps afterwards: wholly zero after every other ending; `blank` is 0 for work and a gap of 0 and 0 for gaps
 unfoldable pub clearedAfter : {A : Type 0} → A → Result Refusal Built → List A → List A
 clearedAfter blank outcome before = elim (untouched outcome) [ true ↦ before | false ↦ replicate (length before) blank ]
 

@@ -23,7 +23,7 @@ pub record Gap : Type 0 where
 unfoldable pub size : Gap → ℕ
 size g = suc (g .last) - g .first
 
--- a gap from `first` to just before `next`, if that is one
+-- the gap from `first` to just before `next`, if it has a slot, ahead of `gaps`
 unfoldable pub gapBefore : ℕ → ℕ → List Gap → List Gap
 gapBefore first next gaps = elim (ltb first next) [ true ↦ record { first = first; last = next - 1 } ∷ gaps | false ↦ gaps ]
 
@@ -51,7 +51,7 @@ scan p at gaps = at + position p (drop at gaps)
 unfoldable pub cut : ℕ → ℕ → List Gap → List Gap
 cut count at gaps = elim (getElem? gaps at) [ none ↦ gaps | some g ↦ set gaps at (record { first = g .first + count; last = g .last }) ]
 
--- too high for ldc, if that was asked
+-- ldc was asked, and the gap's first slot is above 255
 unfoldable pub tooHigh : Bool → Gap → Bool
 tooHigh ldc g = ldc && ltb highestLdc (g .first)
 
@@ -104,7 +104,8 @@ unfoldable pub slotFor : Bool → Bool → Slots → Option (ℕ × Slots)
 slotFor true ldc s = wideSlot s
 slotFor false ldc s = narrowSlot ldc s
 
--- the count of the pool: the first free slot of the gap that ends at the highest slot, or one more than that slot
+-- the count of the pool: the first free slot of the gap that ends at the highest slot, or one more than that slot; a gap used up has
+-- that number for its first
 unfoldable pub countFrom : ℕ → List Gap → ℕ
 countFrom top [] = suc top
 countFrom top (g ∷ gaps) = elim (eqb (g .last) top) [ true ↦ g .first | false ↦ countFrom top gaps ]

@@ -15,7 +15,7 @@ use Rattle.definition.specs.Numbering.{Literal, attributeName, entries, constan
 use Rattle.definition.specs.Definitions.{Held, Naming, Defined, tagAt, defineAll, nothingDefined}
 use Rattle.definition.specs.Resolving.{Goal, rawNumber, tableEntry, refusal, follow, goalOf, Node, Mark}
 use Rattle.definition.specs.Slots.{highestSlot, Gap, size, Slots}
-use Rattle.definition.specs.Building.{Pool, allocate, Row, Rows, indexOf, rowIndex, rawRows}
+use Rattle.definition.specs.Building.{Pool, allocate, Row, Rows, indexOf, rowIndex, rawRows, nameWanted}
 use Rattle.definition.specs.Layout.{Ready, endDefinitions, classSlotOf, Layout, indexNodes, layout}
 use Rattle.definition.specs.Run.{shown, Built, render, Lent, Memory, lentOf, memoryAfter, longestJob, run}
 use Rattle.definition.specs.Blocks.{block, rightUse, mostBlocks, readBlocks, writeBlocks}
@@ -121,7 +121,7 @@ Visits =
 
 -- FUEL: it never runs out, in the form pass, in resolving and in building: no refusal has number 0
 abbrev pub FuelLasts : Type 0
-FuelLasts = (bytes : List ℕ) (lent : Lent) (r : Refusal) → run lent bytes ≡ bad r → r .code ≡ 0 → ⊥
+FuelLasts = (bytes : List ℕ) (lent : Lent) (r : Refusal) → IsBytes bytes → run lent bytes ≡ bad r → r .code ≡ 0 → ⊥
 
 -- FOLLOWED: a name is given up as circular only if it leads nowhere in any number of steps
 abbrev pub Followed : Type 0
@@ -348,7 +348,9 @@ pub record HeldBy (f : Finished) (requests : List Request) (build : Build) (b : 
   pub placedThere :
       (i n e : ℕ) (kind : Kind) → getElem? (f .definitions) i ≡ some (placed kind n e) → (depth : ℕ) → Shows depth f (leadsTo f (entry kind e)) n
   pub classThere : b .class ≡ classOf f (slotShows f (classSlotOf (b .answers) (build .class)))
-  pub nameThere : (b .name ≡ 0) ⊎ (textAt f (b .name) ≡ some attributeName)
+  pub nameThere :
+      ((nameWanted (build .nameByte) (b .bootstrapCount) ≡ false) × (b .name ≡ 0))
+      ⊎ ((nameWanted (build .nameByte) (b .bootstrapCount) ≡ true) × (textAt f (b .name) ≡ some attributeName))
 
 -- HOLDS: in the finished pool as JVMS reads it, every answer shows, to any depth, the constant that was asked for; so does every raw
 -- definition at its slot or index; the class name is the one at the class slot; and the name slot, if there is one, shows the name

@@ -29,6 +29,9 @@ const JOBS: &[&str] = &[
     "07000002 50 51010000 6000010000",
     "4000000 90000 4400020000 50 600100 0000",
     "12000005000009 50 51010000 600100 0000",
+    // Slot 0 holds nothing; slot 9, which nobody owns, the empty text.
+    "07000000 50 51010000 6002010000",
+    "07000009 50 51010000 6002010000",
     // A raw number and an inline constant given that slot make equal bootstraps.
     "0300000001 40000001 0000 40010000 0000 12010000000009 12010001000009 50 51010000 51010001 51010002 600200 0000",
     // An inline bootstrap that equals only a raw one doesn't share.
