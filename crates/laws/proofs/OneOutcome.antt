@@ -1,5 +1,5 @@
 -- No second outcome or contents of a buffer meets the definition's statement of a run. Assumes nothing.
-use mathlib.Core.Path.{_≡_, sym, _∙_, ap}
+use mathlib.Core.Path.{sym, _∙_, ap}
 use Rattle.laws.specs.Statements.{OneOutcome}
 use Rattle.definition.specs.Run.{memoryAfter}
 

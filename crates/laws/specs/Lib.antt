@@ -1,2 +1,3 @@
 pub mod Starred
+pub mod Decided
 pub mod Statements

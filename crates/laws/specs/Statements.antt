@@ -4,17 +4,17 @@ use mathlib.Core.List.{List, [], _∷_, _++_, map, reverse}
 use mathlib.Core.Logic.{_↔_, _⊎_}
 use mathlib.Core.Option.{Option, none, some}
 use mathlib.Core.Path.{_≡_}
-use Prim.Native.Nat.{ℕ, zero, suc, _+_, _*_, _-_, _≤_, _<_}
+use Prim.Native.Nat.{ℕ, zero, suc, _+_, _≤_, _<_}
 use lib.Dec.{eqb, ltb}
-use lib.ListN.{length, take, drop, getD, getElem?}
+use lib.ListN.{length, take, getD, getElem?}
 use Rattle.definition.specs.Basics.{Result, good, bad, Refusal, concat, lookup, from}
-use Rattle.definition.specs.Shapes.{Kind, constant, bootstrap, bootstrapTag, Entry, withLiteral, isWide}
+use Rattle.definition.specs.Shapes.{Kind, bootstrapTag, Entry, withLiteral, isWide}
 use Rattle.definition.specs.Job.{Reference, entry, Definition, define, named, placed, Request, Build, Job}
 use Rattle.definition.specs.Form.{form}
 use Rattle.definition.specs.Numbering.{Literal, attributeName, entries, constantsOf, bootstrapsOf, literals, numberOf, literalOf, numbered}
 use Rattle.definition.specs.Definitions.{Held, Naming, Defined, tagAt, defineAll, nothingDefined}
 use Rattle.definition.specs.Resolving.{Goal, rawNumber, tableEntry, refusal, follow, goalOf, Node, Mark}
-use Rattle.definition.specs.Slots.{highestSlot, Gap, size, Slots}
+use Rattle.definition.specs.Slots.{highestSlot, Gap, size}
 use Rattle.definition.specs.Building.{Pool, allocate, Row, Rows, indexOf, rowIndex, rawRows, nameWanted}
 use Rattle.definition.specs.Layout.{Ready, endDefinitions, classSlotOf, Layout, indexNodes, layout}
 use Rattle.definition.specs.Run.{shown, Built, render, Lent, Memory, lentOf, memoryAfter, longestJob, run}
