@@ -1,1 +1,5 @@
+pub mod Lists
 pub mod OneOutcome
+pub mod Numbering
+pub mod Bare
+pub mod Shape

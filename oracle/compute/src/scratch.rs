@@ -7,6 +7,9 @@ use std::process::Command;
 
 const BATCH: usize = 60;
 
+/// What the checker says where a claim takes too long to compute.
+const STEP_LIMIT: &str = "stopped at the step limit";
+
 const HEADER: &str = include_str!("header.txt");
 
 pub struct Scratch {
@@ -21,6 +24,8 @@ pub struct Verdict {
     pub judged: bool,
     /// The numbers of those that failed.
     pub failed: Vec<usize>,
+    /// The numbers of those that took the checker more steps than it has.
+    pub stopped: Vec<usize>,
     pub output: String,
 }
 
@@ -59,13 +64,16 @@ impl Scratch {
             .current_dir(&self.folder)
             .output()?;
         let output = String::from_utf8_lossy(&said.stdout) + String::from_utf8_lossy(&said.stderr);
+        let refused = |n: &usize| refusal(&output, *n).is_some();
+        let too_long =
+            |n: &usize| refusal(&output, *n).is_some_and(|line| line.contains(STEP_LIMIT));
+        let (stopped, failed) = (0..claims.len()).filter(refused).partition(too_long);
         Ok(Verdict {
             proved: said.status.success(),
             judged: output.contains("rt: definition proved"),
-            failed: (0..claims.len())
-                .filter(|n| output.contains(&format!("error: `claim{n}`")))
-                .collect(),
-            output: output.into_owned(),
+            failed,
+            stopped,
+            output: output.to_string(),
         })
     }
 
@@ -84,6 +92,12 @@ impl Scratch {
         }
         fs::write(folder.join("specs/Claims.antt"), text)
     }
+}
+
+/// The line in which the checker refuses a claim.
+fn refusal(output: &str, claim: usize) -> Option<&str> {
+    let name = format!("error: `claim{claim}`");
+    output.lines().find(|line| line.contains(&name))
 }
 
 impl Drop for Scratch {
