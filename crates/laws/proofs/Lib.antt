@@ -3,3 +3,9 @@ pub mod OneOutcome
 pub mod Numbering
 pub mod Bare
 pub mod Shape
+pub mod Guards
+pub mod Chunks
+pub mod Reading
+pub mod Blocks
+pub mod BlockRefusals
+pub mod Stages

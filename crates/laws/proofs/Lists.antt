@@ -32,6 +32,10 @@ both-true false b e = (e, cc)
 pub true-not-false : (b : Bool) → b ≡ true → b ≡ false → ⊥
 true-not-false b p q = clash (cc)
 
+-- one result is one value
+pub good-inj : {E A : Type 0} {a b : A} → _≡_ {A = Result E A} (good a) (good b) → a ≡ b
+good-inj e = cc
+
 -- a chain that ends well went well at its first stage
 pub good-first : {E A B : Type 0} (r : Result E A) (f : A → Result E B) (b : B) → (r >>= f) ≡ good b → (a : A) × (r ≡ good a) × (f a ≡ good b)
 good-first (good a) f b e = (a, refl, e)
