@@ -9,3 +9,13 @@ pub mod Reading
 pub mod Blocks
 pub mod BlockRefusals
 pub mod Stages
+pub mod Tables
+pub mod Gaps
+pub mod Requests
+pub mod Defining
+pub mod Sound
+pub mod Kept
+pub mod Exactly
+pub mod Seventeen
+pub mod Places
+pub mod Faithful

@@ -1,0 +1,219 @@
+-- An inline row is refused for want of an index exactly if it shares none and all 65,535 are used. Assumes nothing.
+use mathlib.Core.List.{List, [], _∷_, _++_, reverse, reverseAux, reverse-reverse}
+use mathlib.Core.Logic.{_⊎_, inl, inr}
+use mathlib.Core.Option.{Option, none, some}
+use mathlib.Core.Path.{_≡_, refl, sym, _∙_, ap, subst}
+use Prim.Native.Nat.{ℕ, suc, _≤_, _<_}
+use native.Mathlib.Omega.{arith}
+use lib.ListN.{length, length-append}
+use borrow.Author.Tests.{eq-eqb, ne-eqb, lt-ltb, le-ltb}
+use Rattle.definition.specs.Basics.{good, bad, lookup}
+use Rattle.definition.specs.Resolving.{Node, Mark}
+use Rattle.definition.specs.Building.{Pool, Row, Rows, slotsOf, kidsOf, writeRaw, indexOf, takeIndex, rowIndex, rawRows}
+use Rattle.definition.specs.Layout.{indexNodes}
+use Rattle.laws.specs.Statements.{RowsOccur, rawOnly, afterRow, Used, ExactlySeventeen}
+use Rattle.laws.proofs.Tables.{bind-good, bad≢good, good-same, none≢some, order, equal, lookup-hit, lookup-miss, Rising, keys, rising-none}
+use Rattle.laws.proofs.Defining.{rises}
+
+-- RAW ROWS
+
+-- the highest index is 65,534
+abbrev pub highestIndex : ℕ
+highestIndex = 65534
+
+write-next :
+    (written : List Row) (x : ℕ × Row) (waiting : List (ℕ × Row)) →
+    x .0 ≡ length written →
+    writeRaw written (x ∷ waiting) ≡ writeRaw (written ++ x .1 ∷ []) waiting
+unfolding writeRaw
+write-next written x waiting e = rw (eq-eqb (x .0) (length written) e, writeRaw)
+
+write-stop :
+    (written : List Row) (x : ℕ × Row) (waiting : List (ℕ × Row)) →
+    (x .0 ≡ length written → ⊥) →
+    writeRaw written (x ∷ waiting) ≡ (written, x ∷ waiting)
+unfolding writeRaw
+write-stop written x waiting e = rw (ne-eqb (x .0) (length written) e, writeRaw)
+
+-- raw rows written while their index is next: those up to the next index were waiting, at that index none was, and the rest wait behind it
+pub record Wrote (written : List Row) (waiting : List (ℕ × Row)) (r : List Row × List (ℕ × Row)) : Type 0 where
+  pub more : length written ≤ length (r .0)
+  pub rest : Rising (suc (length (r .0))) highestIndex (keys (r .1))
+  pub filled : (i : ℕ) → length written ≤ i → i < length (r .0) → (row : Row) × (lookup i waiting ≡ some row)
+  pub next : lookup (length (r .0)) waiting ≡ none
+
+-- the next one is written, and then the others
+from-next :
+    (written : List Row) (x : ℕ × Row) (waiting : List (ℕ × Row)) (r : List Row × List (ℕ × Row)) →
+    x .0 ≡ length written →
+    length (written ++ x .1 ∷ []) ≡ suc (length written) →
+    Wrote (written ++ x .1 ∷ []) waiting r →
+    Wrote written (x ∷ waiting) r
+from-next written x waiting r q longer w =
+    record {
+      more = let m = w .more in omega arith;
+      rest = w .rest;
+      filled = λ i h k. ways i k (order (length written) i) h;
+      next = let m = w .more in lookup-miss (length (r .0)) x waiting (λ e. omega arith) ∙ w .next;
+    }
+  where
+    ways : (i : ℕ) → i < length (r .0) → (length written < i) ⊎ (i ≤ length written) → length written ≤ i → (row : Row) × (lookup i (x ∷ waiting) ≡ some row)
+    ways i k (inl o) h =
+        let (row, e) = w .filled i (omega arith) k in
+        (row, lookup-miss i x waiting (λ z. omega arith) ∙ e)
+    ways i k (inr o) h = (x .1, lookup-hit i x waiting (omega arith))
+
+pub wrote : (waiting : List (ℕ × Row)) (written : List Row) → Rising (length written) highestIndex (keys waiting) → Wrote written waiting (writeRaw written waiting)
+unfolding writeRaw lookup
+wrote [] written r =
+    record { more = omega arith; rest = tt; filled = λ i h k. absurd (omega arith); next = refl }
+wrote (x ∷ waiting) written r = ways (equal (x .0) (length written)) (wrote waiting (written ++ x .1 ∷ []))
+  where
+    longer : length (written ++ x .1 ∷ []) ≡ suc (length written)
+    longer = length-append written (x .1 ∷ []) ∙ omega arith
+
+    ways :
+        (x .0 ≡ length written) ⊎ (x .0 ≡ length written → ⊥) →
+        (Rising (length (written ++ x .1 ∷ [])) highestIndex (keys waiting) → Wrote (written ++ x .1 ∷ []) waiting (writeRaw (written ++ x .1 ∷ []) waiting)) →
+        Wrote written (x ∷ waiting) (writeRaw written (x ∷ waiting))
+    ways (inl q) again =
+        let w = again (rw (longer, ← q) (r .2)) in
+        rw (write-next written x waiting q)
+        (from-next written x waiting (writeRaw (written ++ x .1 ∷ []) waiting) q longer w)
+    ways (inr q) again =
+        rw (write-stop written x waiting q)
+        (record {
+          more = omega arith;
+          rest = (omega arith, r .1, r .2);
+          filled = λ i h k. absurd (omega arith);
+          next =
+              lookup-miss (length written) x waiting (λ e. q (sym e))
+              ∙ rising-none (suc (x .0)) highestIndex (length written) waiting (r .2) (omega arith);
+        })
+
+-- the rows' indexes come out as they went in, the other way round
+raw-keys :
+    (nodes : List Node) (falling : List (ℕ × ℕ)) (p p′ : Pool) (rows waiting : List (ℕ × Row)) →
+    rawRows nodes falling p rows ≡ good (waiting, p′) →
+    keys waiting ≡ reverseAux (keys falling) (keys rows)
+unfolding rawRows
+raw-keys nodes [] p p′ rows waiting h = λ i. keys (good-same (sym h) i .0)
+raw-keys nodes (r ∷ falling) p p′ rows waiting h =
+    let (row, q, g) = bind-good (slotsOf nodes (kidsOf nodes (r .1)) p) _ (waiting, p′) h in
+    raw-keys nodes falling (row .1) p′ ((r .0, row .0) ∷ rows) waiting g
+
+keys-reverse : {A : Type 0} (xs ys : List (ℕ × A)) → keys (reverseAux xs ys) ≡ reverseAux (keys xs) (keys ys)
+keys-reverse [] ys = refl
+keys-reverse (x ∷ xs) ys = keys-reverse xs (x ∷ ys)
+
+keys-nodes : (n : ℕ) (marks : List Mark) (indexes : List (ℕ × ℕ)) → keys (indexNodes n marks indexes) ≡ keys indexes
+unfolding indexNodes
+keys-nodes n marks [] = refl
+keys-nodes n marks (x ∷ indexes) = ap {B = List ℕ} (λ l. x .0 ∷ l) (keys-nodes n marks indexes)
+
+-- so the raw rows wait at the raw indexes, in their order
+pub waiting-keys :
+    (nodes : List Node) (n : ℕ) (marks : List Mark) (indexes : List (ℕ × ℕ)) (p p′ : Pool) (waiting : List (ℕ × Row)) →
+    rawRows nodes (reverse (indexNodes n marks indexes)) p [] ≡ good (waiting, p′) →
+    keys waiting ≡ keys indexes
+waiting-keys nodes n marks indexes p p′ waiting h =
+    raw-keys nodes (reverse (indexNodes n marks indexes)) p p′ [] waiting h
+    ∙ ap reverse (keys-reverse (indexNodes n marks indexes) [] ∙ ap reverse (keys-nodes n marks indexes))
+    ∙ reverse-reverse (keys indexes)
+
+-- ROWS THAT OCCUR
+
+-- raw rows wait by rising index, behind those written
+pub record RowsSound (rows : Rows) : Type 0 where
+  pub rising : Rising (length (rows .written)) highestIndex (keys (rows .waiting))
+  pub few : length (rows .written) ≤ 65535
+
+row-old : (row : Row) (rows : Rows) (i : ℕ) → indexOf row (rows .inline) ≡ some i → rowIndex row rows ≡ good (i, rows)
+unfolding rowIndex
+row-old row rows i e = rw (e, rowIndex)
+
+row-new :
+    (row : Row) (rows : Rows) →
+    indexOf row (rows .inline) ≡ none →
+    rowIndex row rows ≡ takeIndex row (rows .inline) (writeRaw (rows .written) (rows .waiting))
+unfolding rowIndex
+row-new row rows e = rw (e, rowIndex)
+
+take-some :
+    (row : Row) (inline : List (Row × ℕ)) (r : List Row × List (ℕ × Row)) →
+    length (r .0) < 65535 →
+    takeIndex row inline r
+    ≡ good (length (r .0), record { written = r .0 ++ row ∷ []; waiting = r .1; inline = (row, length (r .0)) ∷ inline })
+unfolding takeIndex
+take-some row inline r h = rw (lt-ltb (length (r .0)) 65535 h, takeIndex)
+
+take-none : (row : Row) (inline : List (Row × ℕ)) (r : List Row × List (ℕ × Row)) → 65535 ≤ length (r .0) → takeIndex row inline r ≡ bad 17
+unfolding takeIndex
+take-none row inline r h = rw (le-ltb (length (r .0)) 65535 h, takeIndex)
+
+-- a row keeps that
+row-sound : (row : Row) (i : ℕ) (rows rows′ : Rows) → RowsSound rows → rowIndex row rows ≡ good (i, rows′) → RowsSound rows′
+row-sound row i rows rows′ s h = ways (indexOf row (rows .inline)) refl
+  where
+    r : List Row × List (ℕ × Row)
+    r = writeRaw (rows .written) (rows .waiting)
+
+    taken :
+        indexOf row (rows .inline) ≡ none →
+        (length (r .0) < 65535) ⊎ (65535 ≤ length (r .0)) →
+        Wrote (rows .written) (rows .waiting) r →
+        RowsSound rows′
+    taken e (inl o) w =
+        let q = good-same (sym (take-some row (rows .inline) r o) ∙ sym (row-new row rows e) ∙ h) in
+        let longer : length (r .0 ++ row ∷ []) ≡ suc (length (r .0)) = length-append (r .0) (row ∷ []) ∙ omega arith in
+        subst
+        (λ (z : ℕ × Rows). RowsSound (z .1))
+        q
+        (record { rising = rw longer (w .rest); few = rw longer o })
+    taken e (inr o) w = bad≢good (sym (take-none row (rows .inline) r o) ∙ sym (row-new row rows e) ∙ h)
+
+    ways : (o : Option ℕ) → indexOf row (rows .inline) ≡ o → RowsSound rows′
+    ways none e = taken e (order (length (r .0)) 65535) (wrote (rows .waiting) (rows .written) (s .rising))
+    ways (some n) e = subst (λ (z : ℕ × Rows). RowsSound (z .1)) (good-same (sym (row-old row rows n e) ∙ h)) s
+
+pub rowsSound : {rows : Rows} → RowsOccur rows → RowsSound rows
+rowsSound (rawOnly top constants definitions d nodes p p′ n marks waiting h e) =
+    let r = rises top constants definitions d h .1 in
+    let q = waiting-keys nodes n marks (d .indexes) p p′ waiting e in
+    record { rising = rw q r; few = omega arith }
+rowsSound (afterRow row i rows rows′ o h) = row-sound row i rows rows′ (rowsSound o) h
+
+pub exactlySeventeen : ExactlySeventeen
+exactlySeventeen rows row o = (used, refused)
+  where
+    r : List Row × List (ℕ × Row)
+    r = writeRaw (rows .written) (rows .waiting)
+
+    w : Wrote (rows .written) (rows .waiting) r
+    w = wrote (rows .waiting) (rows .written) (rowsSound o .rising)
+
+    written : (i : ℕ) → i < length (r .0) → (i < length (rows .written)) ⊎ (length (rows .written) ≤ i) → Used rows i
+    written i h (inl l) = inl l
+    written i h (inr l) = inr (w .filled i l h)
+
+    full : indexOf row (rows .inline) ≡ none → rowIndex row rows ≡ bad 17 → (length (r .0) < 65535) ⊎ (65535 ≤ length (r .0)) → (i : ℕ) → i < 65535 → Used rows i
+    full e h (inl l) i k = bad≢good (sym h ∙ row-new row rows e ∙ take-some row (rows .inline) r l)
+    full e h (inr l) i k = written i (omega arith) (order i (length (rows .written)))
+
+    ways : rowIndex row rows ≡ bad 17 → (a : Option ℕ) → indexOf row (rows .inline) ≡ a → (indexOf row (rows .inline) ≡ none) × ((i : ℕ) → i < 65535 → Used rows i)
+    ways h none e = (e, full e h (order (length (r .0)) 65535))
+    ways h (some n) e = bad≢good (sym h ∙ row-old row rows n e)
+
+    used : rowIndex row rows ≡ bad 17 → (indexOf row (rows .inline) ≡ none) × ((i : ℕ) → i < 65535 → Used rows i)
+    used h = ways h (indexOf row (rows .inline)) refl
+
+    unused : Used rows (length (r .0)) → ⊥
+    unused (inl h) = let m = w .more in omega arith
+    unused (inr (x, e)) = none≢some (sym (w .next) ∙ e)
+
+    refuse : indexOf row (rows .inline) ≡ none → ((i : ℕ) → i < 65535 → Used rows i) → (length (r .0) < 65535) ⊎ (65535 ≤ length (r .0)) → rowIndex row rows ≡ bad 17
+    refuse e h (inl l) = absurd (unused (h (length (r .0)) l))
+    refuse e h (inr l) = row-new row rows e ∙ take-none row (rows .inline) r l
+
+    refused : (indexOf row (rows .inline) ≡ none) × ((i : ℕ) → i < 65535 → Used rows i) → rowIndex row rows ≡ bad 17
+    refused h = refuse (h .0) (h .1) (order (length (r .0)) 65535)
