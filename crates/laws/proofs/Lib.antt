@@ -19,3 +19,13 @@ pub mod Exactly
 pub mod Seventeen
 pub mod Places
 pub mod Faithful
+pub mod Each
+pub mod Results
+pub mod Entries
+pub mod PoolRead
+pub mod Yields
+pub mod FormedEntry
+pub mod Formed
+pub mod Cited
+pub mod Fitting
+pub mod Contents
