@@ -29,3 +29,10 @@ pub mod Formed
 pub mod Cited
 pub mod Fitting
 pub mod Contents
+pub mod Outcomes
+pub mod Resolver
+pub mod Ready
+pub mod Visits
+pub mod LowNumbers
+pub mod Fuel
+pub mod Followed
