@@ -36,3 +36,4 @@ pub mod Visits
 pub mod LowNumbers
 pub mod Fuel
 pub mod Followed
+pub mod GivenConstants

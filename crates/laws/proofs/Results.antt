@@ -36,3 +36,9 @@ whole-good (some x) a h = let e : x ≡ a = cc in cc
 pub branch : {A C : Type 0} (t : Bool) (x y z : A) → elim t [ true ↦ x | false ↦ y ] ≡ z → (x ≡ z → C) → (y ≡ z → C) → C
 branch true x y z e f g = f e
 branch false x y z e f g = g e
+
+-- the same, with what the test said
+pub decided :
+    {A C : Type 0} (t : Bool) (x y z : A) → elim t [ true ↦ x | false ↦ y ] ≡ z → (t ≡ true → x ≡ z → C) → (t ≡ false → y ≡ z → C) → C
+decided true x y z e f g = f refl e
+decided false x y z e f g = g refl e
