@@ -37,3 +37,10 @@ pub mod LowNumbers
 pub mod Fuel
 pub mod Followed
 pub mod GivenConstants
+pub mod NumbersLists
+pub mod Numbers
+pub mod Asked
+pub mod Started
+pub mod MoreLists
+pub mod DefinedFacts
+pub mod Occupied

@@ -1,0 +1,239 @@
+-- What requests keep, and what each answer is: the slot of what its reference became. Assumes nothing.
+use mathlib.Core.Bool.{Bool, true, false, not, _||_}
+use mathlib.Core.List.{List, [], _∷_, _++_, map, append-assoc}
+use mathlib.Core.Logic.{_⊎_, inl, inr}
+use mathlib.Core.Option.{Option, none, some}
+use mathlib.Core.Path.{_≡_, refl, sym, ap, subst, _∙_}
+use Prim.Native.Nat.{ℕ, zero, suc, _+_, _-_, _≤_, _<_}
+use native.Mathlib.Omega.{arith}
+use lib.Dec.{leb, ltb}
+use lib.ListN.{length, getElem?, length-append}
+use borrow.Author.Tests.{ltb-true, ltb-false, le-leb, lt-ltb}
+use Rattle.definition.specs.Basics.{Result, good, bad, _>>=_, Refusal, atRecord, unless, lookup}
+use Rattle.definition.specs.Shapes.{Entry, bootstrapTag, withKids}
+use Rattle.definition.specs.Job.{Request}
+use Rattle.definition.specs.Definitions.{Held, Naming, tagAt}
+use Rattle.definition.specs.Resolving.{Goal, rawNumber, tableEntry, refusal, Mark, done, Node, firstNode, Resolved, markChild, childOf, goalOf, resolve}
+use Rattle.definition.specs.Slots.{highestLdc}
+use Rattle.definition.specs.Building.{Pool, allocate, slotOf}
+use Rattle.definition.specs.Layout.{Ready, answer, answerAll}
+use Rattle.laws.specs.Statements.{Occurs, afterRequest, moreResolved}
+use Rattle.laws.proofs.Each.{Each, each-map}
+use Rattle.laws.proofs.Results.{after, atRecord-good, decided}
+use Rattle.laws.proofs.Lists.{clash, good-inj}
+use Rattle.laws.proofs.Places.{found-inside, found-read}
+use Rattle.laws.proofs.Requests.{Met, old, new, met}
+use Rattle.laws.proofs.Kept.{keeps}
+use Rattle.laws.proofs.Sound.{tag-append}
+use Rattle.laws.proofs.Faithful.{Settled, InTable, Cited, Faithful, Grows, grows-refl, grows-trans, settled-grows, child-grows, resolve-faithful}
+use Rattle.laws.proofs.GivenConstants.{Constant}
+use Rattle.laws.proofs.Numbers.{SlotFor, toHold}
+
+-- what has a slot keeps it
+abbrev pub Stays : List (ℕ × ℕ) → List (ℕ × ℕ) → Type 0
+Stays given given′ = (k s : ℕ) → lookup k given ≡ some s → lookup k given′ ≡ some s
+
+-- a goal leads to no bootstrap
+abbrev pub ConstantGoal : List (Entry ℕ Goal) → Goal → Type 0
+ConstantGoal table (rawNumber n) = n < firstNode
+ConstantGoal table (tableEntry e) = (x : Entry ℕ Goal) → getElem? table e ≡ some x → x .tag ≡ bootstrapTag → ⊥
+ConstantGoal table (refusal code) = Unit {0}
+
+-- the child that an entry became
+pub child-done : (marks : List Mark) (e k : ℕ) → getElem? marks e ≡ some (done k) → childOf marks (tableEntry e) ≡ firstNode + k
+unfolding childOf markChild
+child-done marks e k h = rw (found-read marks e (done k) (done 0) h)
+
+-- what a pool keeps, over nodes
+pub record Pooled (top : ℕ) (held : List (ℕ × Held)) (raws : List (ℕ × ℕ)) (nodes : List Node) (p : Pool) : Type 0 where
+  pub occurs : Occurs top held nodes p
+  pub stack : p .pending ≡ toHold (p .given) raws
+  pub givenIn : Each (λ r. (r .0 < length nodes) × Constant nodes (r .0)) (p .given)
+
+module _ (top : ℕ) (held : List (ℕ × Held)) (raws : List (ℕ × ℕ)) (nodes : List Node) where
+  -- a node's slot
+  allocate-pooled :
+      (ldc : Bool) (k s : ℕ) (p p′ : Pool) →
+      k < length nodes →
+      Constant nodes k →
+      allocate nodes ldc k p ≡ good (s, p′) →
+      Pooled top held raws nodes p →
+      Pooled top held raws nodes p′
+  allocate-pooled ldc k s p p′ low c e h = go (met nodes ldc k s p p′ e)
+    where
+      go : Met nodes ldc k p s p′ → Pooled top held raws nodes p′
+      go (old _ same) = subst (Pooled top held raws nodes) (sym same) h
+      go (new slots _ _ same) =
+          record {
+            occurs = afterRequest ldc k s p′ (h .occurs) low e;
+            stack = ap (λ (q : Pool). q .pending) same ∙ ap (λ l. (s, k) ∷ l) (h .stack) ∙ ap (λ (q : Pool). toHold (q .given) raws) (sym same);
+            givenIn = subst (λ (q : Pool). Each (λ r. (r .0 < length nodes) × Constant nodes (r .0)) (q .given)) (sym same) ((low, c), h .givenIn);
+          }
+
+  -- a child's slot: what it is, what is kept
+  pub slotOf-pooled :
+      (ldc : Bool) (child : ℕ) (p : Pool) (r : ℕ × Pool) →
+      (firstNode ≤ child → (child - firstNode < length nodes) × Constant nodes (child - firstNode)) →
+      slotOf nodes ldc child p ≡ good r →
+      Pooled top held raws nodes p →
+      Pooled top held raws nodes (r .1) × SlotFor (r .1 .given) child (r .0) × Stays (p .given) (r .1 .given)
+  unfolding slotOf
+  slotOf-pooled ldc child p r c e h =
+      decided (ltb child firstNode) _ _ (good r) e
+        (λ t e₁.
+        let same = good-inj e₁ in
+        subst (λ (x : ℕ × Pool). Pooled top held raws nodes (x .1) × SlotFor (x .1 .given) child (x .0) × Stays (p .given) (x .1 .given)) same
+          (h, inl (ltb-true child firstNode t, refl), λ k s l. l))
+        (λ t e₁.
+        let high = ltb-false child firstNode t in
+        let kept = keeps nodes ldc (child - firstNode) (r .0) p (r .1) e₁ in
+        (allocate-pooled ldc (child - firstNode) (r .0) p (r .1) (c high .0) (c high .1) e₁ h, inr (high, kept .0), kept .1))
+
+-- more nodes change nothing
+pooled-more :
+    (top : ℕ) (held : List (ℕ × Held)) (raws : List (ℕ × ℕ)) (nodes more : List Node) (p : Pool) →
+    Pooled top held raws nodes p →
+    Pooled top held raws (nodes ++ more) p
+pooled-more top held raws nodes more p h =
+    record {
+      occurs = moreResolved more (h .occurs);
+      stack = h .stack;
+      givenIn =
+          each-map (λ r. (r .0 < length nodes) × Constant nodes (r .0)) (λ r. (r .0 < length (nodes ++ more)) × Constant (nodes ++ more) (r .0)) (p .given)
+            (λ r k. (rw length-append (omega (arith, k .0)), λ t. k .1 (sym (tag-append nodes more (r .0) (k .0)) ∙ t)))
+            (h .givenIn);
+    }
+
+-- what is kept from record 50 on: the table, what is resolved, the pool
+pub record Going (table : List (Entry ℕ Goal)) (top : ℕ) (held : List (ℕ × Held)) (raws : List (ℕ × ℕ)) (w : Ready) : Type 0 where
+  pub sameTable : w .table ≡ table
+  pub faithful : Faithful table (w .resolved)
+  pub pooled : Pooled top held raws (w .resolved .nodes) (w .pool)
+
+-- an answer: its goal is settled, and the number is the slot of what it became
+pub record Answered (goal : Goal) (a : ℕ) (w : Ready) : Type 0 where
+  pub settled : Settled (w .resolved .marks) goal
+  pub slot : SlotFor (w .pool .given) (childOf (w .resolved .marks) goal) a
+
+-- what is there stays there
+pub record Further (w w′ : Ready) : Type 0 where
+  pub grows : Grows (w .resolved) (w′ .resolved)
+  pub kept : Stays (w .pool .given) (w′ .pool .given)
+
+-- the tag of a node
+pub tag-found : {L R : Type 0} (nodes : List (Entry L R)) (k : ℕ) (n : Entry L R) → getElem? nodes k ≡ some n → tagAt nodes k ≡ n .tag
+unfolding tagAt
+tag-found nodes k n h = rw (h, tagAt)
+
+-- what a settled goal became is a node of the list, and a constant if the goal leads to one
+pub settled-child :
+    (table : List (Entry ℕ Goal)) (s : Resolved) (goal : Goal) →
+    Faithful table s →
+    Settled (s .marks) goal →
+    ConstantGoal table goal →
+    firstNode ≤ childOf (s .marks) goal →
+    (childOf (s .marks) goal - firstNode < length (s .nodes)) × Constant (s .nodes) (childOf (s .marks) goal - firstNode)
+unfolding childOf withKids
+settled-child table s (rawNumber n) f h c high = absurd (omega (arith, c, high))
+settled-child table s (tableEntry e) f h c high =
+    let node = f .nodeOf e (h .0) (h .1) in
+    let same : childOf (s .marks) (tableEntry e) - firstNode ≡ h .0 = omega (arith, child-done (s .marks) e (h .0) (h .1)) in
+    let inside = found-inside (s .nodes) (h .0) _ (node .2) in
+    (omega (arith, same, inside), λ t. c (node .0) (node .1) (sym (tag-found (s .nodes) (h .0) _ (node .2)) ∙ ap (tagAt (s .nodes)) (sym same) ∙ t))
+settled-child table s (refusal code) f h c high = absurd h
+
+module _ (table : List (Entry ℕ Goal)) (cited : Cited table) (top : ℕ) (held : List (ℕ × Held)) (raws : List (ℕ × ℕ)) where
+  pub answer-going :
+      (ldc : Bool) (goal : Goal) (w : Ready) (r : ℕ × Ready) →
+      InTable (length table) goal →
+      ConstantGoal table goal →
+      answer ldc goal w ≡ good r →
+      Going table top held raws w →
+      Going table top held raws (r .1) × Answered goal (r .0) (r .1) × Further w (r .1)
+  unfolding answer
+  answer-going ldc goal w r cites c e h =
+      after (resolve (w .table) goal (w .resolved)) _ r e λ s resolved e₁.
+      after (slotOf (s .nodes) ldc (childOf (s .marks) goal) (w .pool)) _ r e₁ λ a slotted e₂.
+      after (unless (not ldc || leb (a .0) highestLdc) 16) _ r e₂ λ _ _ e₃.
+      let now = resolve-faithful table goal (w .resolved) s cited cites (h .faithful) (subst (λ t. resolve t goal (w .resolved) ≡ good s) (h .sameTable) resolved) in
+      let more = now .2 .nodesKept in
+      let before : Pooled top held raws (s .nodes) (w .pool) =
+      subst (λ n. Pooled top held raws n (w .pool)) (sym (more .1)) (pooled-more top held raws (w .resolved .nodes) (more .0) (w .pool) (h .pooled)) in
+      let p = slotOf-pooled top held raws (s .nodes) ldc (childOf (s .marks) goal) (w .pool) a (settled-child table s goal (now .0) (now .1) c) slotted before in
+      subst (λ (x : ℕ × Ready). Going table top held raws (x .1) × Answered goal (x .0) (x .1) × Further w (x .1)) (good-inj e₃)
+        ( record { sameTable = h .sameTable; faithful = now .0; pooled = p .0 }
+        , record { settled = now .1; slot = p .1 }
+        , record { grows = now .2; kept = p .2 }
+        )
+
+-- a slot stays the child's
+slot-stays : (given given′ : List (ℕ × ℕ)) (c n : ℕ) → Stays given given′ → SlotFor given c n → SlotFor given′ c n
+slot-stays given given′ c n h (inl s) = inl s
+slot-stays given given′ c n h (inr s) = inr (s .0, h (c - firstNode) n (s .1))
+
+-- so an answer stays right
+pub answered-further : (goal : Goal) (a : ℕ) (w w′ : Ready) → Further w w′ → Answered goal a w → Answered goal a w′
+answered-further goal a w w′ f h =
+    record {
+      settled = settled-grows (w .resolved) (w′ .resolved) goal (f .grows) (h .settled);
+      slot =
+          subst (λ c. SlotFor (w′ .pool .given) c a) (sym (child-grows (w .resolved) (w′ .resolved) goal (f .grows) (h .settled)))
+            (slot-stays (w .pool .given) (w′ .pool .given) _ a (f .kept) (h .slot));
+    }
+
+further-refl : (w : Ready) → Further w w
+further-refl w = record { grows = grows-refl (w .resolved); kept = λ k s e. e }
+
+pub further-trans : (w w′ w″ : Ready) → Further w w′ → Further w′ w″ → Further w w″
+further-trans w w′ w″ f g =
+    record { grows = grows-trans (w .resolved) (w′ .resolved) (w″ .resolved) (f .grows) (g .grows); kept = λ k s e. g .kept k s (f .kept k s e) }
+
+module _ (table : List (Entry ℕ Goal)) (cited : Cited table) (top : ℕ) (held : List (ℕ × Held)) (raws : List (ℕ × ℕ)) (names : List Naming) (constants : ℕ) where
+  -- a request whose goal is in the table and leads to no bootstrap
+  abbrev pub Asks : Request → Type 0
+  Asks q = InTable (length table) (goalOf names constants (q .what)) × ConstantGoal table (goalOf names constants (q .what))
+
+  -- all requests in turn: at the end every answer is the slot of what was asked
+  pub answerAll-going :
+      (place : ℕ) (requests : List Request) (w : Ready) (r : List ℕ × Ready) →
+      Each Asks requests →
+      answerAll names constants place requests w ≡ good r →
+      Going table top held raws w →
+      Going table top held raws (r .1)
+      × Further w (r .1)
+      × ((i : ℕ) (q : Request) → getElem? requests i ≡ some q → (a : ℕ) × (getElem? (r .0) i ≡ some a) × Answered (goalOf names constants (q .what)) a (r .1))
+  unfolding answerAll
+  answerAll-going place [] w r asks e h =
+      subst
+        (λ (x : List ℕ × Ready).
+        Going table top held raws (x .1)
+        × Further w (x .1)
+        × ((i : ℕ) (q : Request) → getElem? [] i ≡ some q → (a : ℕ) × (getElem? (x .0) i ≡ some a) × Answered (goalOf names constants (q .what)) a (x .1)))
+        (good-inj e)
+        (h, further-refl w, λ i q z. clash (cc))
+  answerAll-going place (q ∷ requests) w r asks e h =
+      after (atRecord place (answer (q .ldc) (goalOf names constants (q .what)) w)) _ r e λ a here e₁.
+      after (answerAll names constants (suc place) requests (a .1)) _ r e₁ λ rest there e₂.
+      let one = answer-going table cited top held raws (q .ldc) (goalOf names constants (q .what)) w a (asks .0 .0) (asks .0 .1) (atRecord-good place _ a here) h in
+      let more = answerAll-going (suc place) requests (a .1) rest (asks .1) there (one .0) in
+      subst
+        (λ (x : List ℕ × Ready).
+        Going table top held raws (x .1)
+        × Further w (x .1)
+        × ((i : ℕ) (p : Request) → getElem? (q ∷ requests) i ≡ some p → (b : ℕ) × (getElem? (x .0) i ≡ some b) × Answered (goalOf names constants (p .what)) b (x .1)))
+        (good-inj e₂)
+        (more .0, further-trans w (a .1) (rest .1) (one .2) (more .1), at a rest one more)
+    where
+      at :
+          (a : ℕ × Ready) (rest : List ℕ × Ready) →
+          Going table top held raws (a .1) × Answered (goalOf names constants (q .what)) (a .0) (a .1) × Further w (a .1) →
+          Going table top held raws (rest .1)
+          × Further (a .1) (rest .1)
+          × ((i : ℕ) (p : Request) → getElem? requests i ≡ some p → (b : ℕ) × (getElem? (rest .0) i ≡ some b) × Answered (goalOf names constants (p .what)) b (rest .1)) →
+          (i : ℕ) (p : Request) →
+          getElem? (q ∷ requests) i ≡ some p →
+          (b : ℕ) × (getElem? (a .0 ∷ rest .0) i ≡ some b) × Answered (goalOf names constants (p .what)) b (rest .1)
+      at a rest one more zero p z =
+          let same : q ≡ p = cc in
+          (a .0, refl, subst (λ p. Answered (goalOf names constants (p .what)) (a .0) (rest .1)) same (answered-further _ (a .0) (a .1) (rest .1) (more .1) (one .1)))
+      at a rest one more (suc i) p z = more .2 i p z

@@ -1,0 +1,1215 @@
+-- What `buildAll` leaves behind: every slot given out, and every raw one, holds its node with numbers that stand for its children; nothing
+-- else is held; raw bootstraps stand at their indexes; and the pool is one that occurs. The theorems stand at the end. Assumes nothing.
+use mathlib.Core.Bool.{Bool, true, false, _&&_}
+use mathlib.Core.List.{List, [], _∷_, _++_, map, reverse, reverseAux, append-assoc, reverse-reverse}
+use mathlib.Core.Logic.{_⊎_, inl, inr}
+use mathlib.Core.Option.{Option, none, some}
+use mathlib.Core.Path.{_≡_, refl, sym, _∙_, ap, subst}
+use Prim.Native.Nat.{ℕ, zero, suc, _+_, _-_, _≤_, _<_}
+use native.Mathlib.Omega.{arith}
+use lib.Dec.{eqb, ltb}
+use lib.ListN.{length, getElem?, replicate, length-append}
+use borrow.Author.Tests.{ltb-true, ltb-false, eqb-true, eqb-false, eq-eqb}
+use Rattle.definition.specs.Basics.{Result, good, bad, _>>=_, same, lookup}
+use Rattle.definition.specs.Shapes.{bootstrapTag, Entry, withKids, isWide}
+use Rattle.definition.specs.Definitions.{Held, tagAt}
+use Rattle.definition.specs.Resolving.{Node, firstNode}
+use Rattle.definition.specs.Slots.{Slots, slotFor}
+use Rattle.definition.specs.Building.{Pool, give, allocate, slotOf, slotsOf, Row, Rows, writeRaw, indexOf, takeIndex, rowIndex, fillHoles}
+use Rattle.definition.specs.Building.{Made, kidsOf, nodeNumber, childNumber, childNumbers, finish, withPending, drain, rawRows, buildAll}
+use Rattle.laws.specs.Statements.{Among, times, Occurs, afterRequest, stackTaken}
+use Rattle.laws.proofs.NumbersLists.{among-nil, among-cons-cases, among-there, get-append, among-front, among-back, get-append-cases, among-append-cases}
+use Rattle.laws.proofs.NumbersLists.{among-replicate, get-filled, get-seam, length-filled, get-below, map-append, count-step, Rises, KeysBelow}
+
+-- ---- what is said
+
+-- two lists of one length, related place by place
+abbrev pub Each : (ℕ → ℕ → Type 0) → List ℕ → List ℕ → Type 0
+Each R [] [] = Unit {0}
+Each R [] (n ∷ ns) = ⊥
+Each R (c ∷ cs) [] = ⊥
+Each R (c ∷ cs) (n ∷ ns) = R c n × Each R cs ns
+
+-- the number that stands for a child that is a constant: a raw number itself, or the slot given to its node
+abbrev pub SlotFor : List (ℕ × ℕ) → ℕ → ℕ → Type 0
+SlotFor given child n = ((child < firstNode) × (n ≡ child)) ⊎ ((firstNode ≤ child) × (lookup (child - firstNode) given ≡ some n))
+
+-- the number that stands for any child: for a bootstrap node the index of a row that has its children's numbers
+abbrev pub NumberFor : List Node → List (ℕ × ℕ) → List Row → ℕ → ℕ → Type 0
+NumberFor nodes given rows child n =
+    ((child < firstNode) × (n ≡ child))
+    ⊎ ((firstNode ≤ child) × (tagAt nodes (child - firstNode) ≡ bootstrapTag → ⊥) × (lookup (child - firstNode) given ≡ some n))
+    ⊎ ((firstNode ≤ child)
+    × (tagAt nodes (child - firstNode) ≡ bootstrapTag)
+    × (row : Row)
+    × (getElem? rows n ≡ some row)
+    × Each (SlotFor given) (kidsOf nodes (child - firstNode)) row)
+
+-- the slots that are to hold a node, with their nodes: those given out, and the raw ones
+abbrev pub toHold : List (ℕ × ℕ) → List (ℕ × ℕ) → List (ℕ × ℕ)
+toHold given raws = map (λ r. (r .1, r .0)) given ++ raws
+
+-- a slot holds a node of the list, with numbers that stand for its children
+abbrev pub FinishedAt : List Node → List (ℕ × ℕ) → List Row → List (ℕ × Entry ℕ ℕ) → ℕ → ℕ → Type 0
+FinishedAt nodes given rows owned s k =
+    (nd : Node)
+    × (ns : List ℕ)
+    × (getElem? nodes k ≡ some nd)
+    × Among (s, withKids ns nd) owned
+    × Each (NumberFor nodes given rows) (nd .kids) ns
+
+-- what a slot holds is such a node, and it is to hold it
+abbrev pub OwnerOf : List Node → List (ℕ × ℕ) → List (ℕ × ℕ) → List Row → ℕ → Entry ℕ ℕ → Type 0
+OwnerOf nodes given raws rows s e =
+    (k : ℕ)
+    × (nd : Node)
+    × (ns : List ℕ)
+    × (e ≡ withKids ns nd)
+    × (getElem? nodes k ≡ some nd)
+    × Among (s, k) (toHold given raws)
+    × Each (NumberFor nodes given rows) (nd .kids) ns
+
+-- a row has the slots of the children of a node, which is that of a raw bootstrap or a bootstrap that was reached
+abbrev pub RowFrom : List Node → List (ℕ × ℕ) → List (ℕ × ℕ) → Row → Type 0
+RowFrom nodes indexes given row =
+    (k : ℕ) × Each (SlotFor given) (kidsOf nodes k) row × (((i : ℕ) × Among (i, k) indexes) ⊎ (tagAt nodes k ≡ bootstrapTag))
+
+-- the rows that building ends with
+abbrev pub rowsOf : Made → List Row
+rowsOf m = fillHoles (m .rows .written) (m .rows .waiting)
+
+-- children that are nodes are nodes of the list
+abbrev pub InNodes : List Node → List ℕ → Type 0
+InNodes nodes children = (c : ℕ) → Among c children → firstNode ≤ c → c < firstNode + length nodes
+
+abbrev pub KidsIn : List Node → Type 0
+KidsIn nodes = (k : ℕ) (nd : Node) → getElem? nodes k ≡ some nd → InNodes nodes (nd .kids)
+
+-- nodes on the building stack are nodes of the list
+abbrev pub StackIn : List Node → List (ℕ × ℕ) → Type 0
+StackIn nodes pending = (s k : ℕ) → Among (s, k) pending → k < length nodes
+
+-- what building starts from: the stack has what is to be held, and nodes lead to nodes
+pub record Starts (nodes : List Node) (raws : List (ℕ × ℕ)) (p : Pool) : Type 0 where
+  pub kidsIn : KidsIn nodes
+  pub stack : p .pending ≡ toHold (p .given) raws
+  pub stackIn : StackIn nodes (p .pending)
+
+-- what a table has at a key, another has too
+pub record SlotsKept (given given′ : List (ℕ × ℕ)) : Type 0 where
+  pub slotStays : (k s : ℕ) → lookup k given ≡ some s → lookup k given′ ≡ some s
+
+-- what a list has at a place, another has too
+pub record RowsKept (rows rows′ : List Row) : Type 0 where
+  pub rowStays : (i : ℕ) (row : Row) → getElem? rows i ≡ some row → getElem? rows′ i ≡ some row
+
+pub rows-same : {rows : List Row} → RowsKept rows rows
+rows-same = record { rowStays = λ i row e. e }
+
+pub rows-twice : {a b c : List Row} → RowsKept a b → RowsKept b c → RowsKept a c
+rows-twice ab bc = record { rowStays = λ i row e. bc .rowStays i row (ab .rowStays i row e) }
+
+rows-append : (written more : List Row) → RowsKept written (written ++ more)
+rows-append written more = record { rowStays = get-append written more }
+
+pub slots-same : {given : List (ℕ × ℕ)} → SlotsKept given given
+slots-same = record { slotStays = λ k s e. e }
+
+pub slots-twice : {a b c : List (ℕ × ℕ)} → SlotsKept a b → SlotsKept b c → SlotsKept a c
+slots-twice ab bc = record { slotStays = λ k s e. bc .slotStays k s (ab .slotStays k s e) }
+
+-- ---- results that are good
+
+pub good-same : {A : Type 0} {a b : A} → _≡_ {A = Result ℕ A} (good a) (good b) → a ≡ b
+good-same {a} {b} e = cc
+
+pub not-bad : {A : Type 0} {a : A} {code : ℕ} → _≡_ {A = Result ℕ A} (bad code) (good a) → ⊥
+not-bad {a} {code} e = let z : _≡_ {A = ℕ} 0 1 = cc in omega arith
+
+-- the stages of a chain that ends well
+pub bound : {A B : Type 0} (x : Result ℕ A) (f : A → Result ℕ B) (b : B) → (x >>= f) ≡ good b → (a : A) × (x ≡ good a) × (f a ≡ good b)
+bound (good a) f b e = (a, refl, e)
+bound (bad code) f b e = absurd (not-bad e)
+
+-- ---- tables with numbers for keys
+
+pub lookup-here : (k s : ℕ) (given : List (ℕ × ℕ)) → lookup k ((k, s) ∷ given) ≡ some s
+unfolding lookup
+lookup-here k s given = rw (eq-eqb k k refl, lookup)
+
+-- a new key hides no other
+pub lookup-kept : (k s : ℕ) (given : List (ℕ × ℕ)) → lookup k given ≡ none → SlotsKept given ((k, s) ∷ given)
+unfolding lookup
+lookup-kept k s given missing = record { slotStays = λ k′ s′ e. go k′ s′ e (eqb k′ k) refl }
+  where
+    go : (k′ s′ : ℕ) → lookup k′ given ≡ some s′ → (b : Bool) → eqb k′ k ≡ b → lookup k′ ((k, s) ∷ given) ≡ some s′
+    go k′ s′ e true t =
+        let q : k′ ≡ k = eqb-true k′ k t in
+        let z : _≡_ {A = ℕ} 0 1 = cc in
+        absurd (omega arith)
+    go k′ s′ e false t = rw (t, lookup) e
+
+-- a slot that is given is to hold its node
+pub given-held : (k s : ℕ) (given raws : List (ℕ × ℕ)) → lookup k given ≡ some s → Among (s, k) (toHold given raws)
+unfolding lookup
+given-held k s [] raws e = let z : _≡_ {A = ℕ} 0 1 = cc in absurd (omega arith)
+given-held k s (r ∷ given) raws e = go (eqb k (r .0)) refl (given-held k s given raws)
+  where
+    go :
+        (b : Bool) →
+        eqb k (r .0) ≡ b →
+        (lookup k given ≡ some s → Among (s, k) (toHold given raws)) →
+        Among (s, k) (toHold (r ∷ given) raws)
+    go true t rest =
+        let q = sym (eqb-true k (r .0) t) in
+        let e′ : some (r .1) ≡ some s = rw (t, lookup) at e in
+        let q′ : r .1 ≡ s = cc in
+        (0, λ j. some (q′ j, q j))
+    go false t rest = among-there (s, k) (r .1, r .0) (toHold given raws) (rest (rw (t, lookup) at e))
+
+-- ---- numbers that stand for children go on standing for them
+
+pub each-map : {R S : ℕ → ℕ → Type 0} (cs ns : List ℕ) → ((c n : ℕ) → R c n → S c n) → Each R cs ns → Each S cs ns
+each-map [] [] f h = tt
+each-map [] (n ∷ ns) f h = h
+each-map (c ∷ cs) [] f h = h
+each-map (c ∷ cs) (n ∷ ns) f h = (f c n (h .0), each-map cs ns f (h .1))
+
+pub slot-kept : {given given′ : List (ℕ × ℕ)} → SlotsKept given given′ → (c n : ℕ) → SlotFor given c n → SlotFor given′ c n
+slot-kept kept c n (inl h) = inl h
+slot-kept kept c n (inr h) = inr (h .0, kept .slotStays (c - firstNode) n (h .1))
+
+pub slots-kept :
+    {given given′ : List (ℕ × ℕ)} → SlotsKept given given′ → (cs ns : List ℕ) → Each (SlotFor given) cs ns → Each (SlotFor given′) cs ns
+slots-kept {given} {given′} kept cs ns = each-map {R = SlotFor given} {S = SlotFor given′} cs ns (slot-kept kept)
+
+pub number-kept :
+    (nodes : List Node) {given given′ : List (ℕ × ℕ)} {rows rows′ : List Row} →
+    SlotsKept given given′ →
+    RowsKept rows rows′ →
+    (c n : ℕ) →
+    NumberFor nodes given rows c n →
+    NumberFor nodes given′ rows′ c n
+number-kept nodes kept more c n (inl h) = inl h
+number-kept nodes kept more c n (inr (inl h)) = inr (inl (h .0, h .1, kept .slotStays (c - firstNode) n (h .2)))
+number-kept nodes kept more c n (inr (inr h)) =
+    inr (inr (h .0, h .1, h .2, more .rowStays n (h .2) (h .3), slots-kept kept (kidsOf nodes (c - firstNode)) (h .2) (h .4)))
+
+pub numbers-kept :
+    (nodes : List Node) {given given′ : List (ℕ × ℕ)} {rows rows′ : List Row} →
+    SlotsKept given given′ →
+    RowsKept rows rows′ →
+    (cs ns : List ℕ) →
+    Each (NumberFor nodes given rows) cs ns →
+    Each (NumberFor nodes given′ rows′) cs ns
+numbers-kept nodes {given} {given′} {rows} {rows′} kept more cs ns =
+    each-map {R = NumberFor nodes given rows} {S = NumberFor nodes given′ rows′} cs ns (number-kept nodes kept more)
+
+-- ---- branches of the definition
+
+-- a request whose node has a slot, and one whose node hasn't
+pub allocate-has : (nodes : List Node) (ldc : Bool) (k s : ℕ) (p : Pool) → lookup k (p .given) ≡ some s → allocate nodes ldc k p ≡ good (s, p)
+unfolding allocate
+allocate-has nodes ldc k s p e = rw (e, allocate)
+
+pub allocate-new :
+    (nodes : List Node) (ldc : Bool) (k : ℕ) (p : Pool) →
+    lookup k (p .given) ≡ none →
+    allocate nodes ldc k p ≡ give ldc k p (slotFor (isWide (tagAt nodes k)) ldc (p .slots))
+unfolding allocate
+allocate-new nodes ldc k p e = rw (e, allocate)
+
+pub slotOf-raw : (nodes : List Node) (ldc : Bool) (c : ℕ) (p : Pool) → ltb c firstNode ≡ true → slotOf nodes ldc c p ≡ good (c, p)
+unfolding slotOf
+slotOf-raw nodes ldc c p t = rw (t, slotOf)
+
+pub slotOf-node :
+    (nodes : List Node) (ldc : Bool) (c : ℕ) (p : Pool) → ltb c firstNode ≡ false → slotOf nodes ldc c p ≡ allocate nodes ldc (c - firstNode) p
+unfolding slotOf
+slotOf-node nodes ldc c p t = rw (t, slotOf)
+
+writeRaw-next :
+    (written : List Row) (r : ℕ × Row) (waiting : List (ℕ × Row)) →
+    eqb (r .0) (length written) ≡ true →
+    writeRaw written (r ∷ waiting) ≡ writeRaw (written ++ r .1 ∷ []) waiting
+unfolding writeRaw
+writeRaw-next written r waiting t = rw (t, writeRaw)
+
+writeRaw-stop :
+    (written : List Row) (r : ℕ × Row) (waiting : List (ℕ × Row)) →
+    eqb (r .0) (length written) ≡ false →
+    writeRaw written (r ∷ waiting) ≡ (written, r ∷ waiting)
+unfolding writeRaw
+writeRaw-stop written r waiting t = rw (t, writeRaw)
+
+rowIndex-has : (row : Row) (rows : Rows) (i : ℕ) → indexOf row (rows .inline) ≡ some i → rowIndex row rows ≡ good (i, rows)
+unfolding rowIndex
+rowIndex-has row rows i e = rw (e, rowIndex)
+
+rowIndex-new :
+    (row : Row) (rows : Rows) →
+    indexOf row (rows .inline) ≡ none →
+    rowIndex row rows ≡ takeIndex row (rows .inline) (writeRaw (rows .written) (rows .waiting))
+unfolding rowIndex
+rowIndex-new row rows e = rw (e, rowIndex)
+
+takeIndex-next :
+    (row : Row) (inline : List (Row × ℕ)) (w : List Row × List (ℕ × Row)) →
+    ltb (length (w .0)) 65535 ≡ true →
+    takeIndex row inline w
+    ≡ good (length (w .0), record { written = w .0 ++ row ∷ []; waiting = w .1; inline = (row, length (w .0)) ∷ inline })
+unfolding takeIndex
+takeIndex-next row inline w t = rw (t, takeIndex)
+
+takeIndex-full :
+    (row : Row) (inline : List (Row × ℕ)) (w : List Row × List (ℕ × Row)) →
+    ltb (length (w .0)) 65535 ≡ false →
+    takeIndex row inline w ≡ bad 17
+unfolding takeIndex
+takeIndex-full row inline w t = rw (t, takeIndex)
+
+nodeNumber-row :
+    (nodes : List Node) (k : ℕ) (p : Pool) (rows : Rows) →
+    eqb (tagAt nodes k) bootstrapTag ≡ true →
+    nodeNumber nodes k p rows ≡ (slotsOf nodes (kidsOf nodes k) p >>= λ r. rowIndex (r .0) rows >>= λ i. good (i .0, r .1, i .1))
+unfolding nodeNumber
+nodeNumber-row nodes k p rows t = rw (t, nodeNumber)
+
+nodeNumber-slot :
+    (nodes : List Node) (k : ℕ) (p : Pool) (rows : Rows) →
+    eqb (tagAt nodes k) bootstrapTag ≡ false →
+    nodeNumber nodes k p rows ≡ (allocate nodes false k p >>= λ r. good (r .0, r .1, rows))
+unfolding nodeNumber
+nodeNumber-slot nodes k p rows t = rw (t, nodeNumber)
+
+childNumber-raw : (nodes : List Node) (c : ℕ) (p : Pool) (rows : Rows) → ltb c firstNode ≡ true → childNumber nodes c p rows ≡ good (c, p, rows)
+unfolding childNumber
+childNumber-raw nodes c p rows t = rw (t, childNumber)
+
+childNumber-node :
+    (nodes : List Node) (c : ℕ) (p : Pool) (rows : Rows) → ltb c firstNode ≡ false → childNumber nodes c p rows ≡ nodeNumber nodes (c - firstNode) p rows
+unfolding childNumber
+childNumber-node nodes c p rows t = rw (t, childNumber)
+
+-- the children of a node are nodes of the list, if those of all are
+pub kids-in : (nodes : List Node) → KidsIn nodes → (k : ℕ) → InNodes nodes (kidsOf nodes k)
+unfolding kidsOf
+kids-in nodes h k = go (getElem? nodes k) refl
+  where
+    go : (o : Option Node) → getElem? nodes k ≡ o → InNodes nodes (kidsOf nodes k)
+    go none e = rw (e, kidsOf) (λ c m. absurd (among-nil c m))
+    go (some nd) e = rw (e, kidsOf) (h k nd e)
+
+-- ---- inline rows
+
+-- every inline row is written at its index
+abbrev pub InlineThere : Rows → Type 0
+InlineThere rows = (row : Row) (i : ℕ) → Among (row, i) (rows .inline) → getElem? (rows .written) i ≡ some row
+
+and-both : (a b : Bool) → (a && b) ≡ true → (a ≡ true) × (b ≡ true)
+and-both true b e = (refl, e)
+and-both false b e = let z : _≡_ {A = ℕ} 0 1 = cc in absurd (omega arith)
+
+-- rows that pass the test are equal
+pub same-true : (a b : List ℕ) → same a b ≡ true → a ≡ b
+unfolding same
+same-true [] [] e = refl
+same-true [] (y ∷ b) e = let z : _≡_ {A = ℕ} 0 1 = cc in absurd (omega arith)
+same-true (x ∷ a) [] e = let z : _≡_ {A = ℕ} 0 1 = cc in absurd (omega arith)
+same-true (x ∷ a) (y ∷ b) e =
+    let both = and-both (eqb x y) (same a b) e in
+    let q = eqb-true x y (both .0) in
+    let q′ = same-true a b (both .1) in
+    cc
+
+-- an inline row that is found is there
+pub indexOf-there : (row : Row) (inline : List (Row × ℕ)) (i : ℕ) → indexOf row inline ≡ some i → Among (row, i) inline
+unfolding indexOf
+indexOf-there row [] i e = let z : _≡_ {A = ℕ} 0 1 = cc in absurd (omega arith)
+indexOf-there row (r ∷ inline) i e = go (same row (r .0)) refl (indexOf-there row inline i)
+  where
+    go : (b : Bool) → same row (r .0) ≡ b → (indexOf row inline ≡ some i → Among (row, i) inline) → Among (row, i) (r ∷ inline)
+    go true t rest =
+        let q = sym (same-true row (r .0) t) in
+        let e′ : some (r .1) ≡ some i = rw (t, indexOf) at e in
+        let q′ : r .1 ≡ i = cc in
+        (0, λ j. some (q j, q′ j))
+    go false t rest = among-there (row, i) r inline (rest (rw (t, indexOf) at e))
+
+-- ---- what is made while building
+
+pub finished-kept :
+    (nodes : List Node) {given given′ : List (ℕ × ℕ)} {rows rows′ : List Row} (owned owned′ : List (ℕ × Entry ℕ ℕ)) (s k : ℕ) →
+    SlotsKept given given′ →
+    RowsKept rows rows′ →
+    ((e : Entry ℕ ℕ) → Among (s, e) owned → Among (s, e) owned′) →
+    FinishedAt nodes given rows owned s k →
+    FinishedAt nodes given′ rows′ owned′ s k
+finished-kept nodes owned owned′ s k kept more still f =
+    (f .0, f .1, f .2, still (withKids (f .1) (f .0)) (f .3), numbers-kept nodes kept more (f .0 .kids) (f .1) (f .4))
+
+pub owner-kept :
+    (nodes : List Node) {given given′ : List (ℕ × ℕ)} (raws : List (ℕ × ℕ)) {rows rows′ : List Row} (s : ℕ) (e : Entry ℕ ℕ) →
+    SlotsKept given given′ →
+    RowsKept rows rows′ →
+    ((k : ℕ) → Among (s, k) (toHold given raws) → Among (s, k) (toHold given′ raws)) →
+    OwnerOf nodes given raws rows s e →
+    OwnerOf nodes given′ raws rows′ s e
+owner-kept nodes raws s e kept more still f =
+    (f .0, f .1, f .2, f .3, f .4, still (f .0) (f .5), numbers-kept nodes kept more (f .1 .kids) (f .2) (f .6))
+
+-- while the stack is taken from: what is to be held is on the stack or finished
+pub record Building (nodes : List Node) (raws pending : List (ℕ × ℕ)) (m : Made) : Type 0 where
+  pub stackIn : StackIn nodes pending
+  pub stackFrom : (s k : ℕ) → Among (s, k) pending → Among (s, k) (toHold (m .pool .given) raws)
+  pub done :
+      (s k : ℕ) →
+      Among (s, k) (toHold (m .pool .given) raws) →
+      Among (s, k) pending ⊎ FinishedAt nodes (m .pool .given) (m .rows .written) (m .owned) s k
+  pub owners : (s : ℕ) (e : Entry ℕ ℕ) → Among (s, e) (m .owned) → OwnerOf nodes (m .pool .given) raws (m .rows .written) s e
+  pub counted :
+      (s : ℕ) →
+      times s (map (λ o. o .0) (m .owned)) + times s (map (λ r. r .0) pending) ≡ times s (map (λ r. r .0) (toHold (m .pool .given) raws))
+  pub inlined : InlineThere (m .rows)
+
+-- the pool once the stack is another
+abbrev takenPool : List (ℕ × ℕ) → Pool → Pool
+takenPool pending p = record { slots = p .slots; given = p .given; pending = pending }
+
+-- one more is taken from the stack and finished
+abbrev finishedMade : ℕ → Node → Made → List ℕ × Pool × Rows → Made
+finishedMade s nd m r = record { pool = r .1; rows = r .2; owned = (s, withKids (r .0) nd) ∷ m .owned }
+
+finish-some :
+    (nodes : List Node) (s : ℕ) (pending : List (ℕ × ℕ)) (m m′ : Made) (nd : Node) →
+    finish nodes s (withPending pending m) (some nd) ≡ good m′ →
+    (r : List ℕ × Pool × Rows) × (childNumbers nodes (nd .kids) (takenPool pending (m .pool)) (m .rows) ≡ good r) × (finishedMade s nd m r ≡ m′)
+unfolding finish withPending
+finish-some nodes s pending m m′ nd e =
+    let first = bound (childNumbers nodes (nd .kids) (takenPool pending (m .pool)) (m .rows)) (λ r. good (finishedMade s nd m r)) m′ e in
+    (first .0, first .1, good-same (first .2))
+
+-- what building works on once raw bootstraps have their slots
+abbrev startMade : List (ℕ × Row) × Pool → Made
+startMade r = record { pool = r .1; rows = record { written = []; waiting = r .0; inline = [] }; owned = [] }
+
+-- ---- pools grow
+
+module _ (nodes : List Node) where
+  -- a pool after some requests: the slots given out and the stack have the same new ones in front, and the pool still occurs
+  pub record PoolGrows (p p′ : Pool) : Type 0 where
+    pub kept : SlotsKept (p .given) (p′ .given)
+    pub new : List (ℕ × ℕ)
+    pub newIn : StackIn nodes new
+    pub stacked : p′ .pending ≡ new ++ p .pending
+    pub gave : map (λ r. (r .1, r .0)) (p′ .given) ≡ new ++ map (λ r. (r .1, r .0)) (p .given)
+    pub occurs : (top : ℕ) (held : List (ℕ × Held)) → Occurs top held nodes p → Occurs top held nodes p′
+
+  pub grown-not : {p : Pool} → PoolGrows p p
+  grown-not =
+      record { kept = slots-same; new = []; newIn = λ s k m. absurd (among-nil (s, k) m); stacked = refl; gave = refl; occurs = λ top held o. o }
+
+  pub grown-twice : {p p′ p″ : Pool} → PoolGrows p p′ → PoolGrows p′ p″ → PoolGrows p p″
+  grown-twice {p} a b =
+      record {
+        kept = slots-twice (a .kept) (b .kept);
+        new = b .new ++ a .new;
+        newIn = λ s k m. either s k (among-append-cases (s, k) (b .new) (a .new) m);
+        stacked = b .stacked ∙ ap (λ l. b .new ++ l) (a .stacked) ∙ sym (append-assoc (b .new) (a .new) (p .pending));
+        gave = b .gave ∙ ap (λ l. b .new ++ l) (a .gave) ∙ sym (append-assoc (b .new) (a .new) (map (λ r. (r .1, r .0)) (p .given)));
+        occurs = λ top held o. b .occurs top held (a .occurs top held o);
+      }
+    where
+      either : (s k : ℕ) → Among (s, k) (b .new) ⊎ Among (s, k) (a .new) → k < length nodes
+      either s k (inl m) = b .newIn s k m
+      either s k (inr m) = a .newIn s k m
+
+  -- what the stack has is what is to be held, still
+  grown-stack : {p p′ : Pool} (raws : List (ℕ × ℕ)) → PoolGrows p p′ → p .pending ≡ toHold (p .given) raws → p′ .pending ≡ toHold (p′ .given) raws
+  grown-stack {p} raws g e =
+      g .stacked
+      ∙ ap (λ l. g .new ++ l) e
+      ∙ sym (append-assoc (g .new) (map (λ x. (x .1, x .0)) (p .given)) raws)
+      ∙ sym (ap (λ l. l ++ raws) (g .gave))
+
+  -- ---- requests
+
+  -- what a request leaves: the pool has grown, and the node has the slot
+  abbrev pub Allocated : ℕ → Pool → ℕ × Pool → Type 0
+  Allocated k p r = PoolGrows p (r .1) × (lookup k (r .1 .given) ≡ some (r .0))
+
+  given-new :
+      (ldc : Bool) (k : ℕ) (p : Pool) (r : ℕ × Pool) (found : Option (ℕ × Slots)) →
+      k < length nodes →
+      lookup k (p .given) ≡ none →
+      give ldc k p found ≡ good r →
+      allocate nodes ldc k p ≡ good r →
+      Allocated k p r
+  unfolding give
+  given-new ldc k p r none below missing e asked = absurd (not-bad e)
+  given-new ldc k p r (some f) below missing e asked =
+      let same = good-same e in (
+        record {
+          kept = rw (← same) (lookup-kept k (f .0) (p .given) missing);
+          new = (f .0, k) ∷ [];
+          newIn = λ s k′ m. in-nodes s k′ (among-cons-cases (s, k′) (f .0, k) [] m);
+          stacked = rw (← same);
+          gave = rw (← same);
+          occurs = λ top held o. afterRequest ldc k (r .0) (r .1) o below asked;
+        },
+        rw (← same) (lookup-here k (f .0) (p .given)),
+      )
+    where
+      in-nodes : (s k′ : ℕ) → _≡_ {A = ℕ × ℕ} (s, k′) (f .0, k) ⊎ Among {A = ℕ × ℕ} (s, k′) [] → k′ < length nodes
+      in-nodes s k′ (inl q) = let q′ : k′ ≡ k = ap (λ x. x .1) q in omega arith
+      in-nodes s k′ (inr m) = absurd (among-nil (s, k′) m)
+
+  pub allocated : (ldc : Bool) (k : ℕ) (p : Pool) (r : ℕ × Pool) → k < length nodes → allocate nodes ldc k p ≡ good r → Allocated k p r
+  allocated ldc k p r below asked = go (lookup k (p .given)) refl
+    where
+      go : (o : Option ℕ) → lookup k (p .given) ≡ o → Allocated k p r
+      go none e = given-new ldc k p r (slotFor (isWide (tagAt nodes k)) ldc (p .slots)) below e (sym (allocate-new nodes ldc k p e) ∙ asked) asked
+      go (some s) e = subst (λ x. Allocated k p x) (good-same (sym (allocate-has nodes ldc k s p e) ∙ asked)) (grown-not, e)
+
+  -- ---- the slots of children that are constants
+
+  abbrev pub Slotted : ℕ → Pool → ℕ × Pool → Type 0
+  Slotted c p r = PoolGrows p (r .1) × SlotFor (r .1 .given) c (r .0)
+
+  pub slotted :
+      (ldc : Bool) (c : ℕ) (p : Pool) (r : ℕ × Pool) →
+      (firstNode ≤ c → c < firstNode + length nodes) →
+      slotOf nodes ldc c p ≡ good r →
+      Slotted c p r
+  slotted ldc c p r below e = go (ltb c firstNode) refl
+    where
+      go : (b : Bool) → ltb c firstNode ≡ b → Slotted c p r
+      go true t =
+          subst (λ x. Slotted c p x) (good-same (sym (slotOf-raw nodes ldc c p t) ∙ e)) (grown-not, inl (ltb-true c firstNode t, refl))
+      go false t =
+          let h = ltb-false c firstNode t in
+          let u = below h in
+          let got = allocated ldc (c - firstNode) p r (omega arith) (sym (slotOf-node nodes ldc c p t) ∙ e) in
+          (got .0, inr (h, got .1))
+
+  in-nodes-tail : (c : ℕ) (cs : List ℕ) → InNodes nodes (c ∷ cs) → InNodes nodes cs
+  in-nodes-tail c cs h c′ m = h c′ (among-there c′ c cs m)
+
+  -- children's slots: the pool has grown, and each child has its slot
+  abbrev pub AllSlotted : List ℕ → Pool → List ℕ × Pool → Type 0
+  AllSlotted cs p r = PoolGrows p (r .1) × Each (SlotFor (r .1 .given)) cs (r .0)
+
+  pub allSlotted : (cs : List ℕ) (p : Pool) (r : List ℕ × Pool) → InNodes nodes cs → slotsOf nodes cs p ≡ good r → AllSlotted cs p r
+  unfolding slotsOf
+  allSlotted [] p r below e = subst (λ x. AllSlotted [] p x) (good-same e) (grown-not, tt)
+  allSlotted (c ∷ cs) p r below e =
+      let first = bound (slotOf nodes false c p) (λ x. slotsOf nodes cs (x .1) >>= λ rest. good (x .0 ∷ rest .0, rest .1)) r e in
+      let x = first .0 in
+      let others = bound (slotsOf nodes cs (x .1)) (λ rest. good (x .0 ∷ rest .0, rest .1)) r (first .2) in
+      let one = slotted false c p x (below c (0, refl)) (first .1) in
+      let more = allSlotted cs (x .1) (others .0) (in-nodes-tail c cs below) (others .1) in
+      subst
+      (λ y. AllSlotted (c ∷ cs) p y)
+      (good-same (others .2))
+      (grown-twice (one .0) (more .0), (slot-kept (more .0 .kept) c (x .0) (one .1), more .1))
+
+  -- ---- raw bootstraps
+
+  -- raw bootstraps and their rows, index by index: a row has the slots of its node's children
+  abbrev pub RawEach : List (ℕ × ℕ) → List (ℕ × ℕ) → List (ℕ × Row) → Type 0
+  RawEach given [] [] = Unit {0}
+  RawEach given [] (w ∷ waiting) = ⊥
+  RawEach given (x ∷ indexes) [] = ⊥
+  RawEach given (x ∷ indexes) (w ∷ waiting) = (x .0 ≡ w .0) × Each (SlotFor given) (kidsOf nodes (x .1)) (w .1) × RawEach given indexes waiting
+
+  raw-kept :
+      {given given′ : List (ℕ × ℕ)} (indexes : List (ℕ × ℕ)) (waiting : List (ℕ × Row)) →
+      SlotsKept given given′ →
+      RawEach given indexes waiting →
+      RawEach given′ indexes waiting
+  raw-kept [] [] kept h = tt
+  raw-kept [] (w ∷ waiting) kept h = h
+  raw-kept (x ∷ indexes) [] kept h = h
+  raw-kept (x ∷ indexes) (w ∷ waiting) kept h =
+      (h .0, slots-kept kept (kidsOf nodes (x .1)) (w .1) (h .1), raw-kept indexes waiting kept (h .2))
+
+  raw-rises :
+      (given indexes : List (ℕ × ℕ)) (waiting : List (ℕ × Row)) (least : ℕ) → RawEach given indexes waiting → Rises least indexes → Rises least waiting
+  raw-rises given [] [] least h up = tt
+  raw-rises given [] (w ∷ waiting) least h up = absurd h
+  raw-rises given (x ∷ indexes) [] least h up = tt
+  raw-rises given (x ∷ indexes) (w ∷ waiting) least h up =
+      (rw (h .0) at (up .0), rw (h .0) at (raw-rises given indexes waiting (suc (x .0)) (h .2) (up .1)))
+
+  -- every raw bootstrap has its row, and every row its raw bootstrap
+  abbrev RawThere : List (ℕ × ℕ) → List (ℕ × Row) → ℕ → ℕ → Type 0
+  RawThere given waiting i k = (row : Row) × Each (SlotFor given) (kidsOf nodes k) row × Among (i, row) waiting
+
+  raw-there :
+      (given indexes : List (ℕ × ℕ)) (waiting : List (ℕ × Row)) → RawEach given indexes waiting → (i k : ℕ) → Among (i, k) indexes → RawThere given waiting i k
+  raw-there given [] waiting h i k a = absurd (among-nil (i, k) a)
+  raw-there given (x ∷ indexes) [] h i k a = absurd h
+  raw-there given (x ∷ indexes) (w ∷ waiting) h i k a = go (among-cons-cases (i, k) x indexes a) (raw-there given indexes waiting (h .2) i k)
+    where
+      go :
+          _≡_ {A = ℕ × ℕ} (i, k) x ⊎ Among {A = ℕ × ℕ} (i, k) indexes →
+          (Among {A = ℕ × ℕ} (i, k) indexes → RawThere given waiting i k) →
+          RawThere given (w ∷ waiting) i k
+      go (inl q) rest =
+          let q′ : w .0 ≡ i = sym (h .0) ∙ ap (λ (y : ℕ × ℕ). y .0) (sym q) in
+          (w .1, rw (ap (λ (y : ℕ × ℕ). y .1) q) (h .1), (0, λ j. some (q′ j, w .1)))
+      go (inr b) rest =
+          let t = rest b in
+          (t .0, t .1, among-there (i, t .0) w waiting (t .2))
+
+  abbrev RawFrom : List (ℕ × ℕ) → List (ℕ × ℕ) → ℕ → Row → Type 0
+  RawFrom given indexes i row = (k : ℕ) × Each (SlotFor given) (kidsOf nodes k) row × Among (i, k) indexes
+
+  raw-from :
+      (given indexes : List (ℕ × ℕ)) (waiting : List (ℕ × Row)) →
+      RawEach given indexes waiting →
+      (i : ℕ) (row : Row) →
+      Among (i, row) waiting →
+      RawFrom given indexes i row
+  raw-from given [] [] h i row a = absurd (among-nil (i, row) a)
+  raw-from given [] (w ∷ waiting) h i row a = absurd h
+  raw-from given (x ∷ indexes) [] h i row a = absurd (among-nil (i, row) a)
+  raw-from given (x ∷ indexes) (w ∷ waiting) h i row a =
+      go (among-cons-cases (i, row) w waiting a) (raw-from given indexes waiting (h .2) i row)
+    where
+      go :
+          _≡_ {A = ℕ × Row} (i, row) w ⊎ Among {A = ℕ × Row} (i, row) waiting →
+          (Among {A = ℕ × Row} (i, row) waiting → RawFrom given indexes i row) →
+          RawFrom given (x ∷ indexes) i row
+      go (inl q) rest =
+          let q′ : x .0 ≡ i = h .0 ∙ ap (λ (y : ℕ × Row). y .0) (sym q) in
+          (x .1, rw (ap (λ (y : ℕ × Row). y .1) q) (h .1), (0, λ j. some (q′ j, x .1)))
+      go (inr b) rest =
+          let t = rest b in
+          (t .0, t .1, among-there (i, t .0) x indexes (t .2))
+
+  -- raw rows, from those of the higher indexes on: the pool has grown, and the rows are those of the raw bootstraps
+  abbrev RawMade : List (ℕ × ℕ) → Pool → List (ℕ × Row) × Pool → Type 0
+  RawMade indexes p r = PoolGrows p (r .1) × RawEach (r .1 .given) indexes (r .0)
+
+  rawMade :
+      (falling above : List (ℕ × ℕ)) (p : Pool) (rows : List (ℕ × Row)) (r : List (ℕ × Row) × Pool) →
+      KidsIn nodes →
+      RawEach (p .given) above rows →
+      rawRows nodes falling p rows ≡ good r →
+      RawMade (reverseAux falling above) p r
+  unfolding rawRows
+  rawMade [] above p rows r kids h e = subst (λ x. RawMade above p x) (good-same e) (grown-not, h)
+  rawMade (x ∷ falling) above p rows r kids h e =
+      let first = bound (slotsOf nodes (kidsOf nodes (x .1)) p) (λ row. rawRows nodes falling (row .1) ((x .0, row .0) ∷ rows)) r e in
+      let y = first .0 in
+      let one = allSlotted (kidsOf nodes (x .1)) p y (kids-in nodes kids (x .1)) (first .1) in
+      let now : RawEach (y .1 .given) (x ∷ above) ((x .0, y .0) ∷ rows) = (refl, one .1, raw-kept above rows (one .0 .kept) h) in
+      let rest = rawMade falling (x ∷ above) (y .1) ((x .0, y .0) ∷ rows) r kids now (first .2) in
+      (grown-twice (one .0) (rest .0), rest .1)
+
+  -- ---- bootstrap rows
+
+  module _ (indexes : List (ℕ × ℕ)) where
+    -- rows as they stand while rows are added: raw ones wait, by rising index, for indexes that are not written yet; each raw bootstrap is
+    -- written at its index or waits for it; and every row is the row of a node
+    pub record Placed (given : List (ℕ × ℕ)) (written : List Row) (waiting : List (ℕ × Row)) : Type 0 where
+      pub rises : Rises (length written) waiting
+      pub below : KeysBelow 65535 waiting
+      pub fits : length written ≤ 65535
+      pub rawThere :
+          (i k : ℕ) →
+          Among (i, k) indexes →
+          (row : Row) × Each (SlotFor given) (kidsOf nodes k) row × ((getElem? written i ≡ some row) ⊎ Among (i, row) waiting)
+      pub writtenFrom : (i : ℕ) (row : Row) → getElem? written i ≡ some row → RowFrom nodes indexes given row
+      pub waitingFrom : (i : ℕ) (row : Row) → Among (i, row) waiting → RowFrom nodes indexes given row
+
+    -- rows as they stand before the first inline one
+    placed-raw :
+        (given : List (ℕ × ℕ)) (waiting : List (ℕ × Row)) → RawEach given indexes waiting → Rises 0 indexes → KeysBelow 65535 indexes → Placed given [] waiting
+    placed-raw given waiting h up low =
+        record {
+          rises = raw-rises given indexes waiting 0 h up;
+          below = λ i row a. let t = raw-from given indexes waiting h i row a in low i (t .0) (t .2);
+          fits = omega arith;
+          rawThere = λ i k a. let t = raw-there given indexes waiting h i k a in (t .0, t .1, inr (t .2));
+          writtenFrom = λ i row e. absurd (among-nil row (i, e));
+          waitingFrom = λ i row a. let t = raw-from given indexes waiting h i row a in (t .0, t .1, inl (i, t .2));
+        }
+
+    row-kept : {given given′ : List (ℕ × ℕ)} → SlotsKept given given′ → (row : Row) → RowFrom nodes indexes given row → RowFrom nodes indexes given′ row
+    row-kept kept row f = (f .0, slots-kept kept (kidsOf nodes (f .0)) row (f .1), f .2)
+
+    -- rows stay so as slots are given
+    placed-kept :
+        {given given′ : List (ℕ × ℕ)} {written : List Row} {waiting : List (ℕ × Row)} →
+        SlotsKept given given′ →
+        Placed given written waiting →
+        Placed given′ written waiting
+    placed-kept kept h =
+        record {
+          rises = h .rises;
+          below = h .below;
+          fits = h .fits;
+          rawThere = λ i k m. let t = h .rawThere i k m in (t .0, slots-kept kept (kidsOf nodes k) (t .0) (t .1), t .2);
+          writtenFrom = λ i row e. row-kept kept row (h .writtenFrom i row e);
+          waitingFrom = λ i row m. row-kept kept row (h .waitingFrom i row m);
+        }
+
+    -- the first row that waits is written at its index, and at all free ones below
+    placed-filled :
+        (given : List (ℕ × ℕ)) (written : List Row) (r : ℕ × Row) (waiting : List (ℕ × Row)) →
+        Placed given written (r ∷ waiting) →
+        Placed given (written ++ replicate (suc (r .0) - length written) (r .1)) waiting
+    placed-filled given written r waiting h =
+        record {
+          rises = rw long (h .rises .1);
+          below = λ i row m. h .below i row (among-there (i, row) r waiting m);
+          fits = let b = h .below (r .0) (r .1) (0, refl) in omega (arith, long);
+          rawThere = λ i k m. let t = h .rawThere i k m in (t .0, t .1, there i (t .0) (t .2));
+          writtenFrom = λ i row e. from i row (get-append-cases written copies i row e);
+          waitingFrom = λ i row m. h .waitingFrom i row (among-there (i, row) r waiting m);
+        }
+      where
+        copies : List Row
+        copies = replicate (suc (r .0) - length written) (r .1)
+
+        long : length (written ++ copies) ≡ suc (r .0)
+        long = length-filled written (r .0) (r .1) (h .rises .0)
+
+        There : ℕ → Row → Type 0
+        There i row = (getElem? (written ++ copies) i ≡ some row) ⊎ Among (i, row) waiting
+
+        first : (i : ℕ) (row : Row) → _≡_ {A = ℕ × Row} (i, row) r ⊎ Among {A = ℕ × Row} (i, row) waiting → There i row
+        first i row (inl q) =
+            inl (subst (λ (x : ℕ × Row). getElem? (written ++ copies) (x .0) ≡ some (x .1)) (sym q) (get-filled written (r .0) (r .1) (h .rises .0)))
+        first i row (inr m) = inr m
+
+        there : (i : ℕ) (row : Row) → (getElem? written i ≡ some row) ⊎ Among (i, row) (r ∷ waiting) → There i row
+        there i row (inl e) = inl (get-append written copies i row e)
+        there i row (inr m) = first i row (among-cons-cases (i, row) r waiting m)
+
+        from : (i : ℕ) (row : Row) → (getElem? written i ≡ some row) ⊎ Among row copies → RowFrom nodes indexes given row
+        from i row (inl e) = h .writtenFrom i row e
+        from i row (inr m) = rw (among-replicate (suc (r .0) - length written) row (r .1) m) (h .waitingFrom (r .0) (r .1) (0, refl))
+
+    placed-next :
+        (given : List (ℕ × ℕ)) (written : List Row) (r : ℕ × Row) (waiting : List (ℕ × Row)) →
+        r .0 ≡ length written →
+        Placed given written (r ∷ waiting) →
+        Placed given (written ++ r .1 ∷ []) waiting
+    placed-next given written r waiting q h =
+        let one : suc (r .0) - length written ≡ 1 = omega arith in
+        rw one at (placed-filled given written r waiting h)
+
+    -- raw rows whose index is next are written: what was written is kept, and the next index is left free
+    abbrev RawWritten : List (ℕ × ℕ) → List Row → List (ℕ × Row) → List Row × List (ℕ × Row) → Type 0
+    RawWritten given written waiting w =
+        RowsKept written (w .0) × (Placed given written waiting → Placed given (w .0) (w .1) × Rises (suc (length (w .0))) (w .1))
+
+    rawWritten : (given : List (ℕ × ℕ)) (written : List Row) (waiting : List (ℕ × Row)) → RawWritten given written waiting (writeRaw written waiting)
+    unfolding writeRaw
+    rawWritten given written [] = (rows-same, λ h. (h, tt))
+    rawWritten given written (r ∷ waiting) = go (eqb (r .0) (length written)) refl (rawWritten given next waiting)
+      where
+        next : List Row
+        next = written ++ r .1 ∷ []
+
+        later : (r .0 ≡ length written → ⊥) → length written ≤ r .0 → suc (length written) ≤ r .0
+        later n le = omega arith
+
+        go :
+            (b : Bool) →
+            eqb (r .0) (length written) ≡ b →
+            RawWritten given next waiting (writeRaw next waiting) →
+            RawWritten given written (r ∷ waiting) (writeRaw written (r ∷ waiting))
+        go true t rest =
+            subst
+            (λ w. RawWritten given written (r ∷ waiting) w)
+            (sym (writeRaw-next written r waiting t)) (
+              rows-twice (rows-append written (r .1 ∷ [])) (rest .0),
+              λ h. rest .1 (placed-next given written r waiting (eqb-true (r .0) (length written) t) h),
+            )
+        go false t rest =
+            subst
+            (λ w. RawWritten given written (r ∷ waiting) w)
+            (sym (writeRaw-stop written r waiting t))
+            (rows-same, λ h. (h, (later (eqb-false (r .0) (length written) t) (h .rises .0), h .rises .1)))
+
+    -- one more row, at the next index, which no raw row waits for
+    placed-more :
+        (given : List (ℕ × ℕ)) (written : List Row) (waiting : List (ℕ × Row)) (row : Row) →
+        RowFrom nodes indexes given row →
+        length written < 65535 →
+        Rises (suc (length written)) waiting →
+        Placed given written waiting →
+        Placed given (written ++ row ∷ []) waiting
+    placed-more given written waiting row made small later h =
+        record {
+          rises = rw long later;
+          below = h .below;
+          fits = omega (arith, long);
+          rawThere = λ i k m. let t = h .rawThere i k m in (t .0, t .1, there i (t .0) (t .2));
+          writtenFrom = λ i x e. from i x (get-append-cases written (row ∷ []) i x e);
+          waitingFrom = h .waitingFrom;
+        }
+      where
+        long : length (written ++ row ∷ []) ≡ suc (length written)
+        long = simp length-append (omega arith)
+
+        there :
+            (i : ℕ) (x : Row) →
+            (getElem? written i ≡ some x) ⊎ Among (i, x) waiting →
+            (getElem? (written ++ row ∷ []) i ≡ some x) ⊎ Among (i, x) waiting
+        there i x (inl e) = inl (get-append written (row ∷ []) i x e)
+        there i x (inr m) = inr m
+
+        from : (i : ℕ) (x : Row) → (getElem? written i ≡ some x) ⊎ Among x (row ∷ []) → RowFrom nodes indexes given x
+        from i x (inl e) = h .writtenFrom i x e
+        from i x (inr m) = rw (among-replicate 1 x row m) made
+
+    -- what taking an index for a row leaves: the row stands at the index, and rows stay as they are to be
+    abbrev Indexed : List (ℕ × ℕ) → Row → Rows → ℕ × Rows → Type 0
+    Indexed given row rows r =
+        RowsKept (rows .written) (r .1 .written)
+        × InlineThere (r .1)
+        × (getElem? (r .1 .written) (r .0) ≡ some row)
+        × (RowFrom nodes indexes given row → Placed given (rows .written) (rows .waiting) → Placed given (r .1 .written) (r .1 .waiting))
+
+    taken :
+        (given : List (ℕ × ℕ)) (row : Row) (rows : Rows) (r : ℕ × Rows) →
+        InlineThere rows →
+        takeIndex row (rows .inline) (writeRaw (rows .written) (rows .waiting)) ≡ good r →
+        Indexed given row rows r
+    taken given row rows r there e = go (ltb (length (w .0)) 65535) refl
+      where
+        w : List Row × List (ℕ × Row)
+        w = writeRaw (rows .written) (rows .waiting)
+
+        before : RawWritten given (rows .written) (rows .waiting) w
+        before = rawWritten given (rows .written) (rows .waiting)
+
+        kept : RowsKept (rows .written) (w .0 ++ row ∷ [])
+        kept = rows-twice (before .0) (rows-append (w .0) (row ∷ []))
+
+        either :
+            (x : Row) (i : ℕ) →
+            _≡_ {A = Row × ℕ} (x, i) (row, length (w .0)) ⊎ Among {A = Row × ℕ} (x, i) (rows .inline) →
+            getElem? (w .0 ++ row ∷ []) i ≡ some x
+        either x i (inl q) = subst (λ (y : Row × ℕ). getElem? (w .0 ++ row ∷ []) (y .1) ≡ some (y .0)) (sym q) (get-seam (w .0) row [])
+        either x i (inr m) = kept .rowStays i x (there x i m)
+
+        go : (b : Bool) → ltb (length (w .0)) 65535 ≡ b → Indexed given row rows r
+        go true t =
+            subst
+            (λ y. Indexed given row rows y)
+            (good-same (sym (takeIndex-next row (rows .inline) w t) ∙ e)) (
+              kept,
+              λ x i m. either x i (among-cons-cases (x, i) (row, length (w .0)) (rows .inline) m),
+              get-seam (w .0) row [],
+              λ made h. placed-more given (w .0) (w .1) row made (ltb-true (length (w .0)) 65535 t) (before .1 h .1) (before .1 h .0),
+            )
+        go false t = absurd (not-bad (sym (takeIndex-full row (rows .inline) w t) ∙ e))
+
+    indexed :
+        (given : List (ℕ × ℕ)) (row : Row) (rows : Rows) (r : ℕ × Rows) → InlineThere rows → rowIndex row rows ≡ good r → Indexed given row rows r
+    indexed given row rows r there e = go (indexOf row (rows .inline)) refl
+      where
+        go : (o : Option ℕ) → indexOf row (rows .inline) ≡ o → Indexed given row rows r
+        go none n = taken given row rows r there (sym (rowIndex-new row rows n) ∙ e)
+        go (some i) n =
+            subst
+            (λ y. Indexed given row rows y)
+            (good-same (sym (rowIndex-has row rows i n) ∙ e))
+            (rows-same, there, there row i (indexOf-there row (rows .inline) i n), λ made h. h)
+
+    -- at the end no row waits: each stands at its index
+    filled :
+        (given : List (ℕ × ℕ)) (written : List Row) (waiting : List (ℕ × Row)) →
+        RowsKept written (fillHoles written waiting) × (Placed given written waiting → Placed given (fillHoles written waiting) [])
+    unfolding fillHoles
+    filled given written [] = (rows-same, λ h. h)
+    filled given written (r ∷ waiting) =
+        let copies = replicate (suc (r .0) - length written) (r .1) in
+        let rest = filled given (written ++ copies) waiting in
+        (rows-twice (rows-append written copies) (rest .0), λ h. rest .1 (placed-filled given written r waiting h))
+
+    -- ---- the numbers of children
+
+    -- pool and rows after some children
+    pub record Stepped (p : Pool) (rows : Rows) (p′ : Pool) (rows′ : Rows) : Type 0 where
+      pub pool : PoolGrows p p′
+      pub more : RowsKept (rows .written) (rows′ .written)
+      pub inlined : InlineThere rows′
+      pub placed : Placed (p .given) (rows .written) (rows .waiting) → Placed (p′ .given) (rows′ .written) (rows′ .waiting)
+
+    stepped-twice : {p p′ p″ : Pool} {rows rows′ rows″ : Rows} → Stepped p rows p′ rows′ → Stepped p′ rows′ p″ rows″ → Stepped p rows p″ rows″
+    stepped-twice a b =
+        record {
+          pool = grown-twice (a .pool) (b .pool);
+          more = rows-twice (a .more) (b .more);
+          inlined = b .inlined;
+          placed = λ h. b .placed (a .placed h);
+        }
+
+    -- a pool that grows beside rows that don't
+    stepped-pool : {p p′ : Pool} (rows : Rows) → InlineThere rows → PoolGrows p p′ → Stepped p rows p′ rows
+    stepped-pool rows there g = record { pool = g; more = rows-same; inlined = there; placed = placed-kept (g .kept) }
+
+    -- what a child's number leaves: pool and rows have grown, and the number stands for the child
+    abbrev Numbered : ℕ → Pool → Rows → ℕ × Pool × Rows → Type 0
+    Numbered c p rows r = Stepped p rows (r .1) (r .2) × NumberFor nodes (r .1 .given) (r .2 .written) c (r .0)
+
+    -- of a bootstrap node, and of another
+    numbered-row :
+        (c : ℕ) (p : Pool) (rows : Rows) (r : ℕ × Pool × Rows) →
+        KidsIn nodes →
+        InlineThere rows →
+        firstNode ≤ c →
+        tagAt nodes (c - firstNode) ≡ bootstrapTag →
+        (slotsOf nodes (kidsOf nodes (c - firstNode)) p >>= λ x. rowIndex (x .0) rows >>= λ i. good (i .0, x .1, i .1)) ≡ good r →
+        Numbered c p rows r
+    numbered-row c p rows r kids there node tag e =
+        let k = c - firstNode in
+        let first = bound (slotsOf nodes (kidsOf nodes k) p) (λ x. rowIndex (x .0) rows >>= λ i. good (i .0, x .1, i .1)) r e in
+        let x = first .0 in
+        let second = bound (rowIndex (x .0) rows) (λ i. good (i .0, x .1, i .1)) r (first .2) in
+        let slots = allSlotted (kidsOf nodes k) p x (kids-in nodes kids k) (first .1) in
+        let at = indexed (x .1 .given) (x .0) rows (second .0) there (second .1) in
+        subst
+        (λ y. Numbered c p rows y)
+        (good-same (second .2)) (
+          record {
+            pool = slots .0;
+            more = at .0;
+            inlined = at .1;
+            placed = λ h. at .3 (k, slots .1, inr tag) (placed-kept (slots .0 .kept) h);
+          },
+          inr (inr (node, tag, x .0, at .2, slots .1)),
+        )
+
+    numbered-slot :
+        (c : ℕ) (p : Pool) (rows : Rows) (r : ℕ × Pool × Rows) →
+        InlineThere rows →
+        firstNode ≤ c →
+        c < firstNode + length nodes →
+        (tagAt nodes (c - firstNode) ≡ bootstrapTag → ⊥) →
+        (allocate nodes false (c - firstNode) p >>= λ x. good (x .0, x .1, rows)) ≡ good r →
+        Numbered c p rows r
+    numbered-slot c p rows r there node below tag e =
+        let first = bound (allocate nodes false (c - firstNode) p) (λ x. good (x .0, x .1, rows)) r e in
+        let got = allocated false (c - firstNode) p (first .0) (omega arith) (first .1) in
+        subst (λ y. Numbered c p rows y) (good-same (first .2)) (stepped-pool rows there (got .0), inr (inl (node, tag, got .1)))
+
+    numbered :
+        (c : ℕ) (p : Pool) (rows : Rows) (r : ℕ × Pool × Rows) →
+        KidsIn nodes →
+        InlineThere rows →
+        (firstNode ≤ c → c < firstNode + length nodes) →
+        childNumber nodes c p rows ≡ good r →
+        Numbered c p rows r
+    numbered c p rows r kids there below e = go (ltb c firstNode) refl
+      where
+        k : ℕ
+        k = c - firstNode
+
+        of-node : firstNode ≤ c → nodeNumber nodes k p rows ≡ good r → (b : Bool) → eqb (tagAt nodes k) bootstrapTag ≡ b → Numbered c p rows r
+        of-node node e′ true t =
+            numbered-row c p rows r kids there node (eqb-true (tagAt nodes k) bootstrapTag t) (sym (nodeNumber-row nodes k p rows t) ∙ e′)
+        of-node node e′ false t =
+            numbered-slot c p rows r there node (below node) (eqb-false (tagAt nodes k) bootstrapTag t) (sym (nodeNumber-slot nodes k p rows t) ∙ e′)
+
+        go : (b : Bool) → ltb c firstNode ≡ b → Numbered c p rows r
+        go true t =
+            subst
+            (λ y. Numbered c p rows y)
+            (good-same (sym (childNumber-raw nodes c p rows t) ∙ e))
+            (stepped-pool rows there grown-not, inl (ltb-true c firstNode t, refl))
+        go false t = of-node (ltb-false c firstNode t) (sym (childNumber-node nodes c p rows t) ∙ e) (eqb (tagAt nodes k) bootstrapTag) refl
+
+    abbrev AllNumbered : List ℕ → Pool → Rows → List ℕ × Pool × Rows → Type 0
+    AllNumbered cs p rows r = Stepped p rows (r .1) (r .2) × Each (NumberFor nodes (r .1 .given) (r .2 .written)) cs (r .0)
+
+    -- one child more in front
+    numbered-cons :
+        (c : ℕ) (cs : List ℕ) (p : Pool) (rows : Rows) (x : ℕ × Pool × Rows) (rest r : List ℕ × Pool × Rows) →
+        Numbered c p rows x →
+        AllNumbered cs (x .1) (x .2) rest →
+        _≡_ {A = Result ℕ (List ℕ × Pool × Rows)} (good (x .0 ∷ rest .0, rest .1, rest .2)) (good r) →
+        AllNumbered (c ∷ cs) p rows r
+    numbered-cons c cs p rows x rest r one more e =
+        subst
+        (λ y. AllNumbered (c ∷ cs) p rows y)
+        (good-same e)
+        (stepped-twice (one .0) (more .0), (number-kept nodes (more .0 .pool .kept) (more .0 .more) c (x .0) (one .1), more .1))
+
+    allNumbered :
+        (cs : List ℕ) (p : Pool) (rows : Rows) (r : List ℕ × Pool × Rows) →
+        KidsIn nodes →
+        InlineThere rows →
+        InNodes nodes cs →
+        childNumbers nodes cs p rows ≡ good r →
+        AllNumbered cs p rows r
+    unfolding childNumbers
+    allNumbered [] p rows r kids there below e =
+        subst (λ y. AllNumbered [] p rows y) (good-same e) (stepped-pool rows there grown-not, tt)
+    allNumbered (c ∷ cs) p rows r kids there below e =
+        let first = bound (childNumber nodes c p rows) (λ x. childNumbers nodes cs (x .1) (x .2) >>= λ rest. good (x .0 ∷ rest .0, rest .1, rest .2)) r e in
+        let x = first .0 in
+        let others = bound (childNumbers nodes cs (x .1) (x .2)) (λ rest. good (x .0 ∷ rest .0, rest .1, rest .2)) r (first .2) in
+        let rest = others .0 in
+        let one = numbered c p rows x kids there (below c (0, refl)) (first .1) in
+        let more = allNumbered cs (x .1) (x .2) rest kids (one .0 .inlined) (in-nodes-tail c cs below) (others .1) in
+        numbered-cons c cs p rows x rest r one more (others .2)
+
+    -- ---- the building stack
+
+    -- one is taken from it and finished
+    now-building :
+        (raws : List (ℕ × ℕ)) (top : ℕ × ℕ) (pending : List (ℕ × ℕ)) (m : Made) (nd : Node) (r : List ℕ × Pool × Rows) →
+        Building nodes raws (top ∷ pending) m →
+        getElem? nodes (top .1) ≡ some nd →
+        AllNumbered (nd .kids) (takenPool pending (m .pool)) (m .rows) r →
+        Building nodes raws (r .1 .pending) (finishedMade (top .0) nd m r)
+    now-building raws top pending m nd r h found got =
+        record {
+          stackIn = λ s k a. stack-below s k (stack-cases s k a);
+          stackFrom = λ s k a. stack-from s k (stack-cases s k a);
+          done = λ s k a. new-or-old s k (among-append-cases (s, k) new old (rw held-more at a));
+          owners = λ s e a. owner s e (among-cons-cases (s, e) one (m .owned) a);
+          counted =
+              λ s.
+              rw
+              (got .0 .pool .stacked, held-more, map-append key new pending, map-append key new old)
+              (count-step s (top .0) (map (λ o. o .0) (m .owned)) (map key new) (map key pending) (map key old) (h .counted s));
+          inlined = got .0 .inlined;
+        }
+      where
+        new : List (ℕ × ℕ)
+        new = got .0 .pool .new
+
+        old : List (ℕ × ℕ)
+        old = toHold (m .pool .given) raws
+
+        one : ℕ × Entry ℕ ℕ
+        one = (top .0, withKids (r .0) nd)
+
+        key : ℕ × ℕ → ℕ
+        key x = x .0
+
+        -- what is to be held now, and what is on the stack
+        held-more : toHold (r .1 .given) raws ≡ new ++ old
+        held-more = ap (λ l. l ++ raws) (got .0 .pool .gave) ∙ append-assoc new (map (λ x. (x .1, x .0)) (m .pool .given)) raws
+
+        held-still : (s k : ℕ) → Among (s, k) old → Among (s, k) (toHold (r .1 .given) raws)
+        held-still s k a = rw held-more (among-back (s, k) new old a)
+
+        stack-cases : (s k : ℕ) → Among (s, k) (r .1 .pending) → Among (s, k) new ⊎ Among (s, k) pending
+        stack-cases s k a = among-append-cases (s, k) new pending (rw (got .0 .pool .stacked) at a)
+
+        stack-below : (s k : ℕ) → Among (s, k) new ⊎ Among (s, k) pending → k < length nodes
+        stack-below s k (inl b) = got .0 .pool .newIn s k b
+        stack-below s k (inr b) = h .stackIn s k (among-there (s, k) top pending b)
+
+        stack-from : (s k : ℕ) → Among (s, k) new ⊎ Among (s, k) pending → Among (s, k) (toHold (r .1 .given) raws)
+        stack-from s k (inl b) = rw held-more (among-front (s, k) new old b)
+        stack-from s k (inr b) = held-still s k (h .stackFrom s k (among-there (s, k) top pending b))
+
+        -- what is to be held is new, or was on the stack, or was finished
+        Now : ℕ → ℕ → Type 0
+        Now s k = Among (s, k) (r .1 .pending) ⊎ FinishedAt nodes (r .1 .given) (r .2 .written) (one ∷ m .owned) s k
+
+        top-or-below : (s k : ℕ) → _≡_ {A = ℕ × ℕ} (s, k) top ⊎ Among {A = ℕ × ℕ} (s, k) pending → Now s k
+        top-or-below s k (inl q) =
+            inr (nd, r .0, ap (λ (x : ℕ × ℕ). getElem? nodes (x .1)) q ∙ found, (0, λ j. some (sym q j .0, withKids (r .0) nd)), got .1)
+        top-or-below s k (inr b) = inl (rw (got .0 .pool .stacked) (among-back (s, k) new pending b))
+
+        waits-or-done : (s k : ℕ) → Among (s, k) (top ∷ pending) ⊎ FinishedAt nodes (m .pool .given) (m .rows .written) (m .owned) s k → Now s k
+        waits-or-done s k (inl b) = top-or-below s k (among-cons-cases (s, k) top pending b)
+        waits-or-done s k (inr f) =
+            inr (finished-kept nodes (m .owned) (one ∷ m .owned) s k (got .0 .pool .kept) (got .0 .more) (λ e b. among-there (s, e) one (m .owned) b) f)
+
+        new-or-old : (s k : ℕ) → Among (s, k) new ⊎ Among (s, k) old → Now s k
+        new-or-old s k (inl b) = inl (rw (got .0 .pool .stacked) (among-front (s, k) new pending b))
+        new-or-old s k (inr b) = waits-or-done s k (h .done s k b)
+
+        -- what is owned is the one just finished, or was owned
+        owner : (s : ℕ) (e : Entry ℕ ℕ) → ((s, e) ≡ one) ⊎ Among (s, e) (m .owned) → OwnerOf nodes (r .1 .given) raws (r .2 .written) s e
+        owner s e (inl q) = (
+          top .1,
+          nd,
+          r .0,
+          ap (λ (x : ℕ × Entry ℕ ℕ). x .1) q,
+          found,
+          rw (ap (λ (x : ℕ × Entry ℕ ℕ). x .0) q) (held-still (top .0) (top .1) (h .stackFrom (top .0) (top .1) (0, refl))),
+          got .1,
+        )
+        owner s e (inr b) = owner-kept nodes raws s e (got .0 .pool .kept) (got .0 .more) (held-still s) (h .owners s e b)
+
+    -- what taking from the stack leaves
+    pub record Drained (raws pending : List (ℕ × ℕ)) (m m′ : Made) : Type 0 where
+      pub building : Building nodes raws pending m′
+      pub kept : SlotsKept (m .pool .given) (m′ .pool .given)
+      pub occurs : (top : ℕ) (held : List (ℕ × Held)) → Occurs top held nodes (m .pool) → Occurs top held nodes (m′ .pool)
+      pub placed :
+          Placed (m .pool .given) (m .rows .written) (m .rows .waiting) → Placed (m′ .pool .given) (m′ .rows .written) (m′ .rows .waiting)
+
+    drained-twice :
+        {raws pending pending′ : List (ℕ × ℕ)} {m m′ m″ : Made} → Drained raws pending′ m m′ → Drained raws pending m′ m″ → Drained raws pending m m″
+    drained-twice a b =
+        record {
+          building = b .building;
+          kept = slots-twice (a .kept) (b .kept);
+          occurs = λ top held o. b .occurs top held (a .occurs top held o);
+          placed = λ p. b .placed (a .placed p);
+        }
+
+    drained-one :
+        (raws : List (ℕ × ℕ)) (top : ℕ × ℕ) (pending : List (ℕ × ℕ)) (m m′ : Made) →
+        KidsIn nodes →
+        Building nodes raws (top ∷ pending) m →
+        finish nodes (top .0) (withPending pending m) (getElem? nodes (top .1)) ≡ good m′ →
+        Drained raws (m′ .pool .pending) m m′
+    drained-one raws top pending m m′ kids h e =
+        let node = get-below nodes (top .1) (h .stackIn (top .0) (top .1) (0, refl)) in
+        let nd = node .0 in
+        let made = finish-some nodes (top .0) pending m m′ nd (rw (node .1) at e) in
+        let got = allNumbered (nd .kids) (takenPool pending (m .pool)) (m .rows) (made .0) kids (h .inlined) (kids (top .1) nd (node .1)) (made .1) in
+        subst
+        (λ (x : Made). Drained raws (x .pool .pending) m x)
+        {x = finishedMade (top .0) nd m (made .0)}
+        (made .2)
+        (record {
+          building = now-building raws top pending m nd (made .0) h (node .1) got;
+          kept = got .0 .pool .kept;
+          occurs = λ t held o. got .0 .pool .occurs t held (stackTaken pending o);
+          placed = got .0 .placed;
+        })
+
+    drained-not : {raws : List (ℕ × ℕ)} {m m′ : Made} → Building nodes raws [] m → m ≡ m′ → Drained raws [] m m′
+    drained-not {raws} {m} h q =
+        subst (λ x. Drained raws [] m x) q (record { building = h; kept = slots-same; occurs = λ top held o. o; placed = λ p. p })
+
+    -- until it is empty
+    drained :
+        (fuel : ℕ) (raws pending : List (ℕ × ℕ)) (m m′ : Made) →
+        KidsIn nodes →
+        Building nodes raws pending m →
+        drain fuel nodes pending m ≡ good m′ →
+        Drained raws [] m m′
+    unfolding drain
+    drained zero raws [] m m′ kids h e = drained-not h (good-same e)
+    drained zero raws (top ∷ pending) m m′ kids h e = absurd (not-bad e)
+    drained (suc fuel) raws [] m m′ kids h e = drained-not h (good-same e)
+    drained (suc fuel) raws (top ∷ pending) m m′ kids h e =
+        let first = bound (finish nodes (top .0) (withPending pending m) (getElem? nodes (top .1))) (λ x. drain fuel nodes (x .pool .pending) x) m′ e in
+        let x = first .0 in
+        let one = drained-one raws top pending m x kids h (first .1) in
+        drained-twice one (drained fuel raws (x .pool .pending) x m′ kids (one .building) (first .2))
+
+    -- ---- all of building
+
+    starts-building :
+        (raws : List (ℕ × ℕ)) (p : Pool) (r : List (ℕ × Row) × Pool) →
+        Starts nodes raws p →
+        PoolGrows p (r .1) →
+        Building nodes raws (r .1 .pending) (startMade r)
+    unfolding times
+    starts-building raws p r h g =
+        let held = grown-stack raws g (h .stack) in
+        record {
+          stackIn = λ s k a. below s k (among-append-cases (s, k) (g .new) (p .pending) (rw (g .stacked) at a));
+          stackFrom = λ s k a. rw held at a;
+          done = λ s k a. inl (rw held a);
+          owners = λ s e a. absurd (among-nil (s, e) a);
+          counted = λ s. rw held (omega arith);
+          inlined = λ row i a. absurd (among-nil (row, i) a);
+        }
+      where
+        below : (s k : ℕ) → Among (s, k) (g .new) ⊎ Among (s, k) (p .pending) → k < length nodes
+        below s k (inl a) = g .newIn s k a
+        below s k (inr a) = h .stackIn s k a
+
+    -- what building leaves
+    pub record Built (raws : List (ℕ × ℕ)) (p : Pool) (m : Made) : Type 0 where
+      pub building : Building nodes raws [] m
+      pub kept : SlotsKept (p .given) (m .pool .given)
+      pub occurs : (top : ℕ) (held : List (ℕ × Held)) → Occurs top held nodes p → Occurs top held nodes (m .pool)
+      pub placed : Rises 0 indexes → KeysBelow 65535 indexes → Placed (m .pool .given) (rowsOf m) []
+
+    pub built : (raws : List (ℕ × ℕ)) (p : Pool) (m : Made) → Starts nodes raws p → buildAll nodes indexes p ≡ good m → Built raws p m
+    unfolding buildAll
+    built raws p m h e =
+        let rest : List (ℕ × Row) × Pool → Result ℕ Made =
+        λ r. drain (length (r .1 .pending) + length nodes) nodes (r .1 .pending) (startMade r) in
+        let first = bound (rawRows nodes (reverse indexes) p []) rest m e in
+        let r = first .0 in
+        let raw = rawMade (reverse indexes) [] p [] r (h .kidsIn) tt (first .1) in
+        let rows : RawEach (r .1 .given) indexes (r .0) = rw (reverse-reverse indexes) at (raw .1) in
+        let fuel = length (r .1 .pending) + length nodes in
+        let d = drained fuel raws (r .1 .pending) (startMade r) m (h .kidsIn) (starts-building raws p r h (raw .0)) (first .2) in
+        record {
+          building = d .building;
+          kept = slots-twice (raw .0 .kept) (d .kept);
+          occurs = λ top held o. d .occurs top held (raw .0 .occurs top held o);
+          placed =
+              λ up low.
+              filled (m .pool .given) (m .rows .written) (m .rows .waiting) .1 (d .placed (placed-raw (r .1 .given) (r .0) rows up low));
+        }
+
+    -- ---- the theorems
+
+    -- what is written stays where it is in the rows that building ends with
+    rows-end : (m : Made) → RowsKept (m .rows .written) (rowsOf m)
+    rows-end m = filled [] (m .rows .written) (m .rows .waiting) .0
+
+    module _ (raws : List (ℕ × ℕ)) (p : Pool) (m : Made) (starts : Starts nodes raws p) (done : buildAll nodes indexes p ≡ good m) where
+      -- FINISHED: every slot that is to hold a node is owned by it, with numbers that stand for its children
+      pub finished : (s k : ℕ) → Among (s, k) (toHold (m .pool .given) raws) → FinishedAt nodes (m .pool .given) (rowsOf m) (m .owned) s k
+      finished s k a = go (built raws p m starts done .building .done s k a)
+        where
+          go :
+              Among {A = ℕ × ℕ} (s, k) [] ⊎ FinishedAt nodes (m .pool .given) (m .rows .written) (m .owned) s k →
+              FinishedAt nodes (m .pool .given) (rowsOf m) (m .owned) s k
+          go (inl b) = absurd (among-nil (s, k) b)
+          go (inr f) = finished-kept nodes (m .owned) (m .owned) s k slots-same (rows-end m) (λ e b. b) f
+
+      -- OWNERS: whatever is owned is such a node at a slot that is to hold it
+      pub owners : (s : ℕ) (e : Entry ℕ ℕ) → Among (s, e) (m .owned) → OwnerOf nodes (m .pool .given) raws (rowsOf m) s e
+      owners s e a = owner-kept nodes raws s e slots-same (rows-end m) (λ k b. b) (built raws p m starts done .building .owners s e a)
+
+      -- and no slot is owned more often than it is to hold something
+      pub ownersCounted : (s : ℕ) → times s (map (λ o. o .0) (m .owned)) ≡ times s (map (λ r. r .0) (toHold (m .pool .given) raws))
+      unfolding times
+      ownersCounted s = let e = built raws p m starts done .building .counted s in omega arith
+
+      -- a slot that was given before building is still given
+      pub slotsStay : (k s : ℕ) → lookup k (p .given) ≡ some s → lookup k (m .pool .given) ≡ some s
+      slotsStay = built raws p m starts done .kept .slotStays
+
+      -- POOL OCCURS: the pool that building leaves is one that occurs, if the one that it starts from is
+      pub poolOccurs : (top : ℕ) (held : List (ℕ × Held)) → Occurs top held nodes p → Occurs top held nodes (m .pool)
+      poolOccurs = built raws p m starts done .occurs
+
+      module _ (up : Rises 0 indexes) (low : KeysBelow 65535 indexes) where
+        placed-end : Placed (m .pool .given) (rowsOf m) []
+        placed-end = built raws p m starts done .placed up low
+
+        -- RAW ROWS THERE: every raw bootstrap has its row at its index
+        pub rawRowsThere :
+            (i k : ℕ) → Among (i, k) indexes → (row : Row) × (getElem? (rowsOf m) i ≡ some row) × Each (SlotFor (m .pool .given)) (kidsOf nodes k) row
+        rawRowsThere i k a =
+            let t = placed-end .rawThere i k a in
+            (t .0, written (t .0) (t .2), t .1)
+          where
+            written : (row : Row) → (getElem? (rowsOf m) i ≡ some row) ⊎ Among {A = ℕ × Row} (i, row) [] → getElem? (rowsOf m) i ≡ some row
+            written row (inl e) = e
+            written row (inr b) = absurd (among-nil (i, row) b)
+
+        -- and every row is that of a raw bootstrap or of a bootstrap that was reached
+        pub rowsFrom : (i : ℕ) (row : Row) → getElem? (rowsOf m) i ≡ some row → RowFrom nodes indexes (m .pool .given) row
+        rowsFrom = placed-end .writtenFrom
+
+        -- there are at most 65,535 rows
+        pub rowsFit : length (rowsOf m) ≤ 65535
+        rowsFit = placed-end .fits
