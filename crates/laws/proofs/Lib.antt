@@ -44,3 +44,4 @@ pub mod Started
 pub mod MoreLists
 pub mod DefinedFacts
 pub mod Occupied
+pub mod Ending
