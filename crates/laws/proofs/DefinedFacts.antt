@@ -2,22 +2,23 @@
 -- slot and index, and a second half right behind each wide start. Assumes nothing.
 use mathlib.Core.Bool.{Bool, true, false, not, _&&_, _||_}
 use mathlib.Core.List.{List, [], _∷_, _++_, map, append-nil, append-assoc}
-use mathlib.Core.Logic.{_↔_, _⊎_, inl, inr}
+use mathlib.Core.Logic.{_⊎_, inl, inr}
 use mathlib.Core.Option.{Option, none, some}
 use mathlib.Core.Path.{_≡_, refl, sym, ap, _∙_}
 use Prim.Native.Nat.{ℕ, zero, suc, _+_, _≤_, _<_}
 use native.Mathlib.Omega.{arith}
 use lib.Dec.{eqb, leb, ltb}
-use lib.ListN.{length, getElem?}
+use lib.ListN.{getElem?}
 use borrow.Author.Tests.{ltb-true, leb-true, eqb-false, ne-eqb, not-true}
-use Rattle.definition.specs.Basics.{Result, good, bad, _>>=_, Refusal, atRecord, unless, lookup, insert}
-use Rattle.definition.specs.Shapes.{Kind, constant, bootstrap, Entry, isWide}
-use Rattle.definition.specs.Job.{Reference, Definition, define, named, placed}
+use Rattle.definition.specs.Basics.{good, atRecord, unless, lookup, insert}
+use Rattle.definition.specs.Shapes.{constant, bootstrap, Entry, isWide}
+use Rattle.definition.specs.Job.{Definition, define, named, placed, Job}
+use Rattle.definition.specs.Numbering.{Literal, literals, numberedDefinition, numbered}
 use Rattle.definition.specs.Definitions.{Held, starts, half, Naming, Defined, nameTarget, isNone, tagAt, startFree, lastSlot, hold, placeConstant, placeBootstrap, defineOne, defineAll, nothingDefined}
 use Rattle.definition.specs.Layout.{starters}
-use Rattle.laws.specs.Statements.{Among, times}
+use Rattle.laws.specs.Statements.{Among, times, namings}
 use Rattle.laws.proofs.Lists.{clash, both-true, good-then, good-atRecord, good-unless, lookup-at}
-use Rattle.laws.proofs.MoreLists.{some-key, some-row, among-cons, among-later, among-nil, among-snoc, snoc-old, snoc-new, Rises, rises-weaken, rises-from, rises-lookup, lookup-among, rises-next, insert-new, insert-old, insert-among, insert-rises, lookup-insert-other, times-cons}
+use Rattle.laws.proofs.MoreLists.{some-key, some-row, among-cons, among-later, among-nil, among-snoc, snoc-old, snoc-new, Rises, rises-head, rises-tail, rises-anew, rises-weaken, rises-place, rises-from, rises-lookup, rises-next, insert-new, insert-old, insert-among, insert-rises, lookup-insert-other, times-cons}
 
 -- what is kept by each definition in turn holds when all are through
 pub defined-all :
@@ -143,8 +144,7 @@ place-good top wide n e held held′ q =
     good-then (unless (not wide || isNone (lookup (suc n) held)) 7) _ held′ q₁ λ _ p₂ q₂.
     good-then (startFree (lookup n held)) _ held′ q₂ λ _ p₃ q₃.
     let within = both-true (not (eqb n 0)) (leb (lastSlot wide n) top) (good-unless _ 6 _ p₁) in
-    let some-slot = eqb-false n 0 (not-true (eqb n 0) (within .0)) in
-    (
+    let some-slot = eqb-false n 0 (not-true (eqb n 0) (within .0)) in (
       omega arith,
       leb-true (lastSlot wide n) top (within .1),
       second wide (good-unless _ 7 _ p₂),
@@ -336,22 +336,23 @@ nothing-facts top wide =
           };
     }
 
-module _ {R : Type 0} (top : ℕ) (constants : List (Entry ℕ R)) where
-  abbrev pub wideAt : ℕ → Bool
-  wideAt e = isWide (tagAt constants e)
+-- the constant of a number is wide
+abbrev pub wideAt : {R : Type 0} → List (Entry ℕ R) → ℕ → Bool
+wideAt constants e = isWide (tagAt constants e)
 
+module _ {R : Type 0} (top : ℕ) (constants : List (Entry ℕ R)) where
   one-defined :
       (ds : List (Definition ℕ)) (x : Definition ℕ) (d d′ : Defined) →
-      DefinedFacts top wideAt ds d →
+      DefinedFacts top (wideAt constants) ds d →
       defineOne top constants x d ≡ good d′ →
-      DefinedFacts top wideAt (ds ++ x ∷ []) d′
+      DefinedFacts top (wideAt constants) (ds ++ x ∷ []) d′
   unfolding defineOne namingsOf
   one-defined ds (define x) d d′ f q =
       let same : d ≡ d′ = cc in
       rw (← same)
       (record {
         allNames = f .allNames ∙ sym (append-nil (namingsOf ds)) ∙ sym (namings-snoc ds (define x));
-        allHeld = held-other top wideAt ds (define x) (d .held) (λ _ _ p. clash (cc)) (f .allHeld);
+        allHeld = held-other top (wideAt constants) ds (define x) (d .held) (λ _ _ p. clash (cc)) (f .allHeld);
         allIndexes = index-other ds (define x) (d .indexes) (λ _ _ p. clash (cc)) (f .allIndexes);
       })
   one-defined ds (named kind s r) d d′ f q =
@@ -361,18 +362,18 @@ module _ {R : Type 0} (top : ℕ) (constants : List (Entry ℕ R)) where
       rw (← same)
       (record {
         allNames = ap (λ l. l ++ record { kind = kind; label = s; target = r } ∷ []) (f .allNames) ∙ sym (namings-snoc ds (named kind s r));
-        allHeld = held-other top wideAt ds (named kind s r) (d .held) (λ _ _ p. clash (cc)) (f .allHeld);
+        allHeld = held-other top (wideAt constants) ds (named kind s r) (d .held) (λ _ _ p. clash (cc)) (f .allHeld);
         allIndexes = index-other ds (named kind s r) (d .indexes) (λ _ _ p. clash (cc)) (f .allIndexes);
       })
   one-defined ds (placed constant n e) d d′ f q =
-      good-then (placeConstant top (wideAt e) n e (d .held)) _ d′ q λ held p q₁.
+      good-then (placeConstant top (wideAt constants e) n e (d .held)) _ d′ q λ held p q₁.
       let now : Defined = record { held = held; indexes = d .indexes; names = d .names } in
       let same : now ≡ d′ = cc in
-      let g = place-good top (wideAt e) n e (d .held) held p in
+      let g = place-good top (wideAt constants e) n e (d .held) held p in
       rw (← same)
       (record {
         allNames = f .allNames ∙ sym (append-nil (namingsOf ds)) ∙ sym (namings-snoc ds (placed constant n e));
-        allHeld = rw (g .4) (held-more top wideAt ds n e (d .held) (f .allHeld) (g .0) (g .1) (g .2) (g .3));
+        allHeld = rw (g .4) (held-more top (wideAt constants) ds n e (d .held) (f .allHeld) (g .0) (g .1) (g .2) (g .3));
         allIndexes = index-other ds (placed constant n e) (d .indexes) (λ _ _ p. clash (cc)) (f .allIndexes);
       })
   one-defined ds (placed bootstrap n e) d d′ f q =
@@ -382,14 +383,32 @@ module _ {R : Type 0} (top : ℕ) (constants : List (Entry ℕ R)) where
       rw (← same)
       (record {
         allNames = f .allNames ∙ sym (append-nil (namingsOf ds)) ∙ sym (namings-snoc ds (placed bootstrap n e));
-        allHeld = held-other top wideAt ds (placed bootstrap n e) (d .held) (λ _ _ p. clash (cc)) (f .allHeld);
+        allHeld = held-other top (wideAt constants) ds (placed bootstrap n e) (d .held) (λ _ _ p. clash (cc)) (f .allHeld);
         allIndexes = index-more ds n e (d .indexes) indexes (f .allIndexes) p;
       })
 
   -- the definitions of a job, all in turn
   pub defined-facts :
-      (ds : List (Definition ℕ)) (d : Defined) → defineAll top constants 0 ds nothingDefined ≡ good d → DefinedFacts top wideAt ds d
-  defined-facts ds d e = defined-all top constants (DefinedFacts top wideAt) one-defined 0 [] ds nothingDefined d (nothing-facts top wideAt) e
+      (ds : List (Definition ℕ)) (d : Defined) → defineAll top constants 0 ds nothingDefined ≡ good d → DefinedFacts top (wideAt constants) ds d
+  defined-facts ds d e = defined-all top constants (DefinedFacts top (wideAt constants)) one-defined 0 [] ds nothingDefined d (nothing-facts top (wideAt constants)) e
+
+-- the names are the same
+all-namings : (all : List Literal) (ds : List (Definition (List ℕ))) → namingsOf (map (numberedDefinition all) ds) ≡ namings ds
+unfolding namingsOf numberedDefinition namings
+all-namings all [] = refl
+all-namings all (define e ∷ ds) = all-namings all ds
+all-namings all (named kind s r ∷ ds) = ap (λ l. record { kind = kind; label = s; target = r } ∷ l) (all-namings all ds)
+all-namings all (placed kind at n ∷ ds) = all-namings all ds
+
+pub namings-numbered : (job : Job (List ℕ)) → namingsOf (numbered job .definitions) ≡ namings (job .definitions)
+unfolding numbered
+namings-numbered job = all-namings (literals job) (job .definitions)
+
+pub defined-names :
+    {R : Type 0} (top : ℕ) (constants : List (Entry ℕ R)) (job : Job (List ℕ)) (d : Defined) →
+    defineAll top constants 0 (numbered job .definitions) nothingDefined ≡ good d →
+    d .names ≡ namings (job .definitions)
+defined-names top constants job d e = defined-facts top constants (numbered job .definitions) d e .allNames ∙ namings-numbered job
 
 -- the same by lookups: a placed constant is found at its slot, and its second half behind it
 module _ (top : ℕ) (wide : ℕ → Bool) (ds : List (Definition ℕ)) (held : List (ℕ × Held)) (f : HeldFacts top wide ds held) where
@@ -413,8 +432,7 @@ module _ (top : ℕ) (wide : ℕ → Bool) (ds : List (Definition ℕ)) (held : 
       (j : ℕ) × (m : ℕ) × (e : ℕ) × (i ≡ suc j) × (n ≡ suc m) × (getElem? held j ≡ some (m, starts e)) × (wide e ≡ true)
   half-right-behind i n p =
       let b = f .halfBehind n (i, p) in
-      let q : getElem? held i ≡ some (suc (b .0), half) = p ∙ ap (λ k. some (k, half)) (b .2) in
-      (
+      let q : getElem? held i ≡ some (suc (b .0), half) = p ∙ ap (λ k. some (k, half)) (b .2) in (
         b .3 .0,
         b .0,
         b .1,
@@ -483,3 +501,180 @@ times-held s ((n, half) ∷ held) =
     let there = times-cons s n (halfSlots held) in
     let rest = times-held s held in
     omega arith
+
+-- the slots of constants, a wide one as two
+unfoldable pub doubled : (ℕ → Bool) → List (ℕ × ℕ) → List ℕ
+doubled wide [] = []
+doubled wide (r ∷ rs) = elim (wide (r .1)) [ true ↦ r .0 ∷ suc (r .0) ∷ doubled wide rs | false ↦ r .0 ∷ doubled wide rs ]
+
+doubled-wide : (wide : ℕ → Bool) (r : ℕ × ℕ) (rs : List (ℕ × ℕ)) → wide (r .1) ≡ true → doubled wide (r ∷ rs) ≡ r .0 ∷ suc (r .0) ∷ doubled wide rs
+unfolding doubled
+doubled-wide wide r rs e = rw (e, doubled)
+
+doubled-narrow : (wide : ℕ → Bool) (r : ℕ × ℕ) (rs : List (ℕ × ℕ)) → wide (r .1) ≡ false → doubled wide (r ∷ rs) ≡ r .0 ∷ doubled wide rs
+unfolding doubled
+doubled-narrow wide r rs e = rw (e, doubled)
+
+-- slots that rise, where a second half follows each wide start and nothing else
+record Paired (wide : ℕ → Bool) (low : ℕ) (held : List (ℕ × Held)) : Type 0 where
+  rise : Rises low held
+  after : (n e : ℕ) → Among (n, starts e) held → wide e ≡ true → Among (suc n, half) held
+  behind : (n : ℕ) → Among (n, half) held → (m : ℕ) × (e : ℕ) × (n ≡ suc m) × Among (m, starts e) held × (wide e ≡ true)
+
+module _ (wide : ℕ → Bool) (low : ℕ) where
+  -- no second half comes first
+  no-half : {C : Type 0} (n : ℕ) (t : List (ℕ × Held)) → Paired wide low ((n, half) ∷ t) → C
+  no-half n t p =
+      let b = p .behind n (0, refl) in
+      let r = rises-from n ((n, half) ∷ t) (b .0) (starts (b .1)) (rises-anew low n half t (p .rise)) (b .3) in
+      let e = b .2 in
+      absurd (omega arith)
+
+  -- a start is wide exactly if a second half follows
+  half-then-wide : (n e k : ℕ) (t : List (ℕ × Held)) → Paired wide low ((n, starts e) ∷ (k, half) ∷ t) → (k ≡ suc n) × (wide e ≡ true)
+  half-then-wide n e k t p =
+      let b = p .behind k (1, refl) in
+      ways (b .0) (b .1) (b .2) (b .4) (among-cons (b .0, starts (b .1)) (n, starts e) ((k, half) ∷ t) (b .3))
+    where
+      ways :
+          (m f : ℕ) →
+          k ≡ suc m →
+          wide f ≡ true →
+          (_≡_ {A = ℕ × Held} (n, starts e) (m, starts f)) ⊎ Among (m, starts f) ((k, half) ∷ t) →
+          (k ≡ suc n) × (wide e ≡ true)
+      ways m f q w (inl s) =
+          let i : n ≡ m = ap (λ (x : ℕ × Held). x .0) s in
+          let h : starts e ≡ starts f = ap (λ (x : ℕ × Held). x .1) s in
+          let j : e ≡ f = cc in
+          (omega arith, ap wide j ∙ w)
+      ways m f q w (inr a) =
+          let r = rises-tail low (n, starts e) ((k, half) ∷ t) (p .rise) in
+          let b = rises-from k ((k, half) ∷ t) m (starts f) (rises-anew (suc n) k half t r) a in
+          absurd (omega arith)
+
+  wide-then-half : (n e : ℕ) (t : List (ℕ × Held)) → Paired wide low ((n, starts e) ∷ t) → wide e ≡ true → Among (suc n, half) t
+  wide-then-half n e t p w = ways (among-cons (suc n, half) (n, starts e) t (p .after n e (0, refl) w))
+    where
+      ways : (_≡_ {A = ℕ × Held} (n, starts e) (suc n, half)) ⊎ Among (suc n, half) t → Among (suc n, half) t
+      ways (inl s) = let q : n ≡ suc n = ap (λ (x : ℕ × Held). x .0) s in absurd (omega arith)
+      ways (inr a) = a
+
+  -- behind a narrow start, and behind a wide one and its half, it goes on so
+  narrow-rest : (n e : ℕ) (t : List (ℕ × Held)) → Paired wide low ((n, starts e) ∷ t) → wide e ≡ false → Paired wide (suc n) t
+  narrow-rest n e t p w =
+      record {
+        rise = rises-tail low (n, starts e) t (p .rise);
+        after = λ m f a v. past-start (suc m) (among-cons (suc m, half) (n, starts e) t (p .after m f (among-later (m, starts f) (n, starts e) t a) v));
+        behind = λ m a. back m (p .behind m (among-later (m, half) (n, starts e) t a));
+      }
+    where
+      past-start : (m : ℕ) → (_≡_ {A = ℕ × Held} (n, starts e) (m, half)) ⊎ Among (m, half) t → Among (m, half) t
+      past-start m (inl s) = let h : starts e ≡ half = ap (λ (x : ℕ × Held). x .1) s in clash (cc)
+      past-start m (inr a) = a
+
+      past-narrow : (m f : ℕ) → wide f ≡ true → (_≡_ {A = ℕ × Held} (n, starts e) (m, starts f)) ⊎ Among (m, starts f) t → Among (m, starts f) t
+      past-narrow m f v (inl s) =
+          let h : starts e ≡ starts f = ap (λ (x : ℕ × Held). x .1) s in
+          let j : e ≡ f = cc in
+          let z : wide e ≡ true = ap wide j ∙ v in
+          clash (cc)
+      past-narrow m f v (inr a) = a
+
+      back :
+          (m : ℕ) →
+          (l : ℕ) × (f : ℕ) × (m ≡ suc l) × Among (l, starts f) ((n, starts e) ∷ t) × (wide f ≡ true) →
+          (l : ℕ) × (f : ℕ) × (m ≡ suc l) × Among (l, starts f) t × (wide f ≡ true)
+      back m (l, f, q, a, v) = (l, f, q, past-narrow l f v (among-cons (l, starts f) (n, starts e) t a), v)
+
+  wide-rest : (n e k : ℕ) (t : List (ℕ × Held)) → Paired wide low ((n, starts e) ∷ (k, half) ∷ t) → Paired wide (suc k) t
+  wide-rest n e k t p =
+      record {
+        rise = rest;
+        after =
+            λ m f a v.
+            let b = rises-from (suc k) t m (starts f) rest a in
+            past (suc m) half (omega arith) (p .after m f (two-later (m, starts f) a) v);
+        behind = λ m a. back m (rises-from (suc k) t m half rest a) (p .behind m (two-later (m, half) a));
+      }
+    where
+      second : Rises (suc n) ((k, half) ∷ t)
+      second = rises-tail low (n, starts e) ((k, half) ∷ t) (p .rise)
+
+      rest : Rises (suc k) t
+      rest = rises-tail (suc n) (k, half) t second
+
+      two-later : (x : ℕ × Held) → Among x t → Among x ((n, starts e) ∷ (k, half) ∷ t)
+      two-later x a = among-later x (n, starts e) ((k, half) ∷ t) (among-later x (k, half) t a)
+
+      -- a slot past the second is among the rest
+      past : (m : ℕ) (h : Held) → k < m → Among (m, h) ((n, starts e) ∷ (k, half) ∷ t) → Among (m, h) t
+      past m h b (zero, q) =
+          let i = some-key (n, starts e) (m, h) q in
+          let j = rises-head (suc n) (k, half) t second in
+          absurd (omega arith)
+      past m h b (suc zero, q) = let i = some-key (k, half) (m, h) q in absurd (omega arith)
+      past m h b (suc (suc i), q) = (i, q)
+
+      -- a start is not the second
+      past-half : (m f : ℕ) → k ≤ m → Among (m, starts f) ((n, starts e) ∷ (k, half) ∷ t) → Among (m, starts f) t
+      past-half m f b (zero, q) =
+          let i = some-key (n, starts e) (m, starts f) q in
+          let j = rises-head (suc n) (k, half) t second in
+          absurd (omega arith)
+      past-half m f b (suc zero, q) = let i = some-row (k, half) (m, starts f) q in clash (cc)
+      past-half m f b (suc (suc i), q) = (i, q)
+
+      back :
+          (m : ℕ) →
+          suc k ≤ m →
+          (l : ℕ) × (f : ℕ) × (m ≡ suc l) × Among (l, starts f) ((n, starts e) ∷ (k, half) ∷ t) × (wide f ≡ true) →
+          (l : ℕ) × (f : ℕ) × (m ≡ suc l) × Among (l, starts f) t × (wide f ≡ true)
+      back m b (l, f, q, a, v) = (l, f, q, past-half l f (omega arith) a, v)
+
+-- where a start comes first, no second half has the lowest slot
+start-first : {C : Type 0} (n k e : ℕ) (t : List (ℕ × Held)) → Rises n ((k, starts e) ∷ t) → Among (n, half) ((k, starts e) ∷ t) → C
+start-first n k e t r (zero, q) = let i = some-row (k, starts e) (n, half) q in clash (cc)
+start-first n k e t r (suc i, q) = let b = rises-place n ((k, starts e) ∷ t) (suc i) n half r q in absurd (omega arith)
+
+-- so the held slots are those of the starters, a wide one as two
+paired-doubled : (wide : ℕ → Bool) (low : ℕ) (held : List (ℕ × Held)) → Paired wide low held → map (λ h. h .0) held ≡ doubled wide (starters held)
+unfolding starters doubled
+paired-doubled wide low [] p = refl
+paired-doubled wide low ((n, half) ∷ t) p = no-half wide low n t p
+paired-doubled wide low ((n, starts e) ∷ []) p = ways (wide e) refl
+  where
+    ways : (b : Bool) → wide e ≡ b → n ∷ [] ≡ doubled wide ((n, e) ∷ [])
+    ways true w = among-nil _ (wide-then-half wide low n e [] p w)
+    ways false w = sym (doubled-narrow wide (n, e) [] w)
+paired-doubled wide low ((n, starts e) ∷ (k, starts f) ∷ t) p = ways (wide e) refl (paired-doubled wide (suc n) ((k, starts f) ∷ t))
+  where
+    ways :
+        (b : Bool) →
+        wide e ≡ b →
+        (Paired wide (suc n) ((k, starts f) ∷ t) → k ∷ map (λ h. h .0) t ≡ doubled wide ((k, f) ∷ starters t)) →
+        n ∷ k ∷ map (λ h. h .0) t ≡ doubled wide ((n, e) ∷ (k, f) ∷ starters t)
+    ways true w rest =
+        start-first
+        (suc n)
+        k
+        f
+        t
+        (rises-tail low (n, starts e) ((k, starts f) ∷ t) (p .rise))
+        (wide-then-half wide low n e ((k, starts f) ∷ t) p w)
+    ways false w rest =
+        let h = rest (narrow-rest wide low n e ((k, starts f) ∷ t) p w) in
+        let q = doubled-narrow wide (n, e) ((k, f) ∷ starters t) w in
+        cc
+paired-doubled wide low ((n, starts e) ∷ (k, half) ∷ t) p =
+    let h = half-then-wide wide low n e k t p in
+    let rest = paired-doubled wide (suc k) t (wide-rest wide low n e k t p) in
+    let q = doubled-wide wide (n, e) (starters t) (h .1) in
+    cc
+
+pub held-doubled :
+    (top : ℕ) (wide : ℕ → Bool) (ds : List (Definition ℕ)) (held : List (ℕ × Held)) →
+    HeldFacts top wide ds held →
+    map (λ h. h .0) held ≡ doubled wide (starters held)
+held-doubled top wide ds held f =
+    paired-doubled wide 1 held
+    (record { rise = f .heldRises; after = λ n e a w. f .halfHeld n e (f .startPlaced n e a) w; behind = f .halfBehind })

@@ -58,7 +58,7 @@ pub record Ended (top : ℕ) (held : List (ℕ × Held)) (raws : List (ℕ × �
 
 -- ---- after the building stack
 
-built-ended :
+pub built-ended :
     (top : ℕ) (held : List (ℕ × Held)) (raws : List (ℕ × ℕ)) (nodes : List Node) (indexes : List (ℕ × ℕ)) (p : Pool) (m : Made) →
     Pooled top held raws nodes p →
     Starts nodes raws p →

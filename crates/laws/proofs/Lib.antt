@@ -45,3 +45,7 @@ pub mod MoreLists
 pub mod DefinedFacts
 pub mod Occupied
 pub mod Ending
+pub mod Nodes
+pub mod Citing
+pub mod JobTable
+pub mod Whole

@@ -2,13 +2,13 @@
 use mathlib.Core.Bool.{Bool, true, false}
 use mathlib.Core.List.{List, [], _∷_, _++_, map}
 use mathlib.Core.Logic.{_↔_, _⊎_, inl, inr}
-use mathlib.Core.Option.{Option, none, some}
+use mathlib.Core.Option.{none, some}
 use mathlib.Core.Path.{_≡_, refl, sym, ap, _∙_}
-use Prim.Native.Nat.{ℕ, zero, suc, _+_, _≤_, _<_}
+use Prim.Native.Nat.{ℕ, zero, suc, _+_, _≤_}
 use native.Mathlib.Omega.{arith}
 use lib.Dec.{eqb, ltb}
 use lib.ListN.{length, getElem?}
-use borrow.Author.Tests.{ltb-true, ltb-false, eqb-true, eqb-false, eq-eqb, ne-eqb}
+use borrow.Author.Tests.{ltb-true, ltb-false, eqb-false, eq-eqb, ne-eqb}
 use Rattle.definition.specs.Basics.{lookup, insert, only}
 use Rattle.laws.specs.Statements.{Among, times}
 use Rattle.laws.proofs.Lists.{clash, lookup-here, lookup-later, lookup-at, only-here, only-later}
@@ -90,6 +90,11 @@ module _ {A : Type 0} where
   pub rises-tail : (n : ℕ) (r : ℕ × A) (t : List (ℕ × A)) → Rises n (r ∷ t) → Rises (suc (r .0)) t
   unfolding Rises
   rises-tail n r t h = h .1
+
+  -- the head's key is a bound
+  pub rises-anew : (n k : ℕ) (a : A) (t : List (ℕ × A)) → Rises n ((k, a) ∷ t) → Rises k ((k, a) ∷ t)
+  unfolding Rises
+  rises-anew n k a t h = (omega arith, h .1)
 
   -- a lower bound will do too
   pub rises-weaken : (m n : ℕ) (t : List (ℕ × A)) → m ≤ n → Rises n t → Rises m t
@@ -266,3 +271,14 @@ times-append n (x ∷ l) m =
     let p = times-cons n x (l ++ m) in
     let q = times-cons n x l in
     omega arith
+
+-- those that pass of a mapped list are the images of those that pass
+pub only-map :
+    {A B : Type 0} (p : B → Bool) (q : A → Bool) (f : A → B) (l : List A) → ((a : A) → p (f a) ≡ q a) → only p (map f l) ≡ map f (only q l)
+unfolding only
+only-map p q f [] h = refl
+only-map {A} {B} p q f (x ∷ l) h = go (q x) refl (only-map p q f l h)
+  where
+    go : (b : Bool) → q x ≡ b → only p (map f l) ≡ map f (only q l) → only p (f x ∷ map f l) ≡ map f (only q (x ∷ l))
+    go true e rest = rw (only-here p (f x) (map f l) (h x ∙ e), only-here q x l e) (ap (λ (m : List B). f x ∷ m) rest)
+    go false e rest = rw (only-later p (f x) (map f l) (h x ∙ e), only-later q x l e) rest

@@ -102,7 +102,7 @@ half-given nodes (r ∷ given) k s (suc i, h) w = go (isWide (tagAt nodes (r .0)
     go false rest = rest
 
 -- a list mapped, at a place
-map-at : {A B : Type 0} (f : A → B) (l : List A) (i : ℕ) (a : A) → getElem? l i ≡ some a → getElem? (map f l) i ≡ some (f a)
+pub map-at : {A B : Type 0} (f : A → B) (l : List A) (i : ℕ) (a : A) → getElem? l i ≡ some a → getElem? (map f l) i ≡ some (f a)
 map-at f [] i a h = clash (cc)
 map-at f (x ∷ l) zero a h =
     let same : x ≡ a = cc in
@@ -110,7 +110,7 @@ map-at f (x ∷ l) zero a h =
 map-at f (x ∷ l) (suc i) a h = map-at f l i a h
 
 -- what is to hold a node was given a slot, or is raw
-toHold-among : (r : ℕ × ℕ) (given raws : List (ℕ × ℕ)) → Among r (toHold given raws) → Among (r .1, r .0) given ⊎ Among r raws
+pub toHold-among : (r : ℕ × ℕ) (given raws : List (ℕ × ℕ)) → Among r (toHold given raws) → Among (r .1, r .0) given ⊎ Among r raws
 toHold-among r [] raws a = inr a
 toHold-among r (x ∷ given) raws (zero, h) =
     let same : (x .1, x .0) ≡ r = cc in

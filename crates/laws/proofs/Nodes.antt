@@ -1,0 +1,100 @@
+-- The nodes of a faithful resolving over a good table: children lead to nodes, and a bootstrap's are constants. Assumes nothing.
+use mathlib.Core.List.{List, [], _∷_, map}
+use mathlib.Core.Option.{Option, none, some}
+use mathlib.Core.Path.{_≡_, refl, sym, ap, subst, _∙_}
+use Prim.Native.Nat.{ℕ, zero, suc, _+_, _-_, _≤_, _<_}
+use native.Mathlib.Omega.{arith}
+use lib.ListN.{length, getElem?}
+use Rattle.definition.specs.Shapes.{Entry, bootstrapTag, withKids}
+use Rattle.definition.specs.Definitions.{tagAt}
+use Rattle.definition.specs.Resolving.{Goal, rawNumber, tableEntry, refusal, Mark, Node, firstNode, Resolved, childOf}
+use Rattle.definition.specs.Building.{kidsOf}
+use Rattle.laws.specs.Statements.{Among}
+use Rattle.laws.proofs.Each.{Each}
+use Rattle.laws.proofs.Lists.{clash}
+use Rattle.laws.proofs.Places.{found-inside}
+use Rattle.laws.proofs.Faithful.{Settled, Cited, IsNode, Faithful}
+use Rattle.laws.proofs.GivenConstants.{Constant, ConstantChild, BootstrapKids}
+use Rattle.laws.proofs.Numbers.{KidsIn}
+use Rattle.laws.proofs.Asked.{ConstantGoal, child-done, tag-found, settled-child}
+
+-- a raw number fits two bytes
+abbrev pub Low : Goal → Type 0
+Low (rawNumber n) = n < firstNode
+Low (tableEntry e) = Unit {0}
+Low (refusal code) = Unit {0}
+
+pub record GoodTable (table : List (Entry ℕ Goal)) : Type 0 where
+  pub cited : Cited table
+  pub low : (e : ℕ) (x : Entry ℕ Goal) (g : Goal) → getElem? table e ≡ some x → Among g (x .kids) → Low g
+  pub constantKids : (e : ℕ) (x : Entry ℕ Goal) (g : Goal) → getElem? table e ≡ some x → x .tag ≡ bootstrapTag → Among g (x .kids) → ConstantGoal table g
+
+-- a place of a list that is mapped
+pub unmap : {A B : Type 0} (f : A → B) (l : List A) (b : B) → Among b (map f l) → (a : A) × Among a l × (f a ≡ b)
+unmap f [] b (i, h) = clash (cc)
+unmap f (x ∷ l) b (zero, h) = (x, (0, refl), cc)
+unmap f (x ∷ l) b (suc i, h) =
+    let r = unmap f l b (i, h) in
+    (r .0, (suc (r .1 .0), r .1 .1), r .2)
+
+module _ (table : List (Entry ℕ Goal)) (good : GoodTable table) (s : Resolved) (f : Faithful table s) where
+  -- the entry that became a node
+  pub node-entry : (k : ℕ) (nd : Node) → getElem? (s .nodes) k ≡ some nd → (e : ℕ) × IsNode table s e k
+  node-entry k nd at =
+      let from = f .fromEntry k (found-inside (s .nodes) k nd at) in
+      (from .0, f .nodeOf (from .0) k (from .1))
+
+  -- what a settled goal became is a node of the list, if it is a node
+  settled-in : (g : Goal) → Low g → Settled (s .marks) g → firstNode ≤ childOf (s .marks) g → childOf (s .marks) g < firstNode + length (s .nodes)
+  unfolding childOf
+  settled-in (rawNumber n) low h high = absurd (omega (arith, low, high))
+  settled-in (tableEntry e) low h high =
+      let node = f .nodeOf e (h .0) (h .1) in
+      omega (arith, child-done (s .marks) e (h .0) (h .1), found-inside (s .nodes) (h .0) _ (node .2))
+  settled-in (refusal code) low h high = absurd h
+
+  -- a node's children are what the entry's goals became
+  same-kids :
+      (k : ℕ) (nd : Node) (x : Entry ℕ Goal) →
+      getElem? (s .nodes) k ≡ some nd →
+      getElem? (s .nodes) k ≡ some (withKids (map (childOf (s .marks)) (x .kids)) x) →
+      map (childOf (s .marks)) (x .kids) ≡ nd .kids
+  unfolding withKids
+  same-kids k nd x at is =
+      let same : withKids (map (childOf (s .marks)) (x .kids)) x ≡ nd = cc in
+      ap (λ (n : Node). n .kids) same
+
+  each-mapped :
+      (gs : List Goal) →
+      ((g : Goal) → Among g gs → firstNode ≤ childOf (s .marks) g → (childOf (s .marks) g - firstNode < length (s .nodes)) × Constant (s .nodes) (childOf (s .marks) g - firstNode)) →
+      Each (ConstantChild (s .nodes)) (map (childOf (s .marks)) gs)
+  each-mapped [] h = tt
+  each-mapped (g ∷ gs) h = (λ high. h g (0, refl) high .1, each-mapped gs (λ g′ a. h g′ (suc (a .0), a .1)))
+
+  pub kids-in : KidsIn (s .nodes)
+  kids-in k nd at c a high =
+      let from = node-entry k nd at in
+      let x = from .1 .0 in
+      let kids = same-kids k nd x at (from .1 .2) in
+      let u = unmap (childOf (s .marks)) (x .kids) c (subst (Among c) (sym kids) a) in
+      subst (λ c. c < firstNode + length (s .nodes)) (u .2)
+        (settled-in (u .0) (good .low (from .0) x (u .0) (from .1 .1) (u .1)) (from .1 .3 (u .0) (u .1)) (subst (λ c. firstNode ≤ c) (sym (u .2)) high))
+
+  -- a node that is a bootstrap is one of the list
+  bootstrap-found : (k : ℕ) (o : Option Node) → getElem? (s .nodes) k ≡ o → tagAt (s .nodes) k ≡ bootstrapTag → (nd : Node) × (getElem? (s .nodes) k ≡ some nd)
+  unfolding tagAt
+  bootstrap-found k none e t = clash (cc (rw (e, tagAt) at t))
+  bootstrap-found k (some nd) e t = (nd, e)
+
+  -- so a bootstrap's children are constants
+  pub bootstrap-kids : BootstrapKids (s .nodes)
+  unfolding withKids kidsOf
+  bootstrap-kids k t =
+      let found = bootstrap-found k (getElem? (s .nodes) k) refl t in
+      let nd = found .0 in
+      let from = node-entry k nd (found .1) in
+      let x = from .1 .0 in
+      let kids = same-kids k nd x (found .1) (from .1 .2) in
+      let tag : x .tag ≡ bootstrapTag = sym (tag-found (s .nodes) k _ (from .1 .2)) ∙ t in
+      rw (found .1, kidsOf, ← kids)
+        (each-mapped (x .kids) (λ g a. settled-child table s g f (from .1 .3 g a) (good .constantKids (from .0) x g (from .1 .1) tag a)))

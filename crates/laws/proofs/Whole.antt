@@ -1,0 +1,258 @@
+-- A built job as a whole: what each stage left, from the bytes to the layout. Assumes nothing.
+use mathlib.Core.Bool.{Bool, true, false}
+use mathlib.Core.List.{List, [], _∷_, _++_, map, reverse, reverseAux}
+use mathlib.Core.Logic.{_⊎_, inl, inr}
+use mathlib.Core.Option.{Option, none, some}
+use mathlib.Core.Path.{_≡_, refl, sym, ap, subst, _∙_}
+use Prim.Native.Nat.{ℕ, zero, suc, _+_, _-_, _≤_, _<_}
+use native.Mathlib.Omega.{arith}
+use lib.ListN.{length, getElem?}
+use Rattle.definition.specs.Basics.{good}
+use Rattle.definition.specs.Shapes.{Kind, constant, bootstrap, bootstrapTag, Entry, isWide, withKids}
+use Rattle.definition.specs.Job.{Reference, Definition, placed, Request, Job}
+use Rattle.definition.specs.Form.{form}
+use Rattle.definition.specs.Numbering.{constantsOf, bootstrapsOf, numbered}
+use Rattle.definition.specs.Definitions.{Held, starts, half, Naming, Defined, tagAt, defineAll, nothingDefined}
+use Rattle.definition.specs.Resolving.{Goal, tableEntry, placeOf, goalOf, Mark, done, Node, firstNode, childOf, linked}
+use Rattle.definition.specs.Slots.{highestSlot}
+use Rattle.definition.specs.Building.{Row, Made, nameWanted}
+use Rattle.definition.specs.Layout.{starters, nodeAt, Ready, endDefinitions, answerAll, Layout, indexNodes, layout}
+use Rattle.laws.specs.Statements.{IsBytes, Among}
+use Rattle.laws.proofs.Each.{Each, each-at}
+use Rattle.laws.proofs.Lists.{clash}
+use Rattle.laws.proofs.Places.{found-inside, found-append}
+use Rattle.laws.proofs.Occupied.{map-at, toHold-among}
+use Rattle.laws.proofs.DefinedFacts.{DefinedFacts, wideAt, defined-facts, starters-start}
+use Rattle.laws.proofs.Citing.{jobNames, jobConstants, jobTable, table-bootstrap}
+use Rattle.laws.proofs.Faithful.{Settled, InTable, settled-grows}
+use Rattle.laws.proofs.Asked.{Going, Answered, Further, Asks, answerAll-going, child-done, tag-found}
+use Rattle.laws.proofs.Started.{rawGoals, rawsOf, ready-going}
+use Rattle.laws.proofs.Stages.{Stages, stages, tableIn}
+use Rattle.laws.proofs.Nodes.{GoodTable, unmap, kids-in, bootstrap-kids}
+use Rattle.laws.proofs.Numbers.{rowsOf, StackIn, Starts}
+use Rattle.laws.proofs.Ending.{Named, named, built-ended}
+use Rattle.laws.proofs.JobTable.{good-table, asks-good, placed-good, numbered-cited, definitions-low, requests-low}
+
+-- what stands in the one order stands in the other
+among-reverse : {A : Type 0} (a : A) (l acc : List A) → Among a (reverseAux l acc) → Among a l ⊎ Among a acc
+among-reverse a [] acc h = inr h
+among-reverse a (x ∷ l) acc h = go (among-reverse a l (x ∷ acc) h)
+  where
+    first : Among a (x ∷ acc) → Among a (x ∷ l) ⊎ Among a acc
+    first (zero, e) = inl (zero, e)
+    first (suc i, e) = inr (i, e)
+
+    go : Among a l ⊎ Among a (x ∷ acc) → Among a (x ∷ l) ⊎ Among a acc
+    go (inl (i, e)) = inl (suc i, e)
+    go (inr h) = first h
+
+among-back : {A : Type 0} (a : A) (l : List A) → Among a (reverse l) → Among a l
+among-back a l h = go (among-reverse a l [] h)
+  where
+    go : Among a l ⊎ Among a [] → Among a l
+    go (inl h) = h
+    go (inr (i, e)) = clash (cc)
+
+-- what stands in one of two lists
+among-split : {A : Type 0} (a : A) (l m : List A) → Among a (l ++ m) → Among a l ⊎ Among a m
+among-split a [] m h = inr h
+among-split a (x ∷ l) m (zero, e) = inl (zero, e)
+among-split a (x ∷ l) m (suc i, e) = go (among-split a l m (i, e))
+  where
+    go : Among a l ⊎ Among a m → Among a (x ∷ l) ⊎ Among a m
+    go (inl (j, e)) = inl (suc j, e)
+    go (inr h) = inr h
+
+among-left : {A : Type 0} (a : A) (l m : List A) → Among a l → Among a (l ++ m)
+among-left a l m (i, e) = (i, found-append l m i a e)
+
+among-right : {A : Type 0} (a : A) (l m : List A) → Among a m → Among a (l ++ m)
+among-right a [] m h = h
+among-right a (x ∷ l) m h =
+    let r = among-right a l m h in
+    (suc (r .0), r .1)
+
+-- what is so at every place is so of every one
+each-from : {A : Type 0} (P : A → Type 0) (l : List A) → ((i : ℕ) (a : A) → getElem? l i ≡ some a → P a) → Each P l
+each-from P [] h = tt
+each-from P (x ∷ l) h = (h 0 x refl, each-from P l (λ i a e. h (suc i) a e))
+
+module _ (bytes : List ℕ) (job : Job (List ℕ)) (l : Layout) (are : IsBytes bytes) (formed : form bytes ≡ good job) (laid : layout highestSlot (numbered job) ≡ good l) where
+  pub st : Stages highestSlot (numbered job) l
+  st = stages highestSlot (numbered job) l laid
+
+  abbrev pub table : List (Entry ℕ Goal)
+  table = jobTable (numbered job)
+
+  pub facts : DefinedFacts highestSlot (wideAt (constantsOf (numbered job .definitions))) (numbered job .definitions) (st .defined)
+  facts = defined-facts highestSlot (constantsOf (numbered job .definitions)) (numbered job .definitions) (st .defined) (st .isDefined)
+
+  good-job-table : GoodTable table
+  good-job-table =
+      good-table (numbered job) (numbered-cited bytes job are formed) (definitions-low bytes job are formed) (requests-low bytes job are formed)
+
+  -- the table of the stages is the job's
+  same-table : tableIn (numbered job) (st .defined) ≡ table
+  same-table = ap (λ names. linked names (jobConstants (numbered job)) (constantsOf (numbered job .definitions) ++ bootstrapsOf (numbered job .definitions))) (facts .allNames)
+
+  -- what record 50 resolves lies in the table
+  raw-in : (g : Goal) → Among g (rawGoals (jobConstants (numbered job)) (st .defined)) → InTable (length table) g
+  unfolding placeOf
+  raw-in g a =
+      go
+      (among-split g
+        (map (λ r. tableEntry (r .1)) (starters (st .defined .held)))
+        (map (λ r. tableEntry (jobConstants (numbered job) + r .1)) (st .defined .indexes))
+        a)
+    where
+      there : (kind : Kind) (n e : ℕ) → Among (placed kind n e) (numbered job .definitions) → InTable (length table) (tableEntry (placeOf (jobConstants (numbered job)) kind e))
+      there = placed-good (numbered job) (numbered-cited bytes job are formed) (definitions-low bytes job are formed) (requests-low bytes job are formed)
+
+      go :
+          Among g (map (λ r. tableEntry (r .1)) (starters (st .defined .held)))
+          ⊎ Among g (map (λ r. tableEntry (jobConstants (numbered job) + r .1)) (st .defined .indexes)) →
+          InTable (length table) g
+      go (inl h) =
+          let u = unmap (λ (r : ℕ × ℕ). tableEntry (r .1)) (starters (st .defined .held)) g h in
+          subst (InTable (length table)) (u .2)
+            (there constant (u .0 .0) (u .0 .1) (facts .allHeld .startPlaced (u .0 .0) (u .0 .1) (starters-start (st .defined .held) (u .0 .0) (u .0 .1) (u .1))))
+      go (inr h) =
+          let u = unmap (λ (r : ℕ × ℕ). tableEntry (jobConstants (numbered job) + r .1)) (st .defined .indexes) g h in
+          subst (InTable (length table)) (u .2) (there bootstrap (u .0 .0) (u .0 .1) (facts .allIndexes .indexPlaced (u .0 .0) (u .0 .1) (u .1)))
+
+  -- the raw constants, as the building stack has them
+  abbrev pub raws : List (ℕ × ℕ)
+  raws = rawsOf (st .defined .held) (st .ready .resolved .marks)
+
+  started :
+      Going table highestSlot (st .defined .held) raws (st .ready)
+      × ((g : Goal) → Among g (rawGoals (jobConstants (numbered job)) (st .defined)) → Settled (st .ready .resolved .marks) g)
+  started =
+      ready-going highestSlot (numbered job .definitions) (constantsOf (numbered job .definitions)) table (jobConstants (numbered job)) (st .defined) (st .ready)
+        (good-job-table .cited)
+        raw-in
+        (st .isDefined)
+        (subst (λ t. endDefinitions highestSlot t (jobConstants (numbered job)) (st .defined) ≡ good (st .ready)) same-table (st .isReady))
+
+  asks : Each (Asks table (good-job-table .cited) highestSlot (st .defined .held) raws (jobNames (numbered job)) (jobConstants (numbered job))) (numbered job .requests)
+  asks = each-from _ (numbered job .requests) (asks-good (numbered job) (numbered-cited bytes job are formed) (definitions-low bytes job are formed) (requests-low bytes job are formed))
+
+  pub asked :
+      Going table highestSlot (st .defined .held) raws (st .asked)
+      × Further (st .ready) (st .asked)
+      × ((i : ℕ) (q : Request) →
+      getElem? (numbered job .requests) i ≡ some q →
+      (a : ℕ) × (getElem? (st .answers) i ≡ some a) × Answered (goalOf (jobNames (numbered job)) (jobConstants (numbered job)) (q .what)) a (st .asked))
+  asked =
+      answerAll-going table (good-job-table .cited) highestSlot (st .defined .held) raws (jobNames (numbered job)) (jobConstants (numbered job))
+        (suc (length (numbered job .definitions)))
+        (numbered job .requests)
+        (st .ready)
+        (st .answers, st .asked)
+        asks
+        (subst
+          (λ names. answerAll names (jobConstants (numbered job)) (suc (length (numbered job .definitions))) (numbered job .requests) (st .ready) ≡ good (st .answers, st .asked))
+          (facts .allNames)
+          (st .isAsked))
+        (started .0)
+
+  -- raw definitions stay settled
+  pub raw-settled : (g : Goal) → Among g (rawGoals (jobConstants (numbered job)) (st .defined)) → Settled (st .asked .resolved .marks) g
+  raw-settled g a = settled-grows (st .ready .resolved) (st .asked .resolved) g (asked .1 .grows) (started .1 g a)
+
+  -- ---- what building starts from
+
+  abbrev pub nodes : List Node
+  nodes = st .asked .resolved .nodes
+
+  abbrev pub marks : List Mark
+  marks = st .asked .resolved .marks
+
+  -- the node of a settled entry
+  node-at : (marks : List Mark) (e k : ℕ) → getElem? marks e ≡ some (done k) → nodeAt marks e ≡ k
+  unfolding nodeAt
+  node-at marks e k h = omega (arith, child-done marks e k h)
+
+  -- a raw constant's node is what its entry became
+  pub raw-node : (s k : ℕ) → Among (s, k) raws → (e : ℕ) × Among (s, e) (starters (st .defined .held)) × (getElem? marks e ≡ some (done k))
+  raw-node s k a =
+      let f : ℕ × ℕ → ℕ × ℕ = λ r. (r .0, nodeAt (st .ready .resolved .marks) (r .1)) in
+      let u = unmap f (starters (st .defined .held)) (s, k) (among-back (s, k) (map f (starters (st .defined .held))) a) in
+      let e = u .0 .1 in
+      let slot : u .0 .0 ≡ s = ap (λ (x : ℕ × ℕ). x .0) (u .2) in
+      let goal : Among (tableEntry e) (map (λ (r : ℕ × ℕ). tableEntry (r .1)) (starters (st .defined .held))) = (u .1 .0, map-at (λ (r : ℕ × ℕ). tableEntry (r .1)) (starters (st .defined .held)) (u .1 .0) (u .0) (u .1 .1)) in
+      let settled = started .1 (tableEntry e) (among-left (tableEntry e) (map (λ r. tableEntry (r .1)) (starters (st .defined .held))) (map (λ r. tableEntry (jobConstants (numbered job) + r .1)) (st .defined .indexes)) goal) in
+      let node : settled .0 ≡ k = sym (node-at (st .ready .resolved .marks) e (settled .0) (settled .1)) ∙ ap (λ (x : ℕ × ℕ). x .1) (u .2) in
+      ( e
+      , subst (λ n. Among (n, e) (starters (st .defined .held))) slot (u .1)
+      , subst (λ n. getElem? marks e ≡ some (done n)) node (asked .1 .grows .marksKept e (settled .0) (settled .1))
+      )
+
+  -- what a raw bootstrap's entry became
+  pub index-node : (i e : ℕ) → Among (i, e) (st .defined .indexes) → (k : ℕ) × (getElem? marks (jobConstants (numbered job) + e) ≡ some (done k))
+  index-node i e a =
+      raw-settled (tableEntry (jobConstants (numbered job) + e))
+        (among-right (tableEntry (jobConstants (numbered job) + e))
+          (map (λ r. tableEntry (r .1)) (starters (st .defined .held)))
+          (map (λ r. tableEntry (jobConstants (numbered job) + r .1)) (st .defined .indexes))
+          (a .0, map-at (λ (r : ℕ × ℕ). tableEntry (jobConstants (numbered job) + r .1)) (st .defined .indexes) (a .0) (i, e) (a .1)))
+
+  abbrev pub indexes : List (ℕ × ℕ)
+  indexes = indexNodes (jobConstants (numbered job)) marks (st .defined .indexes)
+
+  -- the tag of the node that an entry became is the entry's
+  pub node-tag : (e k : ℕ) (x : Entry ℕ Goal) → getElem? marks e ≡ some (done k) → getElem? table e ≡ some x → tagAt nodes k ≡ x .tag
+  unfolding withKids
+  node-tag e k x h at =
+      let n = asked .0 .faithful .nodeOf e k h in
+      let same : n .0 ≡ x = cc in
+      tag-found nodes k _ (n .2) ∙ ap (λ (y : Entry ℕ Goal). y .tag) same
+
+  -- raw bootstraps are bootstraps
+  indexes-are : Each (λ x. tagAt nodes (x .1) ≡ bootstrapTag) indexes
+  unfolding indexNodes
+  indexes-are = each-from (λ x. tagAt nodes (x .1) ≡ bootstrapTag) indexes at
+    where
+      at : (i : ℕ) (x : ℕ × ℕ) → getElem? indexes i ≡ some x → tagAt nodes (x .1) ≡ bootstrapTag
+      at i x h =
+          let u = unmap (λ (r : ℕ × ℕ). (r .0, nodeAt marks (jobConstants (numbered job) + r .1))) (st .defined .indexes) x (i, h) in
+          let e = u .0 .1 in
+          let n = index-node (u .0 .0) e (u .1) in
+          let node = asked .0 .faithful .nodeOf (jobConstants (numbered job) + e) (n .0) (n .1) in
+          let tag = table-bootstrap (numbered job .definitions) (jobNames (numbered job)) (jobConstants (numbered job)) (jobConstants (numbered job) + e) (node .0) (node .1) (omega arith) in
+          subst (λ (y : ℕ × ℕ). tagAt nodes (y .1) ≡ bootstrapTag) (u .2)
+            (ap (tagAt nodes) (node-at marks (jobConstants (numbered job) + e) (n .0) (n .1)) ∙ node-tag (jobConstants (numbered job) + e) (n .0) (node .0) (n .1) (node .1) ∙ tag)
+
+  -- nodes on the stack are nodes of the list
+  stack-in : StackIn nodes (st .asked .pool .pending)
+  stack-in s k a = go (toHold-among (s, k) (st .asked .pool .given) raws (subst (Among (s, k)) (asked .0 .pooled .stack) a))
+    where
+      go : Among (k, s) (st .asked .pool .given) ⊎ Among (s, k) raws → k < length nodes
+      go (inl g) = each-at _ (st .asked .pool .given) (g .0) (k, s) (asked .0 .pooled .givenIn) (g .1) .0
+      go (inr r) =
+          let n = raw-node s k r in
+          found-inside nodes k _ (asked .0 .faithful .nodeOf (n .0) k (n .2) .2)
+
+  pub starts-here : Starts nodes raws (st .asked .pool)
+  starts-here =
+      record {
+        kidsIn = kids-in table good-job-table (st .asked .resolved) (asked .0 .faithful);
+        stack = asked .0 .pooled .stack;
+        stackIn = stack-in;
+      }
+
+  abbrev pub rows : List Row
+  rows = rowsOf (st .made)
+
+  pub ending :
+      Named highestSlot (st .defined .held) raws nodes rows (nameWanted (numbered job .build .nameByte) (length rows)) (st .made) (st .named)
+  ending =
+      named highestSlot (st .defined .held) raws nodes rows (nameWanted (numbered job .build .nameByte) (length rows)) (st .made) (st .named)
+        (starts-here .kidsIn)
+        (built-ended highestSlot (st .defined .held) raws nodes indexes (st .asked .pool) (st .made)
+          (asked .0 .pooled)
+          starts-here
+          (bootstrap-kids table good-job-table (st .asked .resolved) (asked .0 .faithful))
+          indexes-are
+          (st .isMade))
+        (st .isNamed)
