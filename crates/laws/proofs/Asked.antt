@@ -15,7 +15,7 @@ use Rattle.definition.specs.Job.{Request}
 use Rattle.definition.specs.Definitions.{Held, Naming, tagAt}
 use Rattle.definition.specs.Resolving.{Goal, rawNumber, tableEntry, refusal, Mark, done, Node, firstNode, Resolved, markChild, childOf, goalOf, resolve}
 use Rattle.definition.specs.Slots.{highestLdc}
-use Rattle.definition.specs.Building.{Pool, allocate, slotOf}
+use Rattle.definition.specs.Building.{Pool, allocate, slotOf, kidsOf}
 use Rattle.definition.specs.Layout.{Ready, answer, answerAll}
 use Rattle.laws.specs.Statements.{Occurs, afterRequest, moreResolved}
 use Rattle.laws.proofs.Each.{Each, each-map}
@@ -124,6 +124,11 @@ pub record Further (w w′ : Ready) : Type 0 where
 pub tag-found : {L R : Type 0} (nodes : List (Entry L R)) (k : ℕ) (n : Entry L R) → getElem? nodes k ≡ some n → tagAt nodes k ≡ n .tag
 unfolding tagAt
 tag-found nodes k n h = rw (h, tagAt)
+
+-- and its children
+pub kids-found : (nodes : List Node) (k : ℕ) (n : Node) → getElem? nodes k ≡ some n → kidsOf nodes k ≡ n .kids
+unfolding kidsOf
+kids-found nodes k n h = rw (h, kidsOf)
 
 -- what a settled goal became is a node of the list, and a constant if the goal leads to one
 pub settled-child :

@@ -1,6 +1,6 @@
 -- What is there when a job is built: every slot that is to hold a node is owned by it, and the name, if wanted, has its slot. Assumes nothing.
 use mathlib.Core.Bool.{Bool, true, false}
-use mathlib.Core.List.{List, [], _∷_, _++_, map}
+use mathlib.Core.List.{List, [], _∷_, _++_, map, append-nil}
 use mathlib.Core.Logic.{_⊎_, inl, inr}
 use mathlib.Core.Option.{Option, none, some}
 use mathlib.Core.Path.{_≡_, refl, sym, ap, subst, _∙_}
@@ -236,11 +236,30 @@ attribute-childless : attributeText .kids ≡ []
 unfolding attributeText
 attribute-childless = refl
 
+-- a node of the longer list is one of the shorter, or the new one
+other-nodes :
+    (nodes more : List Node) (k : ℕ) →
+    getElem? (nodes ++ more) k ≡ some attributeText →
+    ((k′ : ℕ) → k′ < length (nodes ++ more) → (k′ < length nodes) ⊎ (k′ ≡ k)) →
+    (k′ : ℕ) (nd : Node) →
+    getElem? (nodes ++ more) k′ ≡ some nd →
+    (getElem? nodes k′ ≡ some nd) ⊎ (nd ≡ attributeText)
+other-nodes nodes more k at only k′ nd at′ = go (only k′ (found-inside (nodes ++ more) k′ nd at′))
+  where
+    go : (k′ < length nodes) ⊎ (k′ ≡ k) → (getElem? nodes k′ ≡ some nd) ⊎ (nd ≡ attributeText)
+    go (inl low) =
+        let f = inside-found nodes k′ low in
+        let same : f .0 ≡ nd = cc (found-append nodes more k′ (f .0) (f .1)) in
+        inl (f .1 ∙ ap some same)
+    go (inr same) = inr (cc (ap (getElem? (nodes ++ more)) same))
+
 -- what the name adds
 pub record Named (top : ℕ) (held : List (ℕ × Held)) (raws : List (ℕ × ℕ)) (nodes : List Node) (rows : List Row) (wanted : Bool) (m : Made) (r : ℕ × Made) : Type 0 where
   pub more : List Node
   pub ended : Ended top held raws (nodes ++ more) rows (r .1)
   pub kept : SlotsKept (m .pool .given) (r .1 .pool .given)
+  -- no other node came in than the text
+  pub others : (k : ℕ) (nd : Node) → getElem? (nodes ++ more) k ≡ some nd → (getElem? nodes k ≡ some nd) ⊎ (nd ≡ attributeText)
   pub name : ((wanted ≡ false) × (r .0 ≡ 0)) ⊎ ((wanted ≡ true) × (lookup (r .0) (r .1 .owned) ≡ some attributeText))
 
 pub named :
@@ -252,7 +271,7 @@ pub named :
 unfolding nameSlot
 named top held raws nodes rows false m r kids h e =
     subst (Named top held raws nodes rows false m) (good-inj e)
-      (record { more = []; ended = ended-more top held raws nodes [] rows m kids h; kept = slots-same; name = inl (refl, refl) })
+      (record { more = []; ended = ended-more top held raws nodes [] rows m kids h; kept = slots-same; others = λ k nd at. inl (subst (λ n. getElem? n k ≡ some nd) (append-nil nodes) at); name = inl (refl, refl) })
 named top held raws nodes rows true m r kids h e =
     after (allocate (intern attributeText nodes) false (position (sameNode attributeText) nodes) (m .pool)) _ r e λ q gave e₁.
     let i = interned attributeText nodes in
@@ -267,5 +286,6 @@ named top held raws nodes rows true m r kids h e =
         more = more;
         ended = name-ended top held raws (nodes ++ more) rows m k attributeText at attribute-childless constant q gave′ before;
         kept = name-kept top held raws (nodes ++ more) rows m k attributeText at attribute-childless constant q gave′ before;
+        others = other-nodes nodes more k at (λ k′ low. i .noOther k′ (subst (λ n. k′ < length n) (sym (i .kept .1)) low));
         name = inr (refl, lookup-hit (q .0) (q .0, attributeText) (m .owned) refl);
       })

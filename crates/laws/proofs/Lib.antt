@@ -49,3 +49,5 @@ pub mod Nodes
 pub mod Citing
 pub mod JobTable
 pub mod Whole
+pub mod Origins
+pub mod ReadBack

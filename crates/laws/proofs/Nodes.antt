@@ -81,7 +81,7 @@ module _ (table : List (Entry ℕ Goal)) (good : GoodTable table) (s : Resolved)
         (settled-in (u .0) (good .low (from .0) x (u .0) (from .1 .1) (u .1)) (from .1 .3 (u .0) (u .1)) (subst (λ c. firstNode ≤ c) (sym (u .2)) high))
 
   -- a node that is a bootstrap is one of the list
-  bootstrap-found : (k : ℕ) (o : Option Node) → getElem? (s .nodes) k ≡ o → tagAt (s .nodes) k ≡ bootstrapTag → (nd : Node) × (getElem? (s .nodes) k ≡ some nd)
+  pub bootstrap-found : (k : ℕ) (o : Option Node) → getElem? (s .nodes) k ≡ o → tagAt (s .nodes) k ≡ bootstrapTag → (nd : Node) × (getElem? (s .nodes) k ≡ some nd)
   unfolding tagAt
   bootstrap-found k none e t = clash (cc (rw (e, tagAt) at t))
   bootstrap-found k (some nd) e t = (nd, e)

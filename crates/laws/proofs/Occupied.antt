@@ -73,7 +73,7 @@ times-given t nodes (r ∷ given) = ways (isWide (tagAt nodes (r .0))) (times-gi
     ways false h = omega (arith, h, times-cons t (r .1) (givenSlots nodes given), times-cons t (r .1) (map (λ r. r .1) given))
 
 -- the order of a list doesn't matter
-times-reverse : (t : ℕ) (l acc : List (ℕ × ℕ)) → times t (map (λ r. r .0) (reverseAux l acc)) ≡ times t (map (λ r. r .0) l) + times t (map (λ r. r .0) acc)
+pub times-reverse : (t : ℕ) (l acc : List (ℕ × ℕ)) → times t (map (λ r. r .0) (reverseAux l acc)) ≡ times t (map (λ r. r .0) l) + times t (map (λ r. r .0) acc)
 unfolding times
 times-reverse t [] acc = omega arith
 times-reverse t (x ∷ l) acc =

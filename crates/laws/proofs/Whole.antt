@@ -73,7 +73,7 @@ among-right a (x ∷ l) m h =
     (suc (r .0), r .1)
 
 -- what is so at every place is so of every one
-each-from : {A : Type 0} (P : A → Type 0) (l : List A) → ((i : ℕ) (a : A) → getElem? l i ≡ some a → P a) → Each P l
+pub each-from : {A : Type 0} (P : A → Type 0) (l : List A) → ((i : ℕ) (a : A) → getElem? l i ≡ some a → P a) → Each P l
 each-from P [] h = tt
 each-from P (x ∷ l) h = (h 0 x refl, each-from P l (λ i a e. h (suc i) a e))
 
@@ -87,7 +87,7 @@ module _ (bytes : List ℕ) (job : Job (List ℕ)) (l : Layout) (are : IsBytes b
   pub facts : DefinedFacts highestSlot (wideAt (constantsOf (numbered job .definitions))) (numbered job .definitions) (st .defined)
   facts = defined-facts highestSlot (constantsOf (numbered job .definitions)) (numbered job .definitions) (st .defined) (st .isDefined)
 
-  good-job-table : GoodTable table
+  pub good-job-table : GoodTable table
   good-job-table =
       good-table (numbered job) (numbered-cited bytes job are formed) (definitions-low bytes job are formed) (requests-low bytes job are formed)
 
@@ -209,7 +209,7 @@ module _ (bytes : List ℕ) (job : Job (List ℕ)) (l : Layout) (are : IsBytes b
       tag-found nodes k _ (n .2) ∙ ap (λ (y : Entry ℕ Goal). y .tag) same
 
   -- raw bootstraps are bootstraps
-  indexes-are : Each (λ x. tagAt nodes (x .1) ≡ bootstrapTag) indexes
+  pub indexes-are : Each (λ x. tagAt nodes (x .1) ≡ bootstrapTag) indexes
   unfolding indexNodes
   indexes-are = each-from (λ x. tagAt nodes (x .1) ≡ bootstrapTag) indexes at
     where
