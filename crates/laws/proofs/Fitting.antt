@@ -1,6 +1,6 @@
 -- What building makes of a formed entry fits the entry's shape: a constant with numbers for its references, and a bootstrap's row.
 -- Assumes nothing.
-use mathlib.Core.List.{List}
+use mathlib.Core.List.{List, []}
 use mathlib.Core.Logic.{inl, inr}
 use mathlib.Core.Option.{none, some}
 use mathlib.Core.Path.{_≡_, refl, sym, subst}
@@ -64,3 +64,10 @@ unfolding bootstrapShape
 isFor-formed x row h is n k =
     let shape = subst (λ fields. HasShape fields x) (rowShape (x .tag) (h .fields) (h .shapeOf) is) (h .shape) in
     isFor-like bootstrapShape x (rowShown row) shape (sym (shape .noLiteral refl)) (sym (shape .noByte refl)) n k
+
+-- a formed bootstrap has no literal and no kind byte
+pub row-plain : (x : Entry (List ℕ) Reference) → FormedEntry x → x .tag ≡ bootstrapTag → (x .literal ≡ []) × (x .byte ≡ 0)
+unfolding bootstrapShape
+row-plain x h is =
+    let shape = subst (λ fields. HasShape fields x) (rowShape (x .tag) (h .fields) (h .shapeOf) is) (h .shape) in
+    (shape .noLiteral refl, shape .noByte refl)

@@ -51,3 +51,4 @@ pub mod JobTable
 pub mod Whole
 pub mod Origins
 pub mod ReadBack
+pub mod Showing

@@ -96,7 +96,7 @@ module _ (bytes : List ℕ) (job : Job (List ℕ)) (l : Layout) (are : IsBytes b
   soundly = sound (end .ended .occurs)
 
   -- raw constants start where the raw definitions say
-  raw-keys : (t : ℕ) → times t (map (λ r. r .0) raw) ≡ times t (map (λ r. r .0) (starters (stg .defined .held)))
+  pub raw-keys : (t : ℕ) → times t (map (λ r. r .0) raw) ≡ times t (map (λ r. r .0) (starters (stg .defined .held)))
   unfolding times
   raw-keys t =
       let f : ℕ × ℕ → ℕ × ℕ = λ r. (r .0, nodeAt (stg .ready .resolved .marks) (r .1)) in
@@ -129,7 +129,7 @@ module _ (bytes : List ℕ) (job : Job (List ℕ)) (l : Layout) (are : IsBytes b
       , λ t. eqb-false (node .0 .tag) bootstrapTag (table-constant (numbered job .definitions) (jobNames (numbered job)) (jobConstants (numbered job)) e (node .0) (node .1) (low-constant e low)) (sym tag ∙ t)
       )
 
-  raw-wide : (n k : ℕ) → Among (n, k) raw → isWide (tagAt allNodes k) ≡ true → Among (suc n, half) (stg .defined .held)
+  pub raw-wide : (n k : ℕ) → Among (n, k) raw → isWide (tagAt allNodes k) ≡ true → Among (suc n, half) (stg .defined .held)
   raw-wide n k a w =
       let r = raw-tag n k a in
       facts bytes job l are formed laid .allHeld .halfHeld n (r .0) (r .1) (ap isWide (sym (r .2)) ∙ w)

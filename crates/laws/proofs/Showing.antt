@@ -1,0 +1,290 @@
+-- In the finished pool, as the reader shows it, every slot that is to hold a node shows the entry that became it, to any depth. Assumes nothing.
+use mathlib.Core.Bool.{Bool, true, false}
+use mathlib.Core.List.{List, [], _∷_, _++_, map}
+use mathlib.Core.Logic.{_⊎_, inl, inr}
+use mathlib.Core.Option.{Option, none, some}
+use mathlib.Core.Path.{_≡_, refl, sym, ap, subst, _∙_}
+use Prim.Native.Nat.{ℕ, zero, suc, _+_, _-_, _≤_, _<_}
+use native.Mathlib.Omega.{arith}
+use lib.Dec.{eqb, ltb}
+use lib.ListN.{length, getD, getElem?, length-map}
+use borrow.Author.Tests.{eqb-true, eqb-false, eq-eqb, ne-eqb}
+use Rattle.definition.specs.Basics.{good, lookup, from}
+use Rattle.definition.specs.Shapes.{Kind, constant, bootstrap, bootstrapTag, bootstrapShape, Entry, isWide, withKids, withLiteral}
+use Rattle.definition.specs.Job.{Reference, Definition, Job}
+use Rattle.definition.specs.Form.{form}
+use Rattle.definition.specs.Numbering.{constantsOf, bootstrapsOf, literals, literalOf, numbered}
+use Rattle.definition.specs.Definitions.{tagAt}
+use Rattle.definition.specs.Resolving.{Goal, rawNumber, tableEntry, refusal, goalOf, Node, Mark, done, firstNode, childOf}
+use Rattle.definition.specs.Slots.{highestSlot}
+use Rattle.definition.specs.Building.{Row, holds, contentOf, kidsOf}
+use Rattle.definition.specs.Layout.{Layout, layout}
+use Rattle.definition.specs.Run.{shown}
+use Rattle.laws.specs.Statements.{IsBytes, Among, times, Finished, namings, leadsTo, slotShows, numberShows, Pairwise, Shows, rowShown}
+use Rattle.laws.proofs.Lists.{clash}
+use Rattle.laws.proofs.Places.{found-inside, found-append, found-read}
+use Rattle.laws.proofs.MoreLists.{some-key, some-row, once, times-cons}
+use Rattle.laws.proofs.Chunks.{length-from, from-at}
+use Rattle.laws.proofs.Faithful.{Settled}
+use Rattle.laws.proofs.Contents.{spelled, content-holds}
+use Rattle.laws.proofs.Asked.{child-done, tag-found, kids-found}
+use Rattle.laws.proofs.Nodes.{Low, unmap}
+use Rattle.laws.proofs.DefinedFacts.{namings-numbered}
+use Rattle.laws.proofs.Citing.{jobNames, jobConstants, jobTable, count-numbered, countIn}
+use Rattle.laws.proofs.Numbers.{Each as Both, SlotFor, NumberFor, toHold, given-held}
+use Rattle.laws.proofs.Occupied.{among-times, map-at, starts-once}
+use Rattle.laws.proofs.Origins.{Origin, origin}
+use Rattle.laws.proofs.Whole.{good-job-table, asked, nodes, marks, rows}
+use Rattle.laws.proofs.ReadBack.{stg, end, allNodes, raw, pool, owned, soundly, raw-keys, raw-wide, count, starts-at, held-constant}
+use Rattle.laws.proofs.Fitting.{row-plain}
+
+some-inj : {A : Type 0} {a b : A} → _≡_ {A = Option A} (some a) (some b) → a ≡ b
+some-inj e = cc
+
+-- a slot that stands once in a table has one row
+once-here : (n x : ℕ) → x ≡ n → once n x ≡ 1
+once-here n x e = rw (eq-eqb n x (sym e), once)
+
+counted-row : (l : List (ℕ × ℕ)) (n k : ℕ) → Among (n, k) l → 1 ≤ times n (map (λ r. r .0) l)
+counted-row l n k a = among-times n (map (λ r. r .0) l) (a .0, map-at (λ (r : ℕ × ℕ). r .0) l (a .0) (n, k) (a .1))
+
+once-same : (l : List (ℕ × ℕ)) (n k k′ : ℕ) → times n (map (λ r. r .0) l) ≤ 1 → Among (n, k) l → Among (n, k′) l → k ≡ k′
+once-same [] n k k′ few (i, h) b = clash (cc)
+once-same (r ∷ l) n k k′ few (zero, h) (zero, h′) = sym (some-row r (n, k) h) ∙ some-row r (n, k′) h′
+once-same (r ∷ l) n k k′ few (zero, h) (suc j, h′) =
+    absurd (omega (arith, few, times-cons n (r .0) (map (λ r. r .0) l), once-here n (r .0) (some-key r (n, k) h), counted-row l n k′ (j, h′)))
+once-same (r ∷ l) n k k′ few (suc i, h) (zero, h′) =
+    absurd (omega (arith, few, times-cons n (r .0) (map (λ r. r .0) l), once-here n (r .0) (some-key r (n, k′) h′), counted-row l n k (i, h)))
+once-same (r ∷ l) n k k′ few (suc i, h) (suc j, h′) = once-same l n k k′ (omega (arith, few, times-cons n (r .0) (map (λ r. r .0) l))) (i, h) (j, h′)
+
+-- what stands at a place of f k, f (k + 1), ..
+from-place : {A : Type 0} (f : ℕ → A) (k n i : ℕ) → i < n → getElem? (from f k n) i ≡ some (f (k + i))
+unfolding from
+from-place f k zero i h = absurd (omega (arith, h))
+from-place f k (suc n) zero h = ap (λ m. some (f m)) (omega arith)
+from-place f k (suc n) (suc i) h = from-place f (suc k) n i (omega (arith, h)) ∙ ap (λ m. some (f m)) (omega arith)
+
+-- past the end the reader with a default finds it
+past-end : {A : Type 0} (l : List A) (i : ℕ) (d : A) → length l ≤ i → getD l i d ≡ d
+past-end [] i d h = refl
+past-end (x ∷ l) zero d h = absurd (omega (arith, h))
+past-end (x ∷ l) (suc i) d h = past-end l i d (omega (arith, h))
+
+-- a number that doesn't name a bootstrap is a slot; one that does is an index
+number-slot : (f : Finished) (tag n : ℕ) → (tag ≡ bootstrapTag → ⊥) → numberShows f tag n ≡ slotShows f n
+unfolding numberShows
+number-slot f tag n h = rw (ne-eqb tag bootstrapTag h, numberShows)
+
+number-index : (f : Finished) (tag n : ℕ) → tag ≡ bootstrapTag → numberShows f tag n ≡ getElem? (f .bootstraps) n
+unfolding numberShows
+number-index f tag n h = rw (eq-eqb tag bootstrapTag h, numberShows)
+
+module _ (bytes : List ℕ) (job : Job (List ℕ)) (l : Layout) (are : IsBytes bytes) (formed : form bytes ≡ good job) (laid : layout highestSlot (numbered job) ≡ good l) where
+  -- the finished pool and bootstraps, as the reader shows them
+  abbrev pub finished : Finished
+  finished =
+      record {
+        definitions = job .definitions;
+        pool = map (shown (literals job)) (from (contentOf (owned bytes job l are formed laid)) 1 (count bytes job l are formed laid - 1));
+        bootstraps = map rowShown (rows bytes job l are formed laid);
+      }
+
+  abbrev pub isOf : Reference → Goal
+  isOf r = goalOf (jobNames (numbered job)) (jobConstants (numbered job)) r
+
+  -- where a reference of the job leads is where it leads once literals are numbered
+  pub same-goal : (r : Reference) → isOf r ≡ leadsTo finished r
+  unfolding countIn
+  same-goal r =
+      ap (λ names. goalOf names (jobConstants (numbered job)) r) (namings-numbered job)
+      ∙ ap (λ n. goalOf (namings (job .definitions)) n r) (count-numbered job constant)
+
+  pub pool-length : length (finished .pool) ≡ count bytes job l are formed laid - 1
+  pool-length =
+      length-map (from (contentOf (owned bytes job l are formed laid)) 1 (count bytes job l are formed laid - 1)) (shown (literals job))
+      ∙ length-from (contentOf (owned bytes job l are formed laid)) 1 (count bytes job l are formed laid - 1)
+
+  -- a slot below the count shows what it holds
+  pub slot-shown : (n : ℕ) → suc n < count bytes job l are formed laid → getD (finished .pool) n none ≡ shown (literals job) (contentOf (owned bytes job l are formed laid) (suc n))
+  slot-shown n h =
+      let low : n < count bytes job l are formed laid - 1 = omega (arith, h) in
+      let one : 1 + n ≡ suc n = omega arith in
+      found-read (finished .pool) n _ none
+        (map-at (shown (literals job)) (from (contentOf (owned bytes job l are formed laid)) 1 (count bytes job l are formed laid - 1)) n _
+          (from-place (contentOf (owned bytes job l are formed laid)) 1 (count bytes job l are formed laid - 1) n low))
+      ∙ ap (λ m. shown (literals job) (contentOf (owned bytes job l are formed laid) m)) one
+
+  -- a slot that is owned shows its entry
+  pub owner-shown : (n : ℕ) (e : Entry ℕ ℕ) → 1 ≤ n → n < count bytes job l are formed laid → lookup n (owned bytes job l are formed laid) ≡ some e → slotShows finished n ≡ some (spelled (literals job) e)
+  unfolding slotShows shown
+  owner-shown zero e low high h = absurd (omega (arith, low))
+  owner-shown (suc n) e low high h = slot-shown n high ∙ ap (shown (literals job)) (content-holds (owned bytes job l are formed laid) n e h)
+
+  -- ---- to any depth
+
+  -- a raw number shows itself
+  raw-shows : (depth v n : ℕ) → n ≡ v → Shows depth finished (rawNumber v) n
+  unfolding Shows
+  raw-shows zero v n h = tt
+  raw-shows (suc depth) v n h = h
+
+  -- a slot that is to hold the node that an entry became shows the entry
+  abbrev pub HeldShow : ℕ → Type 0
+  HeldShow depth =
+      (e k n : ℕ) →
+      getElem? (marks bytes job l are formed laid) e ≡ some (done k) →
+      Among (n, k) (toHold (pool bytes job l are formed laid .given) (raw bytes job l are formed laid)) →
+      Shows depth finished (tableEntry e) n
+
+  -- an index whose row has the slots of a bootstrap's children shows the bootstrap
+  abbrev pub RowShow : ℕ → Type 0
+  RowShow depth =
+      (e k n : ℕ) (row : Row) →
+      getElem? (marks bytes job l are formed laid) e ≡ some (done k) →
+      tagAt (allNodes bytes job l are formed laid) k ≡ bootstrapTag →
+      getElem? (rows bytes job l are formed laid) n ≡ some row →
+      Both (SlotFor (pool bytes job l are formed laid .given)) (kidsOf (allNodes bytes job l are formed laid) k) row →
+      Shows depth finished (tableEntry e) n
+
+  raw-high : (v : ℕ) → v < firstNode → firstNode ≤ childOf (marks bytes job l are formed laid) (rawNumber v) → ⊥
+  unfolding childOf
+  raw-high v low high = omega (arith, low, high)
+
+  -- what a goal's number is to be
+  abbrev Fine : Goal → Type 0
+  Fine g = Low g × Settled (marks bytes job l are formed laid) g
+
+  module _ (depth : ℕ) (heldShow : HeldShow depth) (rowShow : RowShow depth) where
+    -- a slot shows what its goal leads to
+    slot-shows : (g : Goal) (n : ℕ) → Fine g → SlotFor (pool bytes job l are formed laid .given) (childOf (marks bytes job l are formed laid) g) n → Shows depth finished g n
+    unfolding childOf
+    slot-shows (rawNumber v) n h (inl s) = raw-shows depth v n (s .1)
+    slot-shows (rawNumber v) n h (inr s) = absurd (omega (arith, h .0, s .0))
+    slot-shows (tableEntry e) n h (inl s) = absurd (omega (arith, s .0, child-done (marks bytes job l are formed laid) e (h .1 .0) (h .1 .1)))
+    slot-shows (tableEntry e) n h (inr s) =
+        let k = h .1 .0 in
+        let same : childOf (marks bytes job l are formed laid) (tableEntry e) - firstNode ≡ k = omega (arith, child-done (marks bytes job l are formed laid) e k (h .1 .1)) in
+        heldShow e k n (h .1 .1)
+          (given-held k n (pool bytes job l are formed laid .given) (raw bytes job l are formed laid) (subst (λ c. lookup c (pool bytes job l are formed laid .given) ≡ some n) same (s .1)))
+    slot-shows (refusal code) n h s = absurd (h .1)
+
+    -- so does a number
+    number-shows : (g : Goal) (n : ℕ) → Fine g → NumberFor (allNodes bytes job l are formed laid) (pool bytes job l are formed laid .given) (rows bytes job l are formed laid) (childOf (marks bytes job l are formed laid) g) n → Shows depth finished g n
+    number-shows g n h (inl s) = slot-shows g n h (inl s)
+    number-shows g n h (inr (inl s)) = slot-shows g n h (inr (s .0, s .2))
+    number-shows g n h (inr (inr s)) = go g h s
+      where
+        go :
+            (g : Goal) →
+            Fine g →
+            (firstNode ≤ childOf (marks bytes job l are formed laid) g)
+            × (tagAt (allNodes bytes job l are formed laid) (childOf (marks bytes job l are formed laid) g - firstNode) ≡ bootstrapTag)
+            × (row : Row)
+            × (getElem? (rows bytes job l are formed laid) n ≡ some row)
+            × Both (SlotFor (pool bytes job l are formed laid .given)) (kidsOf (allNodes bytes job l are formed laid) (childOf (marks bytes job l are formed laid) g - firstNode)) row →
+            Shows depth finished g n
+        go (rawNumber v) h s = absurd (raw-high v (h .0) (s .0))
+        go (tableEntry e) h s =
+            let k = h .1 .0 in
+            let same : childOf (marks bytes job l are formed laid) (tableEntry e) - firstNode ≡ k = omega (arith, child-done (marks bytes job l are formed laid) e k (h .1 .1)) in
+            rowShow e k n (s .2) (h .1 .1)
+              (subst (λ c. tagAt (allNodes bytes job l are formed laid) c ≡ bootstrapTag) same (s .1))
+              (s .3)
+              (subst (λ c. Both (SlotFor (pool bytes job l are formed laid .given)) (kidsOf (allNodes bytes job l are formed laid) c) (s .2)) same (s .4))
+        go (refusal code) h s = absurd (h .1)
+
+    -- and all of them
+    kids-show :
+        (R : ℕ → ℕ → Type 0) →
+        ((g : Goal) (n : ℕ) → Fine g → R (childOf (marks bytes job l are formed laid) g) n → Shows depth finished g n) →
+        (rs : List Reference) (ns : List ℕ) →
+        ((g : Goal) → Among g (map isOf rs) → Fine g) →
+        Both R (map (childOf (marks bytes job l are formed laid)) (map isOf rs)) ns →
+        Pairwise (λ r m. Shows depth finished (leadsTo finished r) m) rs ns
+    kids-show R f [] [] fine h = tt
+    kids-show R f [] (n ∷ ns) fine h = h
+    kids-show R f (r ∷ rs) [] fine h = h
+    kids-show R f (r ∷ rs) (n ∷ ns) fine h =
+        ( subst (λ g. Shows depth finished g n) (same-goal r) (f (isOf r) n (fine (isOf r) (0, refl)) (h .0))
+        , kids-show R f rs ns (λ g a. fine g (suc (a .0), a .1)) (h .1)
+        )
+
+  -- what an entry became, where it comes from, and that its children's goals are fine
+  record Became (e k : ℕ) : Type 0 where
+    x : Entry ℕ Goal
+    from-job : Origin job e x
+    node : getElem? (allNodes bytes job l are formed laid) k ≡ some (withKids (map (childOf (marks bytes job l are formed laid)) (x .kids)) x)
+    fine : (g : Goal) → Among g (map isOf (from-job .entry .kids)) → Fine g
+    kids : map (childOf (marks bytes job l are formed laid)) (x .kids) ≡ map (childOf (marks bytes job l are formed laid)) (map isOf (from-job .entry .kids))
+    tag : tagAt (allNodes bytes job l are formed laid) k ≡ from-job .entry .tag
+
+  became : (e k : ℕ) → getElem? (marks bytes job l are formed laid) e ≡ some (done k) → Became e k
+  unfolding withKids
+  became e k mark =
+      let n = asked bytes job l are formed laid .0 .faithful .nodeOf e k mark in
+      let o = origin bytes job are formed e (n .0) (n .1) in
+      let at = found-append (nodes bytes job l are formed laid) (end bytes job l are formed laid .more) k _ (n .2) in
+      record {
+        x = n .0;
+        from-job = o;
+        node = at;
+        fine =
+            λ g a.
+            let b = subst (Among g) (sym (o .kidsAre)) a in
+            (good-job-table bytes job l are formed laid .low e (n .0) g (n .1) b, n .3 g b);
+        kids = ap (map (childOf (marks bytes job l are formed laid))) (o .kidsAre);
+        tag = tag-found (allNodes bytes job l are formed laid) k _ at ∙ o .sameTag;
+      }
+
+  held-step : (depth : ℕ) → HeldShow depth → RowShow depth → HeldShow (suc depth)
+  unfolding Shows withKids withLiteral
+  held-step depth heldShow rowShow e k n mark a =
+      let b = became e k mark in
+      let z = b .from-job .entry in
+      let own = end bytes job l are formed laid .ended .isOwned n k a in
+      let (k′, nd, ns, same, at, a′, nums) = end bytes job l are formed laid .ended .owner n (own .0) (own .1) in
+      let one : k′ ≡ k =
+      once-same (toHold (pool bytes job l are formed laid .given) (raw bytes job l are formed laid)) n k′ k
+        (starts-once highestSlot (stg bytes job l are formed laid .defined .held) (allNodes bytes job l are formed laid) (pool bytes job l are formed laid) (raw bytes job l are formed laid) (soundly bytes job l are formed laid) (raw-keys bytes job l are formed laid) (raw-wide bytes job l are formed laid) n)
+        a′
+        a in
+      let is : nd ≡ withKids (map (childOf (marks bytes job l are formed laid)) (b .x .kids)) (b .x) =
+      some-inj (sym (subst (λ i. getElem? (allNodes bytes job l are formed laid) i ≡ some nd) one at) ∙ b .node) in
+      let range = starts-at bytes job l are formed laid n k a in
+      let shows = owner-shown n (withKids ns nd) (range .0) (range .2) (own .1 ∙ ap some same) in
+      let kids = subst (λ cs. Both (NumberFor (allNodes bytes job l are formed laid) (pool bytes job l are formed laid .given) (rows bytes job l are formed laid)) cs ns) (ap (λ (y : Node). y .kids) is ∙ b .kids) nums in
+      ( z
+      , spelled (literals job) (withKids ns nd)
+      , b .from-job .there
+      , number-slot finished (z .tag) n (λ t. held-constant bytes job l are formed laid n k a (b .tag ∙ t)) ∙ shows
+      , ap (λ (y : Node). y .tag) is ∙ b .from-job .sameTag
+      , ap (λ (y : Node). literalOf (literals job) (y .literal)) is ∙ b .from-job .literalIs
+      , ap (λ (y : Node). y .byte) is ∙ b .from-job .sameByte
+      , kids-show depth heldShow rowShow (NumberFor (allNodes bytes job l are formed laid) (pool bytes job l are formed laid .given) (rows bytes job l are formed laid)) (number-shows depth heldShow rowShow) (z .kids) ns (b .fine) kids
+      )
+
+  row-step : (depth : ℕ) → HeldShow depth → RowShow depth → RowShow (suc depth)
+  unfolding Shows withKids
+  row-step depth heldShow rowShow e k n row mark t at slots =
+      let b = became e k mark in
+      let z = b .from-job .entry in
+      let tag : z .tag ≡ bootstrapTag = sym (b .tag) ∙ t in
+      let plain = row-plain z (b .from-job .formed) tag in
+      let kids = subst (λ cs. Both (SlotFor (pool bytes job l are formed laid .given)) cs row) (kids-found (allNodes bytes job l are formed laid) k _ (b .node) ∙ b .kids) slots in
+      ( z
+      , rowShown row
+      , b .from-job .there
+      , number-index finished (z .tag) n tag ∙ map-at rowShown (rows bytes job l are formed laid) n row at
+      , sym tag
+      , sym (plain .0)
+      , sym (plain .1)
+      , kids-show depth heldShow rowShow (SlotFor (pool bytes job l are formed laid .given)) (slot-shows depth heldShow rowShow) (z .kids) row (b .fine) kids
+      )
+
+  -- so to any depth
+  pub all-show : (depth : ℕ) → HeldShow depth × RowShow depth
+  unfolding Shows
+  all-show zero = (λ e k n mark a. tt, λ e k n row mark t at slots. tt)
+  all-show (suc depth) =
+      let before = all-show depth in
+      (held-step depth (before .0) (before .1), row-step depth (before .0) (before .1))
