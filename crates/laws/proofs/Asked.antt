@@ -80,14 +80,14 @@ module _ (top : ℕ) (held : List (ℕ × Held)) (raws : List (ℕ × ℕ)) (nod
   unfolding slotOf
   slotOf-pooled ldc child p r c e h =
       decided (ltb child firstNode) _ _ (good r) e
-        (λ t e₁.
-        let same = good-inj e₁ in
-        subst (λ (x : ℕ × Pool). Pooled top held raws nodes (x .1) × SlotFor (x .1 .given) child (x .0) × Stays (p .given) (x .1 .given)) same
-          (h, inl (ltb-true child firstNode t, refl), λ k s l. l))
-        (λ t e₁.
-        let high = ltb-false child firstNode t in
-        let kept = keeps nodes ldc (child - firstNode) (r .0) p (r .1) e₁ in
-        (allocate-pooled ldc (child - firstNode) (r .0) p (r .1) (c high .0) (c high .1) e₁ h, inr (high, kept .0), kept .1))
+      (λ t e₁.
+      let same = good-inj e₁ in
+      subst (λ (x : ℕ × Pool). Pooled top held raws nodes (x .1) × SlotFor (x .1 .given) child (x .0) × Stays (p .given) (x .1 .given)) same
+      (h, inl (ltb-true child firstNode t, refl), λ k s l. l))
+      (λ t e₁.
+      let high = ltb-false child firstNode t in
+      let kept = keeps nodes ldc (child - firstNode) (r .0) p (r .1) e₁ in
+      (allocate-pooled ldc (child - firstNode) (r .0) p (r .1) (c high .0) (c high .1) e₁ h, inr (high, kept .0), kept .1))
 
 -- more nodes change nothing
 pooled-more :
@@ -100,8 +100,8 @@ pooled-more top held raws nodes more p h =
       stack = h .stack;
       givenIn =
           each-map (λ r. (r .0 < length nodes) × Constant nodes (r .0)) (λ r. (r .0 < length (nodes ++ more)) × Constant (nodes ++ more) (r .0)) (p .given)
-            (λ r k. (rw length-append (omega (arith, k .0)), λ t. k .1 (sym (tag-append nodes more (r .0) (k .0)) ∙ t)))
-            (h .givenIn);
+          (λ r k. (rw length-append (omega (arith, k .0)), λ t. k .1 (sym (tag-append nodes more (r .0) (k .0)) ∙ t)))
+          (h .givenIn);
     }
 
 -- what is kept from record 50 on: the table, what is resolved, the pool
@@ -165,11 +165,11 @@ module _ (table : List (Entry ℕ Goal)) (cited : Cited table) (top : ℕ) (held
       let before : Pooled top held raws (s .nodes) (w .pool) =
       subst (λ n. Pooled top held raws n (w .pool)) (sym (more .1)) (pooled-more top held raws (w .resolved .nodes) (more .0) (w .pool) (h .pooled)) in
       let p = slotOf-pooled top held raws (s .nodes) ldc (childOf (s .marks) goal) (w .pool) a (settled-child table s goal (now .0) (now .1) c) slotted before in
-      subst (λ (x : ℕ × Ready). Going table top held raws (x .1) × Answered goal (x .0) (x .1) × Further w (x .1)) (good-inj e₃)
-        ( record { sameTable = h .sameTable; faithful = now .0; pooled = p .0 }
-        , record { settled = now .1; slot = p .1 }
-        , record { grows = now .2; kept = p .2 }
-        )
+      subst (λ (x : ℕ × Ready). Going table top held raws (x .1) × Answered goal (x .0) (x .1) × Further w (x .1)) (good-inj e₃) (
+        record { sameTable = h .sameTable; faithful = now .0; pooled = p .0 },
+        record { settled = now .1; slot = p .1 },
+        record { grows = now .2; kept = p .2 },
+      )
 
 -- a slot stays the child's
 slot-stays : (given given′ : List (ℕ × ℕ)) (c n : ℕ) → Stays given given′ → SlotFor given c n → SlotFor given′ c n
@@ -183,7 +183,7 @@ answered-further goal a w w′ f h =
       settled = settled-grows (w .resolved) (w′ .resolved) goal (f .grows) (h .settled);
       slot =
           subst (λ c. SlotFor (w′ .pool .given) c a) (sym (child-grows (w .resolved) (w′ .resolved) goal (f .grows) (h .settled)))
-            (slot-stays (w .pool .given) (w′ .pool .given) _ a (f .kept) (h .slot));
+          (slot-stays (w .pool .given) (w′ .pool .given) _ a (f .kept) (h .slot));
     }
 
 further-refl : (w : Ready) → Further w w
@@ -210,24 +210,24 @@ module _ (table : List (Entry ℕ Goal)) (cited : Cited table) (top : ℕ) (held
   unfolding answerAll
   answerAll-going place [] w r asks e h =
       subst
-        (λ (x : List ℕ × Ready).
-        Going table top held raws (x .1)
-        × Further w (x .1)
-        × ((i : ℕ) (q : Request) → getElem? [] i ≡ some q → (a : ℕ) × (getElem? (x .0) i ≡ some a) × Answered (goalOf names constants (q .what)) a (x .1)))
-        (good-inj e)
-        (h, further-refl w, λ i q z. clash (cc))
+      (λ (x : List ℕ × Ready).
+      Going table top held raws (x .1)
+      × Further w (x .1)
+      × ((i : ℕ) (q : Request) → getElem? [] i ≡ some q → (a : ℕ) × (getElem? (x .0) i ≡ some a) × Answered (goalOf names constants (q .what)) a (x .1)))
+      (good-inj e)
+      (h, further-refl w, λ i q z. clash (cc))
   answerAll-going place (q ∷ requests) w r asks e h =
       after (atRecord place (answer (q .ldc) (goalOf names constants (q .what)) w)) _ r e λ a here e₁.
       after (answerAll names constants (suc place) requests (a .1)) _ r e₁ λ rest there e₂.
       let one = answer-going table cited top held raws (q .ldc) (goalOf names constants (q .what)) w a (asks .0 .0) (asks .0 .1) (atRecord-good place _ a here) h in
       let more = answerAll-going (suc place) requests (a .1) rest (asks .1) there (one .0) in
       subst
-        (λ (x : List ℕ × Ready).
-        Going table top held raws (x .1)
-        × Further w (x .1)
-        × ((i : ℕ) (p : Request) → getElem? (q ∷ requests) i ≡ some p → (b : ℕ) × (getElem? (x .0) i ≡ some b) × Answered (goalOf names constants (p .what)) b (x .1)))
-        (good-inj e₂)
-        (more .0, further-trans w (a .1) (rest .1) (one .2) (more .1), at a rest one more)
+      (λ (x : List ℕ × Ready).
+      Going table top held raws (x .1)
+      × Further w (x .1)
+      × ((i : ℕ) (p : Request) → getElem? (q ∷ requests) i ≡ some p → (b : ℕ) × (getElem? (x .0) i ≡ some b) × Answered (goalOf names constants (p .what)) b (x .1)))
+      (good-inj e₂)
+      (more .0, further-trans w (a .1) (rest .1) (one .2) (more .1), at a rest one more)
     where
       at :
           (a : ℕ × Ready) (rest : List ℕ × Ready) →

@@ -76,7 +76,7 @@ built-ended top held raws nodes indexes p m pooled starts kids boots e =
           among-lookup s (withKids (f .1) (f .0)) (m .owned) (f .3);
       constants =
           buildAll-given nodes kids indexes p m boots e
-            (each-map (λ r. (r .0 < length nodes) × Constant nodes (r .0)) (λ r. Constant nodes (r .0)) (p .given) (λ r h. h .1) (pooled .givenIn));
+          (each-map (λ r. (r .0 < length nodes) × Constant nodes (r .0)) (λ r. Constant nodes (r .0)) (p .given) (λ r h. h .1) (pooled .givenIn));
     }
 
 -- ---- more nodes
@@ -88,7 +88,7 @@ both-among [] (n ∷ ns) f h = h
 both-among (c ∷ cs) [] f h = h
 both-among {R} {S} (c ∷ cs) (n ∷ ns) f h = (f c n (0, refl) (h .0), both-among {R = R} {S = S} cs ns (λ c′ n′ a. f c′ n′ (suc (a .0), a .1)) (h .1))
 
-kids-append : (nodes more : List Node) (k : ℕ) → k < length nodes → kidsOf (nodes ++ more) k ≡ kidsOf nodes k
+pub kids-append : (nodes more : List Node) (k : ℕ) → k < length nodes → kidsOf (nodes ++ more) k ≡ kidsOf nodes k
 unfolding kidsOf
 kids-append nodes more k h =
     let f = inside-found nodes k h in
@@ -186,14 +186,14 @@ module _
     where
       go : (s ≡ q .0) ⊎ (s ≡ q .0 → ⊥) → OwnerOf nodes (q .1 .given) raws rows s e
       go (inl same) =
-          let is : nd ≡ e = cc (lookup-hit s (q .0, nd) (m .owned) same) in
-          ( k
-          , nd
-          , []
-          , sym is ∙ ap (λ kids. record { tag = nd .tag; literal = nd .literal; byte = nd .byte; kids = kids }) childless
-          , at
-          , subst (λ n. Among (n, k) (toHold (q .1 .given) raws)) (sym same) (given-held k (q .0) (q .1 .given) raws name-given)
-          , subst (λ kids. Both (NumberFor nodes (q .1 .given) rows) kids []) (sym childless) tt
+          let is : nd ≡ e = cc (lookup-hit s (q .0, nd) (m .owned) same) in (
+            k,
+            nd,
+            [],
+            sym is ∙ ap (λ kids. record { tag = nd .tag; literal = nd .literal; byte = nd .byte; kids = kids }) childless,
+            at,
+            subst (λ n. Among (n, k) (toHold (q .1 .given) raws)) (sym same) (given-held k (q .0) (q .1 .given) raws name-given),
+            subst (λ kids. Both (NumberFor nodes (q .1 .given) rows) kids []) (sym childless) tt,
           )
       go (inr other) =
           owner-kept nodes raws {rows = rows} s e name-kept rows-same (held-still s) (h .owner s e (sym (lookup-miss s (q .0, nd) (m .owned) other) ∙ l))
@@ -271,7 +271,7 @@ pub named :
 unfolding nameSlot
 named top held raws nodes rows false m r kids h e =
     subst (Named top held raws nodes rows false m) (good-inj e)
-      (record { more = []; ended = ended-more top held raws nodes [] rows m kids h; kept = slots-same; others = λ k nd at. inl (subst (λ n. getElem? n k ≡ some nd) (append-nil nodes) at); name = inl (refl, refl) })
+    (record { more = []; ended = ended-more top held raws nodes [] rows m kids h; kept = slots-same; others = λ k nd at. inl (subst (λ n. getElem? n k ≡ some nd) (append-nil nodes) at); name = inl (refl, refl) })
 named top held raws nodes rows true m r kids h e =
     after (allocate (intern attributeText nodes) false (position (sameNode attributeText) nodes) (m .pool)) _ r e λ q gave e₁.
     let i = interned attributeText nodes in
@@ -282,10 +282,10 @@ named top held raws nodes rows true m r kids h e =
     let before = ended-more top held raws nodes more rows m kids h in
     let constant = attribute-constant (nodes ++ more) k at in
     subst (Named top held raws nodes rows true m) (good-inj e₁)
-      (record {
-        more = more;
-        ended = name-ended top held raws (nodes ++ more) rows m k attributeText at attribute-childless constant q gave′ before;
-        kept = name-kept top held raws (nodes ++ more) rows m k attributeText at attribute-childless constant q gave′ before;
-        others = other-nodes nodes more k at (λ k′ low. i .noOther k′ (subst (λ n. k′ < length n) (sym (i .kept .1)) low));
-        name = inr (refl, lookup-hit (q .0) (q .0, attributeText) (m .owned) refl);
-      })
+    (record {
+      more = more;
+      ended = name-ended top held raws (nodes ++ more) rows m k attributeText at attribute-childless constant q gave′ before;
+      kept = name-kept top held raws (nodes ++ more) rows m k attributeText at attribute-childless constant q gave′ before;
+      others = other-nodes nodes more k at (λ k′ low. i .noOther k′ (subst (λ n. k′ < length n) (sym (i .kept .1)) low));
+      name = inr (refl, lookup-hit (q .0) (q .0, attributeText) (m .owned) refl);
+    })

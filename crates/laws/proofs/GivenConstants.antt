@@ -50,8 +50,8 @@ module _ (nodes : List Node) (bootstraps : BootstrapKids nodes) where
   unfolding slotOf
   slotOf-given ldc child p r c e h =
       decided (ltb child firstNode) _ _ (good r) e
-        (λ t e. subst (λ x. Given (x .1)) (good-inj e) h)
-        (λ t e. allocate-given ldc (child - firstNode) (r .0) p (r .1) (c (ltb-false child firstNode t)) e h)
+      (λ t e. subst (λ x. Given (x .1)) (good-inj e) h)
+      (λ t e. allocate-given ldc (child - firstNode) (r .0) p (r .1) (c (ltb-false child firstNode t)) e h)
 
   slotsOf-given : (children : List ℕ) (p : Pool) (r : List ℕ × Pool) → Each (ConstantChild nodes) children → slotsOf nodes children p ≡ good r → Given p → Given (r .1)
   unfolding slotsOf
@@ -65,20 +65,20 @@ module _ (nodes : List Node) (bootstraps : BootstrapKids nodes) where
   unfolding nodeNumber
   nodeNumber-given k p rows r e h =
       decided (eqb (tagAt nodes k) bootstrapTag) _ _ (good r) e
-        (λ t e.
-        after (slotsOf nodes (kidsOf nodes k) p) _ r e λ a here e₁.
-        after (rowIndex (a .0) rows) _ r e₁ λ i there e₂.
-        subst (λ x. Given (x .1)) (good-inj e₂) (slotsOf-given (kidsOf nodes k) p a (bootstraps k (eqb-true (tagAt nodes k) bootstrapTag t)) here h))
-        (λ t e.
-        after (allocate nodes false k p) _ r e λ a here e₁.
-        subst (λ x. Given (x .1)) (good-inj e₁) (allocate-given false k (a .0) p (a .1) (eqb-false (tagAt nodes k) bootstrapTag t) here h))
+      (λ t e.
+      after (slotsOf nodes (kidsOf nodes k) p) _ r e λ a here e₁.
+      after (rowIndex (a .0) rows) _ r e₁ λ i there e₂.
+      subst (λ x. Given (x .1)) (good-inj e₂) (slotsOf-given (kidsOf nodes k) p a (bootstraps k (eqb-true (tagAt nodes k) bootstrapTag t)) here h))
+      (λ t e.
+      after (allocate nodes false k p) _ r e λ a here e₁.
+      subst (λ x. Given (x .1)) (good-inj e₁) (allocate-given false k (a .0) p (a .1) (eqb-false (tagAt nodes k) bootstrapTag t) here h))
 
   childNumber-given : (child : ℕ) (p : Pool) (rows : Rows) (r : ℕ × Pool × Rows) → childNumber nodes child p rows ≡ good r → Given p → Given (r .1)
   unfolding childNumber
   childNumber-given child p rows r e h =
       decided (ltb child firstNode) _ _ (good r) e
-        (λ t e. subst (λ x. Given (x .1)) (good-inj e) h)
-        (λ t e. nodeNumber-given (child - firstNode) p rows r e h)
+      (λ t e. subst (λ x. Given (x .1)) (good-inj e) h)
+      (λ t e. nodeNumber-given (child - firstNode) p rows r e h)
 
   childNumbers-given : (children : List ℕ) (p : Pool) (rows : Rows) (r : List ℕ × Pool × Rows) → childNumbers nodes children p rows ≡ good r → Given p → Given (r .1)
   unfolding childNumbers

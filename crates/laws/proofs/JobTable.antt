@@ -58,7 +58,7 @@ module _ (job : Job ℕ) (cited : Citing.Cited ℕ job) where
         arith,
         h,
         linked-length (jobNames job) (jobConstants job) (constantsOf (job .definitions) ++ bootstrapsOf (job .definitions)),
-        length-append (constantsOf (job .definitions)) (bootstrapsOf (job .definitions))
+        length-append (constantsOf (job .definitions)) (bootstrapsOf (job .definitions)),
       )
   kind-in bootstrap (tableEntry e) h = h .1
   kind-in kind (refusal code) h = tt
@@ -93,7 +93,7 @@ module _ (job : Job ℕ) (cited : Citing.Cited ℕ job) where
           constantKids =
               λ e x g at t a.
               kind-constant g (kid-low e x g at a)
-                (subst (λ kind. GoalOfKind (jobConstants job) (length (jobTable job)) kind g) (row-kinds (x .tag) (a .0) t) (table-kid job cited e x at (a .0) g (a .1)));
+              (subst (λ kind. GoalOfKind (jobConstants job) (length (jobTable job)) kind g) (row-kinds (x .tag) (a .0) t) (table-kid job cited e x at (a .0) g (a .1)));
         }
 
     -- what requests ask for

@@ -52,3 +52,4 @@ pub mod Whole
 pub mod Origins
 pub mod ReadBack
 pub mod Showing
+pub mod Holding

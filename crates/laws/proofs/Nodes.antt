@@ -78,7 +78,7 @@ module _ (table : List (Entry ℕ Goal)) (good : GoodTable table) (s : Resolved)
       let kids = same-kids k nd x at (from .1 .2) in
       let u = unmap (childOf (s .marks)) (x .kids) c (subst (Among c) (sym kids) a) in
       subst (λ c. c < firstNode + length (s .nodes)) (u .2)
-        (settled-in (u .0) (good .low (from .0) x (u .0) (from .1 .1) (u .1)) (from .1 .3 (u .0) (u .1)) (subst (λ c. firstNode ≤ c) (sym (u .2)) high))
+      (settled-in (u .0) (good .low (from .0) x (u .0) (from .1 .1) (u .1)) (from .1 .3 (u .0) (u .1)) (subst (λ c. firstNode ≤ c) (sym (u .2)) high))
 
   -- a node that is a bootstrap is one of the list
   pub bootstrap-found : (k : ℕ) (o : Option Node) → getElem? (s .nodes) k ≡ o → tagAt (s .nodes) k ≡ bootstrapTag → (nd : Node) × (getElem? (s .nodes) k ≡ some nd)
@@ -97,4 +97,4 @@ module _ (table : List (Entry ℕ Goal)) (good : GoodTable table) (s : Resolved)
       let kids = same-kids k nd x (found .1) (from .1 .2) in
       let tag : x .tag ≡ bootstrapTag = sym (tag-found (s .nodes) k _ (from .1 .2)) ∙ t in
       rw (found .1, kidsOf, ← kids)
-        (each-mapped (x .kids) (λ g a. settled-child table s g f (from .1 .3 g a) (good .constantKids (from .0) x g (from .1 .1) tag a)))
+      (each-mapped (x .kids) (λ g a. settled-child table s g f (from .1 .3 g a) (good .constantKids (from .0) x g (from .1 .1) tag a)))

@@ -68,7 +68,7 @@ times-given t nodes (r ∷ given) = ways (isWide (tagAt nodes (r .0))) (times-gi
           times-cons t (r .1) (suc (r .1) ∷ givenSlots nodes given),
           times-cons t (suc (r .1)) (givenSlots nodes given),
           times-cons t (r .1) (map (λ r. r .1) given),
-          times-cons t (suc (r .1)) (givenHalves nodes given)
+          times-cons t (suc (r .1)) (givenHalves nodes given),
         )
     ways false h = omega (arith, h, times-cons t (r .1) (givenSlots nodes given), times-cons t (r .1) (map (λ r. r .1) given))
 
@@ -81,7 +81,7 @@ times-reverse t (x ∷ l) acc =
       arith,
       times-reverse t l (x ∷ acc),
       times-cons t (x .0) (map (λ r. r .0) acc),
-      times-cons t (x .0) (map (λ r. r .0) l)
+      times-cons t (x .0) (map (λ r. r .0) l),
     )
 
 -- a wide node's second half is counted among the second halves
@@ -130,7 +130,7 @@ times-toHold t (r ∷ given) raws =
       arith,
       times-toHold t given raws,
       times-cons t (r .1) (map (λ r. r .0) (toHold given raws)),
-      times-cons t (r .1) (map (λ r. r .1) given)
+      times-cons t (r .1) (map (λ r. r .1) given),
     )
 
 -- a second half that is raw is counted
@@ -152,8 +152,8 @@ unfolding countFrom
 count-gap top [] = inl refl
 count-gap top (g ∷ gaps) =
     decided (eqb (g .last) top) (g .first) (countFrom top gaps) (countFrom top (g ∷ gaps)) refl
-      (λ t e. inr (0, g, refl, eqb-true (g .last) top t, sym e))
-      (λ t e. rw (sym e) (later (count-gap top gaps)))
+    (λ t e. inr (0, g, refl, eqb-true (g .last) top t, sym e))
+    (λ t e. rw (sym e) (later (count-gap top gaps)))
   where
     later :
         (countFrom top gaps ≡ suc top) ⊎ ((i : ℕ) × (h : Gap) × (getElem? gaps i ≡ some h) × (h .last ≡ top) × (countFrom top gaps ≡ h .first)) →
@@ -209,7 +209,7 @@ module _
         times-held t held,
         times-given t nodes (p .given),
         times-toHold t (p .given) raws,
-        rawKeys t
+        rawKeys t,
       )
 
   -- a slot stands among those from 1 to the highest once at most, and only if it is one

@@ -60,7 +60,7 @@ origin bytes job are form e x at =
     let all = literals job in
     let goal = goalOf (jobNames (numbered job)) (jobConstants (numbered job)) in
     let both : constantsOf (numbered job .definitions) ++ bootstrapsOf (numbered job .definitions)
-        ≡ map (numberedEntry all) (constantsOf (job .definitions) ++ bootstrapsOf (job .definitions)) =
+    ≡ map (numberedEntry all) (constantsOf (job .definitions) ++ bootstrapsOf (job .definitions)) =
     ap (λ l. l ++ bootstrapsOf (numbered job .definitions)) (constants-numbered job)
     ∙ ap (λ l. map (numberedEntry all) (constantsOf (job .definitions)) ++ l) (bootstraps-numbered job)
     ∙ sym (map-append (numberedEntry all) (constantsOf (job .definitions)) (bootstrapsOf (job .definitions))) in

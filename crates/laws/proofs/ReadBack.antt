@@ -103,7 +103,7 @@ module _ (bytes : List ℕ) (job : Job (List ℕ)) (l : Layout) (are : IsBytes b
       omega (
         arith,
         times-reverse t (map f (starters (stg .defined .held))) [],
-        ap (times t) (firsts-map f (starters (stg .defined .held)) (λ r. refl))
+        ap (times t) (firsts-map f (starters (stg .defined .held)) (λ r. refl)),
       )
 
   low-constant : (e : ℕ) → e < countIn constant (numbered job .definitions) → e < length (constantsOf (numbered job .definitions))
@@ -122,11 +122,11 @@ module _ (bytes : List ℕ) (job : Job (List ℕ)) (l : Layout) (are : IsBytes b
       let found = inside-found (constantsOf (numbered job .definitions)) e (low-constant e low) in
       let link = linked-at (jobNames (numbered job)) (jobConstants (numbered job)) (constantsOf (numbered job .definitions) ++ bootstrapsOf (numbered job .definitions)) e (node .0) (node .1) in
       let same : link .0 ≡ found .0 = cc (found-append (constantsOf (numbered job .definitions)) (bootstrapsOf (numbered job .definitions)) e (found .0) (found .1)) in
-      let tag : tagAt allNodes k ≡ node .0 .tag = tag-append (nodes bytes job l are formed laid) (end .more) k inside ∙ node-tag bytes job l are formed laid e k (node .0) (r .2) (node .1) in
-      ( e
-      , is
-      , tag ∙ link .2 ∙ ap (λ (y : Entry ℕ Reference). y .tag) same ∙ sym (tag-found (constantsOf (numbered job .definitions)) e (found .0) (found .1))
-      , λ t. eqb-false (node .0 .tag) bootstrapTag (table-constant (numbered job .definitions) (jobNames (numbered job)) (jobConstants (numbered job)) e (node .0) (node .1) (low-constant e low)) (sym tag ∙ t)
+      let tag : tagAt allNodes k ≡ node .0 .tag = tag-append (nodes bytes job l are formed laid) (end .more) k inside ∙ node-tag bytes job l are formed laid e k (node .0) (r .2) (node .1) in (
+        e,
+        is,
+        tag ∙ link .2 ∙ ap (λ (y : Entry ℕ Reference). y .tag) same ∙ sym (tag-found (constantsOf (numbered job .definitions)) e (found .0) (found .1)),
+        λ t. eqb-false (node .0 .tag) bootstrapTag (table-constant (numbered job .definitions) (jobNames (numbered job)) (jobConstants (numbered job)) e (node .0) (node .1) (low-constant e low)) (sym tag ∙ t),
       )
 
   pub raw-wide : (n k : ℕ) → Among (n, k) raw → isWide (tagAt allNodes k) ≡ true → Among (suc n, half) (stg .defined .held)
@@ -205,12 +205,12 @@ module _ (bytes : List ℕ) (job : Job (List ℕ)) (l : Layout) (are : IsBytes b
       let kids : length (nd .kids) ≡ length (o .entry .kids) =
       ap (λ (y : Node). length (y .kids)) is ∙ length-map (x .kids) (childOf (marks bytes job l are formed laid)) ∙ ap length (o .kidsAre) ∙ length-map (o .entry .kids) _ in
       fits-formed (o .entry) (spelled (literals job) (withKids ns nd)) (o .formed)
-        (λ t. held-constant n k a (tag-found allNodes k nd at ∙ tag ∙ t))
-        tag
-        (ap (λ (y : Node). literalOf (literals job) (y .literal)) is ∙ o .literalIs)
-        (ap (λ (y : Node). y .byte) is ∙ o .sameByte)
-        (both-length (NumberFor allNodes (pool .given) (rows bytes job l are formed laid)) (nd .kids) ns nums ∙ kids)
-        (both-each (NumberFor allNodes (pool .given) (rows bytes job l are formed laid)) Short (nd .kids) ns number-short nums)
+      (λ t. held-constant n k a (tag-found allNodes k nd at ∙ tag ∙ t))
+      tag
+      (ap (λ (y : Node). literalOf (literals job) (y .literal)) is ∙ o .literalIs)
+      (ap (λ (y : Node). y .byte) is ∙ o .sameByte)
+      (both-length (NumberFor allNodes (pool .given) (rows bytes job l are formed laid)) (nd .kids) ns nums ∙ kids)
+      (both-each (NumberFor allNodes (pool .given) (rows bytes job l are formed laid)) Short (nd .kids) ns number-short nums)
 
   -- the text "BootstrapMethods" fits its shape
   attribute-fits : (nd : Node) (ns : List ℕ) → nd ≡ attributeText → Both (NumberFor allNodes (pool .given) (rows bytes job l are formed laid)) (nd .kids) ns → Fits (spelled (literals job) (withKids ns nd))
@@ -218,7 +218,7 @@ module _ (bytes : List ℕ) (job : Job (List ℕ)) (l : Layout) (are : IsBytes b
   attribute-fits nd ns is nums =
       let none = both-nil (NumberFor allNodes (pool .given) (rows bytes job l are formed laid)) (nd .kids) ns (ap (λ (y : Node). y .kids) is) nums in
       subst (λ (y : Node). Fits (spelled (literals job) (withKids ns y))) (sym is)
-        (subst (λ ks. Fits (spelled (literals job) (withKids ks attributeText))) (sym none) (fits-text attributeName (lit< tt)))
+      (subst (λ ks. Fits (spelled (literals job) (withKids ks attributeText))) (sym none) (fits-text attributeName (lit< tt)))
 
   -- whatever a slot holds fits its shape
   pub owner-fits : (n : ℕ) (e : Entry ℕ ℕ) → lookup n owned ≡ some e → Fits (spelled (literals job) e)
@@ -237,7 +237,7 @@ module _ (bytes : List ℕ) (job : Job (List ℕ)) (l : Layout) (are : IsBytes b
       go k nd ns at a nums (inr is) = attribute-fits nd ns is nums
 
   -- the tag of what a slot holds is its node's
-  owner-tag : (n : ℕ) (e : Entry ℕ ℕ) → lookup n owned ≡ some e → (k : ℕ) × Among (n, k) (toHold (pool .given) raw) × (tagAt allNodes k ≡ e .tag)
+  pub owner-tag : (n : ℕ) (e : Entry ℕ ℕ) → lookup n owned ≡ some e → (k : ℕ) × Among (n, k) (toHold (pool .given) raw) × (tagAt allNodes k ≡ e .tag)
   unfolding withKids
   owner-tag n e h =
       let (k, nd, ns, same, at, a, nums) = end .ended .owner n e h in
@@ -272,11 +272,11 @@ module _ (bytes : List ℕ) (job : Job (List ℕ)) (l : Layout) (are : IsBytes b
           w ≡ false
       go true w o =
           absurd
-            (omega (
-              arith,
-              wide-in highestSlot (stg .defined .held) allNodes pool raw soundly raw-keys raw-wide (0 + (count - 1)) (o .0) (o .1) (ap isWide (o .2) ∙ w),
-              count-range highestSlot (pool .slots .gaps) (soundly .apart)
-            ))
+          (omega (
+            arith,
+            wide-in highestSlot (stg .defined .held) allNodes pool raw soundly raw-keys raw-wide (0 + (count - 1)) (o .0) (o .1) (ap isWide (o .2) ∙ w),
+            count-range highestSlot (pool .slots .gaps) (soundly .apart),
+          ))
       go false w o = refl
 
   -- slot 0 is owned by nobody
@@ -288,7 +288,7 @@ module _ (bytes : List ℕ) (job : Job (List ℕ)) (l : Layout) (are : IsBytes b
   pub contents-laid : Laid (map (shown (literals job)) (from (contentOf owned) 1 (count - 1)))
   contents-laid =
       subst (LaidBehind (map (shown (literals job)) (from (contentOf owned) 1 (count - 1)))) (nobody-zero (lookup 0 owned) refl)
-        (laidFrom owned (literals job) owner-fits owners-apart (count - 1) 0 (last-narrow (lookup (0 + (count - 1)) owned) refl))
+      (laidFrom owned (literals job) owner-fits owners-apart (count - 1) 0 (last-narrow (lookup (0 + (count - 1)) owned) refl))
 
   -- a row comes from a bootstrap of the job
   pub row-from :
@@ -316,8 +316,8 @@ module _ (bytes : List ℕ) (job : Job (List ℕ)) (l : Layout) (are : IsBytes b
       let kids : length (kidsOf (nodes bytes job l are formed laid) k) ≡ length (o .entry .kids) =
       ap length same ∙ ap (λ (y : Node). length (y .kids)) is ∙ length-map (x .kids) (childOf (marks bytes job l are formed laid)) ∙ ap length (o .kidsAre) ∙ length-map (o .entry .kids) _ in
       isFor-formed (o .entry) row (o .formed) tag
-        (both-length (SlotFor (pool .given)) (kidsOf (nodes bytes job l are formed laid) k) row slots ∙ kids)
-        (both-each (SlotFor (pool .given)) Short (kidsOf (nodes bytes job l are formed laid) k) row slot-short slots)
+      (both-length (SlotFor (pool .given)) (kidsOf (nodes bytes job l are formed laid) k) row slots ∙ kids)
+      (both-each (SlotFor (pool .given)) Short (kidsOf (nodes bytes job l are formed laid) k) row slot-short slots)
 
   pub read-back :
       (readPool (render (literals job) l .pool) ≡ some (map (shown (literals job)) (l .contents)))
@@ -326,15 +326,15 @@ module _ (bytes : List ℕ) (job : Job (List ℕ)) (l : Layout) (are : IsBytes b
   read-back =
       let range = count-range highestSlot (pool .slots .gaps) (soundly .apart) in
       subst
-        (λ (x : Layout).
-        (readPool (render (literals job) x .pool) ≡ some (map (shown (literals job)) (x .contents)))
-        × (readBootstraps (render (literals job) x .bootstrapCount) (render (literals job) x .bootstraps) ≡ some (map rowShown (x .rows))))
-        (stg .isLaid)
-        (reads-layout (literals job) (layoutOf highestSlot (stg .answers) (stg .asked .resolved .visits) (numbered job .build .class) (rows bytes job l are formed laid) (stg .named))
-          (omega (arith, range, length-from (contentOf owned) 1 (count - 1)))
-          (omega (arith, range))
-          contents-laid
-          (each-from (λ row. IsFor bootstrapShape (rowShown row)) (rows bytes job l are formed laid) row-fits))
+      (λ (x : Layout).
+      (readPool (render (literals job) x .pool) ≡ some (map (shown (literals job)) (x .contents)))
+      × (readBootstraps (render (literals job) x .bootstrapCount) (render (literals job) x .bootstraps) ≡ some (map rowShown (x .rows))))
+      (stg .isLaid)
+      (reads-layout (literals job) (layoutOf highestSlot (stg .answers) (stg .asked .resolved .visits) (numbered job .build .class) (rows bytes job l are formed laid) (stg .named))
+      (omega (arith, range, length-from (contentOf owned) 1 (count - 1)))
+      (omega (arith, range))
+      contents-laid
+      (each-from (λ row. IsFor bootstrapShape (rowShown row)) (rows bytes job l are formed laid) row-fits))
 
 pub reads : Reads
 reads bytes job l are formed laid = read-back bytes job l are formed laid

@@ -38,7 +38,7 @@ use Rattle.laws.proofs.Whole.{good-job-table, asked, nodes, marks, rows
 use Rattle.laws.proofs.ReadBack.{stg, end, allNodes, raw, pool, owned, soundly, raw-keys, raw-wide, count, starts-at, held-constant}
 use Rattle.laws.proofs.Fitting.{row-plain}
 
-some-inj : {A : Type 0} {a b : A} → _≡_ {A = Option A} (some a) (some b) → a ≡ b
+pub some-inj : {A : Type 0} {a b : A} → _≡_ {A = Option A} (some a) (some b) → a ≡ b
 some-inj e = cc
 
 -- a slot that stands once in a table has one row
@@ -65,7 +65,7 @@ from-place f k (suc n) zero h = ap (λ m. some (f m)) (omega arith)
 from-place f k (suc n) (suc i) h = from-place f (suc k) n i (omega (arith, h)) ∙ ap (λ m. some (f m)) (omega arith)
 
 -- past the end the reader with a default finds it
-past-end : {A : Type 0} (l : List A) (i : ℕ) (d : A) → length l ≤ i → getD l i d ≡ d
+pub past-end : {A : Type 0} (l : List A) (i : ℕ) (d : A) → length l ≤ i → getD l i d ≡ d
 past-end [] i d h = refl
 past-end (x ∷ l) zero d h = absurd (omega (arith, h))
 past-end (x ∷ l) (suc i) d h = past-end l i d (omega (arith, h))
@@ -110,8 +110,8 @@ module _ (bytes : List ℕ) (job : Job (List ℕ)) (l : Layout) (are : IsBytes b
       let low : n < count bytes job l are formed laid - 1 = omega (arith, h) in
       let one : 1 + n ≡ suc n = omega arith in
       found-read (finished .pool) n _ none
-        (map-at (shown (literals job)) (from (contentOf (owned bytes job l are formed laid)) 1 (count bytes job l are formed laid - 1)) n _
-          (from-place (contentOf (owned bytes job l are formed laid)) 1 (count bytes job l are formed laid - 1) n low))
+      (map-at (shown (literals job)) (from (contentOf (owned bytes job l are formed laid)) 1 (count bytes job l are formed laid - 1)) n _
+      (from-place (contentOf (owned bytes job l are formed laid)) 1 (count bytes job l are formed laid - 1) n low))
       ∙ ap (λ m. shown (literals job) (contentOf (owned bytes job l are formed laid) m)) one
 
   -- a slot that is owned shows its entry
@@ -151,12 +151,12 @@ module _ (bytes : List ℕ) (job : Job (List ℕ)) (l : Layout) (are : IsBytes b
   raw-high v low high = omega (arith, low, high)
 
   -- what a goal's number is to be
-  abbrev Fine : Goal → Type 0
+  abbrev pub Fine : Goal → Type 0
   Fine g = Low g × Settled (marks bytes job l are formed laid) g
 
   module _ (depth : ℕ) (heldShow : HeldShow depth) (rowShow : RowShow depth) where
     -- a slot shows what its goal leads to
-    slot-shows : (g : Goal) (n : ℕ) → Fine g → SlotFor (pool bytes job l are formed laid .given) (childOf (marks bytes job l are formed laid) g) n → Shows depth finished g n
+    pub slot-shows : (g : Goal) (n : ℕ) → Fine g → SlotFor (pool bytes job l are formed laid .given) (childOf (marks bytes job l are formed laid) g) n → Shows depth finished g n
     unfolding childOf
     slot-shows (rawNumber v) n h (inl s) = raw-shows depth v n (s .1)
     slot-shows (rawNumber v) n h (inr s) = absurd (omega (arith, h .0, s .0))
@@ -165,7 +165,7 @@ module _ (bytes : List ℕ) (job : Job (List ℕ)) (l : Layout) (are : IsBytes b
         let k = h .1 .0 in
         let same : childOf (marks bytes job l are formed laid) (tableEntry e) - firstNode ≡ k = omega (arith, child-done (marks bytes job l are formed laid) e k (h .1 .1)) in
         heldShow e k n (h .1 .1)
-          (given-held k n (pool bytes job l are formed laid .given) (raw bytes job l are formed laid) (subst (λ c. lookup c (pool bytes job l are formed laid .given) ≡ some n) same (s .1)))
+        (given-held k n (pool bytes job l are formed laid .given) (raw bytes job l are formed laid) (subst (λ c. lookup c (pool bytes job l are formed laid .given) ≡ some n) same (s .1)))
     slot-shows (refusal code) n h s = absurd (h .1)
 
     -- so does a number
@@ -188,9 +188,9 @@ module _ (bytes : List ℕ) (job : Job (List ℕ)) (l : Layout) (are : IsBytes b
             let k = h .1 .0 in
             let same : childOf (marks bytes job l are formed laid) (tableEntry e) - firstNode ≡ k = omega (arith, child-done (marks bytes job l are formed laid) e k (h .1 .1)) in
             rowShow e k n (s .2) (h .1 .1)
-              (subst (λ c. tagAt (allNodes bytes job l are formed laid) c ≡ bootstrapTag) same (s .1))
-              (s .3)
-              (subst (λ c. Both (SlotFor (pool bytes job l are formed laid .given)) (kidsOf (allNodes bytes job l are formed laid) c) (s .2)) same (s .4))
+            (subst (λ c. tagAt (allNodes bytes job l are formed laid) c ≡ bootstrapTag) same (s .1))
+            (s .3)
+            (subst (λ c. Both (SlotFor (pool bytes job l are formed laid .given)) (kidsOf (allNodes bytes job l are formed laid) c) (s .2)) same (s .4))
         go (refusal code) h s = absurd (h .1)
 
     -- and all of them
@@ -204,10 +204,10 @@ module _ (bytes : List ℕ) (job : Job (List ℕ)) (l : Layout) (are : IsBytes b
     kids-show R f [] [] fine h = tt
     kids-show R f [] (n ∷ ns) fine h = h
     kids-show R f (r ∷ rs) [] fine h = h
-    kids-show R f (r ∷ rs) (n ∷ ns) fine h =
-        ( subst (λ g. Shows depth finished g n) (same-goal r) (f (isOf r) n (fine (isOf r) (0, refl)) (h .0))
-        , kids-show R f rs ns (λ g a. fine g (suc (a .0), a .1)) (h .1)
-        )
+    kids-show R f (r ∷ rs) (n ∷ ns) fine h = (
+      subst (λ g. Shows depth finished g n) (same-goal r) (f (isOf r) n (fine (isOf r) (0, refl)) (h .0)),
+      kids-show R f rs ns (λ g a. fine g (suc (a .0), a .1)) (h .1),
+    )
 
   -- what an entry became, where it comes from, and that its children's goals are fine
   record Became (e k : ℕ) : Type 0 where
@@ -245,22 +245,22 @@ module _ (bytes : List ℕ) (job : Job (List ℕ)) (l : Layout) (are : IsBytes b
       let (k′, nd, ns, same, at, a′, nums) = end bytes job l are formed laid .ended .owner n (own .0) (own .1) in
       let one : k′ ≡ k =
       once-same (toHold (pool bytes job l are formed laid .given) (raw bytes job l are formed laid)) n k′ k
-        (starts-once highestSlot (stg bytes job l are formed laid .defined .held) (allNodes bytes job l are formed laid) (pool bytes job l are formed laid) (raw bytes job l are formed laid) (soundly bytes job l are formed laid) (raw-keys bytes job l are formed laid) (raw-wide bytes job l are formed laid) n)
-        a′
-        a in
+      (starts-once highestSlot (stg bytes job l are formed laid .defined .held) (allNodes bytes job l are formed laid) (pool bytes job l are formed laid) (raw bytes job l are formed laid) (soundly bytes job l are formed laid) (raw-keys bytes job l are formed laid) (raw-wide bytes job l are formed laid) n)
+      a′
+      a in
       let is : nd ≡ withKids (map (childOf (marks bytes job l are formed laid)) (b .x .kids)) (b .x) =
       some-inj (sym (subst (λ i. getElem? (allNodes bytes job l are formed laid) i ≡ some nd) one at) ∙ b .node) in
       let range = starts-at bytes job l are formed laid n k a in
       let shows = owner-shown n (withKids ns nd) (range .0) (range .2) (own .1 ∙ ap some same) in
-      let kids = subst (λ cs. Both (NumberFor (allNodes bytes job l are formed laid) (pool bytes job l are formed laid .given) (rows bytes job l are formed laid)) cs ns) (ap (λ (y : Node). y .kids) is ∙ b .kids) nums in
-      ( z
-      , spelled (literals job) (withKids ns nd)
-      , b .from-job .there
-      , number-slot finished (z .tag) n (λ t. held-constant bytes job l are formed laid n k a (b .tag ∙ t)) ∙ shows
-      , ap (λ (y : Node). y .tag) is ∙ b .from-job .sameTag
-      , ap (λ (y : Node). literalOf (literals job) (y .literal)) is ∙ b .from-job .literalIs
-      , ap (λ (y : Node). y .byte) is ∙ b .from-job .sameByte
-      , kids-show depth heldShow rowShow (NumberFor (allNodes bytes job l are formed laid) (pool bytes job l are formed laid .given) (rows bytes job l are formed laid)) (number-shows depth heldShow rowShow) (z .kids) ns (b .fine) kids
+      let kids = subst (λ cs. Both (NumberFor (allNodes bytes job l are formed laid) (pool bytes job l are formed laid .given) (rows bytes job l are formed laid)) cs ns) (ap (λ (y : Node). y .kids) is ∙ b .kids) nums in (
+        z,
+        spelled (literals job) (withKids ns nd),
+        b .from-job .there,
+        number-slot finished (z .tag) n (λ t. held-constant bytes job l are formed laid n k a (b .tag ∙ t)) ∙ shows,
+        ap (λ (y : Node). y .tag) is ∙ b .from-job .sameTag,
+        ap (λ (y : Node). literalOf (literals job) (y .literal)) is ∙ b .from-job .literalIs,
+        ap (λ (y : Node). y .byte) is ∙ b .from-job .sameByte,
+        kids-show depth heldShow rowShow (NumberFor (allNodes bytes job l are formed laid) (pool bytes job l are formed laid .given) (rows bytes job l are formed laid)) (number-shows depth heldShow rowShow) (z .kids) ns (b .fine) kids,
       )
 
   row-step : (depth : ℕ) → HeldShow depth → RowShow depth → RowShow (suc depth)
@@ -270,15 +270,15 @@ module _ (bytes : List ℕ) (job : Job (List ℕ)) (l : Layout) (are : IsBytes b
       let z = b .from-job .entry in
       let tag : z .tag ≡ bootstrapTag = sym (b .tag) ∙ t in
       let plain = row-plain z (b .from-job .formed) tag in
-      let kids = subst (λ cs. Both (SlotFor (pool bytes job l are formed laid .given)) cs row) (kids-found (allNodes bytes job l are formed laid) k _ (b .node) ∙ b .kids) slots in
-      ( z
-      , rowShown row
-      , b .from-job .there
-      , number-index finished (z .tag) n tag ∙ map-at rowShown (rows bytes job l are formed laid) n row at
-      , sym tag
-      , sym (plain .0)
-      , sym (plain .1)
-      , kids-show depth heldShow rowShow (SlotFor (pool bytes job l are formed laid .given)) (slot-shows depth heldShow rowShow) (z .kids) row (b .fine) kids
+      let kids = subst (λ cs. Both (SlotFor (pool bytes job l are formed laid .given)) cs row) (kids-found (allNodes bytes job l are formed laid) k _ (b .node) ∙ b .kids) slots in (
+        z,
+        rowShown row,
+        b .from-job .there,
+        number-index finished (z .tag) n tag ∙ map-at rowShown (rows bytes job l are formed laid) n row at,
+        sym tag,
+        sym (plain .0),
+        sym (plain .1),
+        kids-show depth heldShow rowShow (SlotFor (pool bytes job l are formed laid .given)) (slot-shows depth heldShow rowShow) (z .kids) row (b .fine) kids,
       )
 
   -- so to any depth

@@ -36,9 +36,9 @@ ready-going top definitions constants table n d w cited cites defined ended =
     let now = resolveAll-faithful table (rawGoals n d) (nothingResolved table) s cited cites (nothing-faithful table cited) resolved in
     let occurs : Occurs top (d .held) (w .resolved .nodes) (w .pool) = afterDefinitions definitions constants table n d w defined ended in
     subst
-      (λ (x : Ready).
-      Occurs top (d .held) (x .resolved .nodes) (x .pool) →
-      Going table top (d .held) (rawsOf (d .held) (x .resolved .marks)) x × ((g : Goal) → Among g (rawGoals n d) → Settled (x .resolved .marks) g))
-      (good-inj e)
-      (λ o. (record { sameTable = refl; faithful = now .0; pooled = record { occurs = o; stack = refl; givenIn = tt } }, now .1))
-      occurs
+    (λ (x : Ready).
+    Occurs top (d .held) (x .resolved .nodes) (x .pool) →
+    Going table top (d .held) (rawsOf (d .held) (x .resolved .marks)) x × ((g : Goal) → Among g (rawGoals n d) → Settled (x .resolved .marks) g))
+    (good-inj e)
+    (λ o. (record { sameTable = refl; faithful = now .0; pooled = record { occurs = o; stack = refl; givenIn = tt } }, now .1))
+    occurs

@@ -66,7 +66,7 @@ among-split a (x ∷ l) m (suc i, e) = go (among-split a l m (i, e))
 among-left : {A : Type 0} (a : A) (l m : List A) → Among a l → Among a (l ++ m)
 among-left a l m (i, e) = (i, found-append l m i a e)
 
-among-right : {A : Type 0} (a : A) (l m : List A) → Among a m → Among a (l ++ m)
+pub among-right : {A : Type 0} (a : A) (l m : List A) → Among a m → Among a (l ++ m)
 among-right a [] m h = h
 among-right a (x ∷ l) m h =
     let r = among-right a l m h in
@@ -101,9 +101,9 @@ module _ (bytes : List ℕ) (job : Job (List ℕ)) (l : Layout) (are : IsBytes b
   raw-in g a =
       go
       (among-split g
-        (map (λ r. tableEntry (r .1)) (starters (st .defined .held)))
-        (map (λ r. tableEntry (jobConstants (numbered job) + r .1)) (st .defined .indexes))
-        a)
+      (map (λ r. tableEntry (r .1)) (starters (st .defined .held)))
+      (map (λ r. tableEntry (jobConstants (numbered job) + r .1)) (st .defined .indexes))
+      a)
     where
       there : (kind : Kind) (n e : ℕ) → Among (placed kind n e) (numbered job .definitions) → InTable (length table) (tableEntry (placeOf (jobConstants (numbered job)) kind e))
       there = placed-good (numbered job) (numbered-cited bytes job are formed) (definitions-low bytes job are formed) (requests-low bytes job are formed)
@@ -115,7 +115,7 @@ module _ (bytes : List ℕ) (job : Job (List ℕ)) (l : Layout) (are : IsBytes b
       go (inl h) =
           let u = unmap (λ (r : ℕ × ℕ). tableEntry (r .1)) (starters (st .defined .held)) g h in
           subst (InTable (length table)) (u .2)
-            (there constant (u .0 .0) (u .0 .1) (facts .allHeld .startPlaced (u .0 .0) (u .0 .1) (starters-start (st .defined .held) (u .0 .0) (u .0 .1) (u .1))))
+          (there constant (u .0 .0) (u .0 .1) (facts .allHeld .startPlaced (u .0 .0) (u .0 .1) (starters-start (st .defined .held) (u .0 .0) (u .0 .1) (u .1))))
       go (inr h) =
           let u = unmap (λ (r : ℕ × ℕ). tableEntry (jobConstants (numbered job) + r .1)) (st .defined .indexes) g h in
           subst (InTable (length table)) (u .2) (there bootstrap (u .0 .0) (u .0 .1) (facts .allIndexes .indexPlaced (u .0 .0) (u .0 .1) (u .1)))
@@ -129,10 +129,10 @@ module _ (bytes : List ℕ) (job : Job (List ℕ)) (l : Layout) (are : IsBytes b
       × ((g : Goal) → Among g (rawGoals (jobConstants (numbered job)) (st .defined)) → Settled (st .ready .resolved .marks) g)
   started =
       ready-going highestSlot (numbered job .definitions) (constantsOf (numbered job .definitions)) table (jobConstants (numbered job)) (st .defined) (st .ready)
-        (good-job-table .cited)
-        raw-in
-        (st .isDefined)
-        (subst (λ t. endDefinitions highestSlot t (jobConstants (numbered job)) (st .defined) ≡ good (st .ready)) same-table (st .isReady))
+      (good-job-table .cited)
+      raw-in
+      (st .isDefined)
+      (subst (λ t. endDefinitions highestSlot t (jobConstants (numbered job)) (st .defined) ≡ good (st .ready)) same-table (st .isReady))
 
   asks : Each (Asks table (good-job-table .cited) highestSlot (st .defined .held) raws (jobNames (numbered job)) (jobConstants (numbered job))) (numbered job .requests)
   asks = each-from _ (numbered job .requests) (asks-good (numbered job) (numbered-cited bytes job are formed) (definitions-low bytes job are formed) (requests-low bytes job are formed))
@@ -145,16 +145,16 @@ module _ (bytes : List ℕ) (job : Job (List ℕ)) (l : Layout) (are : IsBytes b
       (a : ℕ) × (getElem? (st .answers) i ≡ some a) × Answered (goalOf (jobNames (numbered job)) (jobConstants (numbered job)) (q .what)) a (st .asked))
   asked =
       answerAll-going table (good-job-table .cited) highestSlot (st .defined .held) raws (jobNames (numbered job)) (jobConstants (numbered job))
-        (suc (length (numbered job .definitions)))
-        (numbered job .requests)
-        (st .ready)
-        (st .answers, st .asked)
-        asks
-        (subst
-          (λ names. answerAll names (jobConstants (numbered job)) (suc (length (numbered job .definitions))) (numbered job .requests) (st .ready) ≡ good (st .answers, st .asked))
-          (facts .allNames)
-          (st .isAsked))
-        (started .0)
+      (suc (length (numbered job .definitions)))
+      (numbered job .requests)
+      (st .ready)
+      (st .answers, st .asked)
+      asks
+      (subst
+      (λ names. answerAll names (jobConstants (numbered job)) (suc (length (numbered job .definitions))) (numbered job .requests) (st .ready) ≡ good (st .answers, st .asked))
+      (facts .allNames)
+      (st .isAsked))
+      (started .0)
 
   -- raw definitions stay settled
   pub raw-settled : (g : Goal) → Among g (rawGoals (jobConstants (numbered job)) (st .defined)) → Settled (st .asked .resolved .marks) g
@@ -169,7 +169,7 @@ module _ (bytes : List ℕ) (job : Job (List ℕ)) (l : Layout) (are : IsBytes b
   marks = st .asked .resolved .marks
 
   -- the node of a settled entry
-  node-at : (marks : List Mark) (e k : ℕ) → getElem? marks e ≡ some (done k) → nodeAt marks e ≡ k
+  pub node-at : (marks : List Mark) (e k : ℕ) → getElem? marks e ≡ some (done k) → nodeAt marks e ≡ k
   unfolding nodeAt
   node-at marks e k h = omega (arith, child-done marks e k h)
 
@@ -182,20 +182,20 @@ module _ (bytes : List ℕ) (job : Job (List ℕ)) (l : Layout) (are : IsBytes b
       let slot : u .0 .0 ≡ s = ap (λ (x : ℕ × ℕ). x .0) (u .2) in
       let goal : Among (tableEntry e) (map (λ (r : ℕ × ℕ). tableEntry (r .1)) (starters (st .defined .held))) = (u .1 .0, map-at (λ (r : ℕ × ℕ). tableEntry (r .1)) (starters (st .defined .held)) (u .1 .0) (u .0) (u .1 .1)) in
       let settled = started .1 (tableEntry e) (among-left (tableEntry e) (map (λ r. tableEntry (r .1)) (starters (st .defined .held))) (map (λ r. tableEntry (jobConstants (numbered job) + r .1)) (st .defined .indexes)) goal) in
-      let node : settled .0 ≡ k = sym (node-at (st .ready .resolved .marks) e (settled .0) (settled .1)) ∙ ap (λ (x : ℕ × ℕ). x .1) (u .2) in
-      ( e
-      , subst (λ n. Among (n, e) (starters (st .defined .held))) slot (u .1)
-      , subst (λ n. getElem? marks e ≡ some (done n)) node (asked .1 .grows .marksKept e (settled .0) (settled .1))
+      let node : settled .0 ≡ k = sym (node-at (st .ready .resolved .marks) e (settled .0) (settled .1)) ∙ ap (λ (x : ℕ × ℕ). x .1) (u .2) in (
+        e,
+        subst (λ n. Among (n, e) (starters (st .defined .held))) slot (u .1),
+        subst (λ n. getElem? marks e ≡ some (done n)) node (asked .1 .grows .marksKept e (settled .0) (settled .1)),
       )
 
   -- what a raw bootstrap's entry became
   pub index-node : (i e : ℕ) → Among (i, e) (st .defined .indexes) → (k : ℕ) × (getElem? marks (jobConstants (numbered job) + e) ≡ some (done k))
   index-node i e a =
       raw-settled (tableEntry (jobConstants (numbered job) + e))
-        (among-right (tableEntry (jobConstants (numbered job) + e))
-          (map (λ r. tableEntry (r .1)) (starters (st .defined .held)))
-          (map (λ r. tableEntry (jobConstants (numbered job) + r .1)) (st .defined .indexes))
-          (a .0, map-at (λ (r : ℕ × ℕ). tableEntry (jobConstants (numbered job) + r .1)) (st .defined .indexes) (a .0) (i, e) (a .1)))
+      (among-right (tableEntry (jobConstants (numbered job) + e))
+      (map (λ r. tableEntry (r .1)) (starters (st .defined .held)))
+      (map (λ r. tableEntry (jobConstants (numbered job) + r .1)) (st .defined .indexes))
+      (a .0, map-at (λ (r : ℕ × ℕ). tableEntry (jobConstants (numbered job) + r .1)) (st .defined .indexes) (a .0) (i, e) (a .1)))
 
   abbrev pub indexes : List (ℕ × ℕ)
   indexes = indexNodes (jobConstants (numbered job)) marks (st .defined .indexes)
@@ -221,7 +221,7 @@ module _ (bytes : List ℕ) (job : Job (List ℕ)) (l : Layout) (are : IsBytes b
           let node = asked .0 .faithful .nodeOf (jobConstants (numbered job) + e) (n .0) (n .1) in
           let tag = table-bootstrap (numbered job .definitions) (jobNames (numbered job)) (jobConstants (numbered job)) (jobConstants (numbered job) + e) (node .0) (node .1) (omega arith) in
           subst (λ (y : ℕ × ℕ). tagAt nodes (y .1) ≡ bootstrapTag) (u .2)
-            (ap (tagAt nodes) (node-at marks (jobConstants (numbered job) + e) (n .0) (n .1)) ∙ node-tag (jobConstants (numbered job) + e) (n .0) (node .0) (n .1) (node .1) ∙ tag)
+          (ap (tagAt nodes) (node-at marks (jobConstants (numbered job) + e) (n .0) (n .1)) ∙ node-tag (jobConstants (numbered job) + e) (n .0) (node .0) (n .1) (node .1) ∙ tag)
 
   -- nodes on the stack are nodes of the list
   stack-in : StackIn nodes (st .asked .pool .pending)
@@ -248,11 +248,11 @@ module _ (bytes : List ℕ) (job : Job (List ℕ)) (l : Layout) (are : IsBytes b
       Named highestSlot (st .defined .held) raws nodes rows (nameWanted (numbered job .build .nameByte) (length rows)) (st .made) (st .named)
   ending =
       named highestSlot (st .defined .held) raws nodes rows (nameWanted (numbered job .build .nameByte) (length rows)) (st .made) (st .named)
-        (starts-here .kidsIn)
-        (built-ended highestSlot (st .defined .held) raws nodes indexes (st .asked .pool) (st .made)
-          (asked .0 .pooled)
-          starts-here
-          (bootstrap-kids table good-job-table (st .asked .resolved) (asked .0 .faithful))
-          indexes-are
-          (st .isMade))
-        (st .isNamed)
+      (starts-here .kidsIn)
+      (built-ended highestSlot (st .defined .held) raws nodes indexes (st .asked .pool) (st .made)
+      (asked .0 .pooled)
+      starts-here
+      (bootstrap-kids table good-job-table (st .asked .resolved) (asked .0 .faithful))
+      indexes-are
+      (st .isMade))
+      (st .isNamed)

@@ -1,0 +1,351 @@
+-- HOLDS: every answer, every raw definition, the class name and the name slot of a built job show, in the finished pool as JVMS reads it,
+-- what the job's own records say. Assumes nothing.
+use mathlib.Core.Bool.{Bool, true, false}
+use mathlib.Core.List.{List, [], _∷_, _++_, map, reverse, reverseAux}
+use mathlib.Core.Logic.{_⊎_, inl, inr}
+use mathlib.Core.Option.{Option, none, some}
+use mathlib.Core.Path.{_≡_, refl, sym, ap, subst, _∙_}
+use Prim.Native.Nat.{ℕ, zero, suc, _+_, _-_, _≤_, _<_}
+use native.Mathlib.Omega.{arith}
+use lib.Dec.{eqb, leb, ltb}
+use lib.ListN.{length, getD, getElem?}
+use borrow.Author.Tests.{lt-ltb, le-ltb}
+use Rattle.definition.specs.Basics.{Result, good, bad, _>>=_, Refusal, atRecord, unless, lookup}
+use Rattle.definition.specs.Shapes.{Kind, constant, bootstrap, bootstrapTag, Entry, isWide, withLiteral}
+use Rattle.definition.specs.Job.{Reference, entry, Definition, placed, Request, Build, Job}
+use Rattle.definition.specs.Form.{form}
+use Rattle.definition.specs.Numbering.{Literal, attributeName, literals, literalOf, numberedDefinition, numbered}
+use Rattle.definition.specs.Resolving.{Goal, rawNumber, tableEntry, refusal, placeOf, follow, goalOf, Node, Mark, done, firstNode, childOf}
+use Rattle.definition.specs.Slots.{highestSlot}
+use Rattle.definition.specs.Definitions.{Held, starts, tagAt}
+use Rattle.definition.specs.Building.{Row, kidsOf, Content, nothing, emptyText, holds, behind, contentOf, textIn, className, attributeText, nameWanted}
+use Rattle.definition.specs.Layout.{starters, nodeAt, classSlotOf, Layout, layoutOf, indexNodes, layout}
+use Rattle.definition.specs.Run.{shown, classBytes, Built, render, build, Lent, longestJob, enough, fits, run}
+use Rattle.definition.specs.Jvms.{Shown, readPool, readBootstraps}
+use Rattle.laws.specs.Statements.{IsBytes, Among, Finished, leadsTo, slotShows, Shows, textOf, textAt, classOf, HeldBy, Holds, rowShown}
+use Rattle.laws.proofs.Results.{after, decided}
+use Rattle.laws.proofs.Lists.{clash, good-inj, good-atRecord}
+use Rattle.laws.proofs.Tables.{order}
+use Rattle.laws.proofs.Each.{each-at}
+use Rattle.laws.proofs.Places.{found-inside}
+use Rattle.laws.proofs.Sound.{tag-append}
+use Rattle.laws.proofs.Ending.{kids-append}
+use Rattle.laws.proofs.Occupied.{map-at, wide-in, count-range}
+use Rattle.laws.proofs.DefinedFacts.{start-found, starters-start, start-starters}
+use Rattle.laws.proofs.Citing.{jobNames, jobConstants, jobTable}
+use Rattle.laws.proofs.JobTable.{asks-good, numbered-cited, definitions-low, requests-low}
+use Rattle.laws.proofs.Contents.{content-holds, content-behind}
+use Rattle.laws.proofs.Faithful.{Settled}
+use Rattle.laws.proofs.Asked.{ConstantGoal, Answered}
+use Rattle.laws.proofs.Numbers.{Each as Both, SlotFor, SlotsKept, slots-twice, slot-kept, slots-kept, slotsStay, rawRowsThere}
+use Rattle.laws.proofs.Whole.{among-right, facts, table, asked, nodes, marks, node-at, raw-node, index-node, indexes, indexes-are, rows, starts-here}
+use Rattle.laws.proofs.ReadBack.{stg, end, allNodes, raw, pool, owned, soundly, raw-keys, raw-wide, count, starts-at, index-rises, index-below, owner-tag, reads}
+use Rattle.laws.proofs.Showing.{some-inj, past-end, finished, isOf, same-goal, pool-length, slot-shown, slot-shows, all-show}
+
+-- what stands in a list stands in its reverse
+among-aside : {A : Type 0} (a : A) (l acc : List A) → Among a l ⊎ Among a acc → Among a (reverseAux l acc)
+among-aside a [] acc (inl (i, e)) = clash (cc)
+among-aside a [] acc (inr h) = h
+among-aside a (x ∷ l) acc (inl (zero, e)) = among-aside a l (x ∷ acc) (inr (zero, e))
+among-aside a (x ∷ l) acc (inl (suc i, e)) = among-aside a l (x ∷ acc) (inl (i, e))
+among-aside a (x ∷ l) acc (inr (i, e)) = among-aside a l (x ∷ acc) (inr (suc i, e))
+
+among-forth : {A : Type 0} (a : A) (l : List A) → Among a l → Among a (reverse l)
+among-forth a l h = among-aside a l [] (inl h)
+
+starts-inj : {a b : ℕ} → starts a ≡ starts b → a ≡ b
+starts-inj e = cc
+
+-- the text that a content is, as the reader shows it
+text-of : (all : List Literal) (c : Content) → classBytes all (textIn c) ≡ textOf (shown all c)
+unfolding textIn textOf shown classBytes withLiteral
+text-of all nothing = refl
+text-of all emptyText = refl
+text-of all (holds e) = go (eqb (e .tag) 1) refl
+  where
+    go :
+        (b : Bool) →
+        eqb (e .tag) 1 ≡ b →
+        classBytes all (textIn (holds e)) ≡ textOf (shown all (holds e))
+    go true t = rw (t, textIn, textOf)
+    go false t = rw (t, textIn, textOf)
+
+-- the text at a slot below the count, and past it
+text-below : (f : Finished) (n : ℕ) → n < length (f .pool) → textAt f (suc n) ≡ textOf (getD (f .pool) n none)
+unfolding textAt
+text-below f n h = rw (lt-ltb n (length (f .pool)) h, textAt)
+
+text-past : (f : Finished) (n : ℕ) → length (f .pool) ≤ n → textAt f (suc n) ≡ some []
+unfolding textAt
+text-past f n h = rw (le-ltb n (length (f .pool)) h, textAt)
+
+module _ (bytes : List ℕ) (job : Job (List ℕ)) (l : Layout) (are : IsBytes bytes) (formed : form bytes ≡ good job) (laid : layout highestSlot (numbered job) ≡ good l) where
+  abbrev own : List (ℕ × Entry ℕ ℕ)
+  own = owned bytes job l are formed laid
+
+  abbrev top : ℕ
+  top = count bytes job l are formed laid
+
+  abbrev f : Finished
+  f = finished bytes job l are formed laid
+
+  -- nothing is owned at or past the count
+  nobody : (n : ℕ) → top ≤ n → (o : Option (Entry ℕ ℕ)) → lookup n own ≡ o → lookup n own ≡ none
+  nobody n high none h = h
+  nobody n high (some e) h =
+      let o = owner-tag bytes job l are formed laid n e h in
+      absurd (omega (arith, high, starts-at bytes job l are formed laid n (o .0) (o .1)))
+
+  -- so such a slot counts as the empty text
+  behind-past : (n : ℕ) → top ≤ suc n → (o : Option (Entry ℕ ℕ)) → lookup n own ≡ o → behind o ≡ emptyText
+  unfolding behind
+  behind-past n high none h = refl
+  behind-past n high (some e) h =
+      decided (isWide (e .tag)) nothing emptyText (behind (some e)) refl
+      (λ w _.
+      let o = owner-tag bytes job l are formed laid n e h in
+      absurd
+      (omega (
+        arith,
+        high,
+        wide-in highestSlot (stg bytes job l are formed laid .defined .held) (allNodes bytes job l are formed laid) (pool bytes job l are formed laid) (raw bytes job l are formed laid) (soundly bytes job l are formed laid) (raw-keys bytes job l are formed laid) (raw-wide bytes job l are formed laid) n (o .0) (o .1) (ap isWide (o .2) ∙ w),
+      )))
+      (λ _ e. sym e)
+
+  content-past : (n : ℕ) → top ≤ suc n → contentOf own (suc n) ≡ emptyText
+  content-past n high = content-behind own n (nobody (suc n) high (lookup (suc n) own) refl) ∙ behind-past n high (lookup n own) refl
+
+  -- the count is at least 1
+  some-count : 1 ≤ top
+  some-count = count-range highestSlot (pool bytes job l are formed laid .slots .gaps) (soundly bytes job l are formed laid .apart) .0
+
+  -- the text at a slot
+  text-at : (u : ℕ) → classBytes (literals job) (textIn (contentOf own u)) ≡ textAt f u
+  unfolding contentOf textIn classBytes textAt
+  text-at zero = refl
+  text-at (suc n) = go (order (suc n) top)
+    where
+      below : suc n < top → n < length (f .pool)
+      below h = omega (arith, h, pool-length bytes job l are formed laid)
+
+      past : top ≤ suc n → length (f .pool) ≤ n
+      past h = omega (arith, h, pool-length bytes job l are formed laid, some-count)
+
+      go : (suc n < top) ⊎ (top ≤ suc n) → classBytes (literals job) (textIn (contentOf own (suc n))) ≡ textAt f (suc n)
+      go (inl h) =
+          text-of (literals job) (contentOf own (suc n))
+          ∙ ap textOf (sym (slot-shown bytes job l are formed laid n h))
+          ∙ sym (text-below f n (below h))
+      go (inr h) = ap (λ c. classBytes (literals job) (textIn c)) (content-past n h) ∙ sym (text-past f n (past h))
+
+  -- the class name that a content gives
+  class-of : (c : Content) → classBytes (literals job) (className own c) ≡ classOf f (shown (literals job) c)
+  unfolding className classBytes classOf shown withLiteral
+  class-of nothing = refl
+  class-of emptyText = refl
+  class-of (holds e) = go (eqb (e .tag) 7) refl
+    where
+      go : (b : Bool) → eqb (e .tag) 7 ≡ b → classBytes (literals job) (className own (holds e)) ≡ classOf f (shown (literals job) (holds e))
+      go true t = rw (t, className, classOf) (text-at (getD (e .kids) 0 0))
+      go false t = rw (t, className, classOf)
+
+  -- the class name at a slot
+  class-at : (c : ℕ) → classBytes (literals job) (className own (contentOf own c)) ≡ classOf f (slotShows f c)
+  unfolding contentOf className classBytes classOf slotShows
+  class-at zero = refl
+  class-at (suc n) = go (order (suc n) top)
+    where
+      go : (suc n < top) ⊎ (top ≤ suc n) → classBytes (literals job) (className own (contentOf own (suc n))) ≡ classOf f (slotShows f (suc n))
+      go (inl h) = class-of (contentOf own (suc n)) ∙ ap (classOf f) (sym (slot-shown bytes job l are formed laid n h))
+      go (inr h) =
+          ap (λ c. classBytes (literals job) (className own c)) (content-past n h)
+          ∙ ap (classOf f) (sym (past-end (f .pool) n none (omega (arith, h, pool-length bytes job l are formed laid, some-count))))
+
+  -- the name's slot shows the name
+  name-shows : (n : ℕ) → lookup n own ≡ some attributeText → textAt f n ≡ some attributeName
+  unfolding shown textOf withLiteral attributeText literalOf literals
+  name-shows zero h = absurd (omega (arith, starts-at bytes job l are formed laid 0 (owner-tag bytes job l are formed laid 0 attributeText h .0) (owner-tag bytes job l are formed laid 0 attributeText h .1)))
+  name-shows (suc n) h =
+      let o = owner-tag bytes job l are formed laid (suc n) attributeText h in
+      let range = starts-at bytes job l are formed laid (suc n) (o .0) (o .1) in
+      text-below f n (omega (arith, range, pool-length bytes job l are formed laid))
+      ∙ ap textOf (slot-shown bytes job l are formed laid n (range .2) ∙ ap (shown (literals job)) (content-holds own n attributeText h))
+
+  -- what has a slot before building has it in the end
+  stays : SlotsKept (stg bytes job l are formed laid .asked .pool .given) (pool bytes job l are formed laid .given)
+  stays =
+      slots-twice
+      (record { slotStays = slotsStay (nodes bytes job l are formed laid) (indexes bytes job l are formed laid) (raw bytes job l are formed laid) (stg bytes job l are formed laid .asked .pool) (stg bytes job l are formed laid .made) (starts-here bytes job l are formed laid) (stg bytes job l are formed laid .isMade) })
+      (end bytes job l are formed laid .kept)
+
+  -- an answer shows what was asked for
+  answer-shows :
+      (depth : ℕ) (g : Goal) (a : ℕ) →
+      ConstantGoal (table bytes job l are formed laid) g →
+      Answered g a (stg bytes job l are formed laid .asked) →
+      Shows depth f g a
+  answer-shows depth g a c h = go g c (h .settled) (slot-kept stays (childOf (marks bytes job l are formed laid) g) a (h .slot))
+    where
+      go :
+          (g : Goal) →
+          ConstantGoal (table bytes job l are formed laid) g →
+          Settled (marks bytes job l are formed laid) g →
+          SlotFor (pool bytes job l are formed laid .given) (childOf (marks bytes job l are formed laid) g) a →
+          Shows depth f g a
+      go (rawNumber v) c s slot = slot-shows bytes job l are formed laid depth (all-show bytes job l are formed laid depth .0) (all-show bytes job l are formed laid depth .1) (rawNumber v) a (c, s) slot
+      go (tableEntry e) c s slot = slot-shows bytes job l are formed laid depth (all-show bytes job l are formed laid depth .0) (all-show bytes job l are formed laid depth .1) (tableEntry e) a (tt, s) slot
+      go (refusal code) c s slot = absurd s
+
+  -- a definition of the job that places something is one of the numbered job
+  placed-there : (i n e : ℕ) (kind : Kind) → getElem? (job .definitions) i ≡ some (placed kind n e) → Among (placed kind n e) (numbered job .definitions)
+  unfolding numbered numberedDefinition
+  placed-there i n e kind h = (i, map-at (numberedDefinition (literals job)) (job .definitions) i (placed kind n e) h)
+
+  -- a raw constant's slot is to hold the node that its entry became
+  constant-held : (n e : ℕ) → Among (placed constant n e) (numbered job .definitions) → (k : ℕ) × (getElem? (marks bytes job l are formed laid) e ≡ some (done k)) × Among (n, k) (raw bytes job l are formed laid)
+  constant-held n e a =
+      let facts′ = facts bytes job l are formed laid .allHeld in
+      let ready = stg bytes job l are formed laid .ready .resolved .marks in
+      let held = stg bytes job l are formed laid .defined .held in
+      let starter = start-starters held n e (facts′ .startHeld n e a) in
+      let k = nodeAt ready e in
+      let there : Among (n, k) (raw bytes job l are formed laid) =
+      among-forth (n, k) (map (λ r. (r .0, nodeAt ready (r .1))) (starters held))
+      (starter .0, map-at (λ (r : ℕ × ℕ). (r .0, nodeAt ready (r .1))) (starters held) (starter .0) (n, e) (starter .1)) in
+      let back = raw-node bytes job l are formed laid n k there in
+      let one = start-found _ _ _ held facts′ n e a in
+      let two = start-found _ _ _ held facts′ n (back .0) (facts′ .startPlaced n (back .0) (starters-start held n (back .0) (back .1))) in
+      let same : back .0 ≡ e = starts-inj (some-inj (sym two ∙ one)) in
+      (k, subst (λ e′. getElem? (marks bytes job l are formed laid) e′ ≡ some (done k)) same (back .2), there)
+
+  raw-shows-there : (depth n e : ℕ) → Among (placed constant n e) (numbered job .definitions) → Shows depth f (tableEntry e) n
+  raw-shows-there depth n e a =
+      let h = constant-held n e a in
+      all-show bytes job l are formed laid depth .0 e (h .0) n (h .1)
+      (among-right (n, h .0) (map (λ r. (r .1, r .0)) (pool bytes job l are formed laid .given)) (raw bytes job l are formed laid) (h .2))
+
+  -- a raw bootstrap's row stands at its index
+  index-shows-there : (depth n e : ℕ) → Among (placed bootstrap n e) (numbered job .definitions) → Shows depth f (tableEntry (jobConstants (numbered job) + e)) n
+  unfolding indexNodes
+  index-shows-there depth n e a =
+      let nd = nodes bytes job l are formed laid in
+      let more = end bytes job l are formed laid .more in
+      let at = facts bytes job l are formed laid .allIndexes .indexHeld n e a in
+      let (k, mark) = index-node bytes job l are formed laid n e at in
+      let inside = found-inside nd k _ (asked bytes job l are formed laid .0 .faithful .nodeOf (jobConstants (numbered job) + e) k mark .2) in
+      let here : Among (n, k) (indexes bytes job l are formed laid) = (
+        at .0,
+        map-at (λ (r : ℕ × ℕ). (r .0, nodeAt (marks bytes job l are formed laid) (jobConstants (numbered job) + r .1))) (stg bytes job l are formed laid .defined .indexes) (at .0) (n, e) (at .1)
+            ∙ ap (λ m. some (n, m)) (node-at bytes job l are formed laid (marks bytes job l are formed laid) (jobConstants (numbered job) + e) k mark),
+      ) in
+      let (row, found, slots) =
+      rawRowsThere nd (indexes bytes job l are formed laid) (raw bytes job l are formed laid) (stg bytes job l are formed laid .asked .pool) (stg bytes job l are formed laid .made) (starts-here bytes job l are formed laid) (stg bytes job l are formed laid .isMade) (index-rises bytes job l are formed laid) (index-below bytes job l are formed laid) n k here in
+      let tag = each-at (λ (x : ℕ × ℕ). tagAt nd (x .1) ≡ bootstrapTag) (indexes bytes job l are formed laid) (here .0) (n, k) (indexes-are bytes job l are formed laid) (here .1) in
+      all-show bytes job l are formed laid depth .1 (jobConstants (numbered job) + e) k n row mark
+      (tag-append nd more k inside ∙ tag)
+      found
+      (subst (λ cs. Both (SlotFor (pool bytes job l are formed laid .given)) cs row) (sym (kids-append nd more k inside)) (slots-kept (end bytes job l are formed laid .kept) (kidsOf nd k) row slots))
+
+  -- where an entry's reference leads
+  entry-goal-is : (kind : Kind) (e : ℕ) → isOf bytes job l are formed laid (entry kind e) ≡ tableEntry (placeOf (jobConstants (numbered job)) kind e)
+  unfolding goalOf follow
+  entry-goal-is kind e = refl
+
+  placed-shows : (depth n e : ℕ) (kind : Kind) → Among (placed kind n e) (numbered job .definitions) → Shows depth f (leadsTo f (entry kind e)) n
+  unfolding placeOf
+  placed-shows depth n e constant a = subst (λ g. Shows depth f g n) (sym (entry-goal-is constant e) ∙ same-goal bytes job l are formed laid (entry constant e)) (raw-shows-there depth n e a)
+  placed-shows depth n e bootstrap a = subst (λ g. Shows depth f g n) (sym (entry-goal-is bootstrap e) ∙ same-goal bytes job l are formed laid (entry bootstrap e)) (index-shows-there depth n e a)
+
+  -- all of it
+  held-by : HeldBy f (job .requests) (job .build) (render (literals job) (layoutOf highestSlot (stg bytes job l are formed laid .answers) (stg bytes job l are formed laid .asked .resolved .visits) (numbered job .build .class) (rows bytes job l are formed laid) (stg bytes job l are formed laid .named)))
+  unfolding render layoutOf numbered
+  held-by =
+      record {
+        answered =
+            λ i q at.
+            let (a, there, h) = asked bytes job l are formed laid .2 i q at in
+            let good = asks-good (numbered job) (numbered-cited bytes job are formed) (definitions-low bytes job are formed) (requests-low bytes job are formed) i q at in
+            (a, there, λ depth. subst (λ g. Shows depth f g a) (same-goal bytes job l are formed laid (q .what)) (answer-shows depth (isOf bytes job l are formed laid (q .what)) a (good .1) h));
+        placedThere = λ i n e kind at depth. placed-shows depth n e kind (placed-there i n e kind at);
+        classThere = class-at (classSlotOf (stg bytes job l are formed laid .answers) (job .build .class));
+        nameThere = named-there (end bytes job l are formed laid .name);
+      }
+    where
+      named-there :
+          ((nameWanted (numbered job .build .nameByte) (length (rows bytes job l are formed laid)) ≡ false) × (stg bytes job l are formed laid .named .0 ≡ 0))
+          ⊎ ((nameWanted (numbered job .build .nameByte) (length (rows bytes job l are formed laid)) ≡ true) × (lookup (stg bytes job l are formed laid .named .0) own ≡ some attributeText)) →
+          ((nameWanted (job .build .nameByte) (length (rows bytes job l are formed laid)) ≡ false) × (stg bytes job l are formed laid .named .0 ≡ 0))
+          ⊎ ((nameWanted (job .build .nameByte) (length (rows bytes job l are formed laid)) ≡ true) × (textAt f (stg bytes job l are formed laid .named .0) ≡ some attributeName))
+      named-there (inl h) = inl h
+      named-there (inr h) = inr (h .0, name-shows (stg bytes job l are formed laid .named .0) (h .1))
+
+-- what the reader shows of a layout
+abbrev shownOf : Job (List ℕ) → Layout → Finished
+shownOf job x = record { definitions = job .definitions; pool = map (shown (literals job)) (x .contents); bootstraps = map rowShown (x .rows) }
+
+-- all of it, of the layout that was returned
+held-laid :
+    (bytes : List ℕ) (job : Job (List ℕ)) (l : Layout) →
+    IsBytes bytes →
+    form bytes ≡ good job →
+    layout highestSlot (numbered job) ≡ good l →
+    HeldBy (shownOf job l) (job .requests) (job .build) (render (literals job) l)
+unfolding layoutOf
+held-laid bytes job l are formed laid =
+    subst (λ (x : Layout). HeldBy (shownOf job x) (job .requests) (job .build) (render (literals job) x)) (stg bytes job l are formed laid .isLaid) (held-by bytes job l are formed laid)
+
+-- a job that is built is laid out, and what is returned is the layout with its literals' bytes
+build-good :
+    (bytes : List ℕ) (job : Job (List ℕ)) (r : ℕ × Built) →
+    form bytes ≡ good job →
+    build bytes ≡ good r →
+    (l : Layout) × (layout highestSlot (numbered job) ≡ good l) × (render (literals job) l ≡ r .1)
+unfolding build
+build-good bytes job r formed e =
+    after (form bytes) _ r e λ j here e₁.
+    let same : j ≡ job = good-inj (sym here ∙ formed) in
+    after (layout highestSlot (numbered j)) _ r e₁ λ l there e₂. (
+      l,
+      subst (λ j. layout highestSlot (numbered j) ≡ good l) same there,
+      subst (λ (x : Job (List ℕ)). render (literals x) l ≡ r .1) same (ap (λ (x : ℕ × Built). x .1) (good-inj e₂)),
+    )
+
+run-built : (bytes : List ℕ) (lent : Lent) (b : Built) → run lent bytes ≡ good b → (r : ℕ × Built) × (build bytes ≡ good r) × (r .1 ≡ b)
+unfolding run
+run-built bytes lent b e =
+    after (atRecord 0 (unless (leb (length bytes) longestJob) 1)) _ b e λ _ _ e₁.
+    after (atRecord 0 (unless (enough (length bytes) lent) 2)) _ b e₁ λ _ _ e₂.
+    after (build bytes) _ b e₂ λ r here e₃.
+    after (atRecord (r .0) (unless (fits (r .1) lent) 18)) _ b e₃ λ _ _ e₄.
+    (r, here, good-inj e₄)
+
+pub run-laid :
+    (bytes : List ℕ) (job : Job (List ℕ)) (lent : Lent) (b : Built) →
+    form bytes ≡ good job →
+    run lent bytes ≡ good b →
+    (l : Layout) × (layout highestSlot (numbered job) ≡ good l) × (render (literals job) l ≡ b)
+run-laid bytes job lent b formed e =
+    let (r, built, same) = run-built bytes lent b e in
+    let (l, laid, is) = build-good bytes job r formed built in
+    (l, laid, is ∙ same)
+
+pub heldSlots : Holds
+heldSlots bytes job lent b shownPool shownBootstraps are formed ran readsPool readsBootstraps =
+    let (l, laid, is) = run-laid bytes job lent b formed ran in
+    let back = reads bytes job l are formed laid in
+    let pool-is : shownPool ≡ map (shown (literals job)) (l .contents) = some-inj (sym readsPool ∙ ap (λ (x : Built). readPool (x .pool)) (sym is) ∙ back .0) in
+    let rows-are : shownBootstraps ≡ map rowShown (l .rows) = some-inj (sym readsBootstraps ∙ ap (λ (x : Built). readBootstraps (x .bootstrapCount) (x .bootstraps)) (sym is) ∙ back .1) in
+    go l laid is pool-is rows-are
+  where
+    go :
+        (l : Layout) →
+        layout highestSlot (numbered job) ≡ good l →
+        render (literals job) l ≡ b →
+        shownPool ≡ map (shown (literals job)) (l .contents) →
+        shownBootstraps ≡ map rowShown (l .rows) →
+        HeldBy (record { definitions = job .definitions; pool = shownPool; bootstraps = shownBootstraps }) (job .requests) (job .build) b
+    go l laid is p r =
+        subst (λ (x : Built). HeldBy (record { definitions = job .definitions; pool = shownPool; bootstraps = shownBootstraps }) (job .requests) (job .build) x) is
+        (subst (λ rows. HeldBy (record { definitions = job .definitions; pool = shownPool; bootstraps = rows }) (job .requests) (job .build) (render (literals job) l)) (sym r)
+        (subst (λ slots. HeldBy (record { definitions = job .definitions; pool = slots; bootstraps = map rowShown (l .rows) }) (job .requests) (job .build) (render (literals job) l)) (sym p)
+        (held-laid bytes job l are formed laid)))
