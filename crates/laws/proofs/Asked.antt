@@ -1,15 +1,15 @@
 -- What requests keep, and what each answer is: the slot of what its reference became. Assumes nothing.
-use mathlib.Core.Bool.{Bool, true, false, not, _||_}
-use mathlib.Core.List.{List, [], _∷_, _++_, map, append-assoc}
-use mathlib.Core.Logic.{_⊎_, inl, inr}
-use mathlib.Core.Option.{Option, none, some}
+use mathlib.Core.Bool.{Bool, not, _||_}
+use mathlib.Core.List.{List, [], _∷_, _++_}
+use mathlib.Core.Logic.{inl, inr}
+use mathlib.Core.Option.{some}
 use mathlib.Core.Path.{_≡_, refl, sym, ap, subst, _∙_}
 use Prim.Native.Nat.{ℕ, zero, suc, _+_, _-_, _≤_, _<_}
 use native.Mathlib.Omega.{arith}
 use lib.Dec.{leb, ltb}
 use lib.ListN.{length, getElem?, length-append}
-use borrow.Author.Tests.{ltb-true, ltb-false, le-leb, lt-ltb}
-use Rattle.definition.specs.Basics.{Result, good, bad, _>>=_, Refusal, atRecord, unless, lookup}
+use borrow.Author.Tests.{ltb-true, ltb-false}
+use Rattle.definition.specs.Basics.{good, _>>=_, atRecord, unless, lookup}
 use Rattle.definition.specs.Shapes.{Entry, bootstrapTag, withKids}
 use Rattle.definition.specs.Job.{Request}
 use Rattle.definition.specs.Definitions.{Held, Naming, tagAt}

@@ -1,16 +1,13 @@
 -- General facts about lists made of parts: `from` and `concat`, a list cut into parts of one length, and equal lists by test. Assumes nothing.
-use mathlib.Core.Bool.{true}
 use mathlib.Core.List.{List, [], _∷_}
 use mathlib.Core.Option.{some}
 use mathlib.Core.Path.{_≡_, refl, sym, ap, _∙_}
 use Prim.Native.Nat.{ℕ, zero, suc, _+_, _*_, _≤_, _<_}
 use native.Mathlib.Nat.{mul-zero, mul-suc, add-zero}
 use native.Mathlib.Omega.{arith}
-use lib.Dec.{eqb}
 use lib.ListN.{length, take, drop, getD, getElem?, length-append}
 use lib.Seq.{take-at, drop-append-add, drop-drop, take-add}
-use borrow.Author.Tests.{eqb-true, eq-eqb}
-use Rattle.definition.specs.Basics.{same, concat, from}
+use Rattle.definition.specs.Basics.{concat, from}
 
 -- ---- the list f k, f (k + 1), .. of n
 

@@ -2,7 +2,7 @@
 use mathlib.Core.Bool.{Bool, true, false}
 use mathlib.Core.List.{List, [], _∷_, map}
 use mathlib.Core.Option.{Option, none, some}
-use mathlib.Core.Path.{_≡_, refl, sym, ap, _∙_}
+use mathlib.Core.Path.{_≡_, refl}
 use Prim.Native.Nat.{ℕ, zero, suc, _+_}
 use native.Mathlib.Nat.{add-suc, suc-add, add-zero}
 use lib.Dec.{lit<}
@@ -11,7 +11,7 @@ use Rattle.definition.specs.Shapes.{Entry, isWide, withLiteral}
 use Rattle.definition.specs.Building.{holds, behind, contentOf}
 use Rattle.definition.specs.Numbering.{Literal, literalOf}
 use Rattle.definition.specs.Run.{shown}
-use Rattle.laws.proofs.PoolRead.{Fits, LaidBehind, Laid, fits-text}
+use Rattle.laws.proofs.PoolRead.{Fits, LaidBehind, fits-text}
 
 -- whether an entry, if there is one, is wide
 unfoldable pub wideThere : Option (Entry ℕ ℕ) → Bool

@@ -1,32 +1,30 @@
 -- What is there when a job is built: every slot that is to hold a node is owned by it, and the name, if wanted, has its slot. Assumes nothing.
 use mathlib.Core.Bool.{Bool, true, false}
-use mathlib.Core.List.{List, [], _∷_, _++_, map, append-nil}
+use mathlib.Core.List.{List, [], _∷_, _++_, append-nil}
 use mathlib.Core.Logic.{_⊎_, inl, inr}
-use mathlib.Core.Option.{Option, none, some}
+use mathlib.Core.Option.{some}
 use mathlib.Core.Path.{_≡_, refl, sym, ap, subst, _∙_}
 use Prim.Native.Nat.{ℕ, zero, suc, _+_, _-_, _≤_, _<_}
 use native.Mathlib.Omega.{arith}
-use lib.Dec.{eqb}
-use lib.ListN.{length, getElem?, length-append}
-use borrow.Author.Tests.{eqb-true, eqb-false}
+use lib.ListN.{length, getElem?}
 use Rattle.definition.specs.Basics.{good, _>>=_, lookup, position}
-use Rattle.definition.specs.Shapes.{Entry, withKids, isWide, bootstrapTag}
+use Rattle.definition.specs.Shapes.{Entry, withKids, bootstrapTag}
 use Rattle.definition.specs.Definitions.{Held, tagAt}
 use Rattle.definition.specs.Resolving.{Node, firstNode, sameNode, intern}
 use Rattle.definition.specs.Building.{Pool, allocate, Row, Made, kidsOf, buildAll, attributeText, nameSlot}
 use Rattle.laws.specs.Statements.{Among, Occurs, afterRequest, moreResolved}
 use Rattle.laws.proofs.Each.{Each, each-map}
-use Rattle.laws.proofs.Results.{after, decided}
+use Rattle.laws.proofs.Results.{after}
 use Rattle.laws.proofs.Lists.{clash, good-inj, lookup-at}
 use Rattle.laws.proofs.Places.{found-inside, inside-found, found-append}
 use Rattle.laws.proofs.Tables.{equal, lookup-hit, lookup-miss}
 use Rattle.laws.proofs.MoreLists.{some-key}
 use Rattle.laws.proofs.Requests.{Met, old, new, met}
 use Rattle.laws.proofs.Kept.{keeps}
-use Rattle.laws.proofs.Sound.{Below, Sound, sound, tag-append}
+use Rattle.laws.proofs.Sound.{Below, sound, tag-append}
 use Rattle.laws.proofs.Faithful.{interned}
 use Rattle.laws.proofs.GivenConstants.{Constant, BootstrapKids, buildAll-given}
-use Rattle.laws.proofs.Numbers.{Each as Both, SlotFor, NumberFor, toHold, OwnerOf, rowsOf, KidsIn, Starts, SlotsKept, rows-same, slots-same, owner-kept, given-held, finished, owners, poolOccurs, slotsStay}
+use Rattle.laws.proofs.Numbers.{Each as Both, SlotFor, NumberFor, toHold, OwnerOf, rowsOf, KidsIn, Starts, SlotsKept, rows-same, slots-same, owner-kept, given-held, finished, owners, poolOccurs}
 use Rattle.laws.proofs.Asked.{Pooled, tag-found}
 
 -- a key that stands in a table is found

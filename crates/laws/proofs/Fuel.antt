@@ -8,7 +8,7 @@ use native.Mathlib.Omega.{arith}
 use lib.Dec.{eqb, leb, ltb}
 use lib.ListN.{length, getElem?}
 use borrow.Author.Tests.{ltb-false, eqb-true, eqb-false}
-use Rattle.definition.specs.Basics.{bad, Refusal, position, lookup}
+use Rattle.definition.specs.Basics.{position, lookup}
 use Rattle.definition.specs.Shapes.{bootstrapTag, isWide}
 use Rattle.definition.specs.Job.{Build, Job}
 use Rattle.definition.specs.Numbering.{entries, literals, numbered}

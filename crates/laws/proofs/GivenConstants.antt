@@ -1,14 +1,14 @@
 -- Building gives slots to constants only: what is so of every node that may be given a slot stays so. Assumes nothing.
-use mathlib.Core.Bool.{Bool, true, false}
+use mathlib.Core.Bool.{Bool, false}
 use mathlib.Core.List.{List, [], _∷_, reverse, reverseAux}
 use mathlib.Core.Option.{Option, none, some}
-use mathlib.Core.Path.{_≡_, refl, subst, sym, ap}
-use Prim.Native.Nat.{ℕ, zero, suc, _+_, _-_, _≤_}
+use mathlib.Core.Path.{_≡_, subst, sym}
+use Prim.Native.Nat.{ℕ, zero, suc, _-_, _≤_}
 use lib.Dec.{eqb, ltb}
-use lib.ListN.{length, getElem?}
+use lib.ListN.{getElem?}
 use borrow.Author.Tests.{ltb-false, eqb-true, eqb-false}
-use Rattle.definition.specs.Basics.{Result, good, bad, _>>=_}
-use Rattle.definition.specs.Shapes.{bootstrapTag, Entry}
+use Rattle.definition.specs.Basics.{good, _>>=_}
+use Rattle.definition.specs.Shapes.{bootstrapTag}
 use Rattle.definition.specs.Definitions.{tagAt}
 use Rattle.definition.specs.Resolving.{Node, firstNode}
 use Rattle.definition.specs.Building.{Pool, allocate, slotOf, slotsOf, Row, Rows, rowIndex, Made, kidsOf, nodeNumber, childNumber, childNumbers, finish, withPending, drain, rawRows, buildAll}

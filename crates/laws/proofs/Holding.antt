@@ -1,30 +1,30 @@
 -- HOLDS: every answer, every raw definition, the class name and the name slot of a built job show, in the finished pool as JVMS reads it,
 -- what the job's own records say. Assumes nothing.
 use mathlib.Core.Bool.{Bool, true, false}
-use mathlib.Core.List.{List, [], _∷_, _++_, map, reverse, reverseAux}
+use mathlib.Core.List.{List, [], _∷_, map, reverse, reverseAux}
 use mathlib.Core.Logic.{_⊎_, inl, inr}
 use mathlib.Core.Option.{Option, none, some}
 use mathlib.Core.Path.{_≡_, refl, sym, ap, subst, _∙_}
-use Prim.Native.Nat.{ℕ, zero, suc, _+_, _-_, _≤_, _<_}
+use Prim.Native.Nat.{ℕ, zero, suc, _+_, _≤_, _<_}
 use native.Mathlib.Omega.{arith}
-use lib.Dec.{eqb, leb, ltb}
+use lib.Dec.{eqb, leb}
 use lib.ListN.{length, getD, getElem?}
 use borrow.Author.Tests.{lt-ltb, le-ltb}
-use Rattle.definition.specs.Basics.{Result, good, bad, _>>=_, Refusal, atRecord, unless, lookup}
+use Rattle.definition.specs.Basics.{good, _>>=_, atRecord, unless, lookup}
 use Rattle.definition.specs.Shapes.{Kind, constant, bootstrap, bootstrapTag, Entry, isWide, withLiteral}
-use Rattle.definition.specs.Job.{Reference, entry, Definition, placed, Request, Build, Job}
+use Rattle.definition.specs.Job.{entry, placed, Job}
 use Rattle.definition.specs.Form.{form}
 use Rattle.definition.specs.Numbering.{Literal, attributeName, literals, literalOf, numberedDefinition, numbered}
-use Rattle.definition.specs.Resolving.{Goal, rawNumber, tableEntry, refusal, placeOf, follow, goalOf, Node, Mark, done, firstNode, childOf}
+use Rattle.definition.specs.Resolving.{Goal, rawNumber, tableEntry, refusal, placeOf, follow, goalOf, done, childOf}
 use Rattle.definition.specs.Slots.{highestSlot}
-use Rattle.definition.specs.Definitions.{Held, starts, tagAt}
-use Rattle.definition.specs.Building.{Row, kidsOf, Content, nothing, emptyText, holds, behind, contentOf, textIn, className, attributeText, nameWanted}
+use Rattle.definition.specs.Definitions.{starts, tagAt}
+use Rattle.definition.specs.Building.{kidsOf, Content, nothing, emptyText, holds, behind, contentOf, textIn, className, attributeText, nameWanted}
 use Rattle.definition.specs.Layout.{starters, nodeAt, classSlotOf, Layout, layoutOf, indexNodes, layout}
 use Rattle.definition.specs.Run.{shown, classBytes, Built, render, build, Lent, longestJob, enough, fits, run}
-use Rattle.definition.specs.Jvms.{Shown, readPool, readBootstraps}
+use Rattle.definition.specs.Jvms.{readPool, readBootstraps}
 use Rattle.laws.specs.Statements.{IsBytes, Among, Finished, leadsTo, slotShows, Shows, textOf, textAt, classOf, HeldBy, Holds, rowShown}
 use Rattle.laws.proofs.Results.{after, decided}
-use Rattle.laws.proofs.Lists.{clash, good-inj, good-atRecord}
+use Rattle.laws.proofs.Lists.{clash, good-inj}
 use Rattle.laws.proofs.Tables.{order}
 use Rattle.laws.proofs.Each.{each-at}
 use Rattle.laws.proofs.Places.{found-inside}
@@ -32,7 +32,7 @@ use Rattle.laws.proofs.Sound.{tag-append}
 use Rattle.laws.proofs.Ending.{kids-append}
 use Rattle.laws.proofs.Occupied.{map-at, wide-in, count-range}
 use Rattle.laws.proofs.DefinedFacts.{start-found, starters-start, start-starters}
-use Rattle.laws.proofs.Citing.{jobNames, jobConstants, jobTable}
+use Rattle.laws.proofs.Citing.{jobConstants}
 use Rattle.laws.proofs.JobTable.{asks-good, numbered-cited, definitions-low, requests-low}
 use Rattle.laws.proofs.Contents.{content-holds, content-behind}
 use Rattle.laws.proofs.Faithful.{Settled}

@@ -1,12 +1,10 @@
 -- The linked table of a formed job is good: children lead into it, raw numbers fit two bytes, a bootstrap's children are constants.
 -- Assumes nothing.
-use mathlib.Core.Bool.{false}
-use mathlib.Core.List.{List, [], _∷_, _++_, map}
+use mathlib.Core.List.{List, [], _∷_, _++_}
 use mathlib.Core.Option.{some}
-use mathlib.Core.Path.{_≡_, refl, sym, ap, subst, _∙_}
-use Prim.Native.Nat.{ℕ, zero, suc, _+_, _≤_, _<_}
+use mathlib.Core.Path.{_≡_, refl, subst}
+use Prim.Native.Nat.{ℕ, zero, suc}
 use native.Mathlib.Omega.{arith}
-use lib.Dec.{eqb}
 use lib.ListN.{length, getElem?, length-append}
 use borrow.Author.Tests.{eqb-false}
 use Rattle.definition.specs.Basics.{good}
@@ -14,17 +12,15 @@ use Rattle.definition.specs.Shapes.{Kind, constant, bootstrap, bootstrapTag, En
 use Rattle.definition.specs.Job.{Reference, Definition, define, named, placed, Request, Job}
 use Rattle.definition.specs.Form.{form}
 use Rattle.definition.specs.Numbering.{constantsOf, bootstrapsOf, literals, numbered}
-use Rattle.definition.specs.Definitions.{Naming}
 use Rattle.definition.specs.Resolving.{Goal, rawNumber, tableEntry, refusal, placeOf, goalOf}
 use Rattle.laws.specs.Statements.{IsBytes, Among}
-use Rattle.laws.proofs.Each.{Each}
 use Rattle.laws.proofs.Outcomes.{All, all-at, whenGood}
 use Rattle.laws.proofs.Resolver.{GoalOk}
 use Rattle.laws.proofs.Ready.{RefLow, DefLow, NameLow, goalOf-ok, numbered-low}
 use Rattle.laws.proofs.LowNumbers.{JobLow, form-ends}
 use Rattle.laws.proofs.DefinedFacts.{namingsOf}
 use Rattle.laws.proofs.Citing as Citing
-use Rattle.laws.proofs.Citing.{kidKind, GoalOfKind, formed-cited, cited-numbered, jobNames, jobConstants, jobTable, linked-at, linked-length, table-defined, table-constant, table-kid, reference-goal, request-goal, placed-goal}
+use Rattle.laws.proofs.Citing.{kidKind, GoalOfKind, formed-cited, cited-numbered, jobNames, jobConstants, jobTable, linked-at, linked-length, table-defined, table-constant, table-kid, request-goal, placed-goal}
 use Rattle.laws.proofs.Faithful.{InTable, Cited}
 use Rattle.laws.proofs.Asked.{ConstantGoal}
 use Rattle.laws.proofs.Nodes.{Low, GoodTable, unmap}

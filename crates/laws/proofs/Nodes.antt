@@ -7,7 +7,7 @@ use native.Mathlib.Omega.{arith}
 use lib.ListN.{length, getElem?}
 use Rattle.definition.specs.Shapes.{Entry, bootstrapTag, withKids}
 use Rattle.definition.specs.Definitions.{tagAt}
-use Rattle.definition.specs.Resolving.{Goal, rawNumber, tableEntry, refusal, Mark, Node, firstNode, Resolved, childOf}
+use Rattle.definition.specs.Resolving.{Goal, rawNumber, tableEntry, refusal, Node, firstNode, Resolved, childOf}
 use Rattle.definition.specs.Building.{kidsOf}
 use Rattle.laws.specs.Statements.{Among}
 use Rattle.laws.proofs.Each.{Each}

@@ -1,26 +1,26 @@
 -- Slots that are to hold a node: no two start at one slot, none starts at the second half of a wide one, all lie below the count.
 -- Assumes nothing.
 use mathlib.Core.Bool.{Bool, true, false}
-use mathlib.Core.List.{List, [], _∷_, _++_, map, reverse, reverseAux}
+use mathlib.Core.List.{List, [], _∷_, _++_, map, reverseAux}
 use mathlib.Core.Logic.{_⊎_, inl, inr}
 use mathlib.Core.Option.{Option, none, some}
-use mathlib.Core.Path.{_≡_, refl, sym, ap, subst, _∙_}
-use Prim.Native.Nat.{ℕ, zero, suc, _+_, _-_, _≤_, _<_}
+use mathlib.Core.Path.{_≡_, refl, sym, ap, _∙_}
+use Prim.Native.Nat.{ℕ, zero, suc, _+_, _≤_, _<_}
 use native.Mathlib.Omega.{arith}
 use lib.Dec.{eqb}
-use lib.ListN.{length, getElem?}
-use borrow.Author.Tests.{eq-eqb, eqb-true, ne-eqb, le-leb}
-use Rattle.definition.specs.Basics.{lookup, from}
+use lib.ListN.{getElem?}
+use borrow.Author.Tests.{eq-eqb, eqb-true, ne-eqb}
+use Rattle.definition.specs.Basics.{from}
 use Rattle.definition.specs.Shapes.{isWide}
 use Rattle.definition.specs.Definitions.{Held, starts, half, tagAt}
 use Rattle.definition.specs.Resolving.{Node}
-use Rattle.definition.specs.Slots.{Gap, size, countFrom}
+use Rattle.definition.specs.Slots.{Gap, countFrom}
 use Rattle.definition.specs.Building.{Pool}
 use Rattle.definition.specs.Layout.{starters}
 use Rattle.laws.specs.Statements.{Among, freeSlots, givenSlots, allSlots, times}
 use Rattle.laws.proofs.Results.{decided}
 use Rattle.laws.proofs.Lists.{clash}
-use Rattle.laws.proofs.MoreLists.{once, times-cons, times-append}
+use Rattle.laws.proofs.MoreLists.{times-cons, times-append}
 use Rattle.laws.proofs.Tables.{run, oneAt, order, total-times, times-low, times-run}
 use Rattle.laws.proofs.Gaps.{Apart, within-free, apart-at}
 use Rattle.laws.proofs.Sound.{Sound}

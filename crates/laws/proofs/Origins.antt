@@ -1,15 +1,14 @@
 -- An entry of the linked table comes from an entry of the job, and its literal's number stands for that entry's literal. Assumes nothing.
 use mathlib.Core.List.{List, [], _∷_, _++_, map}
-use mathlib.Core.Logic.{_⊎_, inl, inr}
 use mathlib.Core.Option.{some}
-use mathlib.Core.Path.{_≡_, refl, sym, ap, subst, _∙_}
-use Prim.Native.Nat.{ℕ, zero, suc, _+_, _<_}
-use lib.ListN.{length, getElem?, length-map}
+use mathlib.Core.Path.{_≡_, sym, ap, subst, _∙_}
+use Prim.Native.Nat.{ℕ, zero, suc}
+use lib.ListN.{getElem?}
 use Rattle.definition.specs.Basics.{good}
 use Rattle.definition.specs.Shapes.{Entry, withKids, withLiteral}
 use Rattle.definition.specs.Job.{Reference, Definition, define, named, placed, Job}
 use Rattle.definition.specs.Form.{form}
-use Rattle.definition.specs.Numbering.{entries, constantsOf, bootstrapsOf, literals, numberOf, literalOf, numberedEntry, numbered}
+use Rattle.definition.specs.Numbering.{entries, constantsOf, bootstrapsOf, literals, literalOf, numberedEntry, numbered}
 use Rattle.definition.specs.Resolving.{Goal, goalOf, linked}
 use Rattle.laws.specs.Statements.{IsBytes, Among}
 use Rattle.laws.proofs.Each.{each-at}
@@ -19,7 +18,7 @@ use Rattle.laws.proofs.NumbersLists.{map-append}
 use Rattle.laws.proofs.FormedEntry.{FormedEntry, FormedDefinition}
 use Rattle.laws.proofs.Formed.{form-formed, formed-definitions-each}
 use Rattle.laws.proofs.Occupied.{map-at}
-use Rattle.laws.proofs.Citing.{constants-numbered, bootstraps-numbered, table-defined, jobNames, jobConstants, jobTable, linked-at}
+use Rattle.laws.proofs.Citing.{constants-numbered, bootstraps-numbered, table-defined, jobNames, jobConstants, jobTable}
 
 -- a definition's entry stands among the entries
 entry-among : (ds : List (Definition (List ℕ))) (z : Entry (List ℕ) Reference) → Among (define z) ds → Among z (entries ds)

@@ -1,25 +1,24 @@
 -- READS: a built job's pool and bootstraps read, under the JVM Specification, as exactly what the layout assigns. Assumes nothing.
 use mathlib.Core.Bool.{Bool, true, false}
-use mathlib.Core.List.{List, [], _∷_, _++_, map, reverseAux}
+use mathlib.Core.List.{List, [], _∷_, _++_, map}
 use mathlib.Core.Logic.{_⊎_, inl, inr}
 use mathlib.Core.Option.{Option, none, some}
 use mathlib.Core.Path.{_≡_, refl, sym, ap, subst, _∙_}
-use Prim.Native.Nat.{ℕ, zero, suc, _+_, _-_, _≤_, _<_}
-use native.Mathlib.Nat.{zero-add}
+use Prim.Native.Nat.{ℕ, suc, _+_, _-_, _≤_, _<_}
 use native.Mathlib.Omega.{arith}
 use borrow.Author.Tests.{eqb-false}
 use lib.Dec.{lit<}
 use lib.ListN.{length, getElem?, length-map}
 use Rattle.definition.specs.Ascii.{ascii}
 use Rattle.definition.specs.Basics.{good, lookup, from}
-use Rattle.definition.specs.Shapes.{Kind, constant, bootstrap, bootstrapTag, bootstrapShape, Entry, isWide, withKids, withLiteral}
+use Rattle.definition.specs.Shapes.{constant, bootstrapTag, bootstrapShape, Entry, isWide, withKids, withLiteral}
 use Rattle.definition.specs.Job.{Reference, placed, Job}
 use Rattle.definition.specs.Form.{form}
-use Rattle.definition.specs.Numbering.{Literal, attributeName, constantsOf, bootstrapsOf, literals, literalOf, numbered}
-use Rattle.definition.specs.Definitions.{Held, starts, half, tagAt}
+use Rattle.definition.specs.Numbering.{attributeName, constantsOf, bootstrapsOf, literals, literalOf, numbered}
+use Rattle.definition.specs.Definitions.{half, tagAt}
 use Rattle.definition.specs.Resolving.{Goal, Node, firstNode, childOf, done}
 use Rattle.definition.specs.Slots.{highestSlot, countFrom}
-use Rattle.definition.specs.Building.{Row, Pool, Made, kidsOf, attributeText, nameWanted, contentOf}
+use Rattle.definition.specs.Building.{Row, Pool, kidsOf, attributeText, nameWanted, contentOf}
 use Rattle.definition.specs.Layout.{starters, nodeAt, Layout, layoutOf, indexNodes, layout}
 use Rattle.definition.specs.Jvms.{readPool, readBootstraps}
 use Rattle.definition.specs.Run.{shown, render}
@@ -38,11 +37,11 @@ use Rattle.laws.proofs.Nodes.{unmap, bootstrap-found}
 use Rattle.laws.proofs.MoreLists.{Rises as Rising}
 use Rattle.laws.proofs.NumbersLists.{Rises, KeysBelow}
 use Rattle.laws.proofs.DefinedFacts.{starters-start}
-use Rattle.laws.proofs.Citing.{jobNames, jobConstants, jobTable, linked-at, table-constant, placed-cited, countIn}
+use Rattle.laws.proofs.Citing.{jobNames, jobConstants, linked-at, table-constant, placed-cited, countIn}
 use Rattle.laws.proofs.JobTable.{numbered-cited}
 use Rattle.laws.proofs.GivenConstants.{Constant}
-use Rattle.laws.proofs.Numbers.{Each as Both, SlotFor, NumberFor, toHold, OwnerOf, slots-kept, given-held, rowsFrom, rowsFit}
-use Rattle.laws.proofs.Occupied.{times-reverse, toHold-among, count-range, starts-once, start-in, wide-in, wide-apart}
+use Rattle.laws.proofs.Numbers.{Each as Both, SlotFor, NumberFor, toHold, slots-kept, given-held, rowsFrom, rowsFit}
+use Rattle.laws.proofs.Occupied.{times-reverse, toHold-among, count-range, start-in, wide-in, wide-apart}
 use Rattle.laws.proofs.Origins.{Origin, origin}
 use Rattle.laws.proofs.Stages.{Stages}
 use Rattle.laws.proofs.Ending.{Named}

@@ -1,36 +1,34 @@
 -- In the finished pool, as the reader shows it, every slot that is to hold a node shows the entry that became it, to any depth. Assumes nothing.
-use mathlib.Core.Bool.{Bool, true, false}
-use mathlib.Core.List.{List, [], _∷_, _++_, map}
-use mathlib.Core.Logic.{_⊎_, inl, inr}
+use mathlib.Core.List.{List, [], _∷_, map}
+use mathlib.Core.Logic.{inl, inr}
 use mathlib.Core.Option.{Option, none, some}
 use mathlib.Core.Path.{_≡_, refl, sym, ap, subst, _∙_}
 use Prim.Native.Nat.{ℕ, zero, suc, _+_, _-_, _≤_, _<_}
 use native.Mathlib.Omega.{arith}
-use lib.Dec.{eqb, ltb}
 use lib.ListN.{length, getD, getElem?, length-map}
-use borrow.Author.Tests.{eqb-true, eqb-false, eq-eqb, ne-eqb}
+use borrow.Author.Tests.{eq-eqb, ne-eqb}
 use Rattle.definition.specs.Basics.{good, lookup, from}
-use Rattle.definition.specs.Shapes.{Kind, constant, bootstrap, bootstrapTag, bootstrapShape, Entry, isWide, withKids, withLiteral}
-use Rattle.definition.specs.Job.{Reference, Definition, Job}
+use Rattle.definition.specs.Shapes.{constant, bootstrapTag, Entry, withKids, withLiteral}
+use Rattle.definition.specs.Job.{Reference, Job}
 use Rattle.definition.specs.Form.{form}
-use Rattle.definition.specs.Numbering.{constantsOf, bootstrapsOf, literals, literalOf, numbered}
+use Rattle.definition.specs.Numbering.{literals, literalOf, numbered}
 use Rattle.definition.specs.Definitions.{tagAt}
-use Rattle.definition.specs.Resolving.{Goal, rawNumber, tableEntry, refusal, goalOf, Node, Mark, done, firstNode, childOf}
+use Rattle.definition.specs.Resolving.{Goal, rawNumber, tableEntry, refusal, goalOf, Node, done, firstNode, childOf}
 use Rattle.definition.specs.Slots.{highestSlot}
-use Rattle.definition.specs.Building.{Row, holds, contentOf, kidsOf}
+use Rattle.definition.specs.Building.{Row, contentOf, kidsOf}
 use Rattle.definition.specs.Layout.{Layout, layout}
 use Rattle.definition.specs.Run.{shown}
 use Rattle.laws.specs.Statements.{IsBytes, Among, times, Finished, namings, leadsTo, slotShows, numberShows, Pairwise, Shows, rowShown}
 use Rattle.laws.proofs.Lists.{clash}
-use Rattle.laws.proofs.Places.{found-inside, found-append, found-read}
+use Rattle.laws.proofs.Places.{found-append, found-read}
 use Rattle.laws.proofs.MoreLists.{some-key, some-row, once, times-cons}
-use Rattle.laws.proofs.Chunks.{length-from, from-at}
+use Rattle.laws.proofs.Chunks.{length-from}
 use Rattle.laws.proofs.Faithful.{Settled}
 use Rattle.laws.proofs.Contents.{spelled, content-holds}
 use Rattle.laws.proofs.Asked.{child-done, tag-found, kids-found}
-use Rattle.laws.proofs.Nodes.{Low, unmap}
+use Rattle.laws.proofs.Nodes.{Low}
 use Rattle.laws.proofs.DefinedFacts.{namings-numbered}
-use Rattle.laws.proofs.Citing.{jobNames, jobConstants, jobTable, count-numbered, countIn}
+use Rattle.laws.proofs.Citing.{jobNames, jobConstants, count-numbered, countIn}
 use Rattle.laws.proofs.Numbers.{Each as Both, SlotFor, NumberFor, toHold, given-held}
 use Rattle.laws.proofs.Occupied.{among-times, map-at, starts-once}
 use Rattle.laws.proofs.Origins.{Origin, origin}

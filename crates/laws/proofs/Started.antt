@@ -1,6 +1,6 @@
 -- What record 50 leaves: every raw definition is resolved, and nothing has a slot yet. Assumes nothing.
-use mathlib.Core.List.{List, [], _∷_, _++_, map, reverse}
-use mathlib.Core.Path.{_≡_, refl, subst, sym}
+use mathlib.Core.List.{List, _++_, map, reverse}
+use mathlib.Core.Path.{_≡_, refl, subst}
 use Prim.Native.Nat.{ℕ, _+_}
 use lib.ListN.{length}
 use Rattle.definition.specs.Basics.{good, _>>=_}
@@ -12,7 +12,7 @@ use Rattle.definition.specs.Layout.{starters, nodeAt, Ready, endDefinitions}
 use Rattle.laws.specs.Statements.{Among, Occurs, afterDefinitions}
 use Rattle.laws.proofs.Results.{after}
 use Rattle.laws.proofs.Lists.{good-inj}
-use Rattle.laws.proofs.Faithful.{Settled, InTable, Cited, Faithful, nothing-faithful, resolveAll-faithful}
+use Rattle.laws.proofs.Faithful.{Settled, InTable, Cited, nothing-faithful, resolveAll-faithful}
 use Rattle.laws.proofs.Asked.{Going}
 
 -- the goals that record 50 resolves: raw constants by rising slot, then raw bootstraps by rising index

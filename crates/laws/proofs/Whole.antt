@@ -1,22 +1,21 @@
 -- A built job as a whole: what each stage left, from the bytes to the layout. Assumes nothing.
-use mathlib.Core.Bool.{Bool, true, false}
 use mathlib.Core.List.{List, [], _∷_, _++_, map, reverse, reverseAux}
 use mathlib.Core.Logic.{_⊎_, inl, inr}
-use mathlib.Core.Option.{Option, none, some}
+use mathlib.Core.Option.{some}
 use mathlib.Core.Path.{_≡_, refl, sym, ap, subst, _∙_}
-use Prim.Native.Nat.{ℕ, zero, suc, _+_, _-_, _≤_, _<_}
+use Prim.Native.Nat.{ℕ, zero, suc, _+_, _<_}
 use native.Mathlib.Omega.{arith}
 use lib.ListN.{length, getElem?}
 use Rattle.definition.specs.Basics.{good}
-use Rattle.definition.specs.Shapes.{Kind, constant, bootstrap, bootstrapTag, Entry, isWide, withKids}
-use Rattle.definition.specs.Job.{Reference, Definition, placed, Request, Job}
+use Rattle.definition.specs.Shapes.{Kind, constant, bootstrap, bootstrapTag, Entry, withKids}
+use Rattle.definition.specs.Job.{placed, Request, Job}
 use Rattle.definition.specs.Form.{form}
 use Rattle.definition.specs.Numbering.{constantsOf, bootstrapsOf, numbered}
-use Rattle.definition.specs.Definitions.{Held, starts, half, Naming, Defined, tagAt, defineAll, nothingDefined}
-use Rattle.definition.specs.Resolving.{Goal, tableEntry, placeOf, goalOf, Mark, done, Node, firstNode, childOf, linked}
+use Rattle.definition.specs.Definitions.{tagAt}
+use Rattle.definition.specs.Resolving.{Goal, tableEntry, placeOf, goalOf, Mark, done, Node, linked}
 use Rattle.definition.specs.Slots.{highestSlot}
-use Rattle.definition.specs.Building.{Row, Made, nameWanted}
-use Rattle.definition.specs.Layout.{starters, nodeAt, Ready, endDefinitions, answerAll, Layout, indexNodes, layout}
+use Rattle.definition.specs.Building.{Row, nameWanted}
+use Rattle.definition.specs.Layout.{starters, nodeAt, endDefinitions, answerAll, Layout, indexNodes, layout}
 use Rattle.laws.specs.Statements.{IsBytes, Among}
 use Rattle.laws.proofs.Each.{Each, each-at}
 use Rattle.laws.proofs.Lists.{clash}
