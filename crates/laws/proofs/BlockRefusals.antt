@@ -1,9 +1,9 @@
 -- Reading a block file is refused in the order 20, 1, 19, 1, 18: each exactly if its test is the first to fail. Assumes nothing.
 use mathlib.Core.Bool.{Bool, true, false, _&&_}
 use mathlib.Core.List.{List, [], _∷_}
-use mathlib.Core.Logic.{_⊎_, inl, inr, _↔_, _≢_}
+use mathlib.Core.Logic.{_⊎_, inl, inr}
 use mathlib.Core.Path.{_≡_, refl, sym, ap, _∙_}
-use Prim.Native.Nat.{ℕ, _%_, _≤_, _<_}
+use Prim.Native.Nat.{ℕ, _%_}
 use native.Mathlib.Nat.{zero-add}
 use native.Mathlib.Omega.{arith}
 use lib.Dec.{eqb, leb, ltb}
@@ -11,62 +11,10 @@ use lib.ListN.{length}
 use borrow.Author.Tests.{leb-true, leb-false, eqb-false, lt-ltb, le-leb, lt-leb, ne-eqb}
 use Rattle.definition.specs.Basics.{good, bad, _>>=_, Refusal}
 use Rattle.definition.specs.Run.{longestJob}
-use Rattle.definition.specs.Blocks.{blockCount, rightBlock, blocksRight, mostBlocks, readBlocks}
+use Rattle.definition.specs.Blocks.{blockCount, blocksRight, mostBlocks, readBlocks}
+use Rattle.laws.specs.BlockStatements.{jobIn, refusalAt, NoBlocks, Counted, RightBefore, TooMany, FirstWrong, TooLong, NoRoom, BlocksTwenty, BlocksNineteen, BlocksOne, BlocksEighteen}
 use Rattle.laws.proofs.Guards.{guarded, passes, refuses, refusedBy, thenBad}
-use Rattle.laws.proofs.Reading.{RightUpTo, accepts, accepted, firstWrong, isWrong, jobIn, room-test, blocks-test, count-test, wholeBlocks, reading}
-
--- ---- the statements
-
--- a refusal's number and place
-abbrev pub refusalAt : ℕ → ℕ → Refusal
-refusalAt code place = record { code = code; place = place }
-
--- the file is empty, or no multiple of 512 bytes
-abbrev pub NoBlocks : List ℕ → Type 0
-NoBlocks file = (file ≡ []) ⊎ (length file % 512 ≢ 0)
-
--- it isn't so, and there are at most 2,081 blocks
-abbrev pub Counted : List ℕ → Type 0
-Counted file = (NoBlocks file → ⊥) × (blockCount file ≤ mostBlocks)
-
--- the blocks before k are right
-abbrev pub RightBefore : List ℕ → ℕ → Type 0
-RightBefore file k = (j : ℕ) → j < k → rightBlock (blockCount file) file j ≡ true
-
--- there are more than 2,081 blocks
-abbrev pub TooMany : List ℕ → Type 0
-TooMany file = (NoBlocks file → ⊥) × (mostBlocks < blockCount file)
-
--- block k is the first that isn't right
-abbrev pub FirstWrong : List ℕ → ℕ → Type 0
-FirstWrong file k = Counted file × RightBefore file k × (k < blockCount file) × (rightBlock (blockCount file) file k ≡ false)
-
--- all blocks are right, and their job is too long
-abbrev pub TooLong : List ℕ → Type 0
-TooLong file = Counted file × RightBefore file (blockCount file) × (longestJob < length (jobIn file))
-
--- all blocks are right, and their job isn't too long but has no room
-abbrev pub NoRoom : ℕ → List ℕ → Type 0
-NoRoom room file = Counted file × RightBefore file (blockCount file) × (length (jobIn file) ≤ longestJob) × (room < length (jobIn file))
-
--- BLOCKS, 20: a file is refused with 20 at place 0 exactly if it is empty or no multiple of 512 bytes
-abbrev pub BlocksTwenty : Type 0
-BlocksTwenty = (room : ℕ) (file : List ℕ) → (readBlocks room file ≡ bad (refusalAt 20 0)) ↔ NoBlocks file
-
--- BLOCKS, 19: a file is refused with 19 at place k exactly if it isn't refused with 20, has at most 2,081 blocks, and block k is the first that
--- isn't right
-abbrev pub BlocksNineteen : Type 0
-BlocksNineteen = (room : ℕ) (file : List ℕ) (k : ℕ) → (readBlocks room file ≡ bad (refusalAt 19 k)) ↔ FirstWrong file k
-
--- BLOCKS, 1: a file is refused with 1 at place 0 exactly if it isn't refused with 20 and has more than 2,081 blocks, or it has at most as many, all
--- are right, and their job is too long
-abbrev pub BlocksOne : Type 0
-BlocksOne = (room : ℕ) (file : List ℕ) → (readBlocks room file ≡ bad (refusalAt 1 0)) ↔ (TooMany file ⊎ TooLong file)
-
--- BLOCKS, 18: a file is refused with 18 at place 0 exactly if it isn't refused with 20, has at most 2,081 blocks, all are right, and their job isn't
--- too long but has no room
-abbrev pub BlocksEighteen : Type 0
-BlocksEighteen = (room : ℕ) (file : List ℕ) → (readBlocks room file ≡ bad (refusalAt 18 0)) ↔ NoRoom room file
+use Rattle.laws.proofs.Reading.{RightUpTo, accepts, accepted, firstWrong, isWrong, room-test, blocks-test, count-test, wholeBlocks, reading}
 
 -- ---- the test for 20
 

@@ -14,11 +14,12 @@ use Rattle.definition.specs.Basics.{good, concat, from, same}
 use Rattle.definition.specs.Bytes.{be2, be4}
 use Rattle.definition.specs.Run.{longestJob}
 use Rattle.definition.specs.Blocks.{weighted, block, blockCount, blockAt, usedIn, rightUse, rightBlock, blockData, mostBlocks, readBlocks, blocksFor, writtenBlock, writeBlocks}
-use Rattle.laws.specs.Statements.{IsBytes, Part, fileOf, jobOf, AsDescribed, BlocksRead, BlocksBack}
+use Rattle.laws.specs.BlockStatements.{Part, fileOf, jobOf, AsDescribed, BlocksRead, BlocksBack, jobIn}
+use Rattle.laws.specs.Statements.{IsBytes}
 use Rattle.laws.proofs.Lists.{both-true, good-inj, same-true, same-refl}
 use Rattle.laws.proofs.Guards.{guarded, passed}
 use Rattle.laws.proofs.Chunks.{length-from, from-same, from-getD, from-at, at-place, length-joined, cut-out, cut-join}
-use Rattle.laws.proofs.Reading.{Accepted, isRead, wasRead, jobIn}
+use Rattle.laws.proofs.Reading.{Accepted, isRead, wasRead}
 
 -- ---- one block
 

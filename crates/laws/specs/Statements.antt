@@ -6,7 +6,7 @@ use mathlib.Core.Option.{Option, none, some}
 use mathlib.Core.Path.{_≡_}
 use Prim.Native.Nat.{ℕ, zero, suc, _+_, _≤_, _<_}
 use lib.Dec.{eqb, ltb}
-use lib.ListN.{length, take, getD, getElem?}
+use lib.ListN.{length, getD, getElem?}
 use Rattle.definition.specs.Basics.{Result, good, bad, Refusal, concat, lookup, from}
 use Rattle.definition.specs.Shapes.{Kind, bootstrapTag, Entry, withLiteral, isWide}
 use Rattle.definition.specs.Job.{Reference, entry, Definition, define, named, placed, Request, Build, Job}
@@ -17,8 +17,7 @@ use Rattle.definition.specs.Resolving.{Goal, rawNumber, tableEntry, refusal, fo
 use Rattle.definition.specs.Slots.{highestSlot, Gap, size}
 use Rattle.definition.specs.Building.{Pool, allocate, Row, Rows, indexOf, rowIndex, rawRows, nameWanted}
 use Rattle.definition.specs.Layout.{Ready, endDefinitions, classSlotOf, Layout, indexNodes, layout}
-use Rattle.definition.specs.Run.{shown, Built, render, Lent, Memory, lentOf, memoryAfter, longestJob, run}
-use Rattle.definition.specs.Blocks.{block, rightUse, mostBlocks, readBlocks, writeBlocks}
+use Rattle.definition.specs.Run.{shown, Built, render, Lent, Memory, lentOf, memoryAfter, run}
 use Rattle.definition.specs.Jvms.{Shown, readPool, readBootstraps}
 
 -- a byte string
@@ -32,9 +31,7 @@ Among a l = (i : ℕ) × (getElem? l i ≡ some a)
 -- NUMBERING: two literals of a job have one number exactly when they are equal, kind included, and the number stands for its bytes
 abbrev pub Numbering : Type 0
 Numbering =
-    (job : Job (List ℕ)) (a b : Literal) →
-    Among a (literals job) →
-    Among b (literals job) →
+    (job : Job (List ℕ)) (a b : Literal) → Among a (literals job) → Among b (literals job) →
     ((numberOf (literals job) a ≡ numberOf (literals job) b) ↔ (a ≡ b)) × (literalOf (literals job) (numberOf (literals job) a) ≡ a .1)
 
 -- an outcome and the later contents of all that was lent are those that the definition states
@@ -44,10 +41,8 @@ Meets job before outcome after = (outcome ≡ run (lentOf before) job) × (after
 -- ONE OUTCOME: no second outcome, and no second contents of a buffer, meets the statement
 abbrev pub OneOutcome : Type 0
 OneOutcome =
-    (job : List ℕ) (before : Memory) (o₁ o₂ : Result Refusal Built) (after₁ after₂ : Memory) →
-    Meets job before o₁ after₁ →
-    Meets job before o₂ after₂ →
-    (o₁ ≡ o₂) × (after₁ ≡ after₂)
+    (job : List ℕ) (before : Memory) (o₁ o₂ : Result Refusal Built) (after₁ after₂ : Memory) → Meets job before o₁ after₁ →
+    Meets job before o₂ after₂ → (o₁ ≡ o₂) × (after₁ ≡ after₂)
 
 -- a definition without its literal
 unfoldable pub skeleton : Definition (List ℕ) → Definition (Unit {0})
@@ -66,35 +61,23 @@ pub record Alike (j₁ j₂ : Job (List ℕ)) : Type 0 where
   pub sameRequests : j₁ .requests ≡ j₂ .requests
   pub sameBuild : j₁ .build ≡ j₂ .build
   pub sameEqualities :
-      (i k : ℕ) (x₁ y₁ x₂ y₂ : Entry (List ℕ) Reference) →
-      getElem? (entries (j₁ .definitions)) i ≡ some x₁ →
-      getElem? (entries (j₁ .definitions)) k ≡ some y₁ →
-      getElem? (entries (j₂ .definitions)) i ≡ some x₂ →
-      getElem? (entries (j₂ .definitions)) k ≡ some y₂ →
-      x₁ .tag ≡ y₁ .tag →
-      hasLiteral (x₁ .tag) ≡ true →
+      (i k : ℕ) (x₁ y₁ x₂ y₂ : Entry (List ℕ) Reference) → getElem? (entries (j₁ .definitions)) i ≡ some x₁ →
+      getElem? (entries (j₁ .definitions)) k ≡ some y₁ → getElem? (entries (j₂ .definitions)) i ≡ some x₂ →
+      getElem? (entries (j₂ .definitions)) k ≡ some y₂ → x₁ .tag ≡ y₁ .tag → hasLiteral (x₁ .tag) ≡ true →
       (x₁ .literal ≡ y₁ .literal) ↔ (x₂ .literal ≡ y₂ .literal)
   pub sameAttribute :
-      (i : ℕ) (x₁ x₂ : Entry (List ℕ) Reference) →
-      getElem? (entries (j₁ .definitions)) i ≡ some x₁ →
-      getElem? (entries (j₂ .definitions)) i ≡ some x₂ →
-      x₁ .tag ≡ 1 →
-      (x₁ .literal ≡ attributeName) ↔ (x₂ .literal ≡ attributeName)
+      (i : ℕ) (x₁ x₂ : Entry (List ℕ) Reference) → getElem? (entries (j₁ .definitions)) i ≡ some x₁ →
+      getElem? (entries (j₂ .definitions)) i ≡ some x₂ → x₁ .tag ≡ 1 → (x₁ .literal ≡ attributeName) ↔ (x₂ .literal ≡ attributeName)
 
 -- not refused for length, work or room
 abbrev pub RoomEnough : Result Refusal Built → Type 0
-RoomEnough outcome =
-    (r : Refusal) → outcome ≡ bad r → (r .code ≡ 1 → ⊥) × (r .code ≡ 2 → ⊥) × (r .code ≡ 18 → ⊥)
+RoomEnough outcome = (r : Refusal) → outcome ≡ bad r → (r .code ≡ 1 → ⊥) × (r .code ≡ 2 → ⊥) × (r .code ≡ 18 → ⊥)
 
 -- SHAPE: two such jobs are refused alike, or get one layout, in which each shows its own literals
 abbrev pub Shape : Type 0
 Shape =
-    (bytes₁ bytes₂ : List ℕ) (j₁ j₂ : Job (List ℕ)) (lent₁ lent₂ : Lent) →
-    form bytes₁ ≡ good j₁ →
-    form bytes₂ ≡ good j₂ →
-    Alike j₁ j₂ →
-    RoomEnough (run lent₁ bytes₁) →
-    RoomEnough (run lent₂ bytes₂) →
+    (bytes₁ bytes₂ : List ℕ) (j₁ j₂ : Job (List ℕ)) (lent₁ lent₂ : Lent) → form bytes₁ ≡ good j₁ → form bytes₂ ≡ good j₂ → Alike j₁ j₂ →
+    RoomEnough (run lent₁ bytes₁) → RoomEnough (run lent₂ bytes₂) →
     ((r : Refusal) × (run lent₁ bytes₁ ≡ bad r) × (run lent₂ bytes₂ ≡ bad r))
     ⊎ ((l : Layout) × (run lent₁ bytes₁ ≡ good (render (literals j₁) l)) × (run lent₂ bytes₂ ≡ good (render (literals j₂) l)))
 
@@ -114,9 +97,7 @@ rawDefinitions (placed kind at number ∷ rest) = suc (rawDefinitions rest)
 -- VISITS: the count is at most entries, references in entries, raw definitions and requests together
 abbrev pub Visits : Type 0
 Visits =
-    (bytes : List ℕ) (job : Job (List ℕ)) (lent : Lent) (b : Built) →
-    form bytes ≡ good job →
-    run lent bytes ≡ good b →
+    (bytes : List ℕ) (job : Job (List ℕ)) (lent : Lent) (b : Built) → form bytes ≡ good job → run lent bytes ≡ good b →
     b .visits ≤ length (entries (job .definitions)) + references (job .definitions) + rawDefinitions (job .definitions) + length (job .requests)
 
 -- FUEL: it never runs out, in the form pass, in resolving and in building: no refusal has number 0
@@ -128,50 +109,6 @@ abbrev pub Followed : Type 0
 Followed =
     (names : List Naming) (constants steps : ℕ) (r : Reference) →
     follow (suc (length names) + steps) names constants r ≡ goalOf names constants r
-
--- a part of a block file: how much of its 504 bytes is used, and the bytes
-abbrev pub Part : Type 0
-Part = ℕ × List ℕ
-
--- the blocks of parts, from number k on
-unfoldable pub fileOf : ℕ → List Part → List ℕ
-fileOf k [] = []
-fileOf k (p ∷ parts) = block k (p .0) (p .1) ++ fileOf (suc k) parts
-
--- the used bytes of all parts, joined
-unfoldable pub jobOf : List Part → List ℕ
-jobOf [] = []
-jobOf (p ∷ parts) = take (p .0) (p .1) ++ jobOf parts
-
--- parts as document 01 has them: 504 bytes each; all but the last use 504, the last at least 1, and 0 only if it is the only one
-abbrev pub AsDescribed : List Part → Type 0
-AsDescribed parts =
-    (i : ℕ) (p : Part) →
-    getElem? parts i ≡ some p →
-    (length (p .1) ≡ 504) × (rightUse (eqb (length parts) 1) (eqb (suc i) (length parts)) (p .0) ≡ true)
-
--- BLOCKS READ: a file is accepted exactly if it is the blocks of such parts, at most 2,081, and their job isn't too long and has room
-abbrev pub BlocksRead : Type 0
-BlocksRead =
-    (room : ℕ) (file job : List ℕ) →
-    IsBytes file →
-    (readBlocks room file ≡ good job)
-    ↔ ((parts : List Part)
-    × (file ≡ fileOf 0 parts)
-    × (jobOf parts ≡ job)
-    × AsDescribed parts
-    × (1 ≤ length parts)
-    × (length parts ≤ mostBlocks)
-    × (length job ≤ longestJob)
-    × (length job ≤ room))
-
--- BLOCKS BACK: reading what writing wrote gives the job back
-abbrev pub BlocksBack : Type 0
-BlocksBack =
-    (room room′ : ℕ) (job file : List ℕ) →
-    writeBlocks room job ≡ good file →
-    length job ≤ room′ →
-    readBlocks room′ file ≡ good job
 
 -- the free slots, gap by gap
 unfoldable pub freeSlots : List Gap → List ℕ
@@ -196,36 +133,31 @@ times n (x ∷ xs) = elim (eqb n x) [ true ↦ suc (times n xs) | false ↦ time
 -- is taken from
 pub data Occurs (top : ℕ) : List (ℕ × Held) → List Node → Pool → Type 0 where
   afterDefinitions :
-      (definitions : List (Definition ℕ)) (constants : List (Entry ℕ Reference)) (table : List (Entry ℕ Goal)) (n : ℕ) (d : Defined) (w : Ready) →
-      defineAll top constants 0 definitions nothingDefined ≡ good d →
-      endDefinitions top table n d ≡ good w →
+      (definitions : List (Definition ℕ)) (constants : List (Entry ℕ Reference)) (table : List (Entry ℕ Goal)) (n : ℕ) (d : Defined)
+      (w : Ready) → defineAll top constants 0 definitions nothingDefined ≡ good d → endDefinitions top table n d ≡ good w →
       Occurs top (d .held) (w .resolved .nodes) (w .pool)
   afterRequest :
-      {held : List (ℕ × Held)} {nodes : List Node} {p : Pool} (ldc : Bool) (k s : ℕ) (p′ : Pool) →
-      Occurs top held nodes p →
-      k < length nodes →
-      allocate nodes ldc k p ≡ good (s, p′) →
-      Occurs top held nodes p′
-  moreResolved : {held : List (ℕ × Held)} {nodes : List Node} {p : Pool} (more : List Node) → Occurs top held nodes p → Occurs top held (nodes ++ more) p
+      {held : List (ℕ × Held)} {nodes : List Node} {p : Pool} (ldc : Bool) (k s : ℕ) (p′ : Pool) → Occurs top held nodes p →
+      k < length nodes → allocate nodes ldc k p ≡ good (s, p′) → Occurs top held nodes p′
+  moreResolved :
+      {held : List (ℕ × Held)} {nodes : List Node} {p : Pool} (more : List Node) →
+      Occurs top held nodes p → Occurs top held (nodes ++ more) p
   stackTaken :
       {held : List (ℕ × Held)} {nodes : List Node} {p : Pool} (pending : List (ℕ × ℕ)) →
-      Occurs top held nodes p →
-      Occurs top held nodes (record { slots = p .slots; given = p .given; pending = pending })
+      Occurs top held nodes p → Occurs top held nodes (record { slots = p .slots; given = p .given; pending = pending })
 
 -- KEPT: raw-held, given-out and free slots come to the highest slot, and each slot from 1 to it stands once among them: none is given
 -- twice, and none that is raw-held is given
 abbrev pub Kept : Type 0
 Kept =
-    (top : ℕ) (held : List (ℕ × Held)) (nodes : List Node) (p : Pool) →
-    Occurs top held nodes p →
-    (length (allSlots held nodes p) ≡ top) × ((s : ℕ) → 1 ≤ s → s ≤ top → times s (allSlots held nodes p) ≡ 1)
+    (top : ℕ) (held : List (ℕ × Held)) (nodes : List Node) (p : Pool) → Occurs top held nodes p → (length (allSlots held nodes p) ≡ top)
+    × ((s : ℕ) → 1 ≤ s → s ≤ top → times s (allSlots held nodes p) ≡ 1)
 
 -- KEEPS: a constant given a slot keeps it
 abbrev pub Keeps : Type 0
 Keeps =
-    (nodes : List Node) (ldc : Bool) (k s : ℕ) (p p′ : Pool) →
-    allocate nodes ldc k p ≡ good (s, p′) →
-    (lookup k (p′ .given) ≡ some s) × ((k′ s′ : ℕ) → lookup k′ (p .given) ≡ some s′ → lookup k′ (p′ .given) ≡ some s′)
+    (nodes : List Node) (ldc : Bool) (k s : ℕ) (p p′ : Pool) → allocate nodes ldc k p ≡ good (s, p′) → (lookup k (p′ .given) ≡ some s)
+    × ((k′ s′ : ℕ) → lookup k′ (p .given) ≡ some s′ → lookup k′ (p′ .given) ≡ some s′)
 
 abbrev pub Free : Pool → ℕ → Type 0
 Free p s = Among s (freeSlots (p .slots .gaps))
@@ -234,9 +166,7 @@ Free p s = Among s (freeSlots (p .slots .gaps))
 -- ordinary narrow one exactly if none is free, and 14 or 15 a wide one exactly if no two neighbours are
 abbrev pub Exactly : Type 0
 Exactly =
-    (top : ℕ) (held : List (ℕ × Held)) (nodes : List Node) (p : Pool) (k : ℕ) →
-    Occurs top held nodes p →
-    lookup k (p .given) ≡ none →
+    (top : ℕ) (held : List (ℕ × Held)) (nodes : List Node) (p : Pool) (k : ℕ) → Occurs top held nodes p → lookup k (p .given) ≡ none →
     (isWide (tagAt nodes k) ≡ false → (allocate nodes true k p ≡ bad 15) ↔ ((s : ℕ) → Free p s → s ≤ 255 → ⊥))
     × (isWide (tagAt nodes k) ≡ false → (allocate nodes false k p ≡ bad 14) ↔ ((s : ℕ) → Free p s → ⊥))
     × (isWide (tagAt nodes k) ≡ true → (allocate nodes false k p ≡ bad 14) ↔ ((s : ℕ) → Free p s → Free p (suc s) → ⊥))
@@ -245,8 +175,8 @@ Exactly =
 -- the bootstrap rows that occur: those of the raw definitions, and then after each inline row
 pub data RowsOccur : Rows → Type 0 where
   rawOnly :
-      (top : ℕ) (constants : List (Entry ℕ Reference)) (definitions : List (Definition ℕ)) (d : Defined) (nodes : List Node) (p p′ : Pool) (n : ℕ) (marks : List Mark)
-      (waiting : List (ℕ × Row)) →
+      (top : ℕ) (constants : List (Entry ℕ Reference)) (definitions : List (Definition ℕ)) (d : Defined) (nodes : List Node)
+      (p p′ : Pool) (n : ℕ) (marks : List Mark) (waiting : List (ℕ × Row)) →
       defineAll top constants 0 definitions nothingDefined ≡ good d →
       rawRows nodes (reverse (indexNodes n marks (d .indexes))) p [] ≡ good (waiting, p′) →
       RowsOccur (record { written = []; waiting = waiting; inline = [] })
@@ -259,9 +189,8 @@ Used rows i = (i < length (rows .written)) ⊎ ((row : Row) × (lookup i (rows .
 -- EXACTLY 17: an inline row that shares no index, with all 65,535 indexes used, raw ones included
 abbrev pub ExactlySeventeen : Type 0
 ExactlySeventeen =
-    (rows : Rows) (row : Row) →
-    RowsOccur rows →
-    (rowIndex row rows ≡ bad 17) ↔ ((indexOf row (rows .inline) ≡ none) × ((i : ℕ) → i < 65535 → Used rows i))
+    (rows : Rows) (row : Row) → RowsOccur rows → (rowIndex row rows ≡ bad 17)
+    ↔ ((indexOf row (rows .inline) ≡ none) × ((i : ℕ) → i < 65535 → Used rows i))
 
 -- a row as the reader of bootstraps shows it
 abbrev pub rowShown : Row → Entry (List ℕ) ℕ
@@ -271,9 +200,7 @@ rowShown row = record { tag = bootstrapTag; literal = []; byte = 0; kids = row }
 -- bytes, under 4.7.23 and with the count returned, as exactly the rows assigned
 abbrev pub Reads : Type 0
 Reads =
-    (bytes : List ℕ) (job : Job (List ℕ)) (l : Layout) →
-    IsBytes bytes →
-    form bytes ≡ good job →
+    (bytes : List ℕ) (job : Job (List ℕ)) (l : Layout) → IsBytes bytes → form bytes ≡ good job →
     layout highestSlot (numbered job) ≡ good l →
     (readPool (render (literals job) l .pool) ≡ some (map (shown (literals job)) (l .contents)))
     × (readBootstraps (render (literals job) l .bootstrapCount) (render (literals job) l .bootstraps) ≡ some (map rowShown (l .rows)))
@@ -316,13 +243,9 @@ unfoldable pub Shows : ℕ → Finished → Goal → ℕ → Type 0
 Shows zero f goal n = Unit {0}
 Shows (suc depth) f (rawNumber m) n = n ≡ m
 Shows (suc depth) f (tableEntry e) n =
-    (x : Entry (List ℕ) Reference)
-    × (y : Entry (List ℕ) ℕ)
-    × (getElem? (constantsOf (f .definitions) ++ bootstrapsOf (f .definitions)) e ≡ some x)
-    × (numberShows f (x .tag) n ≡ some y)
-    × (y .tag ≡ x .tag)
-    × (y .literal ≡ x .literal)
-    × (y .byte ≡ x .byte)
+    (x : Entry (List ℕ) Reference) × (y : Entry (List ℕ) ℕ)
+    × (getElem? (constantsOf (f .definitions) ++ bootstrapsOf (f .definitions)) e ≡ some x) × (numberShows f (x .tag) n ≡ some y)
+    × (y .tag ≡ x .tag) × (y .literal ≡ x .literal) × (y .byte ≡ x .byte)
     × Pairwise (λ r m. Shows depth f (leadsTo f r) m) (x .kids) (y .kids)
 Shows (suc depth) f (refusal code) n = ⊥
 
@@ -344,9 +267,11 @@ classOf f (some e) = elim (eqb (e .tag) 7) [ true ↦ textAt f (getD (e .kids) 0
 -- what is held: by requests, raw constants, raw bootstraps, class name and name slot
 pub record HeldBy (f : Finished) (requests : List Request) (build : Build) (b : Built) : Type 0 where
   pub answered :
-      (i : ℕ) (q : Request) → getElem? requests i ≡ some q → (a : ℕ) × (getElem? (b .answers) i ≡ some a) × ((depth : ℕ) → Shows depth f (leadsTo f (q .what)) a)
+      (i : ℕ) (q : Request) → getElem? requests i ≡ some q → (a : ℕ) × (getElem? (b .answers) i ≡ some a)
+      × ((depth : ℕ) → Shows depth f (leadsTo f (q .what)) a)
   pub placedThere :
-      (i n e : ℕ) (kind : Kind) → getElem? (f .definitions) i ≡ some (placed kind n e) → (depth : ℕ) → Shows depth f (leadsTo f (entry kind e)) n
+      (i n e : ℕ) (kind : Kind) → getElem? (f .definitions) i ≡ some (placed kind n e) → (depth : ℕ) →
+      Shows depth f (leadsTo f (entry kind e)) n
   pub classThere : b .class ≡ classOf f (slotShows f (classSlotOf (b .answers) (build .class)))
   pub nameThere :
       ((nameWanted (build .nameByte) (b .bootstrapCount) ≡ false) × (b .name ≡ 0))
@@ -357,9 +282,6 @@ pub record HeldBy (f : Finished) (requests : List Request) (build : Build) (b : 
 abbrev pub Holds : Type 0
 Holds =
     (bytes : List ℕ) (job : Job (List ℕ)) (lent : Lent) (b : Built) (pool : List Shown) (bootstraps : List (Entry (List ℕ) ℕ)) →
-    IsBytes bytes →
-    form bytes ≡ good job →
-    run lent bytes ≡ good b →
-    readPool (b .pool) ≡ some pool →
+    IsBytes bytes → form bytes ≡ good job → run lent bytes ≡ good b → readPool (b .pool) ≡ some pool →
     readBootstraps (b .bootstrapCount) (b .bootstraps) ≡ some bootstraps →
     HeldBy (record { definitions = job .definitions; pool = pool; bootstraps = bootstraps }) (job .requests) (job .build) b
