@@ -43,6 +43,37 @@ pub fn decode(job: &[u8]) -> Result<Vec<Record>, Fault> {
     Ok(records)
 }
 
+/// What the form pass says of a job: its refusal, or how many there are of definitions, constants, bootstraps, references
+/// in both, names, raw constants, raw bootstraps and requests.
+pub fn line(job: &[u8]) -> String {
+    let records = match decode(job) {
+        Ok(records) => records,
+        Err(Fault { code, place }) => return format!("refused {code} {place}"),
+    };
+    let count = |is: fn(&Record) -> bool| records.iter().filter(|record| is(record)).count();
+    let requests = count(|r| matches!(r, Record::Ask(_) | Record::AskLdc(_)));
+    let numbers = [
+        records.len() - requests - 2,
+        count(|r| matches!(r, Record::Constant(_))),
+        count(|r| matches!(r, Record::Bootstrap { .. })),
+        records.iter().map(references).sum(),
+        count(|r| matches!(r, Record::NameConstant(..) | Record::NameBootstrap(..))),
+        count(|r| matches!(r, Record::RawConstant { .. })),
+        count(|r| matches!(r, Record::RawBootstrap { .. })),
+        requests,
+    ];
+    let texts: Vec<String> = numbers.iter().map(usize::to_string).collect();
+    format!("formed {}", texts.join(" "))
+}
+
+fn references(record: &Record) -> usize {
+    match record {
+        Record::Constant(c) => c.references.len(),
+        Record::Bootstrap { arguments, .. } => 1 + arguments.len(),
+        _ => 0,
+    }
+}
+
 /// Reads fields from the front; `None` means cut or an unknown byte.
 struct Reader<'a> {
     rest: &'a [u8],

@@ -37,6 +37,14 @@ fn text(output: &[u8]) -> &str {
 }
 
 #[test]
+fn the_form_pass_alone() {
+    // Two definitions, both constants, with one reference in them, and one request.
+    let output = driver(&["form"], &framed(&[CLASS_AND_TEXT, EMPTY_BUILD, ""]));
+    let expected = "formed 2 2 0 1 0 0 0 1\nformed 0 0 0 0 0 0 0 0\nrefused 3 0\n";
+    assert_eq!(text(&output.stdout), expected);
+}
+
+#[test]
 fn one_line_a_job() {
     let shown = driver(&[], &framed(&[EMPTY_BUILD, "", CLASS_AND_TEXT]));
     assert!(shown.status.success());
