@@ -1,0 +1,46 @@
+-- What a call answers and leaves behind, once the definition's result is known. Assumes nothing.
+use mathlib.Core.Path.{_≡_, refl, sym, ap, _∙_}
+use mathlib.Core.Bool.{Bool, true, false}
+use mathlib.Core.List.{List}
+use Prim.Native.Nat.{ℕ}
+use lib.ListN.{length}
+use Rattle.definition.specs.Basics.{Result, good, bad, Refusal, _>>=_, atRecord, unless}
+use Rattle.definition.specs.Run.{overwrite}
+use Rattle.definition.specs.Blocks.{blocksAfter}
+use Rattle.blocks.specs.Answers.{lengthOf, numbersOf, Told}
+use Rattle.blocks.specs.declared.Numbers.{Numbers}
+
+-- a test of the definition, passed or refused
+module _ {A : Type 0} (test : Bool) (code place : ℕ) (next : Result Refusal A) where
+  pub passed : test ≡ true → (atRecord place (unless test code) >>= λ _. next) ≡ next
+  unfolding atRecord unless
+  passed e = rw e
+
+  pub refused : test ≡ false → (atRecord place (unless test code) >>= λ _. next) ≡ bad (record { code = code; place = place })
+  unfolding atRecord unless
+  refused e = rw e
+
+module _ (result : Result Refusal (List ℕ)) (before : List ℕ) where
+  pub ends-bad : (r : Refusal) → result ≡ bad r → (bad r ≡ lengthOf result) × (before ≡ blocksAfter result before)
+  unfolding lengthOf blocksAfter
+  ends-bad r e = (rw e, rw e)
+
+  pub ends-good :
+      (new after : List ℕ) (n : ℕ) → result ≡ good new → length new ≡ n → after ≡ overwrite new before →
+      (good n ≡ lengthOf result) × (after ≡ blocksAfter result before)
+  unfolding lengthOf blocksAfter
+  ends-good new after n e size written = (rw (e, size), rw e written)
+
+-- the forms for Rust and C
+pub told :
+    (result : Result Refusal (List ℕ)) (before after : List ℕ) (answer : Result Refusal ℕ) (numbers : Numbers) →
+    (answer ≡ lengthOf result) × (after ≡ blocksAfter result before) → numbers ≡ numbersOf answer →
+    Told result (numbers .0) (numbers .1) (numbers .2) before after
+told result before after answer numbers ended e =
+    let all : numbers ≡ numbersOf (lengthOf result) = e ∙ ap numbersOf (ended .0) in
+    record {
+      code-is = ap (λ n. n .0) all;
+      place-is = ap (λ n. n .1) all;
+      size-is = ap (λ n. n .2) all;
+      after-is = ended .1;
+    }

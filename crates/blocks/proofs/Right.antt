@@ -1,0 +1,159 @@
+-- The tests on a block, by the numbers that are read from it. Assumes nothing.
+use mathlib.Core.Path.{_≡_, refl, sym, ap, _∙_, subst}
+use mathlib.Core.Bool.{Bool, true, false, _&&_, _||_}
+use mathlib.Core.List.{List, [], _∷_, _++_}
+use Prim.Native.Nat.{ℕ, suc, _+_, _*_, _-_, _/_, _%_, _<_, _≤_}
+use native.Mathlib.Omega.{arith}
+use borrow.Author.Tests.{eq-eqb, ne-eqb, le-leb, lt-leb, eqb-true, eqb-false}
+use lib.Dec.{eqb, leb, ltb}
+use lib.ListN.{length, getD, take, drop, length-drop}
+use lib.Seq.{take-take, take-add, drop-at, drop-drop, getD-take, getD-drop, length-take-le}
+use Rattle.definition.specs.Basics.{same}
+use Rattle.definition.specs.Bytes.{be2, be4}
+use Rattle.definition.specs.Blocks.{weighted, blockAt, usedIn, rightUse, rightBlock}
+use Rattle.writer.specs.Numbers.{number2, number4}
+use Rattle.writer.proofs.Laws.{be4-halves, be2-number, be4-number}
+
+-- equal lists
+same-refl : (l : List ℕ) → same l l ≡ true
+unfolding same
+same-refl [] = refl
+same-refl (x ∷ l) = rw (eq-eqb x x refl, same-refl l)
+
+pub and-true : (a b : Bool) → (a && b) ≡ true → (a ≡ true) × (b ≡ true)
+and-true true true e = (refl, refl)
+and-true true false e = (refl, e)
+and-true false true e = (e, refl)
+and-true false false e = (e, e)
+
+same-eq : (l m : List ℕ) → same l m ≡ true → l ≡ m
+unfolding same
+same-eq [] [] e = refl
+same-eq [] (y ∷ m) e = let z : _≡_ {A = ℕ} 0 1 = cc in absurd (omega arith)
+same-eq (x ∷ l) [] e = let z : _≡_ {A = ℕ} 0 1 = cc in absurd (omega arith)
+same-eq (x ∷ l) (y ∷ m) e =
+    let both = and-true (eqb x y) (same l m) e in
+    λ i. eqb-true x y (both .0) i ∷ same-eq l m (both .1) i
+
+-- two codes are the same exactly if the numbers are, where a number can be read back
+module _ (code : ℕ → List ℕ) (value : List ℕ → ℕ) (a b : ℕ) (backA : value (code a) ≡ a) (backB : value (code b) ≡ b) where
+  same-coded : same (code a) (code b) ≡ eqb a b
+  same-coded = ways (eqb a b) refl (same (code a) (code b)) refl
+    where
+      ways : (t : Bool) → eqb a b ≡ t → (u : Bool) → same (code a) (code b) ≡ u → same (code a) (code b) ≡ eqb a b
+      ways true e true f = f ∙ sym e
+      ways true e false f = ap (λ x. same (code a) (code x)) (sym (eqb-true a b e)) ∙ same-refl (code a) ∙ sym e
+      ways false e true f = absurd (eqb-false a b e (sym backA ∙ ap value (same-eq (code a) (code b) f) ∙ backB))
+      ways false e false f = f ∙ sym e
+
+back2 : (a : ℕ) → a < 65536 → number2 (be2 a) 0 ≡ a
+unfolding be2
+back2 a small = omega arith
+
+back4 : (a : ℕ) → a < 4294967296 → number4 (be4 a) 0 ≡ a
+unfolding be2
+back4 a small =
+    let high : number2 (be2 (a / 65536)) 0 ≡ a / 65536 = back2 (a / 65536) (omega arith) in
+    let low : number2 (be2 (a % 65536)) 0 ≡ a % 65536 = back2 (a % 65536) (omega arith) in
+    let whole : 65536 * (a / 65536) + a % 65536 ≡ a = omega arith in
+    ap (λ l. number4 l 0) (sym (be4-halves a)) ∙ (λ i. 65536 * high i + low i) ∙ whole
+
+-- the check and the number of a block, as numbers
+module _ (file : List ℕ) (k : ℕ) (bytes : (i : ℕ) → getD file i 0 < 256) (inside : 512 * k + 512 ≤ length file) where
+  rest : List ℕ
+  rest = drop (512 * k) file
+
+  inside-rest : 512 ≤ length rest
+  unfolding rest
+  inside-rest = rw (length-drop (512 * k) file) (omega arith)
+
+  -- the last four bytes of the block
+  check-bytes : drop 508 (blockAt file k) ≡ be4 (number4 file (512 * k + 508))
+  unfolding blockAt rest
+  check-bytes =
+      ap (drop 508) (take-add 508 4 rest)
+      ∙ drop-at (take 508 rest) (take 4 (drop 508 rest)) 508 (length-take-le 508 rest (omega (arith, inside-rest)))
+      ∙ ap (take 4) (drop-drop 508 (512 * k) file)
+      ∙ be4-number file bytes (512 * k + 508) (omega arith)
+
+  number-bytes : take 2 (blockAt file k) ≡ be2 (number2 file (512 * k))
+  unfolding blockAt rest
+  number-bytes = take-take 2 512 rest (omega arith) ∙ be2-number file bytes (512 * k) (omega arith)
+
+  check-is :
+      (check sum : ℕ) → sum < 4294967296 → check ≡ number4 file (512 * k + 508) →
+      sum ≡ weighted 0 (take (512 * k + 508 - 512 * k) (drop (512 * k) file)) →
+      same (drop 508 (blockAt file k)) (be4 (weighted 0 (take 508 (blockAt file k)))) ≡ eqb check sum
+  unfolding blockAt rest
+  check-is check sum small ec es =
+      let b₀ : getD file (512 * k + 508) 0 < 256 = bytes (512 * k + 508) in
+      let b₁ : getD file (512 * k + 508 + 1) 0 < 256 = bytes (512 * k + 508 + 1) in
+      let b₂ : getD file (512 * k + 508 + 2) 0 < 256 = bytes (512 * k + 508 + 2) in
+      let b₃ : getD file (512 * k + 508 + 2 + 1) 0 < 256 = bytes (512 * k + 508 + 2 + 1) in
+      let size : 512 * k + 508 - 512 * k ≡ 508 = omega arith in
+      let summed : sum ≡ weighted 0 (take 508 (blockAt file k)) =
+      es ∙ ap (λ n. weighted 0 (take n rest)) size ∙ ap (weighted 0) (sym (take-take 508 512 rest (omega arith))) in
+      (λ i. same (check-bytes i) (be4 (sym summed i)))
+      ∙ ap (λ n. same (be4 n) (be4 sum)) (sym ec)
+      ∙ same-coded be4 (λ l. number4 l 0) check sum (back4 check (omega arith)) (back4 sum small)
+
+  number-is : (number : ℕ) → k < 2081 → number ≡ number2 file (512 * k) → same (take 2 (blockAt file k)) (be2 k) ≡ eqb number k
+  number-is number small en =
+      let first : getD file (512 * k) 0 < 256 = bytes (512 * k) in
+      let second : getD file (512 * k + 1) 0 < 256 = bytes (512 * k + 1) in
+      ap (λ l. same l (be2 k)) number-bytes
+      ∙ ap (λ n. same (be2 n) (be2 k)) (sym en)
+      ∙ same-coded be2 (λ l. number2 l 0) number k (back2 number (omega arith)) (back2 k (omega arith))
+
+  -- the three ends of the tests on a block
+  module _ (n check sum : ℕ) (small : k < 2081) (fits : sum < 4294967296) (ec : check ≡ number4 file (512 * k + 508))
+      (es : sum ≡ weighted 0 (take (512 * k + 508 - 512 * k) (drop (512 * k) file))) where
+    tests :
+        (number : ℕ) → number ≡ number2 file (512 * k) →
+        rightBlock n file k ≡ (eqb check sum && (eqb number k && rightUse (eqb n 1) (eqb (suc k) n) (usedIn (blockAt file k))))
+    unfolding rightBlock
+    tests number en =
+        λ i. check-is check sum fits ec es i && (number-is number small en i && rightUse (eqb n 1) (eqb (suc k) n) (usedIn (blockAt file k)))
+
+    pub wrong-check : (check ≡ sum → ⊥) → false ≡ rightBlock n file k
+    wrong-check wrong = rw (tests (number2 file (512 * k)) refl, ne-eqb check sum wrong)
+
+    pub wrong-number : (number : ℕ) → number ≡ number2 file (512 * k) → check ≡ sum → (number ≡ k → ⊥) → false ≡ rightBlock n file k
+    wrong-number number en right wrong = rw (tests number en, eq-eqb check sum right, ne-eqb number k wrong)
+
+    pub as-use :
+        (number : ℕ) → number ≡ number2 file (512 * k) → check ≡ sum → number ≡ k →
+        rightUse (eqb n 1) (eqb (suc k) n) (usedIn (blockAt file k)) ≡ rightBlock n file k
+    as-use number en right right′ = rw (tests number en, eq-eqb check sum right, eq-eqb number k right′)
+
+-- the use that is read from a block
+pub block-at : (file : List ℕ) (k i : ℕ) → i < 512 → getD (blockAt file k) i 0 ≡ getD file (512 * k + i) 0
+unfolding blockAt
+block-at file k i small = getD-take 512 (drop (512 * k) file) i 0 small ∙ getD-drop (512 * k) file i 0
+
+pub used-is : (file : List ℕ) (k : ℕ) → number2 file (512 * k + 2) ≡ usedIn (blockAt file k)
+unfolding usedIn
+used-is file k =
+    let place : 512 * k + 2 + 1 ≡ 512 * k + 3 = omega arith in
+    let high = block-at file k 2 (omega arith) in
+    let low = block-at file k 3 (omega arith) in
+    λ i. 256 * sym high i + (ap (λ j. getD file j 0) place ∙ sym low) i
+
+-- the use of a block that isn't the last, and of the last
+module _ (n k used : ℕ) where
+  pub use-full : k + 1 < n → eqb used 504 ≡ rightUse (eqb n 1) (eqb (suc k) n) used
+  unfolding rightUse
+  use-full more = rw (ne-eqb (suc k) n (λ e. omega arith))
+
+  use-last : k < n → n ≤ k + 1 → rightUse (eqb n 1) (eqb (suc k) n) used ≡ (leb used 504 && (eqb n 1 || leb 1 used))
+  unfolding rightUse
+  use-last inside last = rw (eq-eqb (suc k) n (omega arith))
+
+  pub use-over : k < n → n ≤ k + 1 → 504 < used → false ≡ rightUse (eqb n 1) (eqb (suc k) n) used
+  use-over inside last over = rw (use-last inside last, lt-leb used 504 over)
+
+  pub use-only : k < n → n ≤ k + 1 → used ≤ 504 → n ≡ 1 → true ≡ rightUse (eqb n 1) (eqb (suc k) n) used
+  use-only inside last fits only = rw (use-last inside last, le-leb used 504 fits, eq-eqb n 1 only)
+
+  pub use-some : k < n → n ≤ k + 1 → used ≤ 504 → (n ≡ 1 → ⊥) → ltb 0 used ≡ rightUse (eqb n 1) (eqb (suc k) n) used
+  use-some inside last fits more = rw (use-last inside last, le-leb used 504 fits, ne-eqb n 1 more)
