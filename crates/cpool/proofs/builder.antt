@@ -1,0 +1,8 @@
+-- The laws that the proofs of the module `builder` cite.
+pub mod Rows
+pub mod Scans
+pub mod Answers
+pub mod Writing
+pub mod Counting
+pub mod Given
+pub mod Checks

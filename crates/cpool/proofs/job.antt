@@ -1,0 +1,10 @@
+pub mod Laws
+pub mod Table
+pub mod Entries
+pub mod Several
+pub mod Records
+pub mod Counting
+pub mod Stepping
+pub mod Passes
+pub mod Asking
+pub mod Whole

@@ -1,0 +1,150 @@
+-- One record of the form pass: what was skipped by its shape is what the definition reads, and counts as the shape says. Assumes nothing.
+use mathlib.Core.Bool.{Bool, true, false}
+use mathlib.Core.List.{List, [], _∷_, _++_}
+use mathlib.Core.Option.{Option, none, some}
+use mathlib.Core.Path.{_≡_, refl, sym, ap, _∙_}
+use Prim.Native.Nat.{ℕ, suc, _+_, _≤_, _<_}
+use native.Mathlib.Omega.{arith}
+use lib.ListN.{length, getD, drop}
+use Rattle.laws.proofs.Lists.{clash, some-then}
+use Rattle.definition.specs.Basics.{Result, good, bad, unless, only}
+use Rattle.definition.specs.Bytes.{Parser, return, andThen, one, two, many}
+use Rattle.definition.specs.Shapes.{Kind, constant, bootstrap, Field, text, bits, byte, to, toMany, bootstrapShape, Entry, withKids, withLiteral, withByte, readFields, readEntry}
+use Rattle.definition.specs.Job.{Reference, Definition, define, named, placed, ofEntry, ofName, ofRaw, shortName, reference, bodies, readBody, readDefinition}
+use Rattle.definition.specs.Form.{Counts, countOf, kindOf, whole, hasRoom, citesEarlier, formDefinition}
+use Rattle.definition.specs.Definitions.{sameKind}
+use Rattle.definition.specs.Numbering.{entries, isBootstrap, constantsOf, bootstrapsOf}
+use Rattle.cpool.specs.declared.job.JobCounts.{JobCounts}
+use Rattle.cpool.specs.declared.job.Fields.{Fields}
+use Rattle.cpool.specs.declared.job.Shape.{Shape}
+use Rattle.cpool.specs.declared.job.Shape.the-variants.{Constant, Bootstrap, NamedConstant, NamedBootstrap, RawConstant, RawBootstrap, Unknown}
+use Rattle.cpool.specs.Forms.{Read, fieldsOf, bodyOf, tableOf, isNaming, isPlacing, referencesIn, kidsIn, countsOf, plus, oneOf, Bounded, roomFor, tablesIn, Moved}
+use Rattle.cpool.proofs.job.Table.{Right}
+use Rattle.cpool.proofs.job.Counting.{in-table, one-constant, one-bootstrap, bounded-one}
+
+-- what was read is the value
+value-is : {A : Type 0} {a b : A} {l m : List ℕ} → _≡_ {A = Option (A × List ℕ)} (some (a, l)) (some (b, m)) → b ≡ a
+value-is {A} {a} {b} {l} {m} h = let p : _≡_ {A = A × List ℕ} (b, m) (a, l) = cc in ap (λ r. r .0) p
+
+-- reading fields keeps the tag
+pub keeps-tag :
+    (fields : List Field) (e : Entry (List ℕ) Reference) (l : List ℕ) (f : Entry (List ℕ) Reference) (rest : List ℕ) →
+    readFields reference fields e l ≡ some (f, rest) →
+    f .tag ≡ e .tag
+unfolding readFields withLiteral withByte withKids
+keeps-tag [] e l f rest h = ap (λ x. x .tag) (value-is h)
+keeps-tag (text ∷ fields) e l f rest h =
+    some-then (two l) (λ size bytes. andThen (many size one bytes) (λ s. readFields reference fields (withLiteral s e))) (f, rest) h
+    (λ size l₁ _ h₁.
+    some-then (many size one l₁) (λ s. readFields reference fields (withLiteral s e)) (f, rest) h₁ (λ s l₂ _ h₂. keeps-tag fields (withLiteral s e) l₂ f rest h₂))
+keeps-tag (bits size ∷ fields) e l f rest h =
+    some-then (many size one l) (λ s. readFields reference fields (withLiteral s e)) (f, rest) h (λ s l₁ _ h₁. keeps-tag fields (withLiteral s e) l₁ f rest h₁)
+keeps-tag (byte ∷ fields) e l f rest h =
+    some-then (one l) (λ b. readFields reference fields (withByte b e)) (f, rest) h (λ b l₁ _ h₁. keeps-tag fields (withByte b e) l₁ f rest h₁)
+keeps-tag (to kind ∷ fields) e l f rest h =
+    some-then (reference kind l) (λ r. readFields reference fields (withKids (e .kids ++ r ∷ []) e)) (f, rest) h
+    (λ r l₁ _ h₁. keeps-tag fields (withKids (e .kids ++ r ∷ []) e) l₁ f rest h₁)
+keeps-tag (toMany ∷ fields) e l f rest h =
+    some-then (two l) (λ size bytes. andThen (many size (reference constant) bytes) (λ rs. readFields reference fields (withKids (e .kids ++ rs) e))) (f, rest) h
+    (λ size l₁ _ h₁.
+    some-then (many size (reference constant) l₁) (λ rs. readFields reference fields (withKids (e .kids ++ rs) e)) (f, rest) h₁
+    (λ rs l₂ _ h₂. keeps-tag fields (withKids (e .kids ++ rs) e) l₂ f rest h₂))
+
+-- what a definition of a shape is: what it counts, and whether there is room for it
+pub record Fits (shape : Shape) (d : Definition (List ℕ)) : Type 0 where
+  pub room : (n : Counts) → hasRoom n d ≡ roomFor shape n
+  pub counts : oneOf shape (kidsIn d) ≡ countsOf (d ∷ []) 0
+
+-- an entry that was read from a tag goes into the tag's table
+pub entry-read :
+    (first : ℕ) (fields : List Field) (l rest : List ℕ) (d : Definition (List ℕ)) →
+    readBody first (some (ofEntry fields)) l ≡ some (d, rest) →
+    (e : Entry (List ℕ) Reference) × (d ≡ define e) × (kindOf first ≡ kindOf (e .tag))
+unfolding readBody readEntry
+entry-read first fields l rest d h =
+    some-then (readEntry reference first fields l) (λ e. return (define e)) (d, rest) h
+    (λ e l₁ read h₁.
+    (e, value-is h₁, ap kindOf (sym (keeps-tag fields (record { tag = first; literal = []; byte = 0; kids = [] }) l e l₁ read))))
+
+-- a name, and a raw constant or bootstrap
+pub name-read :
+    (first : ℕ) (kind : Kind) (l rest : List ℕ) (d : Definition (List ℕ)) →
+    readBody first (some (ofName kind)) l ≡ some (d, rest) →
+    (s : List ℕ) × (r : Reference) × (d ≡ named kind s r)
+unfolding readBody
+name-read first kind l rest d h =
+    some-then (shortName l) (λ s bytes. andThen (reference kind bytes) (λ r. return (named kind s r))) (d, rest) h
+    (λ s l₁ _ h₁.
+    some-then (reference kind l₁) (λ r. return (named kind s r)) (d, rest) h₁
+    (λ r l₂ _ h₂. (s, r, value-is h₂)))
+
+pub raw-read :
+    (first : ℕ) (kind : Kind) (l rest : List ℕ) (d : Definition (List ℕ)) →
+    readBody first (some (ofRaw kind)) l ≡ some (d, rest) →
+    (at : ℕ) × (number : ℕ) × (d ≡ placed kind at number)
+unfolding readBody
+raw-read first kind l rest d h =
+    some-then (two l) (λ at bytes. andThen (two bytes) (λ number. return (placed kind at number))) (d, rest) h
+    (λ at l₁ _ h₁.
+    some-then (two l₁) (λ number. return (placed kind at number)) (d, rest) h₁
+    (λ number l₂ _ h₂. (at, number, value-is h₂)))
+
+module _ (first : ℕ) (l rest : List ℕ) (d : Definition (List ℕ)) where
+  pub fits-constant : (fields : Fields) → constant ≡ kindOf first → readBody first (some (ofEntry (fieldsOf fields))) l ≡ some (d, rest) → Fits (Constant fields) d
+  unfolding hasRoom roomFor oneOf kidsIn countOf sameKind
+  fits-constant fields t h =
+      let r = entry-read first (fieldsOf fields) l rest d h in
+      let k : kindOf (r .0 .tag) ≡ constant = sym (r .2) ∙ sym t in
+      rw (r .1) (record { room = λ n. rw k; counts = sym (one-constant (r .0) (in-table (r .0) constant k)) })
+
+  pub fits-bootstrap : bootstrap ≡ kindOf first → readBody first (some (ofEntry bootstrapShape)) l ≡ some (d, rest) → Fits Bootstrap d
+  unfolding hasRoom roomFor oneOf kidsIn countOf sameKind
+  fits-bootstrap t h =
+      let r = entry-read first bootstrapShape l rest d h in
+      let k : kindOf (r .0 .tag) ≡ bootstrap = sym (r .2) ∙ sym t in
+      rw (r .1) (record { room = λ n. rw k; counts = sym (one-bootstrap (r .0) (in-table (r .0) bootstrap k)) })
+
+  pub fits : (shape : Shape) → tableOf shape ≡ kindOf first → readBody first (bodyOf shape) l ≡ some (d, rest) → Fits shape d
+  unfolding bodyOf tableOf readBody hasRoom roomFor oneOf kidsIn countsOf constantsOf bootstrapsOf entries referencesIn only isNaming isPlacing sameKind
+  fits (Constant fields) t h = fits-constant fields t h
+  fits Bootstrap t h = fits-bootstrap t h
+  fits NamedConstant t h = rw (name-read first constant l rest d h .2) (record { room = λ n. refl; counts = refl })
+  fits NamedBootstrap t h = rw (name-read first bootstrap l rest d h .2) (record { room = λ n. refl; counts = refl })
+  fits RawConstant t h = rw (raw-read first constant l rest d h .2) (record { room = λ n. refl; counts = refl })
+  fits RawBootstrap t h = rw (raw-read first bootstrap l rest d h .2) (record { room = λ n. refl; counts = refl })
+  fits Unknown t h = clash (cc)
+
+-- ---- the step
+
+module _ (c : JobCounts) (s : List ℕ) (at : ℕ) (shape : Shape) (right : Right (getD s at 0) shape) where
+  pub step-cut : readBody (getD s at 0) (bodyOf shape) (drop (at + 1) s) ≡ none → formDefinition (tablesIn c) (getD s at 0) (drop (at + 1) s) ≡ bad 3
+  unfolding formDefinition readDefinition whole
+  step-cut h = rw (← right .0, h)
+
+  module _ (next : ℕ) (cited : Bool) (references : ℕ) (v : Read (readBody (getD s at 0) (bodyOf shape)) (citesEarlier (tablesIn c)) kidsIn s (at + 1) next cited references) where
+    of-shape : Fits shape (v .value)
+    of-shape = fits (getD s at 0) (drop (at + 1) s) (drop next s) (v .value) shape (right .1) (v .read)
+
+    pub step-full : false ≡ roomFor shape (tablesIn c) → formDefinition (tablesIn c) (getD s at 0) (drop (at + 1) s) ≡ bad 5
+    unfolding formDefinition readDefinition whole unless
+    step-full full = rw (← right .0, v .read, of-shape .room (tablesIn c), ← full)
+
+    pub step-cites : true ≡ roomFor shape (tablesIn c) → cited ≡ false → formDefinition (tablesIn c) (getD s at 0) (drop (at + 1) s) ≡ bad 4
+    unfolding formDefinition readDefinition whole unless
+    step-cites room missing = rw (← right .0, v .read, of-shape .room (tablesIn c), ← room, ← v .cites, missing)
+
+    pub step-to :
+        true ≡ roomFor shape (tablesIn c) →
+        cited ≡ true →
+        Bounded at c →
+        Moved (formDefinition (tablesIn c)) (λ d. countsOf (d ∷ []) 0) s at c next (plus c (oneOf shape references))
+    unfolding formDefinition readDefinition whole unless
+    step-to room there bounded =
+        record {
+          value = v .value;
+          read = rw (← right .0, v .read, of-shape .room (tablesIn c), ← room, ← v .cites, there);
+          count = ap (plus c) (rw (v .count) (of-shape .counts));
+          past = omega arith;
+          within = v .within;
+          bounded = bounded-one shape c at references next bounded (v .past);
+        }

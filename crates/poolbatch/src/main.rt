@@ -1,0 +1,110 @@
+// Reads framed jobs (four-byte big-endian length, bytes) from standard input and prints a line a job: what the form pass says of it.
+// Comparisons with the Rust feed it.
+use cpool::job::Formed;
+use cpool::job::JobCounts;
+use libc::STDIN_FILENO;
+use libc::STDOUT_FILENO;
+ghost use mathlib.Core.Path.{_≡_};
+ghost use Prim.Native.Nat.{_≤_};
+
+// The longest job that is read, and the longest line.
+const LONGEST: usize = 1048576;
+
+const LINE: usize = 256;
+
+fn put(line: &mut [u8; 256], at: usize, b: u8) -> usize
+    requires { ⌜ at ≤ 256 ⌝ }
+    ensures { λ r. ⌜ r ≤ 256 ⌝ }
+{
+    if at < LINE {
+        line[at] = b;
+        at + 1
+    } else {
+        at
+    }
+}
+
+// A number's decimal digits, behind a space.
+fn put_number(line: &mut [u8; 256], start: usize, n: usize) -> usize
+    requires { ⌜ start ≤ 256 ⌝ }
+    ensures { λ r. ⌜ r ≤ 256 ⌝ }
+{
+    let mut at = put(line, start, b' ');
+    let mut unit: usize = 1;
+    while unit <= n / 10 {
+        unit *= 10;
+    }
+    while 0 < unit {
+        at = put(line, at, (n / unit % 10) as u8 + b'0');
+        unit /= 10;
+    }
+    at
+}
+
+fn put_word(line: &mut [u8; 256], word: &[u8]) -> usize
+    ensures { λ r. ⌜ r ≤ 256 ⌝ }
+{
+    let mut at = 0;
+    let mut i = 0;
+    while i < word.len() {
+        at = put(line, at, word[i]);
+        i += 1;
+    }
+    at
+}
+
+fn put_counts(line: &mut [u8; 256], c: JobCounts) -> usize
+    ensures { λ r. ⌜ r ≤ 256 ⌝ }
+{
+    let mut at = put_word(line, b"formed");
+    at = put_number(line, at, c.definitions);
+    at = put_number(line, at, c.constants);
+    at = put_number(line, at, c.bootstraps);
+    at = put_number(line, at, c.references);
+    at = put_number(line, at, c.names);
+    at = put_number(line, at, c.raw_constants);
+    at = put_number(line, at, c.raw_bootstraps);
+    put_number(line, at, c.requests)
+}
+
+fn put_refusal(line: &mut [u8; 256], code: u32, place: usize) -> usize
+    ensures { λ r. ⌜ r ≤ 256 ⌝ }
+{
+    let at = put_word(line, b"refused");
+    let behind = put_number(line, at, code as usize);
+    put_number(line, behind, place)
+}
+
+fn print_formed(formed: Formed) -> bool {
+    let mut line = [0u8; 256];
+    let end = match formed {
+        Formed::Refused { code, place } => put_refusal(&mut line, code, place),
+        Formed::Counts(c) => put_counts(&mut line, c),
+    };
+    let n = put(&mut line, end, b'\n');
+    io::write_all(STDOUT_FILENO, &line[..n])
+}
+
+// One job, if there is one; whether to go on.
+fn next_job(job: &mut [u8]) -> bool {
+    let mut head = [0u8; 4];
+    if io::read_full(STDIN_FILENO, &mut head) < 4 {
+        return false;
+    }
+    let n = writer::get_u32(&head, 0) as usize;
+    if job.len() < n {
+        return false;
+    }
+    if io::read_full(STDIN_FILENO, &mut job[..n]) < n {
+        return false;
+    }
+    print_formed(cpool::form(&job[..n]))
+}
+
+fn main() {
+    let mut job = [0u8; 1048576];
+    let mut turns = u64::MAX;
+    while 0 < turns && next_job(&mut job) {
+        turns -= 1;
+    }
+}
