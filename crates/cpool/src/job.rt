@@ -282,7 +282,8 @@ fn skip_bootstrap(job: &[u8], at: usize, entries: usize) -> Skipped
         next,
         cited,
         references: _,
-    } = skip_reference(job, at, entries) else {
+    } = skip_reference(job, at, entries)
+    else {
         return Skipped::Cut;
     };
     if job.len() - next < 2 {
@@ -303,7 +304,13 @@ fn skip_bootstrap(job: &[u8], at: usize, entries: usize) -> Skipped
     }
 }
 
-fn skip_constant(job: &[u8], at: usize, fields: Fields, constants: usize, bootstraps: usize) -> Skipped
+fn skip_constant(
+    job: &[u8],
+    at: usize,
+    fields: Fields,
+    constants: usize,
+    bootstraps: usize,
+) -> Skipped
     requires { ⌜ at ≤ length (now job) ⌝ }
     ensures { λ r. ⌜ SkipsEntry (tables constants bootstraps) (fieldsOf fields) (now (job .entry)) at r ⌝ }
 {
@@ -326,7 +333,8 @@ fn skip_naming(job: &[u8], at: usize, entries: usize) -> Skipped
         next,
         cited: _,
         references: _,
-    } = skip_name(job, at) else {
+    } = skip_name(job, at)
+    else {
         return Skipped::Cut;
     };
     match skip_reference(job, next, entries) {
@@ -355,7 +363,13 @@ fn skip_placing(job: &[u8], at: usize, entries: usize) -> Skipped
 }
 
 // A definition behind its first byte.
-fn skip_definition(job: &[u8], at: usize, shape: Shape, constants: usize, bootstraps: usize) -> Skipped
+fn skip_definition(
+    job: &[u8],
+    at: usize,
+    shape: Shape,
+    constants: usize,
+    bootstraps: usize,
+) -> Skipped
     requires { ⌜ at ≤ length (now job) ⌝ }
     ensures { λ r. ⌜ SkipsDefinition (tables constants bootstraps) (bodyOf shape) (now (job .entry)) at r ⌝ }
 {

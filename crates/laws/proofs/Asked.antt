@@ -9,7 +9,7 @@ use native.Mathlib.Omega.{arith}
 use lib.Dec.{leb, ltb}
 use lib.ListN.{length, getElem?, length-append}
 use borrow.Author.Tests.{ltb-true, ltb-false}
-use Rattle.definition.specs.Basics.{good, _>>=_, atRecord, unless, lookup}
+use Rattle.definition.specs.Basics.{good, atRecord, unless}
 use Rattle.definition.specs.Shapes.{Entry, bootstrapTag, withKids}
 use Rattle.definition.specs.Job.{Request}
 use Rattle.definition.specs.Definitions.{Held, Naming, tagAt}
@@ -18,20 +18,15 @@ use Rattle.definition.specs.Slots.{highestLdc}
 use Rattle.definition.specs.Building.{Pool, allocate, slotOf, kidsOf}
 use Rattle.definition.specs.Layout.{Ready, answer, answerAll}
 use Rattle.laws.specs.Statements.{Occurs, afterRequest, moreResolved}
-use Rattle.laws.proofs.Each.{Each, each-map}
-use Rattle.laws.proofs.Results.{after, atRecord-good, decided}
-use Rattle.laws.proofs.Lists.{clash, good-inj}
-use Rattle.laws.proofs.Places.{found-inside, found-read}
+use Rattle.laws.proofs.Lists.{clash, found-inside, found-read}
+use Rattle.laws.proofs.Results.{good-inj, good-then, atRecord-good, decided}
+use Rattle.laws.proofs.Each.{Each, each-weaker}
 use Rattle.laws.proofs.Requests.{Met, old, new, met}
 use Rattle.laws.proofs.Kept.{keeps}
 use Rattle.laws.proofs.Sound.{tag-append}
 use Rattle.laws.proofs.Faithful.{Settled, InTable, Cited, Faithful, Grows, grows-refl, grows-trans, settled-grows, child-grows, resolve-faithful}
 use Rattle.laws.proofs.GivenConstants.{Constant}
-use Rattle.laws.proofs.Numbers.{SlotFor, toHold}
-
--- what has a slot keeps it
-abbrev pub Stays : List (ℕ × ℕ) → List (ℕ × ℕ) → Type 0
-Stays given given′ = (k s : ℕ) → lookup k given ≡ some s → lookup k given′ ≡ some s
+use Rattle.laws.proofs.Numbers.{SlotsKept, slots-same, slots-twice, slot-kept, SlotFor, toHold}
 
 -- a goal leads to no bootstrap
 abbrev pub ConstantGoal : List (Entry ℕ Goal) → Goal → Type 0
@@ -76,18 +71,18 @@ module _ (top : ℕ) (held : List (ℕ × Held)) (raws : List (ℕ × ℕ)) (nod
       (firstNode ≤ child → (child - firstNode < length nodes) × Constant nodes (child - firstNode)) →
       slotOf nodes ldc child p ≡ good r →
       Pooled top held raws nodes p →
-      Pooled top held raws nodes (r .1) × SlotFor (r .1 .given) child (r .0) × Stays (p .given) (r .1 .given)
+      Pooled top held raws nodes (r .1) × SlotFor (r .1 .given) child (r .0) × SlotsKept (p .given) (r .1 .given)
   unfolding slotOf
   slotOf-pooled ldc child p r c e h =
       decided (ltb child firstNode) _ _ (good r) e
       (λ t e₁.
       let same = good-inj e₁ in
-      subst (λ (x : ℕ × Pool). Pooled top held raws nodes (x .1) × SlotFor (x .1 .given) child (x .0) × Stays (p .given) (x .1 .given)) same
-      (h, inl (ltb-true child firstNode t, refl), λ k s l. l))
+      subst (λ (x : ℕ × Pool). Pooled top held raws nodes (x .1) × SlotFor (x .1 .given) child (x .0) × SlotsKept (p .given) (x .1 .given)) same
+      (h, inl (ltb-true child firstNode t, refl), slots-same))
       (λ t e₁.
       let high = ltb-false child firstNode t in
       let kept = keeps nodes ldc (child - firstNode) (r .0) p (r .1) e₁ in
-      (allocate-pooled ldc (child - firstNode) (r .0) p (r .1) (c high .0) (c high .1) e₁ h, inr (high, kept .0), kept .1))
+      (allocate-pooled ldc (child - firstNode) (r .0) p (r .1) (c high .0) (c high .1) e₁ h, inr (high, kept .0), record { slotStays = kept .1 }))
 
 -- more nodes change nothing
 pooled-more :
@@ -99,8 +94,9 @@ pooled-more top held raws nodes more p h =
       occurs = moreResolved more (h .occurs);
       stack = h .stack;
       givenIn =
-          each-map (λ r. (r .0 < length nodes) × Constant nodes (r .0)) (λ r. (r .0 < length (nodes ++ more)) × Constant (nodes ++ more) (r .0)) (p .given)
+          each-weaker (λ r. (r .0 < length nodes) × Constant nodes (r .0)) (λ r. (r .0 < length (nodes ++ more)) × Constant (nodes ++ more) (r .0))
           (λ r k. (rw length-append (omega (arith, k .0)), λ t. k .1 (sym (tag-append nodes more (r .0) (k .0)) ∙ t)))
+          (p .given)
           (h .givenIn);
     }
 
@@ -118,7 +114,7 @@ pub record Answered (goal : Goal) (a : ℕ) (w : Ready) : Type 0 where
 -- what is there stays there
 pub record Further (w w′ : Ready) : Type 0 where
   pub grows : Grows (w .resolved) (w′ .resolved)
-  pub kept : Stays (w .pool .given) (w′ .pool .given)
+  pub kept : SlotsKept (w .pool .given) (w′ .pool .given)
 
 -- the tag of a node
 pub tag-found : {L R : Type 0} (nodes : List (Entry L R)) (k : ℕ) (n : Entry L R) → getElem? nodes k ≡ some n → tagAt nodes k ≡ n .tag
@@ -157,9 +153,9 @@ module _ (table : List (Entry ℕ Goal)) (cited : Cited table) (top : ℕ) (held
       Going table top held raws (r .1) × Answered goal (r .0) (r .1) × Further w (r .1)
   unfolding answer
   answer-going ldc goal w r cites c e h =
-      after (resolve (w .table) goal (w .resolved)) _ r e λ s resolved e₁.
-      after (slotOf (s .nodes) ldc (childOf (s .marks) goal) (w .pool)) _ r e₁ λ a slotted e₂.
-      after (unless (not ldc || leb (a .0) highestLdc) 16) _ r e₂ λ _ _ e₃.
+      good-then (resolve (w .table) goal (w .resolved)) _ r e λ s resolved e₁.
+      good-then (slotOf (s .nodes) ldc (childOf (s .marks) goal) (w .pool)) _ r e₁ λ a slotted e₂.
+      good-then (unless (not ldc || leb (a .0) highestLdc) 16) _ r e₂ λ _ _ e₃.
       let now = resolve-faithful table goal (w .resolved) s cited cites (h .faithful) (subst (λ t. resolve t goal (w .resolved) ≡ good s) (h .sameTable) resolved) in
       let more = now .2 .nodesKept in
       let before : Pooled top held raws (s .nodes) (w .pool) =
@@ -171,11 +167,6 @@ module _ (table : List (Entry ℕ Goal)) (cited : Cited table) (top : ℕ) (held
         record { grows = now .2; kept = p .2 },
       )
 
--- a slot stays the child's
-slot-stays : (given given′ : List (ℕ × ℕ)) (c n : ℕ) → Stays given given′ → SlotFor given c n → SlotFor given′ c n
-slot-stays given given′ c n h (inl s) = inl s
-slot-stays given given′ c n h (inr s) = inr (s .0, h (c - firstNode) n (s .1))
-
 -- so an answer stays right
 pub answered-further : (goal : Goal) (a : ℕ) (w w′ : Ready) → Further w w′ → Answered goal a w → Answered goal a w′
 answered-further goal a w w′ f h =
@@ -183,15 +174,15 @@ answered-further goal a w w′ f h =
       settled = settled-grows (w .resolved) (w′ .resolved) goal (f .grows) (h .settled);
       slot =
           subst (λ c. SlotFor (w′ .pool .given) c a) (sym (child-grows (w .resolved) (w′ .resolved) goal (f .grows) (h .settled)))
-          (slot-stays (w .pool .given) (w′ .pool .given) _ a (f .kept) (h .slot));
+          (slot-kept (f .kept) _ a (h .slot));
     }
 
 further-refl : (w : Ready) → Further w w
-further-refl w = record { grows = grows-refl (w .resolved); kept = λ k s e. e }
+further-refl w = record { grows = grows-refl (w .resolved); kept = slots-same }
 
 pub further-trans : (w w′ w″ : Ready) → Further w w′ → Further w′ w″ → Further w w″
 further-trans w w′ w″ f g =
-    record { grows = grows-trans (w .resolved) (w′ .resolved) (w″ .resolved) (f .grows) (g .grows); kept = λ k s e. g .kept k s (f .kept k s e) }
+    record { grows = grows-trans (w .resolved) (w′ .resolved) (w″ .resolved) (f .grows) (g .grows); kept = slots-twice (f .kept) (g .kept) }
 
 module _ (table : List (Entry ℕ Goal)) (cited : Cited table) (top : ℕ) (held : List (ℕ × Held)) (raws : List (ℕ × ℕ)) (names : List Naming) (constants : ℕ) where
   -- a request whose goal is in the table and leads to no bootstrap
@@ -217,8 +208,8 @@ module _ (table : List (Entry ℕ Goal)) (cited : Cited table) (top : ℕ) (held
       (good-inj e)
       (h, further-refl w, λ i q z. clash (cc))
   answerAll-going place (q ∷ requests) w r asks e h =
-      after (atRecord place (answer (q .ldc) (goalOf names constants (q .what)) w)) _ r e λ a here e₁.
-      after (answerAll names constants (suc place) requests (a .1)) _ r e₁ λ rest there e₂.
+      good-then (atRecord place (answer (q .ldc) (goalOf names constants (q .what)) w)) _ r e λ a here e₁.
+      good-then (answerAll names constants (suc place) requests (a .1)) _ r e₁ λ rest there e₂.
       let one = answer-going table cited top held raws (q .ldc) (goalOf names constants (q .what)) w a (asks .0 .0) (asks .0 .1) (atRecord-good place _ a here) h in
       let more = answerAll-going (suc place) requests (a .1) rest (asks .1) there (one .0) in
       subst

@@ -1,12 +1,14 @@
 -- What the form pass lets through: each definition of a formed job was read by its first byte, and an entry whose tag has no literal
 -- has the empty one. Assumes nothing.
-use mathlib.Core.Bool.{Bool, true, false, _||_}
+use mathlib.Core.Bool.{Bool, true, false, _||_, not}
 use mathlib.Core.List.{List, [], _∷_, _++_}
 use mathlib.Core.Option.{Option, none, some}
 use mathlib.Core.Path.{_≡_, refl, ap, _∙_}
 use Prim.Native.Nat.{ℕ, zero, suc}
 use lib.Dec.{eqb}
 use lib.ListN.{length, getElem?}
+use borrow.Author.Tests.{not-true}
+use Rattle.laws.specs.Statements.{Among}
 use Rattle.definition.specs.Basics.{good, atRecord, unless, every, lookup}
 use Rattle.definition.specs.Bytes.{Parser, one, two, many}
 use Rattle.definition.specs.Shapes.{Kind, constant, Field, text, bits, byte, to, toMany, shapes, bootstrapShape, Entry, withLiteral, withKids, withByte, readFields, readEntry}
@@ -14,7 +16,10 @@ use Rattle.definition.specs.Job.{Reference, Definition, define, named, placed, 
 use Rattle.definition.specs.Form.{Counts, counted, whole, hasRoom, citesEarlier, formDefinition, Definitions, formDefinitions, formRequests, form}
 use Rattle.definition.specs.Numbering.{Literal, entries}
 use Rattle.laws.specs.Statements.{hasLiteral}
-use Rattle.laws.proofs.Lists.{clash, all-cons, good-then, good-atRecord, some-then, lookup-every}
+use Rattle.laws.proofs.Lists.{clash, all-cons, among-later}
+use Rattle.laws.proofs.Results.{good-then, atRecord-good, whole-good, some-then}
+use Rattle.laws.proofs.Tables.{lookup-every}
+use Rattle.laws.proofs.Entries.{showsLiteral}
 
 -- no entry yet
 abbrev pub noEntries : Counts
@@ -30,12 +35,6 @@ formed-definitions bytes j e =
     good-then (formDefinitions (length bytes) noEntries 0 bytes) _ j e λ d p q.
     good-then (formRequests (length bytes) (d .counts) 0 (suc (length (d .list))) (d .rest)) _ j q λ r s t.
     (d, p, cc)
-
--- a record that isn't cut was read
-pub whole-good : {A : Type 0} (o : Option A) (a : A) → whole o ≡ good a → o ≡ some a
-unfolding whole
-whole-good none a e = cc
-whole-good (some b) a e = cc
 
 -- a formed definition was read behind its first byte
 pub formed-read :
@@ -72,7 +71,7 @@ unfolding formDefinitions
 formed-step fuel n place first bytes d s e =
     good-then (atRecord place (formDefinition n first bytes)) _ d (rw (s, formDefinitions) at e) λ r p q.
     good-then (formDefinitions fuel (counted (r .0) n) (suc place) (r .1)) _ d q λ d′ t u.
-    (r, d′, good-atRecord place (formDefinition n first bytes) r p, t, cc)
+    (r, d′, atRecord-good place (formDefinition n first bytes) r p, t, cc)
 
 -- what is so of every definition that is read is so of every formed one
 module _
@@ -122,33 +121,11 @@ module _
       let h = formed-definitions bytes j e in
       all-formed (length bytes) noEntries 0 bytes (h .0) (h .1) i x (rw (h .2) at p)
 
--- what is so of every definition's entry is so of every entry
-pub all-entries :
-    (P : Entry (List ℕ) Reference → Type 0) (ds : List (Definition (List ℕ))) →
-    ((i : ℕ) (e : Entry (List ℕ) Reference) → getElem? ds i ≡ some (define e) → P e) →
-    (i : ℕ) (e : Entry (List ℕ) Reference) →
-    getElem? (entries ds) i ≡ some e →
-    P e
-unfolding entries
-all-entries P [] h i e q = clash (cc)
-all-entries P (define x ∷ ds) h i e q = all-cons P x (entries ds) (h 0 x refl) (all-entries P ds (λ i. h (suc i))) i e q
-all-entries P (named kind s r ∷ ds) h i e q = all-entries P ds (λ i. h (suc i)) i e q
-all-entries P (placed kind at number ∷ ds) h i e q = all-entries P ds (λ i. h (suc i)) i e q
-
--- fields without text and bits
-abbrev pub bare : List Field → Bool
-bare [] = true
-bare (text ∷ fields) = false
-bare (bits size ∷ fields) = false
-bare (byte ∷ fields) = bare fields
-bare (to kind ∷ fields) = bare fields
-bare (toMany ∷ fields) = bare fields
-
 -- reading fields keeps the tag, and the literal where none is among them
 pub fields-keep :
     {R : Type 0} (kid : Kind → Parser R) (fields : List Field) (e : Entry (List ℕ) R) (bytes : List ℕ) (r : Entry (List ℕ) R × List ℕ) →
     readFields kid fields e bytes ≡ some r →
-    (r .0 .tag ≡ e .tag) × (bare fields ≡ true → r .0 .literal ≡ e .literal)
+    (r .0 .tag ≡ e .tag) × (showsLiteral fields ≡ false → r .0 .literal ≡ e .literal)
 unfolding readFields withLiteral withByte withKids
 fields-keep kid [] e bytes r p = (cc, λ _. cc)
 fields-keep kid (text ∷ fields) e bytes r p =
@@ -171,7 +148,7 @@ fields-keep kid (toMany ∷ fields) e bytes r p =
 
 -- in the table of first bytes a tag has a literal, or its shape has no field for one
 bareBody : ℕ × Body → Bool
-bareBody (tag, ofEntry fields) = hasLiteral tag || bare fields
+bareBody (tag, ofEntry fields) = hasLiteral tag || not (showsLiteral fields)
 bareBody (tag, ofName kind) = true
 bareBody (tag, ofRaw kind) = true
 
@@ -202,8 +179,8 @@ body-bare first (some (ofEntry fields)) bytes r e o p q h =
     let keep = fields-keep reference fields (record { tag = first; literal = []; byte = 0; kids = [] }) bytes (x, rest) s in
     let tag : e .tag ≡ first = rw same at (keep .0) in
     let none : hasLiteral first ≡ false = rw tag at h in
-    let row : (hasLiteral first || bare fields) ≡ true = lookup-every bareBody bodies bodies-bare first (ofEntry fields) o in
-    rw (← same) (keep .1 (rw none at row))
+    let row : (hasLiteral first || not (showsLiteral fields)) ≡ true = lookup-every bareBody bodies bodies-bare first (ofEntry fields) o in
+    rw (← same) (keep .1 (not-true (showsLiteral fields) (rw none at row)))
 body-bare first (some (ofName kind)) bytes r e o p q h =
     some-then (shortName bytes) _ r p λ n rest _ s.
     some-then (reference kind rest) _ r s λ k rest _ t.
@@ -213,6 +190,15 @@ body-bare first (some (ofRaw kind)) bytes r e o p q h =
     some-then (two rest) _ r s λ k rest _ t.
     cc
 
+-- an entry of a list of definitions is defined there
+pub entry-defined : {L : Type 0} (ds : List (Definition L)) (i : ℕ) (e : Entry L Reference) → getElem? (entries ds) i ≡ some e → Among (define e) ds
+unfolding entries
+entry-defined [] i e p = clash (cc)
+entry-defined (define x ∷ ds) zero e p = let q : x ≡ e = cc in (0, ap (λ y. some (define y)) q)
+entry-defined (define x ∷ ds) (suc i) e p = among-later (define e) (define x) ds (entry-defined ds i e p)
+entry-defined (named kind s r ∷ ds) i e p = among-later (define e) (named kind s r) ds (entry-defined ds i e p)
+entry-defined (placed kind at n ∷ ds) i e p = among-later (define e) (placed kind at n) ds (entry-defined ds i e p)
+
 -- and so has each entry of a formed job
 pub entries-bare :
     (bytes : List ℕ) (j : Job (List ℕ)) →
@@ -221,10 +207,9 @@ pub entries-bare :
     getElem? (entries (j .definitions)) i ≡ some e →
     Bare (litOf e)
 unfolding readDefinition
-entries-bare bytes j f =
-    all-entries (λ e. Bare (litOf e)) (j .definitions)
-    (λ i e p.
+entries-bare bytes j f i e p =
+    let d = entry-defined (j .definitions) i e p in
     all-read
     (λ d. (e : Entry (List ℕ) Reference) → d ≡ define e → Bare (litOf e))
     (λ first bytes r q e s. body-bare first (lookup first bodies) bytes r e refl q s)
-    bytes j f i (define e) p e refl)
+    bytes j f (d .0) (define e) (d .1) e refl

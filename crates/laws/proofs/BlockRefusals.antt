@@ -13,7 +13,8 @@ use Rattle.definition.specs.Basics.{good, bad, _>>=_, Refusal}
 use Rattle.definition.specs.Run.{longestJob}
 use Rattle.definition.specs.Blocks.{blockCount, blocksRight, mostBlocks, readBlocks}
 use Rattle.laws.specs.BlockStatements.{jobIn, refusalAt, NoBlocks, Counted, RightBefore, TooMany, FirstWrong, TooLong, NoRoom, BlocksTwenty, BlocksNineteen, BlocksOne, BlocksEighteen}
-use Rattle.laws.proofs.Guards.{guarded, passes, refuses, refusedBy, thenBad}
+use Rattle.laws.proofs.Lists.{clash}
+use Rattle.laws.proofs.Results.{thenBad, guarded, passes, refuses, refusedBy}
 use Rattle.laws.proofs.Reading.{RightUpTo, accepts, accepted, firstWrong, isWrong, room-test, blocks-test, count-test, wholeBlocks, reading}
 
 -- ---- the test for 20
@@ -42,8 +43,7 @@ is-whole file h = go (wholeBlocks file) refl
 whole-is : (file : List ℕ) → wholeBlocks file ≡ true → NoBlocks file → ⊥
 whole-is file e h =
     let e′ = no-whole file h in
-    let z : _≡_ {A = ℕ} 0 1 = cc in
-    omega arith
+    clash (cc)
 
 -- ---- the reasons for a refusal
 
@@ -74,7 +74,7 @@ module _ (room : ℕ) (file : List ℕ) (r : Refusal) where
           ((leb l room ≡ false) × (refusalAt 18 0 ≡ r)) ⊎ ((leb l room ≡ true) × (good (jobIn file) ≡ bad r)) →
           Refused room file r
       full short (inl x) = noRoom (c, all, leb-true l longestJob short, leb-false l room (x .0)) (sym (x .1))
-      full short (inr x) = let z : _≡_ {A = ℕ} 0 1 = cc (x .1) in absurd (omega arith)
+      full short (inr x) = clash (cc (x .1))
 
       long :
           ((leb l longestJob ≡ false) × (refusalAt 1 0 ≡ r))

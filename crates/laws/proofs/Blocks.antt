@@ -16,9 +16,9 @@ use Rattle.definition.specs.Run.{longestJob}
 use Rattle.definition.specs.Blocks.{weighted, block, blockCount, blockAt, usedIn, rightUse, rightBlock, blockData, mostBlocks, readBlocks, blocksFor, writtenBlock, writeBlocks}
 use Rattle.laws.specs.BlockStatements.{Part, fileOf, jobOf, AsDescribed, BlocksRead, BlocksBack, jobIn}
 use Rattle.laws.specs.Statements.{IsBytes}
-use Rattle.laws.proofs.Lists.{both-true, good-inj, same-true, same-refl}
-use Rattle.laws.proofs.Guards.{guarded, passed}
-use Rattle.laws.proofs.Chunks.{length-from, from-same, from-getD, from-at, at-place, length-joined, cut-out, cut-join}
+use Rattle.laws.proofs.Lists.{both-true, same-true, same-refl, read-found}
+use Rattle.laws.proofs.Results.{good-inj, guarded, passed}
+use Rattle.laws.proofs.Chunks.{length-from, from-same, from-getD, from-at, length-joined, cut-out, cut-join}
 use Rattle.laws.proofs.Reading.{Accepted, isRead, wasRead}
 
 -- ---- one block
@@ -263,7 +263,7 @@ listed n p d i q e =
     rw (length-from, ← is) (d i (there .0))
 
 pub unlisted : (parts : List Part) → AsDescribed parts → Described (length parts) (λ i. getD parts i (0, []))
-unlisted parts d i h = d i (getD parts i (0, [])) (at-place parts (0, []) i h)
+unlisted parts d i h = d i (getD parts i (0, [])) (read-found parts i (0, []) h)
 
 -- the file and job of parts listed, and of parts by number, are the same
 pub file-listed : (parts : List Part) → theirFile (length parts) (λ i. getD parts i (0, [])) ≡ fileOf 0 parts

@@ -1,13 +1,14 @@
--- General facts about lists made of parts: `from` and `concat`, a list cut into parts of one length, and equal lists by test. Assumes nothing.
+-- General facts about lists made of parts: `from` and `concat`, and a list cut into parts of one length. Assumes nothing.
 use mathlib.Core.List.{List, [], _∷_}
 use mathlib.Core.Option.{some}
-use mathlib.Core.Path.{_≡_, refl, sym, ap, _∙_}
+use mathlib.Core.Path.{_≡_, refl, sym, ap, subst, _∙_}
 use Prim.Native.Nat.{ℕ, zero, suc, _+_, _*_, _≤_, _<_}
 use native.Mathlib.Nat.{mul-zero, mul-suc, add-zero}
 use native.Mathlib.Omega.{arith}
 use lib.ListN.{length, take, drop, getD, getElem?, length-append}
 use lib.Seq.{take-at, drop-append-add, drop-drop, take-add}
 use Rattle.definition.specs.Basics.{concat, from}
+use Rattle.laws.proofs.Lists.{none≢some, inside-found}
 
 -- ---- the list f k, f (k + 1), .. of n
 
@@ -40,18 +41,17 @@ module _ {A : Type 0} where
   -- what stands at place i of it
   pub from-at : (f : ℕ → A) (k n i : ℕ) (a : A) → getElem? (from f k n) i ≡ some a → (i < n) × (f (k + i) ≡ a)
   unfolding from
-  from-at f k zero i a e = let z : _≡_ {A = ℕ} 0 1 = cc in absurd (omega arith)
+  from-at f k zero i a e = none≢some e
   from-at f k (suc n) zero a e = (omega arith, ap f (add-zero k) ∙ (cc))
   from-at f k (suc n) (suc i) a e =
       let there = from-at f (suc k) n i a e in
       let number : k + suc i ≡ suc k + i = omega arith in
       (omega arith, ap f number ∙ there .1)
 
-  -- what stands at a place below the length
-  pub at-place : (l : List A) (d : A) (i : ℕ) → i < length l → getElem? l i ≡ some (getD l i d)
-  at-place [] d i h = absurd (omega arith)
-  at-place (x ∷ xs) d zero h = refl
-  at-place (x ∷ xs) d (suc i) h = at-place xs d i (omega arith)
+  pub from-place : (f : ℕ → A) (k n i : ℕ) → i < n → getElem? (from f k n) i ≡ some (f (k + i))
+  from-place f k n i h =
+      let there = inside-found (from f k n) i (subst (λ (m : ℕ). i < m) (sym (length-from f k n)) h) in
+      there .1 ∙ ap some (sym (from-at f k n i (there .0) (there .1) .1))
 
 -- ---- parts of one length m
 

@@ -4,25 +4,28 @@ use mathlib.Core.Bool.{Bool, true, false, _&&_, _||_, not}
 use mathlib.Core.List.{List, [], _∷_, _++_, map}
 use mathlib.Core.Logic.{_⊎_, inl, inr}
 use mathlib.Core.Option.{Option, none, some}
-use mathlib.Core.Path.{_≡_, refl, sym, ap, _∙_}
+use mathlib.Core.Path.{_≡_, refl, sym, ap, subst, _∙_}
 use Prim.Native.Nat.{ℕ, zero, suc, _+_, _≤_, _<_}
+use native.Mathlib.Nat.{zero-add}
 use native.Mathlib.Omega.{arith}
 use lib.Dec.{eqb}
 use lib.ListN.{length, getElem?, length-append, length-map}
 use borrow.Author.Tests.{ltb-true, eqb-true, not-true}
-use Rattle.definition.specs.Basics.{good, atRecord, unless, same, every, only, lookup}
-use Rattle.definition.specs.Bytes.{Parser, one, two, many}
-use Rattle.definition.specs.Shapes.{Kind, constant, bootstrap, Field, text, bits, byte, to, toMany, shapes, bootstrapShape, bootstrapTag, Entry, withLiteral, withKids, withByte, readFields, readEntry}
-use Rattle.definition.specs.Job.{Reference, raw, entry, name, Definition, define, named, placed, Request, Job, shortName, referenceForm, reference, Body, ofEntry, ofName, ofRaw, bodies, readBody, readDefinition, asks, readRequest}
-use Rattle.definition.specs.Form.{Counts, countOf, kindOf, oneMore, counted, whole, hasRoom, cites, citesEarlier, formDefinition, Definitions, formDefinitions, formRequest, formBuild, Requests, formRequests, form}
+use Rattle.definition.specs.Basics.{same, every, only}
+use Rattle.definition.specs.Shapes.{Kind, constant, bootstrap, Field, text, bits, byte, to, toMany, shapes, bootstrapShape, bootstrapTag, Entry, withLiteral, withKids}
+use Rattle.definition.specs.Job.{Reference, raw, entry, name, Definition, define, named, placed, Request, Job}
+use Rattle.definition.specs.Form.{Counts, countOf, kindOf, oneMore, counted, cites, citesEarlier}
 use Rattle.definition.specs.Numbering.{Literal, entries, isBootstrap, constantsOf, bootstrapsOf, literals, numberedEntry, numberedDefinition, numbered}
 use Rattle.definition.specs.Definitions.{Naming, sameKind, nameTarget}
 use Rattle.definition.specs.Resolving.{Goal, rawNumber, tableEntry, refusal, placeOf, follow, goalOf, linked}
 use Rattle.laws.specs.Statements.{Among}
-use Rattle.laws.proofs.Lists.{clash, both-true, all-cons, good-then, good-atRecord, good-unless, some-then, every-at, only-here, only-later, only-at, some-lt, map-some, same-true, lookup-every}
-use Rattle.laws.proofs.MoreLists.{among-later, append-at, only-map}
+use Rattle.laws.proofs.Lists.{clash, none≢some, some-inj, both-true, same-true, found-inside, append-at, among-later, map-some, every-at, only-here, only-later, only-at, only-map}
+use Rattle.laws.proofs.Each.{each-at}
+use Rattle.laws.proofs.Tables.{lookup-every}
 use Rattle.laws.proofs.DefinedFacts.{namingsOf}
-use Rattle.laws.proofs.Bare.{noEntries, whole-good, formed-end, formed-step, all-read, fields-keep}
+use Rattle.laws.proofs.Bare.{noEntries, entry-defined}
+use Rattle.laws.proofs.FormedEntry.{OfKind, OfKinds, ShapeOf, FormedDefinition}
+use Rattle.laws.proofs.Formed.{FormedFrom, countsAfter, FormedRequest, Formed, formed-definitions-each}
 
 -- how many entries of a kind the definitions have
 unfoldable pub countIn : {L : Type 0} → Kind → List (Definition L) → ℕ
@@ -34,12 +37,6 @@ unfoldable pub Cites : {L : Type 0} → List (Definition L) → Reference → Ty
 Cites ds (raw n) = Unit {0}
 Cites ds (entry kind n) = n < countIn kind ds
 Cites ds (name kind s) = Unit {0}
-
--- a reference is of a kind
-unfoldable pub OfKind : Kind → Reference → Type 0
-OfKind kind (raw n) = Unit {0}
-OfKind kind (entry k n) = k ≡ kind
-OfKind kind (name k s) = k ≡ kind
 
 -- the kind of an entry's child by its place: the first of Dynamic and InvokeDynamic is a bootstrap, all others are constants
 unfoldable pub kidKind : ℕ → ℕ → Kind
@@ -70,67 +67,6 @@ sameKind-true constant bootstrap e = cc
 sameKind-true bootstrap constant e = cc
 sameKind-true bootstrap bootstrap e = refl
 
--- a reference that is read is of the kind that was asked for
-form-kind : (kind : Kind) (form : ℕ) (bytes : List ℕ) (r : Reference × List ℕ) → referenceForm kind form bytes ≡ some r → OfKind kind (r .0)
-unfolding referenceForm OfKind
-form-kind kind zero bytes r e =
-    some-then (two bytes) _ r e λ n rest _ q.
-    let s : (raw n, rest) ≡ r = cc in
-    rw (← s) tt
-form-kind kind (suc zero) bytes r e =
-    some-then (two bytes) _ r e λ n rest _ q.
-    let s : (entry kind n, rest) ≡ r = cc in
-    rw (← s) refl
-form-kind kind (suc (suc zero)) bytes r e =
-    some-then (shortName bytes) _ r e λ n rest _ q.
-    let s : (name kind n, rest) ≡ r = cc in
-    rw (← s) refl
-form-kind kind (suc (suc (suc n))) bytes r e = clash (cc)
-
-pub reference-kind : (kind : Kind) (bytes : List ℕ) (r : Reference × List ℕ) → reference kind bytes ≡ some r → OfKind kind (r .0)
-unfolding reference
-reference-kind kind bytes r e =
-    some-then (one bytes) _ r e λ form rest _ q.
-    form-kind kind form rest r q
-
--- what is so of each that is read is so of all
-pub many-all :
-    {A : Type 0} (P : A → Type 0) (p : Parser A) →
-    ((bytes : List ℕ) (r : A × List ℕ) → p bytes ≡ some r → P (r .0)) →
-    (n : ℕ) (bytes : List ℕ) (r : List A × List ℕ) →
-    many n p bytes ≡ some r →
-    (i : ℕ) (a : A) →
-    getElem? (r .0) i ≡ some a →
-    P a
-unfolding many
-many-all {A} P p h zero bytes r e i a q =
-    let s : ([], bytes) ≡ r = cc in
-    let t : r .0 ≡ [] = ap (λ (x : List A × List ℕ). x .0) (sym s) in
-    let u : none ≡ some a = rw t at q in
-    clash (cc)
-many-all {A} P p h (suc n) bytes r e i a q =
-    some-then (p bytes) _ r e λ x rest e₁ q₁.
-    some-then (many n p rest) _ r q₁ λ xs rest′ e₂ q₂.
-    let s : (x ∷ xs, rest′) ≡ r = cc in
-    let t : r .0 ≡ x ∷ xs = ap (λ (x : List A × List ℕ). x .0) (sym s) in
-    all-cons P x xs (h bytes (x, rest) e₁) (many-all P p h n rest (xs, rest′) e₂) i a (rw t at q)
-
--- a bootstrap's children are constants
-pub row-kind : (i : ℕ) → kidKind bootstrapTag i ≡ constant
-unfolding kidKind
-row-kind zero = refl
-row-kind (suc i) = refl
-
--- only the first child of Dynamic or InvokeDynamic is a bootstrap
-pub bootstrap-kid : (tag i : ℕ) → kidKind tag i ≡ bootstrap → (i ≡ 0) × ((eqb tag 17 || eqb tag 18) ≡ true)
-unfolding kidKind
-bootstrap-kid tag zero e = (refl, ways (eqb tag 17 || eqb tag 18) refl)
-  where
-    ways : (b : Bool) → (eqb tag 17 || eqb tag 18) ≡ b → (eqb tag 17 || eqb tag 18) ≡ true
-    ways true h = h
-    ways false h = let z : kidKind tag 0 ≡ constant = rw (h, kidKind) in clash (cc)
-bootstrap-kid tag (suc i) e = clash (cc)
-
 -- the fields of a tag from a child's place on ask for the kinds that the tag wants
 abbrev conforms : ℕ → ℕ → List Field → Bool
 conforms tag i [] = true
@@ -141,121 +77,54 @@ conforms tag i (to kind ∷ fields) = sameKind kind (kidKind tag i) && conforms 
 conforms tag i (toMany ∷ []) = sameKind (kidKind tag 0) constant
 conforms tag i (toMany ∷ f ∷ fields) = false
 
--- more children of the kinds wanted
-more-kids :
-    (tag : ℕ) (kids more : List Reference) →
-    KidsOfKind tag kids →
-    ((j : ℕ) (r : Reference) → getElem? more j ≡ some r → OfKind (kidKind tag (length kids + j)) r) →
-    KidsOfKind tag (kids ++ more)
-more-kids tag kids more h g i r e = ways (append-at kids more i r e)
-  where
-    ways : (getElem? kids i ≡ some r) ⊎ ((j : ℕ) × (i ≡ length kids + j) × (getElem? more j ≡ some r)) → OfKind (kidKind tag i) r
-    ways (inl p) = h i r p
-    ways (inr (j, p, q)) = rw p (g j r q)
-
 -- where the first child is a constant, all are
 all-constant : (tag i : ℕ) → kidKind tag 0 ≡ constant → kidKind tag i ≡ constant
 unfolding kidKind
 all-constant tag zero e = e
 all-constant tag (suc i) e = refl
 
--- fields that conform give such children
-fields-kinds :
-    (tag : ℕ) (fields : List Field) (e : Entry (List ℕ) Reference) (bytes : List ℕ) (r : Entry (List ℕ) Reference × List ℕ) →
-    readFields reference fields e bytes ≡ some r →
-    conforms tag (length (e .kids)) fields ≡ true →
-    KidsOfKind tag (e .kids) →
-    KidsOfKind tag (r .0 .kids)
-unfolding readFields withLiteral withByte withKids
-fields-kinds tag [] e bytes r p c k = let s : (e, bytes) ≡ r = cc in rw (← s) k
-fields-kinds tag (text ∷ fields) e bytes r p c k =
-    some-then (two bytes) _ r p λ size rest _ q.
-    some-then (many size one rest) _ r q λ s rest _ t.
-    fields-kinds tag fields (withLiteral s e) rest r t c k
-fields-kinds tag (bits size ∷ fields) e bytes r p c k =
-    some-then (many size one bytes) _ r p λ s rest _ t.
-    fields-kinds tag fields (withLiteral s e) rest r t c k
-fields-kinds tag (byte ∷ fields) e bytes r p c k =
-    some-then (one bytes) _ r p λ b rest _ t.
-    fields-kinds tag fields (withByte b e) rest r t c k
-fields-kinds tag (to kind ∷ fields) e bytes r p c k =
-    some-then (reference kind bytes) _ r p λ x rest s t.
-    let both = both-true (sameKind kind (kidKind tag (length (e .kids)))) (conforms tag (suc (length (e .kids))) fields) c in
-    let same : kind ≡ kidKind tag (length (e .kids)) = sameKind-true kind (kidKind tag (length (e .kids))) (both .0) in
-    let size : length (e .kids ++ x ∷ []) ≡ suc (length (e .kids)) = length-append (e .kids) (x ∷ []) ∙ omega arith in
-    fields-kinds tag fields (withKids (e .kids ++ x ∷ []) e) rest r t (rw size (both .1))
-    (more-kids tag (e .kids) (x ∷ []) k (one-kid (e .kids) kind x same (reference-kind kind bytes (x, rest) s)))
-  where
-    one-kid :
-        (kids : List Reference) (kind : Kind) (x : Reference) →
-        kind ≡ kidKind tag (length kids) →
-        OfKind kind x →
-        (j : ℕ) (r : Reference) →
-        getElem? (x ∷ []) j ≡ some r →
-        OfKind (kidKind tag (length kids + j)) r
-    one-kid kids kind x same o zero r q =
-        let u : x ≡ r = cc in
-        let v : length kids + 0 ≡ length kids = omega arith in
-        rw (v, ← same, ← u) o
-    one-kid kids kind x same o (suc j) r q = clash (cc)
-fields-kinds tag (toMany ∷ []) e bytes r p c k =
-    some-then (two bytes) _ r p λ size rest _ q.
-    some-then (many size (reference constant) rest) _ r q λ xs rest′ s t.
-    let same = sameKind-true (kidKind tag 0) constant c in
-    let u : (withKids (e .kids ++ xs) e, rest′) ≡ r = cc in
-    rw (← u)
-    (more-kids tag (e .kids) xs k
-    (λ j x h.
-    rw (all-constant tag (length (e .kids) + j) same)
-    (many-all (OfKind constant) (reference constant) (reference-kind constant) size rest (xs, rest′) s j x h)))
-fields-kinds tag (toMany ∷ f ∷ fields) e bytes r p c k = clash (cc)
+-- children of the kinds that such fields want are of those that their places want
+kids-kinds :
+    (tag : ℕ) (fields : List Field) (i : ℕ) (kids : List Reference) →
+    OfKinds fields kids →
+    conforms tag i fields ≡ true →
+    (j : ℕ) (r : Reference) →
+    getElem? kids j ≡ some r →
+    OfKind (kidKind tag (i + j)) r
+kids-kinds tag [] i kids h c j r e = let z : none ≡ some r = rw h at e in none≢some z
+kids-kinds tag (text ∷ fields) i kids h c j r e = kids-kinds tag fields i kids h c j r e
+kids-kinds tag (bits size ∷ fields) i kids h c j r e = kids-kinds tag fields i kids h c j r e
+kids-kinds tag (byte ∷ fields) i kids h c j r e = kids-kinds tag fields i kids h c j r e
+kids-kinds tag (to kind ∷ fields) i [] h c j r e = absurd h
+kids-kinds tag (to kind ∷ fields) i (x ∷ kids) h c zero r e =
+    let same = sameKind-true kind (kidKind tag i) (both-true (sameKind kind (kidKind tag i)) (conforms tag (suc i) fields) c .0) in
+    let here : i + 0 ≡ i = omega arith in
+    rw (here, ← same, ← some-inj e) (h .0)
+kids-kinds tag (to kind ∷ fields) i (x ∷ kids) h c (suc j) r e =
+    let next : i + suc j ≡ suc i + j = omega arith in
+    rw next (kids-kinds tag fields (suc i) kids (h .1) (both-true (sameKind kind (kidKind tag i)) (conforms tag (suc i) fields) c .1) j r e)
+kids-kinds tag (toMany ∷ []) i kids h c j r e =
+    rw (all-constant tag (i + j) (sameKind-true (kidKind tag 0) constant c)) (each-at (OfKind constant) kids j r h e)
+kids-kinds tag (toMany ∷ f ∷ fields) i kids h c j r e = clash (cc)
 
--- in the table of first bytes they conform
-conformingBody : ℕ × Body → Bool
-conformingBody (tag, ofEntry fields) = conforms tag 0 fields
-conformingBody (tag, ofName kind) = true
-conformingBody (tag, ofRaw kind) = true
+-- the shapes of all tags conform
+shapes-conform : every (λ (s : ℕ × List Field). conforms (s .0) 0 (s .1)) shapes ≡ true
+unfolding every shapes kidKind sameKind
+shapes-conform = refl
 
-bodies-conform : every conformingBody bodies ≡ true
-unfolding every conformingBody bodies shapes bootstrapShape kidKind sameKind
-bodies-conform = refl
+shape-conforms : (tag : ℕ) (fields : List Field) → ShapeOf tag fields → conforms tag 0 fields ≡ true
+unfolding bootstrapShape kidKind sameKind
+shape-conforms tag fields (inl known) = lookup-every (λ (s : ℕ × List Field). conforms (s .0) 0 (s .1)) shapes shapes-conform tag fields known
+shape-conforms tag fields (inr known) = rw (known .0, known .1) refl
 
--- so a definition that is read refers to the right kinds
-body-kinds :
-    (first : ℕ) (o : Option Body) (bytes : List ℕ) (r : Definition (List ℕ) × List ℕ) →
-    lookup first bodies ≡ o →
-    readBody first o bytes ≡ some r →
-    AllOfKind (r .0)
-unfolding readBody readEntry conformingBody AllOfKind
-body-kinds first none bytes r o p = clash (cc)
-body-kinds first (some (ofEntry fields)) bytes r o p =
-    some-then (readEntry reference first fields bytes) _ r p λ x rest s t.
-    let start : Entry (List ℕ) Reference = record { tag = first; literal = []; byte = 0; kids = [] } in
-    let u : (define x, rest) ≡ r = cc in
-    let tag : x .tag ≡ first = fields-keep reference fields start bytes (x, rest) s .0 in
-    let row : conforms first 0 fields ≡ true = lookup-every conformingBody bodies bodies-conform first (ofEntry fields) o in
-    let kinds = fields-kinds first fields start bytes (x, rest) s row (λ i r e. clash (cc)) in
-    rw (← u) (rw tag kinds)
-body-kinds first (some (ofName kind)) bytes r o p =
-    some-then (shortName bytes) _ r p λ n rest _ s.
-    some-then (reference kind rest) _ r s λ k rest′ t q.
-    let u : (named kind n k, rest′) ≡ r = cc in
-    rw (← u) (reference-kind kind rest (k, rest′) t)
-body-kinds first (some (ofRaw kind)) bytes r o p =
-    some-then (two bytes) _ r p λ n rest _ s.
-    some-then (two rest) _ r s λ k rest′ _ q.
-    let u : (placed kind n k, rest′) ≡ r = cc in
-    rw (← u) tt
-
-pub formed-kinds :
-    (bytes : List ℕ) (job : Job (List ℕ)) →
-    form bytes ≡ good job →
-    (i : ℕ) (x : Definition (List ℕ)) →
-    getElem? (job .definitions) i ≡ some x →
-    AllOfKind x
-unfolding readDefinition
-formed-kinds bytes job f i x p =
-    all-read AllOfKind (λ first bytes r q. body-kinds first (lookup first bodies) bytes r refl q) bytes job f i x p
+-- so a formed definition refers to the right kinds
+formed-kinds : (x : Definition (List ℕ)) → FormedDefinition x → AllOfKind x
+unfolding AllOfKind
+formed-kinds (define e) h =
+    λ i r p.
+    subst (λ j. OfKind (kidKind (e .tag) j) r) (zero-add i) (kids-kinds (e .tag) (h .fields) 0 (e .kids) (h .ofKinds) (shape-conforms (e .tag) (h .fields) (h .shapeOf)) i r p)
+formed-kinds (named kind s r) h = h .1
+formed-kinds (placed kind at n) h = tt
 
 -- a definition more is counted where it stands
 module _ {L : Type 0} (e : Entry L Reference) (ds : List (Definition L)) where
@@ -313,105 +182,27 @@ count-one bootstrap (define e) ds n = ways (isBootstrap e) refl
 count-one kind (named k s r) ds n = ap (λ m. countOf kind n + m) (count-same kind (named k s r) ds refl)
 count-one kind (placed k at m) ds n = ap (λ m. countOf kind n + m) (count-same kind (placed k at m) ds refl)
 
--- no entry is counted before the first record
-count-none : (kind : Kind) → countOf kind noEntries ≡ 0
-unfolding countOf
-count-none constant = refl
-count-none bootstrap = refl
-
 count-nil : (kind : Kind) → countIn {L = List ℕ} kind [] ≡ 0
 unfolding countIn constantsOf bootstrapsOf entries only
 count-nil constant = refl
 count-nil bootstrap = refl
 
 -- at the end the counts are those of the entries there
-pub formed-counts :
-    (fuel : ℕ) (n : Counts) (place : ℕ) (bytes : List ℕ) (d : Definitions) →
-    formDefinitions fuel n place bytes ≡ good d →
-    (kind : Kind) →
-    countOf kind (d .counts) ≡ countOf kind n + countIn kind (d .list)
-unfolding formDefinitions
-formed-counts zero n place [] d e kind = clash (cc)
-formed-counts zero n place (first ∷ bytes) d e kind = clash (cc)
-formed-counts (suc fuel) n place [] d e kind = clash (cc)
-formed-counts (suc fuel) n place (first ∷ bytes) d e kind = ways (eqb first 0x50) refl (formed-counts fuel)
-  where
-    ways :
-        (b : Bool) →
-        eqb first 0x50 ≡ b →
-        ((n : Counts) (place : ℕ) (bytes : List ℕ) (d : Definitions) →
-        formDefinitions fuel n place bytes ≡ good d →
-        (kind : Kind) →
-        countOf kind (d .counts) ≡ countOf kind n + countIn kind (d .list)) →
-        countOf kind (d .counts) ≡ countOf kind n + countIn kind (d .list)
-    ways true s rest =
-        let h = formed-end fuel n place first bytes d s e in
-        let z = count-nil kind in
-        rw (h, z) (omega arith)
-    ways false s rest =
-        let h = formed-step fuel n place first bytes d s e in
-        let r = h .0 in
-        let p = rest (counted (r .0) n) (suc place) (r .1) (h .1) (h .3) kind in
-        let q = count-one kind (r .0) (h .1 .list) n in
-        rw (h .4) (p ∙ q)
+counts-after : (n : Counts) (ds : List (Definition (List ℕ))) (kind : Kind) → countOf kind (countsAfter n ds) ≡ countOf kind n + countIn kind ds
+counts-after n [] kind = omega (arith, count-nil kind)
+counts-after n (x ∷ ds) kind = counts-after (counted x n) ds kind ∙ count-one kind x ds n
 
--- a formed definition cites what was counted before it
-pub formed-cites :
-    (n : Counts) (first : ℕ) (bytes : List ℕ) (r : Definition (List ℕ) × List ℕ) → formDefinition n first bytes ≡ good r → citesEarlier n (r .0) ≡ true
-unfolding formDefinition
-formed-cites n first bytes r e =
-    good-then (whole (readDefinition first bytes)) _ r e λ a p q.
-    good-then (unless (hasRoom n (a .0)) 5) _ r q λ _ _ s.
-    good-then (unless (citesEarlier n (a .0)) 4) _ r s λ _ c t.
-    let u : a ≡ r = cc in
-    rw (← u) (good-unless (citesEarlier n (a .0)) 4 _ c)
-
--- counts that are no more than others
-abbrev pub NoMore : Counts → Counts → Type 0
-NoMore n m = (kind : Kind) → countOf kind n ≤ countOf kind m
-
-pub all-cite :
-    (fuel : ℕ) (n : Counts) (place : ℕ) (bytes : List ℕ) (d : Definitions) →
-    formDefinitions fuel n place bytes ≡ good d →
+-- each definition cites what was counted before it
+earlier-cited :
+    (n : Counts) (ds : List (Definition (List ℕ))) →
+    FormedFrom n ds →
     (i : ℕ) (x : Definition (List ℕ)) →
-    getElem? (d .list) i ≡ some x →
-    (m : Counts) × (citesEarlier m x ≡ true) × NoMore m (d .counts)
-unfolding formDefinitions
-all-cite zero n place [] d e = clash (cc)
-all-cite zero n place (first ∷ bytes) d e = clash (cc)
-all-cite (suc fuel) n place [] d e = clash (cc)
-all-cite (suc fuel) n place (first ∷ bytes) d e = ways (eqb first 0x50) refl (all-cite fuel)
-  where
-    ways :
-        (b : Bool) →
-        eqb first 0x50 ≡ b →
-        ((n : Counts) (place : ℕ) (bytes : List ℕ) (d : Definitions) →
-        formDefinitions fuel n place bytes ≡ good d →
-        (i : ℕ) (x : Definition (List ℕ)) →
-        getElem? (d .list) i ≡ some x →
-        (m : Counts) × (citesEarlier m x ≡ true) × NoMore m (d .counts)) →
-        (i : ℕ) (x : Definition (List ℕ)) →
-        getElem? (d .list) i ≡ some x →
-        (m : Counts) × (citesEarlier m x ≡ true) × NoMore m (d .counts)
-    ways true s rest i x p =
-        let h = formed-end fuel n place first bytes d s e in
-        clash (cc)
-    ways false s rest i x p =
-        let h = formed-step fuel n place first bytes d s e in
-        let r = h .0 in
-        let q : d .list ≡ r .0 ∷ h .1 .list = ap (λ (d : Definitions). d .list) (h .4) in
-        let c : d .counts ≡ h .1 .counts = ap (λ (d : Definitions). d .counts) (h .4) in
-        let grown : NoMore n (d .counts) = λ kind. let g = formed-counts (suc fuel) n place (first ∷ bytes) d e kind in omega arith in
-        let later = rest (counted (r .0) n) (suc place) (r .1) (h .1) (h .3) in
-        all-cons
-        (λ x. (m : Counts) × (citesEarlier m x ≡ true) × NoMore m (d .counts))
-        (r .0)
-        (h .1 .list)
-        (n, formed-cites n first bytes r (h .2), grown)
-        (λ i x p. rw c (later i x p))
-        i
-        x
-        (rw q at p)
+    getElem? ds i ≡ some x →
+    (m : Counts) × (citesEarlier m x ≡ true) × ((kind : Kind) → countOf kind m ≤ countOf kind (countsAfter n ds))
+earlier-cited n [] h i x e = none≢some e
+earlier-cited n (d ∷ ds) h zero x e =
+    (n, rw (← some-inj e) (h .0 .earlier), λ kind. omega (arith, counts-after n (d ∷ ds) kind))
+earlier-cited n (d ∷ ds) h (suc i) x e = earlier-cited (counted d n) ds (h .1) i x e
 
 -- what was tested against counts that are reached is there
 cites-there :
@@ -436,91 +227,6 @@ earlier-there ds n (placed kind at m) h e =
     let p = ltb-true m (countOf kind n) e in
     let q = h kind in
     omega arith
-
--- 60 ends the requests
-formed-build :
-    (fuel : ℕ) (n : Counts) (requests place first : ℕ) (bytes : List ℕ) (d : Requests) →
-    eqb first 0x60 ≡ true →
-    formRequests (suc fuel) n requests place (first ∷ bytes) ≡ good d →
-    d .list ≡ []
-unfolding formRequests
-formed-build fuel n requests place first bytes d s e =
-    good-then (formBuild requests place bytes) _ d (rw (s, formRequests) at e) λ b p q.
-    let u : record { list = []; build = b } ≡ d = cc in
-    ap (λ (d : Requests). d .list) (sym u)
-
--- any other first byte begins a request, and the others follow
-formed-request :
-    (fuel : ℕ) (n : Counts) (requests place first : ℕ) (bytes : List ℕ) (d : Requests) →
-    eqb first 0x60 ≡ false →
-    formRequests (suc fuel) n requests place (first ∷ bytes) ≡ good d →
-    (r : Request × List ℕ)
-    × (d′ : Requests)
-    × (formRequest n first bytes ≡ good r)
-    × (formRequests fuel n (suc requests) (suc place) (r .1) ≡ good d′)
-    × (d .list ≡ r .0 ∷ d′ .list)
-unfolding formRequests
-formed-request fuel n requests place first bytes d s e =
-    good-then (atRecord place (formRequest n first bytes)) _ d (rw (s, formRequests) at e) λ r p q.
-    good-then (formRequests fuel n (suc requests) (suc place) (r .1)) _ d q λ d′ t u.
-    let v : record { list = r .0 ∷ d′ .list; build = d′ .build } ≡ d = cc in
-    (r, d′, good-atRecord place (formRequest n first bytes) r p, t, ap (λ (d : Requests). d .list) (sym v))
-
--- a request asks for a constant that is cited as it may be
-abbrev pub Asks : Counts → Request → Type 0
-Asks n q = (cites n (q .what) ≡ true) × OfKind constant (q .what)
-
-read-asks : (o : Option Bool) (bytes : List ℕ) (r : Request × List ℕ) → readRequest o bytes ≡ some r → OfKind constant (r .0 .what)
-unfolding readRequest
-read-asks none bytes r e = clash (cc)
-read-asks (some ldc) bytes r e =
-    some-then (reference constant bytes) _ r e λ x rest p q.
-    let u : (record { ldc = ldc; what = x }, rest) ≡ r = cc in
-    rw (← u) (reference-kind constant bytes (x, rest) p)
-
-formed-asks : (n : Counts) (first : ℕ) (bytes : List ℕ) (r : Request × List ℕ) → formRequest n first bytes ≡ good r → Asks n (r .0)
-unfolding formRequest
-formed-asks n first bytes r e =
-    good-then (whole (readRequest (lookup first asks) bytes)) _ r e λ a p q.
-    good-then (unless (cites n (a .0 .what)) 4) _ r q λ _ c t.
-    let u : a ≡ r = cc in
-    rw (← u) (
-      good-unless (cites n (a .0 .what)) 4 _ c,
-      read-asks (lookup first asks) bytes a (whole-good (readRequest (lookup first asks) bytes) a p),
-    )
-
-all-ask :
-    (fuel : ℕ) (n : Counts) (requests place : ℕ) (bytes : List ℕ) (d : Requests) →
-    formRequests fuel n requests place bytes ≡ good d →
-    (i : ℕ) (q : Request) →
-    getElem? (d .list) i ≡ some q →
-    Asks n q
-unfolding formRequests
-all-ask zero n requests place [] d e = clash (cc)
-all-ask zero n requests place (first ∷ bytes) d e = clash (cc)
-all-ask (suc fuel) n requests place [] d e = clash (cc)
-all-ask (suc fuel) n requests place (first ∷ bytes) d e = ways (eqb first 0x60) refl (all-ask fuel n)
-  where
-    ways :
-        (b : Bool) →
-        eqb first 0x60 ≡ b →
-        ((requests place : ℕ) (bytes : List ℕ) (d : Requests) →
-        formRequests fuel n requests place bytes ≡ good d →
-        (i : ℕ) (q : Request) →
-        getElem? (d .list) i ≡ some q →
-        Asks n q) →
-        (i : ℕ) (q : Request) →
-        getElem? (d .list) i ≡ some q →
-        Asks n q
-    ways true s rest i q p =
-        let h = formed-build fuel n requests place first bytes d s e in
-        let z : none ≡ some q = rw h at p in
-        clash (cc)
-    ways false s rest i q p =
-        let h = formed-request fuel n requests place first bytes d s e in
-        let r = h .0 in
-        let later = rest (suc requests) (suc place) (r .1) (h .1) (h .3) in
-        all-cons (Asks n) (r .0) (h .1 .list) (formed-asks n first bytes r (h .2)) later i q (rw (h .4) at p)
 
 -- a job whose references all cite what is there, each of the kind that its place wants
 pub record Cited (L : Type 0) (job : Job L) : Type 0 where
@@ -549,31 +255,31 @@ module _ {L : Type 0} (job : Job L) (cited : Cited L job) where
   unfolding AllCited
   placed-cited kind n e h = cited .definitionCited (h .0) (placed kind n e) (h .1)
 
-pub formed-cited : (bytes : List ℕ) (job : Job (List ℕ)) → form bytes ≡ good job → Cited (List ℕ) job
-unfolding form
-formed-cited bytes job f =
-    good-then (formDefinitions (length bytes) noEntries 0 bytes) _ job f λ d p q.
-    good-then (formRequests (length bytes) (d .counts) 0 (suc (length (d .list))) (d .rest)) _ job q λ r s t.
-    let u : record { definitions = d .list; requests = r .list; build = r .build } ≡ job = cc in
-    let sameDefinitions : job .definitions ≡ d .list = ap (λ (j : Job (List ℕ)). j .definitions) (sym u) in
-    let sameRequests : job .requests ≡ r .list = ap (λ (j : Job (List ℕ)). j .requests) (sym u) in
-    let reached : (kind : Kind) → countOf kind (d .counts) ≤ countIn kind (job .definitions) =
-    λ kind.
-    let g = formed-counts (length bytes) noEntries 0 bytes d p kind in
-    let z = count-none kind in
-    rw sameDefinitions (omega arith) in
+pub formed-cited : (job : Job (List ℕ)) → Formed job → Cited (List ℕ) job
+unfolding countOf
+formed-cited job f =
     record {
       definitionCited =
-          λ i x h.
-          let c = all-cite (length bytes) noEntries 0 bytes d p i x (rw sameDefinitions at h) in
-          earlier-there (job .definitions) (c .0) x (λ kind. let a = c .2 kind in let b = reached kind in omega arith) (c .1);
-      definitionOfKind = formed-kinds bytes job f;
-      requestCited =
-          λ i y h.
-          cites-there (job .definitions) (d .counts) (y .what) reached
-          (all-ask (length bytes) (d .counts) 0 (suc (length (d .list))) (d .rest) r s i y (rw sameRequests at h) .0);
-      requestOfKind = λ i y h. all-ask (length bytes) (d .counts) 0 (suc (length (d .list))) (d .rest) r s i y (rw sameRequests at h) .1;
+          λ i x p.
+          let c = earlier-cited noEntries (job .definitions) (f .definitions) i x p in
+          earlier-there (job .definitions) (c .0) x (λ kind. omega (arith, c .2 kind, reached kind)) (c .1);
+      definitionOfKind = λ i x p. formed-kinds x (each-at FormedDefinition (job .definitions) i x (formed-definitions-each job f) p);
+      requestCited = λ i q p. cites-there (job .definitions) after (q .what) reached (asked i q p .1);
+      requestOfKind = λ i q p. asked i q p .0;
     }
+  where
+    after : Counts
+    after = countsAfter noEntries (job .definitions)
+
+    none-yet : (kind : Kind) → countOf kind noEntries ≡ 0
+    none-yet constant = refl
+    none-yet bootstrap = refl
+
+    reached : (kind : Kind) → countOf kind after ≤ countIn kind (job .definitions)
+    reached kind = omega (arith, counts-after noEntries (job .definitions) kind, none-yet kind)
+
+    asked : (i : ℕ) (q : Request) → getElem? (job .requests) i ≡ some q → FormedRequest after q
+    asked i q p = each-at (FormedRequest after) (job .requests) i q (f .requests) p
 
 -- numbers for literals change nothing else
 entries-numbered : (all : List Literal) (ds : List (Definition (List ℕ))) → entries (map (numberedDefinition all) ds) ≡ map (numberedEntry all) (entries ds)
@@ -715,12 +421,12 @@ module _ {L : Type 0} (ds : List (Definition L)) where
         Cites ds r →
         OfKind kind r →
         GoalOfKind (length (constantsOf ds)) tableSizeOf kind (follow steps names (length (constantsOf ds)) r)
-    unfolding follow Cites OfKind GoalOfKind
+    unfolding follow Cites GoalOfKind
     follow-kind zero (raw n) kind c k = tt
-    follow-kind zero (entry kind′ n) kind c k = rw (← k) (entry-goal kind′ n c)
+    follow-kind zero (entry kind′ n) kind c k = rw (← k .0) (entry-goal kind′ n c)
     follow-kind zero (name kind′ s) kind c k = tt
     follow-kind (suc steps) (raw n) kind c k = tt
-    follow-kind (suc steps) (entry kind′ n) kind c k = rw (← k) (entry-goal kind′ n c)
+    follow-kind (suc steps) (entry kind′ n) kind c k = rw (← k .0) (entry-goal kind′ n c)
     follow-kind (suc steps) (name kind′ s) kind c k = ways (nameTarget kind′ s names) refl (λ r. follow-kind steps r kind)
       where
         ways :
@@ -732,7 +438,7 @@ module _ {L : Type 0} (ds : List (Definition L)) where
         ways (some r) e rest =
             let h = target-at kind′ s names r e in
             let t = named-there (h .1 .0) (h .0) (h .1 .1) in
-            let same : h .0 .kind ≡ kind = sym (h .2) ∙ k in
+            let same : h .0 .kind ≡ kind = sym (h .2) ∙ k .0 in
             rw (follow-some steps names (length (constantsOf ds)) kind′ s r e, ← (h .4)) (rest (h .0 .target) (t .0) (rw same at (t .1)))
 
     pub goal-kind :
@@ -742,15 +448,6 @@ module _ {L : Type 0} (ds : List (Definition L)) where
         GoalOfKind (length (constantsOf ds)) tableSizeOf kind (goalOf names (length (constantsOf ds)) r)
     unfolding goalOf
     goal-kind r kind c k = follow-kind (suc (length names)) r kind c k
-
--- an entry of the definitions was defined
-pub entry-defined : {L : Type 0} (ds : List (Definition L)) (i : ℕ) (e : Entry L Reference) → getElem? (entries ds) i ≡ some e → Among (define e) ds
-unfolding entries
-entry-defined [] i e p = clash (cc)
-entry-defined (define x ∷ ds) zero e p = let q : x ≡ e = cc in (0, ap (λ y. some (define y)) q)
-entry-defined (define x ∷ ds) (suc i) e p = among-later (define e) (define x) ds (entry-defined ds i e p)
-entry-defined (named kind s r ∷ ds) i e p = among-later (define e) (named kind s r) ds (entry-defined ds i e p)
-entry-defined (placed kind at n ∷ ds) i e p = among-later (define e) (placed kind at n) ds (entry-defined ds i e p)
 
 -- a naming was named
 pub naming-named :
@@ -794,7 +491,7 @@ module _ {L : Type 0} (ds : List (Definition L)) where
           × Among (define e) ds
       ways (inl q) =
           let h = constant-tag i e q in
-          let b = some-lt (constantsOf ds) i e q in
+          let b = found-inside (constantsOf ds) i e q in
           (λ _. h .0, λ l. absurd (omega arith), h .1)
       ways (inr (j, r, q)) =
           let h = bootstrap-tag j e q in

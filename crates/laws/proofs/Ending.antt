@@ -7,42 +7,23 @@ use mathlib.Core.Path.{_≡_, refl, sym, ap, subst, _∙_}
 use Prim.Native.Nat.{ℕ, zero, suc, _+_, _-_, _≤_, _<_}
 use native.Mathlib.Omega.{arith}
 use lib.ListN.{length, getElem?}
-use Rattle.definition.specs.Basics.{good, _>>=_, lookup, position}
+use Rattle.definition.specs.Basics.{good, lookup, position}
 use Rattle.definition.specs.Shapes.{Entry, withKids, bootstrapTag}
 use Rattle.definition.specs.Definitions.{Held, tagAt}
 use Rattle.definition.specs.Resolving.{Node, firstNode, sameNode, intern}
 use Rattle.definition.specs.Building.{Pool, allocate, Row, Made, kidsOf, buildAll, attributeText, nameSlot}
 use Rattle.laws.specs.Statements.{Among, Occurs, afterRequest, moreResolved}
-use Rattle.laws.proofs.Each.{Each, each-map}
-use Rattle.laws.proofs.Results.{after}
-use Rattle.laws.proofs.Lists.{clash, good-inj, lookup-at}
-use Rattle.laws.proofs.Places.{found-inside, inside-found, found-append}
-use Rattle.laws.proofs.Tables.{equal, lookup-hit, lookup-miss}
-use Rattle.laws.proofs.MoreLists.{some-key}
+use Rattle.laws.proofs.Lists.{equal, found-inside, inside-found, found-append}
+use Rattle.laws.proofs.Results.{good-inj, good-then}
+use Rattle.laws.proofs.Each.{Each, each-weaker, Both, both-among}
+use Rattle.laws.proofs.Tables.{some-key, lookup-hit, lookup-miss, lookup-at, among-lookup}
+use Rattle.laws.proofs.Interning.{interned}
 use Rattle.laws.proofs.Requests.{Met, old, new, met}
 use Rattle.laws.proofs.Kept.{keeps}
 use Rattle.laws.proofs.Sound.{Below, sound, tag-append}
-use Rattle.laws.proofs.Faithful.{interned}
 use Rattle.laws.proofs.GivenConstants.{Constant, BootstrapKids, buildAll-given}
-use Rattle.laws.proofs.Numbers.{Each as Both, SlotFor, NumberFor, toHold, OwnerOf, rowsOf, KidsIn, Starts, SlotsKept, rows-same, slots-same, owner-kept, given-held, finished, owners, poolOccurs}
+use Rattle.laws.proofs.Numbers.{SlotFor, NumberFor, toHold, OwnerOf, rowsOf, KidsIn, Starts, SlotsKept, rows-same, slots-same, owner-kept, given-held, finished, owners, poolOccurs}
 use Rattle.laws.proofs.Asked.{Pooled, tag-found}
-
--- a key that stands in a table is found
-among-lookup : {A : Type 0} (s : ℕ) (e : A) (l : List (ℕ × A)) → Among (s, e) l → (e′ : A) × (lookup s l ≡ some e′)
-among-lookup s e [] (i, h) = clash (cc)
-among-lookup {A} s e (x ∷ l) (i, h) = go i h (equal s (x .0)) (λ j h′. among-lookup s e l (j, h′))
-  where
-    go :
-        (i : ℕ) →
-        getElem? (x ∷ l) i ≡ some (s, e) →
-        (s ≡ x .0) ⊎ (s ≡ x .0 → ⊥) →
-        ((j : ℕ) → getElem? l j ≡ some (s, e) → (e′ : A) × (lookup s l ≡ some e′)) →
-        (e′ : A) × (lookup s (x ∷ l) ≡ some e′)
-    go i h (inl same) rest = (x .1, lookup-hit s x l same)
-    go zero h (inr other) rest = absurd (other (sym (some-key x (s, e) h)))
-    go (suc i) h (inr other) rest =
-        let r = rest i h in
-        (r .0, lookup-miss s x l other ∙ r .1)
 
 pub record Ended (top : ℕ) (held : List (ℕ × Held)) (raws : List (ℕ × ℕ)) (nodes : List Node) (rows : List Row) (m : Made) : Type 0 where
   -- the pool is one that occurs
@@ -74,17 +55,10 @@ built-ended top held raws nodes indexes p m pooled starts kids boots e =
           among-lookup s (withKids (f .1) (f .0)) (m .owned) (f .3);
       constants =
           buildAll-given nodes kids indexes p m boots e
-          (each-map (λ r. (r .0 < length nodes) × Constant nodes (r .0)) (λ r. Constant nodes (r .0)) (p .given) (λ r h. h .1) (pooled .givenIn));
+          (each-weaker (λ r. (r .0 < length nodes) × Constant nodes (r .0)) (λ r. Constant nodes (r .0)) (λ r h. h .1) (p .given) (pooled .givenIn));
     }
 
 -- ---- more nodes
-
--- two lists related place by place, where the relation may use that the first is of the list
-both-among : {R S : ℕ → ℕ → Type 0} (cs ns : List ℕ) → ((c n : ℕ) → Among c cs → R c n → S c n) → Both R cs ns → Both S cs ns
-both-among [] [] f h = tt
-both-among [] (n ∷ ns) f h = h
-both-among (c ∷ cs) [] f h = h
-both-among {R} {S} (c ∷ cs) (n ∷ ns) f h = (f c n (0, refl) (h .0), both-among {R = R} {S = S} cs ns (λ c′ n′ a. f c′ n′ (suc (a .0), a .1)) (h .1))
 
 pub kids-append : (nodes more : List Node) (k : ℕ) → k < length nodes → kidsOf (nodes ++ more) k ≡ kidsOf nodes k
 unfolding kidsOf
@@ -271,7 +245,7 @@ named top held raws nodes rows false m r kids h e =
     subst (Named top held raws nodes rows false m) (good-inj e)
     (record { more = []; ended = ended-more top held raws nodes [] rows m kids h; kept = slots-same; others = λ k nd at. inl (subst (λ n. getElem? n k ≡ some nd) (append-nil nodes) at); name = inl (refl, refl) })
 named top held raws nodes rows true m r kids h e =
-    after (allocate (intern attributeText nodes) false (position (sameNode attributeText) nodes) (m .pool)) _ r e λ q gave e₁.
+    good-then (allocate (intern attributeText nodes) false (position (sameNode attributeText) nodes) (m .pool)) _ r e λ q gave e₁.
     let i = interned attributeText nodes in
     let more = i .kept .0 in
     let k = position (sameNode attributeText) nodes in

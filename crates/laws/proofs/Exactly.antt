@@ -14,7 +14,8 @@ use Rattle.definition.specs.Resolving.{Node}
 use Rattle.definition.specs.Slots.{Gap, size, Slots, wideSlot, narrowSlot, slotFor}
 use Rattle.definition.specs.Building.{Pool, noSlot, give, allocate}
 use Rattle.laws.specs.Statements.{Free, Exactly}
-use Rattle.laws.proofs.Tables.{bad≢good, true≢false}
+use Rattle.laws.proofs.Lists.{true≢false}
+use Rattle.laws.proofs.Results.{bad≢good}
 use Rattle.laws.proofs.Gaps.{neighbours, free-within, within-free}
 use Rattle.laws.proofs.Requests.{wide-taken, wide-refused, narrow-taken, narrow-refused, allocate-new}
 use Rattle.laws.proofs.Sound.{Sound, sound}

@@ -1,24 +1,21 @@
 -- What resolving leaves behind is faithful to the entries: an entry that was resolved has become a node with its tag, literal and kind
 -- byte and with what its own references became, nothing is left half done, and what was resolved before stays as it is. Assumes nothing.
-use mathlib.Core.Bool.{Bool, true, false, _&&_}
 use mathlib.Core.List.{List, [], _∷_, _++_, map, append-assoc, append-nil}
 use mathlib.Core.Logic.{_⊎_, inl, inr, ⊎-map, ⊎-elim}
 use mathlib.Core.Option.{some}
-use mathlib.Core.Path.{_≡_, refl, sym, ap, ap₂, subst, subst₂, _∙_}
+use mathlib.Core.Path.{_≡_, refl, sym, ap, subst, subst₂, _∙_}
 use Prim.Native.Nat.{ℕ, zero, suc, _+_, _<_}
 use native.Mathlib.Nat.{not-suc-le-zero}
-use native.Mathlib.Omega.{arith}
-use lib.Dec.{eqb, ltb}
-use lib.ListN.{length, getD, getElem?, set, length-append, length-set, length-replicate}
-use borrow.Author.Tests.{eqb-true, ltb-true, ltb-false}
+use lib.ListN.{length, getD, getElem?, set, length-set, length-replicate}
 use Rattle.definition.specs.Basics.{Result, good, bad, _>>=_, same, position}
 use Rattle.definition.specs.Shapes.{Entry, withKids}
 use Rattle.definition.specs.Resolving.{Goal, rawNumber, tableEntry, refusal, Node, Mark, fresh, underway, done, Resolved, Item, enter, leave}
-use Rattle.definition.specs.Resolving.{sameNode, intern, markChild, childOf, kidsAt, visited, leaveNode, leaving, entering, step, work, fuelFor}
+use Rattle.definition.specs.Resolving.{sameNode, markChild, childOf, kidsAt, visited, leaveNode, leaving, entering, step, work, fuelFor}
 use Rattle.definition.specs.Resolving.{resolve, resolveAll, nothingResolved}
 use Rattle.laws.specs.Statements.{Among}
-use Rattle.laws.proofs.Places.{found-inside, inside-found, found-read, read-found, found-set, found-elsewhere, found-after-set}
-use Rattle.laws.proofs.Places.{found-append, found-last, found-replicate, position-le, position-passes, map-agree, among-nil, among-cons}
+use Rattle.laws.proofs.Lists.{clash, found-inside, found-read, read-found, inside-found, found-set, found-elsewhere, found-after-set, found-append, found-replicate, among-nil, among-cons, map-same}
+use Rattle.laws.proofs.Results.{bad≢good, good-inj}
+use Rattle.laws.proofs.Interning.{interned}
 
 -- a goal is settled: a raw number, or an entry that has become a node
 abbrev pub Settled : List Mark → Goal → Type 0
@@ -58,14 +55,6 @@ pub record Grows (s s′ : Resolved) : Type 0 where
   pub marksKept : (e k : ℕ) → getElem? (s .marks) e ≡ some (done k) → getElem? (s′ .marks) e ≡ some (done k)
   pub nodesKept : (more : List Node) × (s′ .nodes ≡ s .nodes ++ more)
 
--- equal results hold equal values
-good-equal : {A : Type 0} {a b : A} → _≡_ {A = Result ℕ A} (good a) (good b) → a ≡ b
-good-equal h = cc
-
--- a refusal is no result
-bad-good : {A : Type 0} {a : A} {code : ℕ} → _≡_ {A = Result ℕ A} (bad code) (good a) → ⊥
-bad-good h = let z : _≡_ {A = ℕ} 0 1 = cc in omega arith
-
 -- nothing has to change
 pub grows-refl : (s : Resolved) → Grows s s
 grows-refl s = record { marksKept = λ e k h. h; nodesKept = ([], sym (append-nil (s .nodes))) }
@@ -102,7 +91,7 @@ node-made :
 node-made table s s′ e k x h at node settled = (
   x,
   at,
-  rw (map-agree (childOf (s′ .marks)) (childOf (s .marks)) (x .kids) (λ g p. child-grows s s′ g h (settled g p))) node,
+  rw (map-same (childOf (s′ .marks)) (childOf (s .marks)) (x .kids) (λ g p. child-grows s s′ g h (settled g p))) node,
   λ g p. settled-grows s s′ g h (settled g p),
 )
 
@@ -110,84 +99,6 @@ node-made table s s′ e k x h at node settled = (
 pub node-grows : (table : List (Entry ℕ Goal)) (s s′ : Resolved) (e k : ℕ) → Grows s s′ → IsNode table s e k → IsNode table s′ e k
 node-grows table s s′ e k h n =
     node-made table s s′ e k (n .0) h (n .1) (rw (h .nodesKept .1) (found-append (s .nodes) (h .nodesKept .0) k _ (n .2))) (n .3)
-
--- a conjunction of tests holds: both do
-and-both : (a b : Bool) → (a && b) ≡ true → (a ≡ true) × (b ≡ true)
-and-both true b h = (refl, h)
-and-both false b h = (h, cc)
-
--- lists of numbers that the test finds equal are equal
-pub same-equal : (a b : List ℕ) → same a b ≡ true → a ≡ b
-unfolding same
-same-equal [] [] h = refl
-same-equal [] (y ∷ b) h = cc
-same-equal (x ∷ a) [] h = cc
-same-equal (x ∷ a) (y ∷ b) h =
-    let (p, q) = and-both (eqb x y) (same a b) h in
-    ap₂ _∷_ (eqb-true x y p) (same-equal a b q)
-
--- and so are nodes
-pub sameNode-equal : (a b : Node) → sameNode a b ≡ true → a ≡ b
-unfolding sameNode
-sameNode-equal a b h =
-    let kids = same (a .kids) (b .kids) in
-    let bytes = eqb (a .byte) (b .byte) in
-    let literals = eqb (a .literal) (b .literal) in
-    let (p, h₁) = and-both (eqb (a .tag) (b .tag)) (literals && (bytes && kids)) h in
-    let (q, h₂) = and-both literals (bytes && kids) h₁ in
-    let (r, h₃) = and-both bytes kids h₂ in
-    let tag = eqb-true (a .tag) (b .tag) p in
-    let literal = eqb-true (a .literal) (b .literal) q in
-    let byte = eqb-true (a .byte) (b .byte) r in
-    let kids = same-equal (a .kids) (b .kids) h₃ in
-    λ i. record { tag = tag i; literal = literal i; byte = byte i; kids = kids i }
-
--- interning a node that is there
-intern-old : (n : Node) (nodes : List Node) → ltb (position (sameNode n) nodes) (length nodes) ≡ true → intern n nodes ≡ nodes
-unfolding intern
-intern-old n nodes e = rw (e, intern)
-
--- and one that isn't
-intern-new : (n : Node) (nodes : List Node) → ltb (position (sameNode n) nodes) (length nodes) ≡ false → intern n nodes ≡ nodes ++ n ∷ []
-unfolding intern
-intern-new n nodes e = rw (e, intern)
-
--- interning: the old nodes stay, the node stands at its position, and no other comes in
-pub record Interned (n : Node) (nodes : List Node) : Type 0 where
-  pub kept : (more : List Node) × (intern n nodes ≡ nodes ++ more)
-  pub there : getElem? (intern n nodes) (position (sameNode n) nodes) ≡ some n
-  pub noOther : (k : ℕ) → k < length (intern n nodes) → (k < length nodes) ⊎ (k ≡ position (sameNode n) nodes)
-
-pub interned : (n : Node) (nodes : List Node) → Interned n nodes
-interned n nodes = go (ltb (position (sameNode n) nodes) (length nodes)) refl
-  where
-    go : (b : Bool) → ltb (position (sameNode n) nodes) (length nodes) ≡ b → Interned n nodes
-    go true e =
-        let (y, at, passes) = position-passes (sameNode n) nodes (ltb-true _ _ e) in
-        record {
-          kept = ([], intern-old n nodes e ∙ sym (append-nil nodes));
-          there = rw (intern-old n nodes e) (at ∙ ap some (sym (sameNode-equal n y passes)));
-          noOther = λ k h. inl (rw (intern-old n nodes e) at h);
-        }
-    go false e =
-        let low = ltb-false (position (sameNode n) nodes) (length nodes) e in
-        let high = position-le (sameNode n) nodes in
-        let end : position (sameNode n) nodes ≡ length nodes = omega arith in
-        record {
-          kept = (n ∷ [], intern-new n nodes e);
-          there = rw (intern-new n nodes e, end) (found-last nodes n);
-          noOther = λ k h. split k (rw (intern-new n nodes e, length-append) at h) end (ltb k (length nodes)) refl;
-        }
-      where
-        split :
-            (k : ℕ) →
-            k < length nodes + 1 →
-            position (sameNode n) nodes ≡ length nodes →
-            (b : Bool) →
-            ltb k (length nodes) ≡ b →
-            (k < length nodes) ⊎ (k ≡ position (sameNode n) nodes)
-        split k h end true t = inl (ltb-true k (length nodes) t)
-        split k h end false t = let low = ltb-false k (length nodes) t in inr (omega arith)
 
 -- while work is under way: what holds of the marks and nodes
 record Partial (table : List (Entry ℕ Goal)) (s : Resolved) : Type 0 where
@@ -216,7 +127,7 @@ begun e s = record { marks = set (s .marks) e underway; nodes = s .nodes; visits
 -- that keeps what was resolved
 begun-grows : (e : ℕ) (s : Resolved) → getElem? (s .marks) e ≡ some fresh → Grows s (begun e s)
 begun-grows e s isFresh = record {
-  marksKept = mark-kept (s .marks) e fresh underway isFresh (λ k q. let z : _≡_ {A = ℕ} 0 1 = cc in omega arith);
+  marksKept = mark-kept (s .marks) e fresh underway isFresh (λ k q. clash (cc));
   nodesKept = ([], sym (append-nil (s .nodes)));
 }
 
@@ -231,7 +142,7 @@ leave-grows e n s u = record {
       underway
       (done (position (sameNode n) (s .nodes)))
       u
-      (λ k q. let z : _≡_ {A = ℕ} 0 1 = cc in omega arith);
+      (λ k q. clash (cc));
   nodesKept = interned n (s .nodes) .kept;
 }
 
@@ -261,7 +172,7 @@ module _ (table : List (Entry ℕ Goal)) where
           (d k : ℕ) →
           ((d ≡ e) × (underway ≡ done k)) ⊎ ((d ≡ e → ⊥) × (getElem? (s .marks) d ≡ some (done k))) →
           IsNode table (begun e s) d k
-      node d k (inl q) = let z : _≡_ {A = ℕ} 0 1 = cc (q .1) in absurd (omega arith)
+      node d k (inl q) = clash (cc (q .1))
       node d k (inr q) = node-grows table s (begun e s) d k (begun-grows e s isFresh) (p .nodeOf d k (q .1))
 
   -- and after one is left whose children are settled
@@ -347,7 +258,7 @@ module _ (table : List (Entry ℕ Goal)) (goal : Goal) where
     where
       none-there : (a : Goal) → P a ⊎ Among a [] → P a
       none-there a (inl p) = p
-      none-there a (inr m) = absurd (among-nil a m)
+      none-there a (inr m) = among-nil a m
   stacked-kids U P (g ∷ gs) stack inside h =
       let below = stacked-more U U (λ a. P a ⊎ Among a (g ∷ gs)) (λ a. (P a ⊎ (a ≡ g)) ⊎ Among a gs) stack (λ e u. u) (λ e u. u) turn h in
       (inside g (0, refl), stacked-kids U (λ a. P a ⊎ (a ≡ g)) gs stack (λ a m. inside a (suc (m .0), m .1)) below)
@@ -425,7 +336,7 @@ module _ (table : List (Entry ℕ Goal)) (goal : Goal) where
 
       there : (d : ℕ) → U d → U′ d × (d ≡ e → ⊥)
       there d u =
-          let other : d ≡ e → ⊥ = λ q. let z : _≡_ {A = ℕ} 0 1 = cc in omega arith in
+          let other : d ≡ e → ⊥ = λ q. clash (cc) in
           (found-elsewhere (s .marks) e d underway other ∙ u, other)
 
       back : (d : ℕ) → U′ d × (d ≡ e → ⊥) → U d
@@ -477,7 +388,7 @@ module _ (table : List (Entry ℕ Goal)) (goal : Goal) where
       there d u = found-elsewhere (s .marks) e d (done k₀) (u .1) ∙ u .0
 
       still : (d : ℕ) → ((d ≡ e) × (done k₀ ≡ underway)) ⊎ ((d ≡ e → ⊥) × Underway (s .marks) d) → Underway (s .marks) d × (d ≡ e → ⊥)
-      still d (inl q) = let z : _≡_ {A = ℕ} 0 1 = cc (q .1) in absurd (omega arith)
+      still d (inl q) = clash (cc (q .1))
       still d (inr q) = (q .1, q .0)
 
       back : (d : ℕ) → Underway (s′ .marks) d → Underway (s .marks) d × (d ≡ e → ⊥)
@@ -500,7 +411,7 @@ module _ (table : List (Entry ℕ Goal)) (goal : Goal) where
       _≡_ {A = Result ℕ (List Item × Resolved)} (good r) (good r′) →
       Kept s (r .0 ++ rest) (r .1) →
       Kept s (r′ .0 ++ rest) (r′ .1)
-  taken rest s r r′ e = subst (λ (r : List Item × Resolved). Kept s (r .0 ++ rest) (r .1)) (good-equal e)
+  taken rest s r r′ e = subst (λ (r : List Item × Resolved). Kept s (r .0 ++ rest) (r .1)) (good-inj e)
 
   -- one step keeps what holds
   step-kept :
@@ -517,9 +428,9 @@ module _ (table : List (Entry ℕ Goal)) (goal : Goal) where
     where
       go : (m : Mark) → getElem? (s .marks) d ≡ some m → entering table d m s ≡ good r → Kept s (r .0 ++ rest) (r .1)
       go fresh at e = taken rest s (map enter (kidsAt table d) ++ leave d ∷ [], begun d s) r e (enter-fresh d rest s cited p h at)
-      go underway at e = absurd (bad-good e)
+      go underway at e = bad≢good e
       go (done k) at e = taken rest s ([], visited s) r e (enter-settled (tableEntry d) rest s p h (k, at))
-  step-kept (enter (refusal code)) rest s r cited p h e = absurd (bad-good e)
+  step-kept (enter (refusal code)) rest s r cited p h e = bad≢good e
   step-kept (leave d) rest s r cited p h e = taken rest s ([], leaving table d s) r e (leave-kept d rest s p h)
 
   -- what work leaves when it is done
@@ -530,7 +441,7 @@ module _ (table : List (Entry ℕ Goal)) (goal : Goal) where
   left-empty : (s s′ : Resolved) → Partial table s → Now s [] → _≡_ {A = Result ℕ Resolved} (good s) (good s′) → Left s s′
   left-empty s s′ p h e =
       let faithful : Faithful table s = record { marksLength = p .marksLength; nodeOf = p .nodeOf; fromEntry = p .fromEntry; noneUnderway = h .0 } in
-      subst (Left s) (good-equal e) (faithful, h .1, grows-refl s)
+      subst (Left s) (good-inj e) (faithful, h .1, grows-refl s)
 
   -- work that ends, with whatever fuel
   work-left :
@@ -542,7 +453,7 @@ module _ (table : List (Entry ℕ Goal)) (goal : Goal) where
       Left s s′
   unfolding work
   work-left zero [] s s′ cited p h e = left-empty s s′ p h e
-  work-left zero (i ∷ stack) s s′ cited p h e = absurd (bad-good e)
+  work-left zero (i ∷ stack) s s′ cited p h e = bad≢good e
   work-left (suc fuel) [] s s′ cited p h e = left-empty s s′ p h e
   work-left (suc fuel) (i ∷ stack) s s′ cited p h e = go (step table i s) refl e (λ stack₁ s₁. work-left fuel stack₁ s₁ s′ cited)
     where
@@ -552,7 +463,7 @@ module _ (table : List (Entry ℕ Goal)) (goal : Goal) where
           (r >>= λ r. work fuel table (r .0 ++ stack) (r .1)) ≡ good s′ →
           ((stack₁ : List Item) (s₁ : Resolved) → Partial table s₁ → Now s₁ stack₁ → work fuel table stack₁ s₁ ≡ good s′ → Left s₁ s′) →
           Left s s′
-      go (bad code) q e ih = absurd (bad-good e)
+      go (bad code) q e ih = bad≢good e
       go (good r) q e ih =
           let (p₁, h₁, grows) = step-kept i stack s r cited p h q in
           let (faithful, settled, grows₁) = ih (r .0 ++ stack) (r .1) p₁ h₁ e in
@@ -563,9 +474,9 @@ pub nothing-faithful : (table : List (Entry ℕ Goal)) → Cited table → Faith
 unfolding nothingResolved
 nothing-faithful table cited = record {
   marksLength = length-replicate (length table) fresh;
-  nodeOf = λ e k h. let z : _≡_ {A = ℕ} 0 1 = cc (found-replicate (length table) e fresh (done k) h) in absurd (omega arith);
+  nodeOf = λ e k h. clash (cc (found-replicate (length table) e fresh (done k) h));
   fromEntry = λ k h. absurd (not-suc-le-zero h);
-  noneUnderway = λ e h. let z : _≡_ {A = ℕ} 0 1 = cc (found-replicate (length table) e fresh underway h) in omega arith;
+  noneUnderway = λ e h. clash (cc (found-replicate (length table) e fresh underway h));
 }
 
 -- resolving a goal: faithful again, the goal settled, and what was resolved kept
@@ -593,8 +504,8 @@ unfolding resolveAll
 resolveAll-faithful table [] s s′ cited inside f e =
     subst
     (λ (s′ : Resolved). Faithful table s′ × ((g : Goal) → Among g [] → Settled (s′ .marks) g) × Grows s s′)
-    (good-equal e)
-    (f, λ g m. absurd (among-nil g m), grows-refl s)
+    (good-inj e)
+    (f, λ g m. among-nil g m, grows-refl s)
 resolveAll-faithful table (g ∷ goals) s s′ cited inside f e = go (resolve table g s) refl e (λ s₁. resolveAll-faithful table goals s₁ s′ cited)
   where
     go :
@@ -607,7 +518,7 @@ resolveAll-faithful table (g ∷ goals) s s′ cited inside f e = go (resolve ta
         resolveAll table goals s₁ ≡ good s′ →
         Faithful table s′ × ((a : Goal) → Among a goals → Settled (s′ .marks) a) × Grows s₁ s′) →
         Faithful table s′ × ((a : Goal) → Among a (g ∷ goals) → Settled (s′ .marks) a) × Grows s s′
-    go (bad code) q e ih = absurd (bad-good e)
+    go (bad code) q e ih = bad≢good e
     go (good s₁) q e ih =
         let (f₁, settled, grows) = resolve-faithful table g s s₁ cited (inside g (0, refl)) f q in
         let (f₂, others, more) = ih s₁ (λ a m. inside a (suc (m .0), m .1)) f₁ e in

@@ -5,13 +5,13 @@ use mathlib.Core.Logic.{inl, inr}
 use mathlib.Core.Option.{none, some}
 use mathlib.Core.Path.{_≡_, refl, sym, subst}
 use Prim.Native.Nat.{ℕ}
-use native.Mathlib.Omega.{arith}
 use lib.ListN.{length}
 use Rattle.definition.specs.Basics.{lookup}
 use Rattle.definition.specs.Shapes.{Field, shapes, bootstrapShape, bootstrapTag, Entry}
 use Rattle.definition.specs.Job.{Reference}
 use Rattle.definition.specs.Building.{Row}
 use Rattle.laws.specs.Statements.{rowShown}
+use Rattle.laws.proofs.Lists.{clash}
 use Rattle.laws.proofs.Each.{Each}
 use Rattle.laws.proofs.Entries.{Short, HasShape, IsFor, isFor-like}
 use Rattle.laws.proofs.PoolRead.{Fits}
@@ -30,8 +30,7 @@ constantShape tag fields (inr known) other = absurd (other (known .0))
 -- and that of a bootstrap is the bootstraps'
 rowShape : (tag : ℕ) (fields : List Field) → ShapeOf tag fields → tag ≡ bootstrapTag → fields ≡ bootstrapShape
 rowShape tag fields (inl known) is =
-    let z : _≡_ {A = ℕ} 0 1 = cc notInTable in
-    absurd (omega arith)
+    clash (cc notInTable)
 rowShape tag fields (inr known) is = known .1
 
 -- a formed constant, with numbers of two bytes for its references

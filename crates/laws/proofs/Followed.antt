@@ -15,7 +15,7 @@ use Rattle.definition.specs.Job.{Reference, raw, entry, name}
 use Rattle.definition.specs.Definitions.{Naming, nameTarget}
 use Rattle.definition.specs.Resolving.{refusal, follow, goalOf}
 use Rattle.laws.specs.Statements.{Followed}
-use Rattle.laws.proofs.Outcomes.{All, all-every}
+use Rattle.laws.proofs.Each.{Each, each-from}
 use Rattle.laws.proofs.Ready.{nameTarget-all}
 
 -- 1 if a reference leads somewhere in m steps, to a number, an entry or a name that isn't defined; else 0
@@ -58,7 +58,7 @@ ends-grows (suc m) names (name kind s) = go (nameTarget kind s names) refl (ends
 
 -- m steps tell what m + 1 would
 abbrev Still : ℕ → List Naming → List Naming → Type 0
-Still m names l = All (λ n. ends (suc m) names (n .target) ≡ ends m names (n .target)) l
+Still m names l = Each (λ n. ends (suc m) names (n .target) ≡ ends m names (n .target)) l
 
 -- if they do for all targets, then m + 1 steps tell what m + 2 would, for every reference
 still-next :
@@ -98,7 +98,7 @@ total-still m names (n ∷ l) h =
     (omega arith, total-still m names l (omega arith))
 
 still-up : (m : ℕ) (names : List Naming) → Still m names names → Still (suc m) names names
-still-up m names still = all-every _ (λ n. still-next m names still (n .target)) names
+still-up m names still = each-from _ names (λ i n e. still-next m names still (n .target))
 
 -- in m steps m of them end, or no more will
 grown : (m : ℕ) (names : List Naming) → (m ≤ total m names names) ⊎ Still m names names

@@ -3,7 +3,7 @@ use mathlib.Core.Bool.{Bool, true}
 use mathlib.Core.List.{List, [], _∷_}
 use mathlib.Core.Option.{Option, none, some}
 use mathlib.Core.Path.{_≡_, refl, subst}
-use Prim.Native.Nat.{ℕ, zero, suc, _+_, _<_}
+use Prim.Native.Nat.{ℕ, zero, suc, _+_, _≤_, _<_}
 use native.Mathlib.Omega.{arith}
 use borrow.Author.Tests.{ltb-true}
 use lib.Dec.{eqb}
@@ -11,20 +11,19 @@ use lib.ListN.{length}
 use Rattle.definition.specs.Basics.{good, atRecord, unless, lookup}
 use Rattle.definition.specs.Bytes.{one, two}
 use Rattle.definition.specs.Shapes.{constant}
-use Rattle.definition.specs.Job.{Definition, define, named, placed, Request, ClassSlot, slot, request, Build, Job, reference, readDefinition, asks, readRequest, classForm, nameForm, readBuild}
-use Rattle.definition.specs.Numbering.{entries}
+use Rattle.definition.specs.Job.{Definition, Request, ClassSlot, slot, request, Build, Job, reference, readDefinition, asks, readRequest, classForm, nameForm, readBuild}
 use Rattle.definition.specs.Form.{Counts, counted, whole, hasRoom, cites, citesEarlier, citesRequest, formDefinition, Definitions, formDefinitions, formRequest, nothingBehind, formBuild, Requests, formRequests, form}
 use Rattle.laws.specs.Statements.{IsBytes}
+use Rattle.laws.proofs.Results.{bad≢good, good-then, atRecord-good, unless-good, whole-good, decided}
 use Rattle.laws.proofs.Each.{Each}
-use Rattle.laws.proofs.Results.{refused, branch, after, atRecord-good, unless-good, whole-good}
+use Rattle.laws.proofs.Bare.{noEntries}
 use Rattle.laws.proofs.Entries.{Short}
 use Rattle.laws.proofs.Yields.{Byte, each-byte, Yields, yields-fail, yields-return, yields-bind, yields-one, yields-two}
-use Rattle.laws.proofs.FormedEntry.{OfKind, FormedEntry, FormedDefinition, yields-reference, yields-definition}
+use Rattle.laws.proofs.FormedEntry.{OfKind, FormedDefinition, yields-reference, yields-definition}
 
--- a definition where so many entries came before: its table has room, and what it cites stands earlier
+-- a definition where so many entries came before: what it cites stands earlier
 pub record FormedAt (n : Counts) (d : Definition (List ℕ)) : Type 0 where
   pub formed : FormedDefinition d
-  pub room : hasRoom n d ≡ true
   pub earlier : citesEarlier n d ≡ true
 
 -- definitions in turn, and the entries after them
@@ -36,22 +35,22 @@ abbrev pub countsAfter : Counts → List (Definition (List ℕ)) → Counts
 countsAfter n [] = n
 countsAfter n (d ∷ rest) = countsAfter (counted d n) rest
 
-formed-definition :
+pub formed-definition :
     (n : Counts) (first : ℕ) (bytes : List ℕ) (r : Definition (List ℕ) × List ℕ) →
     Each Byte bytes →
     formDefinition n first bytes ≡ good r →
-    FormedAt n (r .0) × Each Byte (r .1)
+    FormedAt n (r .0) × Each Byte (r .1) × (length (r .1) ≤ length bytes)
 unfolding formDefinition
 formed-definition n first bytes r b e =
-    after (whole (readDefinition first bytes)) _ r e λ x wholly e₁.
-    after (unless (hasRoom n (x .0)) 5) _ r e₁ λ u room e₂.
-    after (unless (citesEarlier n (x .0)) 4) _ r e₂ λ v earlier e₃.
+    good-then (whole (readDefinition first bytes)) _ r e λ x wholly e₁.
+    good-then (unless (hasRoom n (x .0)) 5) _ r e₁ λ _ _ e₂.
+    good-then (unless (citesEarlier n (x .0)) 4) _ r e₂ λ v earlier e₃.
     let same : x ≡ r = cc in
     let g = yields-definition first bytes b (x .0) (x .1) (whole-good (readDefinition first bytes) x wholly) in
     subst
-    (λ y. FormedAt n (y .0) × Each Byte (y .1))
+    (λ y. FormedAt n (y .0) × Each Byte (y .1) × (length (y .1) ≤ length bytes))
     same
-    (record { formed = g .is; room = unless-good (hasRoom n (x .0)) 5 u room; earlier = unless-good (citesEarlier n (x .0)) 4 v earlier }, g .bytes)
+    (record { formed = g .is; earlier = unless-good (citesEarlier n (x .0)) 4 v earlier }, g .bytes, g .fewer)
 
 -- what the definitions come to: they are formed in turn, their entries are counted, and bytes are left
 record Pass (n : Counts) (d : Definitions) : Type 0 where
@@ -65,22 +64,22 @@ formed-definitions :
     formDefinitions fuel n place bytes ≡ good d →
     Pass n d
 unfolding formDefinitions
-formed-definitions zero n place [] d b e = refused e
-formed-definitions zero n place (first ∷ bytes) d b e = refused e
-formed-definitions (suc fuel) n place [] d b e = refused e
+formed-definitions zero n place [] d b e = bad≢good e
+formed-definitions zero n place (first ∷ bytes) d b e = bad≢good e
+formed-definitions (suc fuel) n place [] d b e = bad≢good e
 formed-definitions (suc fuel) n place (first ∷ bytes) d b e =
-    branch
+    decided
     (eqb first 0x50)
     _
     _
     (good d)
     e
-    (λ e.
+    (λ t e.
     let same : record { list = []; counts = n; rest = bytes } ≡ d = cc in
     subst (Pass n) same (record { formed = tt; counts = refl; left = b .1 }))
-    (λ e.
-    after (atRecord place (formDefinition n first bytes)) _ d e λ r here e₁.
-    after (formDefinitions fuel (counted (r .0) n) (suc place) (r .1)) _ d e₁ λ d′ there e₂.
+    (λ t e.
+    good-then (atRecord place (formDefinition n first bytes)) _ d e λ r here e₁.
+    good-then (formDefinitions fuel (counted (r .0) n) (suc place) (r .1)) _ d e₁ λ d′ there e₂.
     let g = formed-definition n first bytes r (b .1) (atRecord-good place (formDefinition n first bytes) r here) in
     let p = formed-definitions fuel (counted (r .0) n) (suc place) (r .1) d′ (g .1) there in
     let same : record { list = r .0 ∷ d′ .list; counts = d′ .counts; rest = d′ .rest } ≡ d = cc in
@@ -96,18 +95,18 @@ yields-request none = yields-fail (λ q. OfKind constant (q .what))
 yields-request (some ldc) =
     yields-bind (OfKind constant) _ (reference constant) _ (yields-reference constant) λ r h. yields-return (λ q. OfKind constant (q .what)) (record { ldc = ldc; what = r }) h
 
-formed-request :
+pub formed-request :
     (n : Counts) (first : ℕ) (bytes : List ℕ) (r : Request × List ℕ) →
     Each Byte bytes →
     formRequest n first bytes ≡ good r →
-    FormedRequest n (r .0) × Each Byte (r .1)
+    FormedRequest n (r .0) × Each Byte (r .1) × (length (r .1) ≤ length bytes)
 unfolding formRequest
 formed-request n first bytes r b e =
-    after (whole (readRequest (lookup first asks) bytes)) _ r e λ x wholly e₁.
-    after (unless (cites n (x .0 .what)) 4) _ r e₁ λ u earlier e₂.
+    good-then (whole (readRequest (lookup first asks) bytes)) _ r e λ x wholly e₁.
+    good-then (unless (cites n (x .0 .what)) 4) _ r e₁ λ u earlier e₂.
     let same : x ≡ r = cc in
     let g = yields-request (lookup first asks) bytes b (x .0) (x .1) (whole-good (readRequest (lookup first asks) bytes) x wholly) in
-    subst (λ y. FormedRequest n (y .0) × Each Byte (y .1)) same ((g .is, unless-good (cites n (x .0 .what)) 4 u earlier), g .bytes)
+    subst (λ y. FormedRequest n (y .0) × Each Byte (y .1) × (length (y .1) ≤ length bytes)) same ((g .is, unless-good (cites n (x .0 .what)) 4 u earlier), g .bytes, g .fewer)
 
 -- a class slot as the form pass leaves it, behind so many requests
 abbrev pub FormedClass : ℕ → ClassSlot → Type 0
@@ -153,9 +152,9 @@ formed-class requests (request n) h e = (h, ltb-true n requests e)
 formed-build : (requests place : ℕ) (bytes : List ℕ) (x : Build) → Each Byte bytes → formBuild requests place bytes ≡ good x → FormedBuild requests x
 unfolding formBuild
 formed-build requests place bytes x b e =
-    after (atRecord place (whole (readBuild bytes))) _ x e λ r wholly e₁.
-    after (atRecord place (unless (citesRequest requests (r .0 .class)) 4)) _ x e₁ λ u cited e₂.
-    after (atRecord (suc place) (unless (nothingBehind (r .1)) 3)) _ x e₂ λ v end e₃.
+    good-then (atRecord place (whole (readBuild bytes))) _ x e λ r wholly e₁.
+    good-then (atRecord place (unless (citesRequest requests (r .0 .class)) 4)) _ x e₁ λ u cited e₂.
+    good-then (atRecord (suc place) (unless (nothingBehind (r .1)) 3)) _ x e₂ λ v end e₃.
     let same : r .0 ≡ x = cc in
     let g = yields-build bytes b (r .0) (r .1) (whole-good (readBuild bytes) r (atRecord-good place (whole (readBuild bytes)) r wholly)) in
     let c = unless-good (citesRequest requests (r .0 .class)) 4 u (atRecord-good place (unless (citesRequest requests (r .0 .class)) 4) u cited) in
@@ -172,48 +171,44 @@ formed-requests :
     formRequests fuel n requests place bytes ≡ good d →
     Asked n requests d
 unfolding formRequests
-formed-requests zero n requests place [] d b e = refused e
-formed-requests zero n requests place (first ∷ bytes) d b e = refused e
-formed-requests (suc fuel) n requests place [] d b e = refused e
+formed-requests zero n requests place [] d b e = bad≢good e
+formed-requests zero n requests place (first ∷ bytes) d b e = bad≢good e
+formed-requests (suc fuel) n requests place [] d b e = bad≢good e
 formed-requests (suc fuel) n requests place (first ∷ bytes) d b e =
-    branch
+    decided
     (eqb first 0x60)
     _
     _
     (good d)
     e
-    (λ e.
-    after (formBuild requests place bytes) _ d e λ x here e₁.
+    (λ t e.
+    good-then (formBuild requests place bytes) _ d e λ x here e₁.
     let g = formed-build requests place bytes x (b .1) here in
     let more : requests ≡ requests + 0 = omega arith in
     let same : record { list = []; build = x } ≡ d = cc in
     subst (Asked n requests) same (record { formed = tt; built = subst (λ k. FormedBuild k x) more g }))
-    (λ e.
-    after (atRecord place (formRequest n first bytes)) _ d e λ r here e₁.
-    after (formRequests fuel n (suc requests) (suc place) (r .1)) _ d e₁ λ d′ there e₂.
+    (λ t e.
+    good-then (atRecord place (formRequest n first bytes)) _ d e λ r here e₁.
+    good-then (formRequests fuel n (suc requests) (suc place) (r .1)) _ d e₁ λ d′ there e₂.
     let g = formed-request n first bytes r (b .1) (atRecord-good place (formRequest n first bytes) r here) in
     let p = formed-requests fuel n (suc requests) (suc place) (r .1) d′ (g .1) there in
     let more : suc requests + length (d′ .list) ≡ requests + suc (length (d′ .list)) = omega arith in
     let same : record { list = r .0 ∷ d′ .list; build = d′ .build } ≡ d = cc in
     subst (Asked n requests) same (record { formed = (g .0, p .formed); built = subst (λ k. FormedBuild k (d′ .build)) more (p .built) }))
 
--- before the first definition
-abbrev pub noCounts : Counts
-noCounts = record { constants = 0; bootstraps = 0 }
-
 -- a job as the form pass leaves it
 pub record Formed (job : Job (List ℕ)) : Type 0 where
-  pub definitions : FormedFrom noCounts (job .definitions)
-  pub requests : Each (FormedRequest (countsAfter noCounts (job .definitions))) (job .requests)
+  pub definitions : FormedFrom noEntries (job .definitions)
+  pub requests : Each (FormedRequest (countsAfter noEntries (job .definitions))) (job .requests)
   pub build : FormedBuild (length (job .requests)) (job .build)
 
 -- what form accepts is so
 pub form-formed : (bytes : List ℕ) (job : Job (List ℕ)) → IsBytes bytes → form bytes ≡ good job → Formed job
 unfolding form
 form-formed bytes job b e =
-    after (formDefinitions (length bytes) noCounts 0 bytes) _ job e λ d here e₁.
-    after (formRequests (length bytes) (d .counts) 0 (suc (length (d .list))) (d .rest)) _ job e₁ λ r there e₂.
-    let g = formed-definitions (length bytes) noCounts 0 bytes d (each-byte bytes b) here in
+    good-then (formDefinitions (length bytes) noEntries 0 bytes) _ job e λ d here e₁.
+    good-then (formRequests (length bytes) (d .counts) 0 (suc (length (d .list))) (d .rest)) _ job e₁ λ r there e₂.
+    let g = formed-definitions (length bytes) noEntries 0 bytes d (each-byte bytes b) here in
     let k = formed-requests (length bytes) (d .counts) 0 (suc (length (d .list))) (d .rest) r (g .left) there in
     let all : 0 + length (r .list) ≡ length (r .list) = omega arith in
     let same : record { definitions = d .list; requests = r .list; build = r .build } ≡ job = cc in
@@ -231,15 +226,5 @@ formed-each : (n : Counts) (l : List (Definition (List ℕ))) → FormedFrom n l
 formed-each n [] h = tt
 formed-each n (d ∷ l) h = (h .0 .formed, formed-each (counted d n) l (h .1))
 
-each-entry : (l : List (Definition (List ℕ))) → Each FormedDefinition l → Each FormedEntry (entries l)
-unfolding entries
-each-entry [] h = tt
-each-entry (define e ∷ l) h = (h .0, each-entry l (h .1))
-each-entry (named kind s r ∷ l) h = each-entry l (h .1)
-each-entry (placed kind at number ∷ l) h = each-entry l (h .1)
-
 pub formed-definitions-each : (job : Job (List ℕ)) → Formed job → Each FormedDefinition (job .definitions)
-formed-definitions-each job h = formed-each noCounts (job .definitions) (h .definitions)
-
-pub formed-entries-each : (job : Job (List ℕ)) → Formed job → Each FormedEntry (entries (job .definitions))
-formed-entries-each job h = each-entry (job .definitions) (formed-definitions-each job h)
+formed-definitions-each job h = formed-each noEntries (job .definitions) (h .definitions)

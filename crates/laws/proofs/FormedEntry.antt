@@ -13,7 +13,9 @@ use Rattle.definition.specs.Basics.{every, lookup}
 use Rattle.definition.specs.Bytes.{one, two, many}
 use Rattle.definition.specs.Shapes.{Kind, constant, bootstrap, Field, text, bits, byte, to, toMany, shapes, bootstrapShape, bootstrapTag, Entry, withKids, withLiteral, withByte, readFields, readEntry}
 use Rattle.definition.specs.Job.{Reference, raw, entry, name, Definition, define, named, placed, shortName, referenceForm, reference, Body, ofEntry, ofName, ofRaw, bodies, readBody, readDefinition}
-use Rattle.laws.proofs.Each.{Each, every-each, each-map, lookup-each}
+use Rattle.laws.proofs.Lists.{true≢false}
+use Rattle.laws.proofs.Each.{Each, each-weaker, lookup-each}
+use Rattle.laws.proofs.Tables.{lookup-every}
 use Rattle.laws.proofs.Entries.{Short, Filled, showsLiteral, showsByte, HasShape}
 use Rattle.laws.proofs.Yields.{Byte, Yields, yields-fail, yields-return, yields-bind, yields-map, yields-one, yields-two, yields-many}
 
@@ -37,7 +39,7 @@ OfKinds (to kind ∷ fields) [] = ⊥
 OfKinds (to kind ∷ fields) (r ∷ rs) = OfKind kind r × OfKinds fields rs
 OfKinds (toMany ∷ fields) rs = Each (OfKind constant) rs
 
--- each is of one of the kinds; a bootstrap's are all constants
+-- each is of one of the kinds
 pub ofKinds-each : (fields : List Field) (rs : List Reference) → OfKinds fields rs → Each (λ r. (kind : Kind) × OfKind kind r) rs
 ofKinds-each [] rs h = subst (Each (λ r. (kind : Kind) × OfKind kind r)) (sym h) tt
 ofKinds-each (text ∷ fields) rs h = ofKinds-each fields rs h
@@ -45,12 +47,7 @@ ofKinds-each (bits size ∷ fields) rs h = ofKinds-each fields rs h
 ofKinds-each (byte ∷ fields) rs h = ofKinds-each fields rs h
 ofKinds-each (to kind ∷ fields) [] h = absurd h
 ofKinds-each (to kind ∷ fields) (r ∷ rs) h = ((kind, h .0), ofKinds-each fields rs (h .1))
-ofKinds-each (toMany ∷ fields) rs h = each-map (OfKind constant) (λ r. (kind : Kind) × OfKind kind r) rs (λ r k. (constant, k)) h
-
-pub ofKinds-bootstrap : (rs : List Reference) → OfKinds bootstrapShape rs → Each (OfKind constant) rs
-unfolding bootstrapShape
-ofKinds-bootstrap [] h = absurd h
-ofKinds-bootstrap (r ∷ rs) h = h
+ofKinds-each (toMany ∷ fields) rs h = each-weaker (OfKind constant) (λ r. (kind : Kind) × OfKind kind r) (λ r k. (constant, k)) rs h
 
 -- text, bits and many references stand last: true of every shape
 unfoldable pub plain : List Field → Bool
@@ -166,9 +163,6 @@ intoMany kids e n h =
       kindByte = λ k. k;
     }
 
-never : {C : Type 0} → false ≡ true → C
-never e = let z : _≡_ {A = ℕ} 0 1 = cc in absurd (omega arith)
-
 -- names and references
 yields-name : Yields ShortName shortName
 unfolding shortName
@@ -197,11 +191,11 @@ yields-fields (text ∷ []) before p =
     yields-bind Short _ two _ yields-two λ size h.
     yields-bind _ _ (many size one) _ (yields-many Byte size one yields-one) λ s g.
     yields-return (ReadInto (text ∷ []) before) (withLiteral s before) (intoLiteral (text ∷ []) s before refl (omega arith, refl) refl (g .1))
-yields-fields (text ∷ f ∷ fields) before p = never p
+yields-fields (text ∷ f ∷ fields) before p = true≢false (sym p)
 yields-fields (bits size ∷ []) before p =
     yields-bind _ _ (many size one) _ (yields-many Byte size one yields-one) λ s g.
     yields-return (ReadInto (bits size ∷ []) before) (withLiteral s before) (intoLiteral (bits size ∷ []) s before refl (g .0, refl) refl (g .1))
-yields-fields (bits size ∷ f ∷ fields) before p = never p
+yields-fields (bits size ∷ f ∷ fields) before p = true≢false (sym p)
 yields-fields (byte ∷ fields) before p =
     yields-bind Byte _ one _ yields-one λ b h.
     yields-map (ReadInto fields (withByte b before)) _ _ (λ e. intoByte fields b before e h) (yields-fields fields (withByte b before) p)
@@ -217,7 +211,7 @@ yields-fields (toMany ∷ []) before p =
     yields-bind Short _ two _ yields-two λ size h.
     yields-bind _ _ (many size (reference constant)) _ (yields-many (OfKind constant) size (reference constant) (yields-reference constant)) λ rs g.
     yields-return (ReadInto (toMany ∷ []) before) (withKids (before .kids ++ rs) before) (intoMany rs before (omega arith) (g .1))
-yields-fields (toMany ∷ f ∷ fields) before p = never p
+yields-fields (toMany ∷ f ∷ fields) before p = true≢false (sym p)
 
 -- the shape that a tag has: the table's, or a bootstrap's
 abbrev pub ShapeOf : ℕ → List Field → Type 0
@@ -295,7 +289,7 @@ bodyOf first b e = go (lookup-behind first shapes others b e)
   where
     go : ((fields : List Field) × (lookup first shapes ≡ some fields) × (b ≡ ofEntry fields)) ⊎ (lookup first others ≡ some b) → BodyOf first b
     go (inl r) =
-        let p = lookup-each (λ k fields. plain fields ≡ true) first shapes (r .0) (every-each _ shapes plainShapes) (r .1) in
+        let p = lookup-every (λ (s : ℕ × List Field). plain (s .1)) shapes plainShapes first (r .0) (r .1) in
         subst (BodyOf first) (sym (r .2)) (inl (r .1), p)
     go (inr h) = lookup-each BodyOf first others b eachOther h
 

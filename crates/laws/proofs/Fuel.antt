@@ -19,7 +19,9 @@ use Rattle.definition.specs.Building.{Pool, noSlot, give, allocate, slotOf, slo
 use Rattle.definition.specs.Layout.{Ready, buildLayout, layout}
 use Rattle.definition.specs.Run.{Lent, longestJob, enough, fits, build, run}
 use Rattle.laws.specs.Statements.{FuelLasts, IsBytes}
-use Rattle.laws.proofs.Outcomes.{Ends, well, refused, next, whenBad, NonZero, nonZero, Coded, Anything, atRecord-ends, unless-ends, All, all-weaker, all-at}
+use Rattle.laws.proofs.Each.{Each, each-at, each-weaker}
+use Rattle.laws.proofs.Tables.{lookup-hit, lookup-miss}
+use Rattle.laws.proofs.Outcomes.{Ends, well, refused, next, whenBad, NonZero, nonZero, Coded, Anything, atRecord-ends, unless-ends}
 use Rattle.laws.proofs.Resolver.{Child}
 use Rattle.laws.proofs.Ready.{raws, Runs, allocate-ends, priced, layout-ends, numbered-low}
 use Rattle.laws.proofs.LowNumbers.{JobLow, form-ends}
@@ -45,14 +47,6 @@ slotless-le given (suc n) =
     let ih = slotless-le given n in
     omega (arith, vacant-le (lookup n given))
 
-lookup-hit : (n k s : ℕ) (given : List (ℕ × ℕ)) → eqb n k ≡ true → lookup n ((k, s) ∷ given) ≡ some s
-unfolding lookup
-lookup-hit n k s given e = rw (e, lookup)
-
-lookup-miss : (n k s : ℕ) (given : List (ℕ × ℕ)) → eqb n k ≡ false → lookup n ((k, s) ∷ given) ≡ lookup n given
-unfolding lookup
-lookup-miss n k s given e = rw (e, lookup)
-
 -- a slot more is no node without one more
 slotless-cons : (k s : ℕ) (given : List (ℕ × ℕ)) (n : ℕ) → slotless ((k, s) ∷ given) n ≤ slotless given n
 unfolding slotless vacant
@@ -64,8 +58,8 @@ slotless-cons k s given (suc n) = go (eqb n k) refl (slotless-cons k s given n)
         eqb n k ≡ b →
         slotless ((k, s) ∷ given) n ≤ slotless given n →
         vacant (lookup n ((k, s) ∷ given)) + slotless ((k, s) ∷ given) n ≤ vacant (lookup n given) + slotless given n
-    go true e ih = rw (lookup-hit n k s given e) (omega arith)
-    go false e ih = rw (lookup-miss n k s given e) (omega arith)
+    go true e ih = rw (lookup-hit n (k, s) given (eqb-true n k e)) (omega arith)
+    go false e ih = rw (lookup-miss n (k, s) given (eqb-false n k e)) (omega arith)
 
 -- and a slot for one of them that had none is one less
 slotless-give : (k s : ℕ) (given : List (ℕ × ℕ)) (n : ℕ) → k < n → lookup k given ≡ none → suc (slotless ((k, s) ∷ given) n) ≤ slotless given n
@@ -82,12 +76,12 @@ slotless-give k s given (suc n) less e = go (eqb n k) refl (slotless-give k s gi
         let same : n ≡ k = eqb-true n k t in
         let none′ : lookup n given ≡ none = rw same e in
         let less′ = slotless-cons k s given n in
-        rw (lookup-hit n k s given t, none′) (omega arith)
+        rw (lookup-hit n (k, s) given (eqb-true n k t), none′) (omega arith)
     go false t ih =
         let other = eqb-false n k t in
         let less′ : k < n = omega arith in
         let ih′ = ih less′ e in
-        rw (lookup-miss n k s given t) (omega arith)
+        rw (lookup-miss n (k, s) given (eqb-false n k t)) (omega arith)
 
 -- what building may still take from its stack: what waits there, and a node for each that has no slot
 debt : List Node → Pool → ℕ
@@ -102,26 +96,26 @@ abbrev There : List Node → ℕ → Type 0
 There nodes c = c < firstNode + length nodes
 
 AllThere : List Node → Type 0
-AllThere nodes = All (λ n. All (There nodes) (n .kids)) nodes
+AllThere nodes = Each (λ n. Each (There nodes) (n .kids)) nodes
 
-allThere : (nodes : List Node) → All (λ n. All (Child nodes) (n .kids)) nodes → AllThere nodes
+allThere : (nodes : List Node) → Each (λ n. Each (Child nodes) (n .kids)) nodes → AllThere nodes
 unfolding AllThere
 allThere [] h = tt
 allThere (x ∷ l) h =
-    all-weaker
-    (λ n. All (Child (x ∷ l)) (n .kids))
-    (λ n. All (There (x ∷ l)) (n .kids))
-    (λ n. all-weaker (Child (x ∷ l)) (There (x ∷ l)) (λ c k. omega arith) (n .kids))
+    each-weaker
+    (λ n. Each (Child (x ∷ l)) (n .kids))
+    (λ n. Each (There (x ∷ l)) (n .kids))
+    (λ n. each-weaker (Child (x ∷ l)) (There (x ∷ l)) (λ c k. omega arith) (n .kids))
     (x ∷ l)
     h
 
-kidsOf-there : (nodes : List Node) (k : ℕ) → AllThere nodes → All (There nodes) (kidsOf nodes k)
+kidsOf-there : (nodes : List Node) (k : ℕ) → AllThere nodes → Each (There nodes) (kidsOf nodes k)
 unfolding kidsOf AllThere
 kidsOf-there nodes k h = go (getElem? nodes k) refl
   where
-    go : (o : Option Node) → getElem? nodes k ≡ o → All (There nodes) (kidsOf nodes k)
+    go : (o : Option Node) → getElem? nodes k ≡ o → Each (There nodes) (kidsOf nodes k)
     go none e = rw (e, kidsOf) tt
-    go (some n) e = rw (e, kidsOf) (all-at (λ x. All (There nodes) (x .kids)) nodes k n h e)
+    go (some n) e = rw (e, kidsOf) (each-at (λ x. Each (There nodes) (x .kids)) nodes k n h e)
 
 give-pays :
     (nodes : List Node) (ldc : Bool) (k : ℕ) (p : Pool) (o : Option (ℕ × Slots)) →
@@ -158,7 +152,7 @@ slotOf-pays nodes ldc child p less = go (ltb child firstNode) refl
         rw (e, slotOf) (allocate-pays nodes ldc (child - firstNode) p less′)
 
 slotsOf-pays :
-    (nodes : List Node) (children : List ℕ) (p : Pool) → All (There nodes) children → Ends NonZero (λ r. NoMore nodes p (r .1)) (slotsOf nodes children p)
+    (nodes : List Node) (children : List ℕ) (p : Pool) → Each (There nodes) children → Ends NonZero (λ r. NoMore nodes p (r .1)) (slotsOf nodes children p)
 unfolding slotsOf NoMore
 slotsOf-pays nodes [] p there = well {a = ([], p)} (omega arith)
 slotsOf-pays nodes (child ∷ children) p there =
@@ -216,7 +210,7 @@ childNumber-pays nodes child p rows there less = go (ltb child firstNode) refl
 childNumbers-pay :
     (nodes : List Node) (children : List ℕ) (p : Pool) (rows : Rows) →
     AllThere nodes →
-    All (There nodes) children →
+    Each (There nodes) children →
     Ends NonZero (λ r. NoMore nodes p (r .1)) (childNumbers nodes children p rows)
 unfolding childNumbers NoMore
 childNumbers-pay nodes [] p rows there less = well {a = ([], p, rows)} (omega arith)
@@ -235,7 +229,7 @@ finish-pays nodes s k m none there e = well {a = m} (omega arith)
 finish-pays nodes s k m (some n) there e =
     next
     _
-    (childNumbers-pay nodes (n .kids) (m .pool) (m .rows) there (all-at (λ x. All (There nodes) (x .kids)) nodes k n there e))
+    (childNumbers-pay nodes (n .kids) (m .pool) (m .rows) there (each-at (λ x. Each (There nodes) (x .kids)) nodes k n there e))
     λ r h. well h
 
 drain-lasts :

@@ -11,7 +11,9 @@ use borrow.Author.Tests.{lt-ltb, le-ltb}
 use Rattle.definition.specs.Basics.{position, concat, from}
 use Rattle.definition.specs.Slots.{Gap, size, gapBefore, gapsFrom, scan, cut}
 use Rattle.laws.specs.Statements.{Among, freeSlots}
-use Rattle.laws.proofs.Tables.{none≢some, some-same, order, equal, place-lt, place-none, place-drop, place-set-same, place-set-other, among-left, among-right, among-either, position-before, position-at, total, total-append, run, run-split, run-has, run-low, run-high, Rising}
+use Rattle.laws.proofs.Lists.{none≢some, some-inj, order, equal, found-inside, missing-outside, found-set, found-elsewhere, place-drop, among-left, among-right, among-either, position-before, position-at}
+use Rattle.laws.proofs.Tables.{Rising}
+use Rattle.laws.proofs.Sums.{total, total-append, run, run-split, run-has, run-low, run-high}
 
 -- the gaps lie apart: from a slot on they rise, with a slot between any two, up to the highest slot
 abbrev pub Apart : ℕ → ℕ → List Gap → Type 0
@@ -138,7 +140,7 @@ pub apart-set :
 unfolding size
 apart-set top low count at [] g e h a = tt
 apart-set top low count zero (x ∷ gaps) g e h a =
-    let q = some-same e in
+    let q = some-inj e in
     let a′ : Apart top low (g ∷ gaps) = rw (← q) a in
     (omega arith, omega arith, a′ .2, a′ .3)
 apart-set top low count (suc at) (x ∷ gaps) g e h a = (a .0, a .1, a .2, apart-set top (suc (suc (x .last))) count at gaps g e h (a .3))
@@ -152,7 +154,7 @@ pub total-set :
 unfolding size
 total-set f count at [] g e h = none≢some e
 total-set f count zero (x ∷ gaps) g e h =
-    omega (arith, ap (λ (y : Gap). total f (freeSlots (y ∷ gaps))) (some-same e), total-free f g gaps, total-free f (less count g) gaps, total-less f count g h)
+    omega (arith, ap (λ (y : Gap). total f (freeSlots (y ∷ gaps))) (some-inj e), total-free f g gaps, total-free f (less count g) gaps, total-less f count g h)
 total-set f count (suc at) (x ∷ gaps) g e h =
     let rest = total-set f count at gaps g e h in
     omega (arith, total-free f x gaps, total-free f x (set gaps at (less count g)))
@@ -173,9 +175,9 @@ under-set few place count at gaps g e u i x f h = ways (equal i at)
     ways : (i ≡ at) ⊎ (i ≡ at → ⊥) → suc (x .last) - x .first < few
     ways (inl q) =
         let was : suc (g .last) - g .first < few = u at g e (omega arith) in
-        let same = some-same (sym (place-set-same gaps at (less count g) (place-lt gaps at e)) ∙ ap (getElem? (set gaps at (less count g))) (sym q) ∙ f) in
+        let same = some-inj (sym (found-set gaps at (less count g) (found-inside gaps at g e)) ∙ ap (getElem? (set gaps at (less count g))) (sym q) ∙ f) in
         omega (arith, ap (λ (y : Gap). y .first) same, ap (λ (y : Gap). y .last) same)
-    ways (inr q) = u i x (sym (place-set-other gaps at i (less count g) q) ∙ f) h
+    ways (inr q) = u i x (sym (found-elsewhere gaps at i (less count g) q) ∙ f) h
 
 -- A SEARCH FROM A PLACE ON
 
@@ -205,8 +207,8 @@ pub scan-none :
     at ≤ i →
     p g ≡ false
 scan-none p at gaps e i g f h =
-    let l = place-none gaps (scan p at gaps) e in
-    let k = place-lt gaps i f in
+    let l = missing-outside gaps (scan p at gaps) e in
+    let k = found-inside gaps i g f in
     scan-before p at gaps i g f h (omega arith)
 
 -- WHICH SLOTS ARE FREE
@@ -219,7 +221,7 @@ Within s gaps = (i : ℕ) × (g : Gap) × (getElem? gaps i ≡ some g) × (g .fi
 pub free-within : (s : ℕ) (gaps : List Gap) → Among s (freeSlots gaps) → Within s gaps
 unfolding size freeSlots concat
 free-within s [] (i, e) = none≢some e
-free-within s (g ∷ gaps) a = ways (among-either (slotsIn g) (freeSlots gaps) a) (free-within s gaps)
+free-within s (g ∷ gaps) a = ways (among-either s (slotsIn g) (freeSlots gaps) a) (free-within s gaps)
   where
     ways : Among s (slotsIn g) ⊎ Among s (freeSlots gaps) → (Among s (freeSlots gaps) → Within s gaps) → Within s (g ∷ gaps)
     ways (inl h) rest =
@@ -233,8 +235,8 @@ pub within-free : (s i : ℕ) (gaps : List Gap) (g : Gap) → getElem? gaps i �
 unfolding size freeSlots concat
 within-free s i [] g e h k = none≢some e
 within-free s zero (x ∷ gaps) g e h k =
-    rw (some-same e) (among-left (slotsIn g) (freeSlots gaps) (run-has (g .first) (size g) s h (omega arith)))
-within-free s (suc i) (x ∷ gaps) g e h k = among-right (slotsIn x) (freeSlots gaps) (within-free s i gaps g e h k)
+    rw (some-inj e) (among-left s (slotsIn g) (freeSlots gaps) (run-has (g .first) (size g) s h (omega arith)))
+within-free s (suc i) (x ∷ gaps) g e h k = among-right s (slotsIn x) (freeSlots gaps) (within-free s i gaps g e h k)
 
 -- what holds of a gap of those
 pub apart-at :
@@ -243,7 +245,7 @@ pub apart-at :
     getElem? gaps i ≡ some g →
     (low ≤ g .first) × (g .first ≤ suc (g .last)) × (g .last ≤ top)
 apart-at top low i [] g a e = none≢some e
-apart-at top low zero (x ∷ gaps) g a e = rw (← some-same e) (a .0, a .1, a .2)
+apart-at top low zero (x ∷ gaps) g a e = rw (← some-inj e) (a .0, a .1, a .2)
 apart-at top low (suc i) (x ∷ gaps) g a e =
     let r = apart-at top (suc (suc (x .last))) i gaps g (a .3) e in
     (omega arith, r .1, r .2)
@@ -260,7 +262,7 @@ apart-rise top low i j [] g h a e f l = none≢some e
 apart-rise top low i zero (x ∷ gaps) g h a e f l = absurd (omega arith)
 apart-rise top low zero (suc j) (x ∷ gaps) g h a e f l =
     let r = apart-at top (suc (suc (x .last))) j gaps h (a .3) f .0 in
-    omega (arith, ap (λ (y : Gap). y .last) (some-same e))
+    omega (arith, ap (λ (y : Gap). y .last) (some-inj e))
 apart-rise top low (suc i) (suc j) (x ∷ gaps) g h a e f l = apart-rise top (suc (suc (x .last))) i j gaps g h (a .3) e f (omega arith)
 
 -- the gaps' first slots rise
@@ -274,7 +276,7 @@ pub apart-firsts :
 apart-firsts top low i j gaps g h a e f l = ways (equal i j)
   where
     ways : (i ≡ j) ⊎ (i ≡ j → ⊥) → g .first ≤ h .first
-    ways (inl q) = omega (arith, ap (λ (y : Gap). y .first) (some-same (sym e ∙ ap (getElem? gaps) q ∙ f)))
+    ways (inl q) = omega (arith, ap (λ (y : Gap). y .first) (some-inj (sym e ∙ ap (getElem? gaps) q ∙ f)))
     ways (inr q) =
         let r = apart-rise top low i j gaps g h a e f (omega arith) in
         let b = apart-at top low i gaps g a e in
@@ -286,6 +288,6 @@ pub neighbours :
 neighbours top low s gaps a (i, g, e, l, u) (j, h, f, l′, u′) = ways (equal i j) (order i j)
   where
     ways : (i ≡ j) ⊎ (i ≡ j → ⊥) → (i < j) ⊎ (j ≤ i) → suc s ≤ g .last
-    ways (inl q) o = omega (arith, ap (λ (y : Gap). y .last) (some-same (sym e ∙ ap (getElem? gaps) q ∙ f)))
+    ways (inl q) o = omega (arith, ap (λ (y : Gap). y .last) (some-inj (sym e ∙ ap (getElem? gaps) q ∙ f)))
     ways (inr q) (inl o) = let r = apart-rise top low i j gaps g h a e f o in absurd (omega arith)
     ways (inr q) (inr o) = let r = apart-rise top low j i gaps h g a f e (omega arith) in absurd (omega arith)

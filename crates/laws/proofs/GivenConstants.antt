@@ -1,20 +1,19 @@
 -- Building gives slots to constants only: what is so of every node that may be given a slot stays so. Assumes nothing.
 use mathlib.Core.Bool.{Bool, false}
-use mathlib.Core.List.{List, [], _∷_, reverse, reverseAux}
+use mathlib.Core.List.{List, [], _∷_, reverse}
 use mathlib.Core.Option.{Option, none, some}
 use mathlib.Core.Path.{_≡_, subst, sym}
 use Prim.Native.Nat.{ℕ, zero, suc, _-_, _≤_}
 use lib.Dec.{eqb, ltb}
 use lib.ListN.{getElem?}
 use borrow.Author.Tests.{ltb-false, eqb-true, eqb-false}
-use Rattle.definition.specs.Basics.{good, _>>=_}
+use Rattle.definition.specs.Basics.{good}
 use Rattle.definition.specs.Shapes.{bootstrapTag}
 use Rattle.definition.specs.Definitions.{tagAt}
 use Rattle.definition.specs.Resolving.{Node, firstNode}
 use Rattle.definition.specs.Building.{Pool, allocate, slotOf, slotsOf, Row, Rows, rowIndex, Made, kidsOf, nodeNumber, childNumber, childNumbers, finish, withPending, drain, rawRows, buildAll}
-use Rattle.laws.proofs.Each.{Each}
-use Rattle.laws.proofs.Results.{after, decided, refused}
-use Rattle.laws.proofs.Lists.{good-inj}
+use Rattle.laws.proofs.Results.{bad≢good, good-inj, good-then, decided}
+use Rattle.laws.proofs.Each.{Each, each-reverse}
 use Rattle.laws.proofs.Requests.{Met, old, new, met}
 
 -- the node isn't a bootstrap
@@ -28,11 +27,6 @@ ConstantChild nodes c = firstNode ≤ c → Constant nodes (c - firstNode)
 -- a bootstrap's children are constants
 abbrev pub BootstrapKids : List Node → Type 0
 BootstrapKids nodes = (k : ℕ) → tagAt nodes k ≡ bootstrapTag → Each (ConstantChild nodes) (kidsOf nodes k)
-
--- what is so of every one is so of them in the other order
-each-reverse : {A : Type 0} (P : A → Type 0) (l acc : List A) → Each P l → Each P acc → Each P (reverseAux l acc)
-each-reverse P [] acc h k = k
-each-reverse P (x ∷ l) acc h k = each-reverse P l (x ∷ acc) (h .1) (h .0, k)
 
 module _ (nodes : List Node) (bootstraps : BootstrapKids nodes) where
   -- all that was given a slot is a constant
@@ -57,8 +51,8 @@ module _ (nodes : List Node) (bootstraps : BootstrapKids nodes) where
   unfolding slotsOf
   slotsOf-given [] p r c e h = subst (λ x. Given (x .1)) (good-inj e) h
   slotsOf-given (child ∷ children) p r c e h =
-      after (slotOf nodes false child p) _ r e λ a here e₁.
-      after (slotsOf nodes children (a .1)) _ r e₁ λ rest there e₂.
+      good-then (slotOf nodes false child p) _ r e λ a here e₁.
+      good-then (slotsOf nodes children (a .1)) _ r e₁ λ rest there e₂.
       subst (λ x. Given (x .1)) (good-inj e₂) (slotsOf-given children (a .1) rest (c .1) there (slotOf-given false child p a (c .0) here h))
 
   nodeNumber-given : (k : ℕ) (p : Pool) (rows : Rows) (r : ℕ × Pool × Rows) → nodeNumber nodes k p rows ≡ good r → Given p → Given (r .1)
@@ -66,11 +60,11 @@ module _ (nodes : List Node) (bootstraps : BootstrapKids nodes) where
   nodeNumber-given k p rows r e h =
       decided (eqb (tagAt nodes k) bootstrapTag) _ _ (good r) e
       (λ t e.
-      after (slotsOf nodes (kidsOf nodes k) p) _ r e λ a here e₁.
-      after (rowIndex (a .0) rows) _ r e₁ λ i there e₂.
+      good-then (slotsOf nodes (kidsOf nodes k) p) _ r e λ a here e₁.
+      good-then (rowIndex (a .0) rows) _ r e₁ λ i there e₂.
       subst (λ x. Given (x .1)) (good-inj e₂) (slotsOf-given (kidsOf nodes k) p a (bootstraps k (eqb-true (tagAt nodes k) bootstrapTag t)) here h))
       (λ t e.
-      after (allocate nodes false k p) _ r e λ a here e₁.
+      good-then (allocate nodes false k p) _ r e λ a here e₁.
       subst (λ x. Given (x .1)) (good-inj e₁) (allocate-given false k (a .0) p (a .1) (eqb-false (tagAt nodes k) bootstrapTag t) here h))
 
   childNumber-given : (child : ℕ) (p : Pool) (rows : Rows) (r : ℕ × Pool × Rows) → childNumber nodes child p rows ≡ good r → Given p → Given (r .1)
@@ -84,24 +78,24 @@ module _ (nodes : List Node) (bootstraps : BootstrapKids nodes) where
   unfolding childNumbers
   childNumbers-given [] p rows r e h = subst (λ x. Given (x .1)) (good-inj e) h
   childNumbers-given (child ∷ children) p rows r e h =
-      after (childNumber nodes child p rows) _ r e λ a here e₁.
-      after (childNumbers nodes children (a .1) (a .2)) _ r e₁ λ rest there e₂.
+      good-then (childNumber nodes child p rows) _ r e λ a here e₁.
+      good-then (childNumbers nodes children (a .1) (a .2)) _ r e₁ λ rest there e₂.
       subst (λ x. Given (x .1)) (good-inj e₂) (childNumbers-given children (a .1) (a .2) rest there (childNumber-given child p rows a here h))
 
   finish-given : (s : ℕ) (m m′ : Made) (o : Option Node) → finish nodes s m o ≡ good m′ → Given (m .pool) → Given (m′ .pool)
   unfolding finish
   finish-given s m m′ none e h = subst (λ x. Given (x .pool)) (good-inj e) h
   finish-given s m m′ (some n) e h =
-      after (childNumbers nodes (n .kids) (m .pool) (m .rows)) _ m′ e λ r here e₁.
+      good-then (childNumbers nodes (n .kids) (m .pool) (m .rows)) _ m′ e λ r here e₁.
       subst (λ x. Given (x .pool)) (good-inj e₁) (childNumbers-given (n .kids) (m .pool) (m .rows) r here h)
 
   drain-given : (fuel : ℕ) (pending : List (ℕ × ℕ)) (m m′ : Made) → drain fuel nodes pending m ≡ good m′ → Given (m .pool) → Given (m′ .pool)
   unfolding drain withPending
   drain-given zero [] m m′ e h = subst (λ x. Given (x .pool)) (good-inj e) h
-  drain-given zero (top ∷ pending) m m′ e h = refused e
+  drain-given zero (top ∷ pending) m m′ e h = bad≢good e
   drain-given (suc fuel) [] m m′ e h = subst (λ x. Given (x .pool)) (good-inj e) h
   drain-given (suc fuel) (top ∷ pending) m m′ e h =
-      after (finish nodes (top .0) (withPending pending m) (getElem? nodes (top .1))) _ m′ e λ r here e₁.
+      good-then (finish nodes (top .0) (withPending pending m) (getElem? nodes (top .1))) _ m′ e λ r here e₁.
       drain-given fuel (r .pool .pending) r m′ e₁ (finish-given (top .0) (withPending pending m) r (getElem? nodes (top .1)) here h)
 
   rawRows-given :
@@ -113,7 +107,7 @@ module _ (nodes : List Node) (bootstraps : BootstrapKids nodes) where
   unfolding rawRows
   rawRows-given [] p rows r b e h = subst (λ x. Given (x .1)) (good-inj e) h
   rawRows-given (x ∷ falling) p rows r b e h =
-      after (slotsOf nodes (kidsOf nodes (x .1)) p) _ r e λ row here e₁.
+      good-then (slotsOf nodes (kidsOf nodes (x .1)) p) _ r e λ row here e₁.
       rawRows-given falling (row .1) ((x .0, row .0) ∷ rows) r (b .1) e₁ (slotsOf-given (kidsOf nodes (x .1)) p row (bootstraps (x .1) (b .0)) here h)
 
   -- so building gives slots to constants only, if raw bootstraps are bootstraps
@@ -125,5 +119,5 @@ module _ (nodes : List Node) (bootstraps : BootstrapKids nodes) where
       Given (m .pool)
   unfolding buildAll
   buildAll-given indexes p m b e h =
-      after (rawRows nodes (reverse indexes) p []) _ m e λ r here e₁.
+      good-then (rawRows nodes (reverse indexes) p []) _ m e λ r here e₁.
       drain-given _ (r .1 .pending) _ m e₁ (rawRows-given (reverse indexes) p [] r (each-reverse (λ x. tagAt nodes (x .1) ≡ bootstrapTag) indexes [] b tt) here h)

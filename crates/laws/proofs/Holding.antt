@@ -1,16 +1,16 @@
 -- HOLDS: every answer, every raw definition, the class name and the name slot of a built job show, in the finished pool as JVMS reads it,
 -- what the job's own records say. Assumes nothing.
 use mathlib.Core.Bool.{Bool, true, false}
-use mathlib.Core.List.{List, [], _∷_, map, reverse, reverseAux}
+use mathlib.Core.List.{List, [], map}
 use mathlib.Core.Logic.{_⊎_, inl, inr}
 use mathlib.Core.Option.{Option, none, some}
 use mathlib.Core.Path.{_≡_, refl, sym, ap, subst, _∙_}
 use Prim.Native.Nat.{ℕ, zero, suc, _+_, _≤_, _<_}
 use native.Mathlib.Omega.{arith}
-use lib.Dec.{eqb, leb}
-use lib.ListN.{length, getD, getElem?}
+use lib.Dec.{eqb}
+use lib.ListN.{length, getD, getElem?, List·getD-eq-default}
 use borrow.Author.Tests.{lt-ltb, le-ltb}
-use Rattle.definition.specs.Basics.{good, _>>=_, atRecord, unless, lookup}
+use Rattle.definition.specs.Basics.{good, lookup}
 use Rattle.definition.specs.Shapes.{Kind, constant, bootstrap, bootstrapTag, Entry, isWide, withLiteral}
 use Rattle.definition.specs.Job.{entry, placed, Job}
 use Rattle.definition.specs.Form.{form}
@@ -20,38 +20,27 @@ use Rattle.definition.specs.Slots.{highestSlot}
 use Rattle.definition.specs.Definitions.{starts, tagAt}
 use Rattle.definition.specs.Building.{kidsOf, Content, nothing, emptyText, holds, behind, contentOf, textIn, className, attributeText, nameWanted}
 use Rattle.definition.specs.Layout.{starters, nodeAt, classSlotOf, Layout, layoutOf, indexNodes, layout}
-use Rattle.definition.specs.Run.{shown, classBytes, Built, render, build, Lent, longestJob, enough, fits, run}
+use Rattle.definition.specs.Run.{shown, classBytes, Built, render, build, Lent, run}
 use Rattle.definition.specs.Jvms.{readPool, readBootstraps}
 use Rattle.laws.specs.Statements.{IsBytes, Among, Finished, leadsTo, slotShows, Shows, textOf, textAt, classOf, HeldBy, Holds, rowShown}
-use Rattle.laws.proofs.Results.{after, decided}
-use Rattle.laws.proofs.Lists.{clash, good-inj}
-use Rattle.laws.proofs.Tables.{order}
-use Rattle.laws.proofs.Each.{each-at}
-use Rattle.laws.proofs.Places.{found-inside}
+use Rattle.laws.proofs.Lists.{some-inj, order, found-inside, among-right, among-forth, map-at}
+use Rattle.laws.proofs.Results.{bad≢good, good-inj, good-first, decided}
+use Rattle.laws.proofs.Each.{each-at, Both}
+use Rattle.laws.proofs.Tables.{rising-lookup}
+use Rattle.laws.proofs.Shape.{room-run, build-layout}
 use Rattle.laws.proofs.Sound.{tag-append}
 use Rattle.laws.proofs.Ending.{kids-append}
-use Rattle.laws.proofs.Occupied.{map-at, wide-in, count-range}
-use Rattle.laws.proofs.DefinedFacts.{start-found, starters-start, start-starters}
+use Rattle.laws.proofs.Occupied.{wide-in, count-range}
+use Rattle.laws.proofs.DefinedFacts.{starters-start, start-starters}
 use Rattle.laws.proofs.Citing.{jobConstants}
 use Rattle.laws.proofs.JobTable.{asks-good, numbered-cited, definitions-low, requests-low}
 use Rattle.laws.proofs.Contents.{content-holds, content-behind}
 use Rattle.laws.proofs.Faithful.{Settled}
 use Rattle.laws.proofs.Asked.{ConstantGoal, Answered}
-use Rattle.laws.proofs.Numbers.{Each as Both, SlotFor, SlotsKept, slots-twice, slot-kept, slots-kept, slotsStay, rawRowsThere}
-use Rattle.laws.proofs.Whole.{among-right, facts, table, asked, nodes, marks, node-at, raw-node, index-node, indexes, indexes-are, rows, starts-here}
-use Rattle.laws.proofs.ReadBack.{stg, end, allNodes, raw, pool, owned, soundly, raw-keys, raw-wide, count, starts-at, index-rises, index-below, owner-tag, reads}
-use Rattle.laws.proofs.Showing.{some-inj, past-end, finished, isOf, same-goal, pool-length, slot-shown, slot-shows, all-show}
-
--- what stands in a list stands in its reverse
-among-aside : {A : Type 0} (a : A) (l acc : List A) → Among a l ⊎ Among a acc → Among a (reverseAux l acc)
-among-aside a [] acc (inl (i, e)) = clash (cc)
-among-aside a [] acc (inr h) = h
-among-aside a (x ∷ l) acc (inl (zero, e)) = among-aside a l (x ∷ acc) (inr (zero, e))
-among-aside a (x ∷ l) acc (inl (suc i, e)) = among-aside a l (x ∷ acc) (inl (i, e))
-among-aside a (x ∷ l) acc (inr (i, e)) = among-aside a l (x ∷ acc) (inr (suc i, e))
-
-among-forth : {A : Type 0} (a : A) (l : List A) → Among a l → Among a (reverse l)
-among-forth a l h = among-aside a l [] (inl h)
+use Rattle.laws.proofs.Numbers.{SlotFor, SlotsKept, slots-twice, slot-kept, slots-kept, slotsStay, rawRowsThere}
+use Rattle.laws.proofs.Whole.{facts, rising, table, asked, nodes, marks, node-at, raw-node, index-node, indexes, indexes-are, rows, starts-here}
+use Rattle.laws.proofs.ReadBack.{stg, end, allNodes, raw, pool, owned, soundly, raw-keys, raw-wide, count, starts-at, index-rises, owner-tag, reads}
+use Rattle.laws.proofs.Showing.{finished, isOf, same-goal, pool-length, slot-shown, slot-shows, all-show}
 
 starts-inj : {a b : ℕ} → starts a ≡ starts b → a ≡ b
 starts-inj e = cc
@@ -159,7 +148,7 @@ module _ (bytes : List ℕ) (job : Job (List ℕ)) (l : Layout) (are : IsBytes b
       go (inl h) = class-of (contentOf own (suc n)) ∙ ap (classOf f) (sym (slot-shown bytes job l are formed laid n h))
       go (inr h) =
           ap (λ c. classBytes (literals job) (className own c)) (content-past n h)
-          ∙ ap (classOf f) (sym (past-end (f .pool) n none (omega (arith, h, pool-length bytes job l are formed laid, some-count))))
+          ∙ ap (classOf f) (sym (List·getD-eq-default (f .pool) none (omega (arith, h, pool-length bytes job l are formed laid, some-count))))
 
   -- the name's slot shows the name
   name-shows : (n : ℕ) → lookup n own ≡ some attributeText → textAt f n ≡ some attributeName
@@ -213,8 +202,10 @@ module _ (bytes : List ℕ) (job : Job (List ℕ)) (l : Layout) (are : IsBytes b
       among-forth (n, k) (map (λ r. (r .0, nodeAt ready (r .1))) (starters held))
       (starter .0, map-at (λ (r : ℕ × ℕ). (r .0, nodeAt ready (r .1))) (starters held) (starter .0) (n, e) (starter .1)) in
       let back = raw-node bytes job l are formed laid n k there in
-      let one = start-found _ _ _ held facts′ n e a in
-      let two = start-found _ _ _ held facts′ n (back .0) (facts′ .startPlaced n (back .0) (starters-start held n (back .0) (back .1))) in
+      let found : (e : ℕ) → Among (n, starts e) held → lookup n held ≡ some (starts e) =
+      λ e a. rising-lookup 1 highestSlot held n (starts e) (rising bytes job l are formed laid .0) a in
+      let one = found e (facts′ .startHeld n e a) in
+      let two = found (back .0) (starters-start held n (back .0) (back .1)) in
       let same : back .0 ≡ e = starts-inj (some-inj (sym two ∙ one)) in
       (k, subst (λ e′. getElem? (marks bytes job l are formed laid) e′ ≡ some (done k)) same (back .2), there)
 
@@ -239,7 +230,7 @@ module _ (bytes : List ℕ) (job : Job (List ℕ)) (l : Layout) (are : IsBytes b
             ∙ ap (λ m. some (n, m)) (node-at bytes job l are formed laid (marks bytes job l are formed laid) (jobConstants (numbered job) + e) k mark),
       ) in
       let (row, found, slots) =
-      rawRowsThere nd (indexes bytes job l are formed laid) (raw bytes job l are formed laid) (stg bytes job l are formed laid .asked .pool) (stg bytes job l are formed laid .made) (starts-here bytes job l are formed laid) (stg bytes job l are formed laid .isMade) (index-rises bytes job l are formed laid) (index-below bytes job l are formed laid) n k here in
+      rawRowsThere nd (indexes bytes job l are formed laid) (raw bytes job l are formed laid) (stg bytes job l are formed laid .asked .pool) (stg bytes job l are formed laid .made) (starts-here bytes job l are formed laid) (stg bytes job l are formed laid .isMade) (index-rises bytes job l are formed laid) n k here in
       let tag = each-at (λ (x : ℕ × ℕ). tagAt nd (x .1) ≡ bootstrapTag) (indexes bytes job l are formed laid) (here .0) (n, k) (indexes-are bytes job l are formed laid) (here .1) in
       all-show bytes job l are formed laid depth .1 (jobConstants (numbered job) + e) k n row mark
       (tag-append nd more k inside ∙ tag)
@@ -295,39 +286,15 @@ held-laid bytes job l are formed laid =
     subst (λ (x : Layout). HeldBy (shownOf job x) (job .requests) (job .build) (render (literals job) x)) (stg bytes job l are formed laid .isLaid) (held-by bytes job l are formed laid)
 
 -- a job that is built is laid out, and what is returned is the layout with its literals' bytes
-build-good :
-    (bytes : List ℕ) (job : Job (List ℕ)) (r : ℕ × Built) →
-    form bytes ≡ good job →
-    build bytes ≡ good r →
-    (l : Layout) × (layout highestSlot (numbered job) ≡ good l) × (render (literals job) l ≡ r .1)
-unfolding build
-build-good bytes job r formed e =
-    after (form bytes) _ r e λ j here e₁.
-    let same : j ≡ job = good-inj (sym here ∙ formed) in
-    after (layout highestSlot (numbered j)) _ r e₁ λ l there e₂. (
-      l,
-      subst (λ j. layout highestSlot (numbered j) ≡ good l) same there,
-      subst (λ (x : Job (List ℕ)). render (literals x) l ≡ r .1) same (ap (λ (x : ℕ × Built). x .1) (good-inj e₂)),
-    )
-
-run-built : (bytes : List ℕ) (lent : Lent) (b : Built) → run lent bytes ≡ good b → (r : ℕ × Built) × (build bytes ≡ good r) × (r .1 ≡ b)
-unfolding run
-run-built bytes lent b e =
-    after (atRecord 0 (unless (leb (length bytes) longestJob) 1)) _ b e λ _ _ e₁.
-    after (atRecord 0 (unless (enough (length bytes) lent) 2)) _ b e₁ λ _ _ e₂.
-    after (build bytes) _ b e₂ λ r here e₃.
-    after (atRecord (r .0) (unless (fits (r .1) lent) 18)) _ b e₃ λ _ _ e₄.
-    (r, here, good-inj e₄)
-
 pub run-laid :
     (bytes : List ℕ) (job : Job (List ℕ)) (lent : Lent) (b : Built) →
     form bytes ≡ good job →
     run lent bytes ≡ good b →
     (l : Layout) × (layout highestSlot (numbered job) ≡ good l) × (render (literals job) l ≡ b)
 run-laid bytes job lent b formed e =
-    let (r, built, same) = run-built bytes lent b e in
-    let (l, laid, is) = build-good bytes job r formed built in
-    (l, laid, is ∙ same)
+    let p = room-run lent bytes (λ r q. bad≢good (sym q ∙ e)) ∙ build-layout bytes job formed in
+    let (l, laid, is) = good-first (layout highestSlot (numbered job)) _ b (sym p ∙ e) in
+    (l, laid, good-inj is)
 
 pub heldSlots : Holds
 heldSlots bytes job lent b shownPool shownBootstraps are formed ran readsPool readsBootstraps =

@@ -14,19 +14,21 @@ use Rattle.definition.specs.Form.{form}
 use Rattle.definition.specs.Numbering.{constantsOf, bootstrapsOf, literals, numbered}
 use Rattle.definition.specs.Resolving.{Goal, rawNumber, tableEntry, refusal, placeOf, goalOf}
 use Rattle.laws.specs.Statements.{IsBytes, Among}
-use Rattle.laws.proofs.Outcomes.{All, all-at, whenGood}
+use Rattle.laws.proofs.Lists.{unmap}
+use Rattle.laws.proofs.Each.{Each, each-at}
+use Rattle.laws.proofs.Formed.{form-formed}
 use Rattle.laws.proofs.Resolver.{GoalOk}
 use Rattle.laws.proofs.Ready.{RefLow, DefLow, NameLow, goalOf-ok, numbered-low}
-use Rattle.laws.proofs.LowNumbers.{JobLow, form-ends}
+use Rattle.laws.proofs.LowNumbers.{JobLow, formed-low}
 use Rattle.laws.proofs.DefinedFacts.{namingsOf}
 use Rattle.laws.proofs.Citing as Citing
 use Rattle.laws.proofs.Citing.{kidKind, GoalOfKind, formed-cited, cited-numbered, jobNames, jobConstants, jobTable, linked-at, linked-length, table-defined, table-constant, table-kid, request-goal, placed-goal}
 use Rattle.laws.proofs.Faithful.{InTable, Cited}
 use Rattle.laws.proofs.Asked.{ConstantGoal}
-use Rattle.laws.proofs.Nodes.{Low, GoodTable, unmap}
+use Rattle.laws.proofs.Nodes.{Low, GoodTable}
 
 -- names of low definitions have low targets
-names-low : (ds : List (Definition ℕ)) → All DefLow ds → All NameLow (namingsOf ds)
+names-low : (ds : List (Definition ℕ)) → Each DefLow ds → Each NameLow (namingsOf ds)
 unfolding namingsOf
 names-low [] h = tt
 names-low (define e ∷ ds) h = names-low ds (h .1)
@@ -68,7 +70,7 @@ module _ (job : Job ℕ) (cited : Citing.Cited ℕ job) where
       eqb-false (x .tag) bootstrapTag (table-constant (job .definitions) (jobNames job) (jobConstants job) e x at h) t
   kind-constant (refusal code) low h = tt
 
-  module _ (low : All DefLow (job .definitions)) (asked : All (λ q. RefLow (q .what)) (job .requests)) where
+  module _ (low : Each DefLow (job .definitions)) (asked : Each (λ q. RefLow (q .what)) (job .requests)) where
     reference-low : (r : Reference) → RefLow r → Low (goalOf (jobNames job) (jobConstants job) r)
     reference-low r h =
         goal-low (goalOf (jobNames job) (jobConstants job) r) (goalOf-ok (Unit {0}) (jobNames job) (jobConstants job) r (λ _. names-low (job .definitions) low) (λ _. h))
@@ -79,7 +81,7 @@ module _ (job : Job ℕ) (cited : Citing.Cited ℕ job) where
         let y = h .0 in
         let there = table-defined (job .definitions) e y (h .1) .2 in
         let u = unmap (goalOf (jobNames job) (jobConstants job)) (y .kids) g (subst (Among g) (h .3) a) in
-        subst Low (u .2) (reference-low (u .0) (all-at RefLow (y .kids) (u .1 .0) (u .0) (all-at DefLow (job .definitions) (there .0) (define y) low (there .1)) (u .1 .1)))
+        subst Low (u .2) (reference-low (u .0) (each-at RefLow (y .kids) (u .1 .0) (u .0) (each-at DefLow (job .definitions) (there .0) (define y) low (there .1)) (u .1 .1)))
 
     pub good-table : GoodTable (jobTable job)
     good-table =
@@ -101,7 +103,7 @@ module _ (job : Job ℕ) (cited : Citing.Cited ℕ job) where
     asks-good i q at =
         let kind = request-goal job cited i q at in
         let g = goalOf (jobNames job) (jobConstants job) (q .what) in
-        (kind-in constant g kind, kind-constant g (reference-low (q .what) (all-at (λ q. RefLow (q .what)) (job .requests) i q asked at)) kind)
+        (kind-in constant g kind, kind-constant g (reference-low (q .what) (each-at (λ q. RefLow (q .what)) (job .requests) i q asked at)) kind)
 
     -- what is placed
     pub placed-good :
@@ -111,15 +113,15 @@ module _ (job : Job ℕ) (cited : Citing.Cited ℕ job) where
 -- all that of a formed job, numbered
 module _ (bytes : List ℕ) (job : Job (List ℕ)) (are : IsBytes bytes) (formed : form bytes ≡ good job) where
   pub numbered-cited : Citing.Cited ℕ (numbered job)
-  numbered-cited = cited-numbered job (formed-cited bytes job formed)
+  numbered-cited = cited-numbered job (formed-cited job (form-formed bytes job are formed))
 
   job-low : JobLow job
-  job-low = whenGood (form-ends bytes are) formed
+  job-low = formed-low job (form-formed bytes job are formed)
 
-  pub definitions-low : All DefLow (numbered job .definitions)
+  pub definitions-low : Each DefLow (numbered job .definitions)
   unfolding numbered
   definitions-low = numbered-low (literals job) (job .definitions) (job-low .definitionsLow)
 
-  pub requests-low : All (λ q. RefLow (q .what)) (numbered job .requests)
+  pub requests-low : Each (λ q. RefLow (q .what)) (numbered job .requests)
   unfolding numbered
   requests-low = job-low .requestsLow

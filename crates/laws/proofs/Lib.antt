@@ -3,12 +3,12 @@ pub mod OneOutcome
 pub mod Numbering
 pub mod Bare
 pub mod Shape
-pub mod Guards
 pub mod Chunks
 pub mod Reading
 pub mod Blocks
 pub mod BlockRefusals
 pub mod Stages
+pub mod Sums
 pub mod Tables
 pub mod Gaps
 pub mod Requests
@@ -17,7 +17,7 @@ pub mod Sound
 pub mod Kept
 pub mod Exactly
 pub mod Seventeen
-pub mod Places
+pub mod Interning
 pub mod Faithful
 pub mod Each
 pub mod Results
@@ -26,7 +26,6 @@ pub mod PoolRead
 pub mod Yields
 pub mod FormedEntry
 pub mod Formed
-pub mod Cited
 pub mod Fitting
 pub mod Contents
 pub mod Outcomes
@@ -37,11 +36,9 @@ pub mod LowNumbers
 pub mod Fuel
 pub mod Followed
 pub mod GivenConstants
-pub mod NumbersLists
 pub mod Numbers
 pub mod Asked
 pub mod Started
-pub mod MoreLists
 pub mod DefinedFacts
 pub mod Occupied
 pub mod Ending

@@ -2,7 +2,7 @@
 use mathlib.Core.List.{List, [], _∷_, map}
 use mathlib.Core.Option.{Option, none, some}
 use mathlib.Core.Path.{_≡_, refl, sym, ap, subst, _∙_}
-use Prim.Native.Nat.{ℕ, zero, suc, _+_, _-_, _≤_, _<_}
+use Prim.Native.Nat.{ℕ, suc, _+_, _-_, _≤_, _<_}
 use native.Mathlib.Omega.{arith}
 use lib.ListN.{length, getElem?}
 use Rattle.definition.specs.Shapes.{Entry, bootstrapTag, withKids}
@@ -10,9 +10,8 @@ use Rattle.definition.specs.Definitions.{tagAt}
 use Rattle.definition.specs.Resolving.{Goal, rawNumber, tableEntry, refusal, Node, firstNode, Resolved, childOf}
 use Rattle.definition.specs.Building.{kidsOf}
 use Rattle.laws.specs.Statements.{Among}
+use Rattle.laws.proofs.Lists.{clash, found-inside, unmap}
 use Rattle.laws.proofs.Each.{Each}
-use Rattle.laws.proofs.Lists.{clash}
-use Rattle.laws.proofs.Places.{found-inside}
 use Rattle.laws.proofs.Faithful.{Settled, Cited, IsNode, Faithful}
 use Rattle.laws.proofs.GivenConstants.{Constant, ConstantChild, BootstrapKids}
 use Rattle.laws.proofs.Numbers.{KidsIn}
@@ -28,14 +27,6 @@ pub record GoodTable (table : List (Entry ℕ Goal)) : Type 0 where
   pub cited : Cited table
   pub low : (e : ℕ) (x : Entry ℕ Goal) (g : Goal) → getElem? table e ≡ some x → Among g (x .kids) → Low g
   pub constantKids : (e : ℕ) (x : Entry ℕ Goal) (g : Goal) → getElem? table e ≡ some x → x .tag ≡ bootstrapTag → Among g (x .kids) → ConstantGoal table g
-
--- a place of a list that is mapped
-pub unmap : {A B : Type 0} (f : A → B) (l : List A) (b : B) → Among b (map f l) → (a : A) × Among a l × (f a ≡ b)
-unmap f [] b (i, h) = clash (cc)
-unmap f (x ∷ l) b (zero, h) = (x, (0, refl), cc)
-unmap f (x ∷ l) b (suc i, h) =
-    let r = unmap f l b (i, h) in
-    (r .0, (suc (r .1 .0), r .1 .1), r .2)
 
 module _ (table : List (Entry ℕ Goal)) (good : GoodTable table) (s : Resolved) (f : Faithful table s) where
   -- the entry that became a node

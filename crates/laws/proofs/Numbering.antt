@@ -10,7 +10,7 @@ use borrow.Author.Tests.{eqb-true, eq-eqb}
 use Rattle.definition.specs.Basics.{same}
 use Rattle.definition.specs.Numbering.{Literal, sameLiteral, literals, numberOf, literalOf}
 use Rattle.laws.specs.Statements.{Among, Numbering}
-use Rattle.laws.proofs.Lists.{both-true, same-true, same-refl, getD-some, position-hit}
+use Rattle.laws.proofs.Lists.{both-true, same-true, same-refl, found-read, position-hit}
 
 -- the test on literals passes exactly the equal ones
 pub sameLiteral-true : (a b : Literal) → sameLiteral a b ≡ true → a ≡ b
@@ -38,7 +38,7 @@ numberOf-at all a h =
 -- so the number stands for its bytes
 pub literalOf-numberOf : (all : List Literal) (a : Literal) → Among a all → literalOf all (numberOf all a) ≡ a .1
 unfolding literalOf
-literalOf-numberOf all a h = ap (λ (l : Literal). l .1) (getD-some all (numberOf all a) a (1, []) (numberOf-at all a h))
+literalOf-numberOf all a h = ap (λ (l : Literal). l .1) (found-read all (numberOf all a) a (1, []) (numberOf-at all a h))
 
 -- and is no other literal's
 pub numberOf-inj : (all : List Literal) (a b : Literal) → Among a all → Among b all → numberOf all a ≡ numberOf all b → a ≡ b

@@ -1,6 +1,6 @@
 -- What `buildAll` leaves behind: every slot given out, and every raw one, holds its node with numbers that stand for its children; nothing
 -- else is held; raw bootstraps stand at their indexes; and the pool is one that occurs. The theorems stand at the end. Assumes nothing.
-use mathlib.Core.Bool.{Bool, true, false, _&&_}
+use mathlib.Core.Bool.{Bool, true, false}
 use mathlib.Core.List.{List, [], _∷_, _++_, map, reverse, reverseAux, append-assoc, reverse-reverse}
 use mathlib.Core.Logic.{_⊎_, inl, inr}
 use mathlib.Core.Option.{Option, none, some}
@@ -9,26 +9,23 @@ use Prim.Native.Nat.{ℕ, zero, suc, _+_, _-_, _≤_, _<_}
 use native.Mathlib.Omega.{arith}
 use lib.Dec.{eqb, ltb}
 use lib.ListN.{length, getElem?, replicate, length-append}
-use borrow.Author.Tests.{ltb-true, ltb-false, eqb-true, eqb-false, eq-eqb}
-use Rattle.definition.specs.Basics.{Result, good, bad, _>>=_, same, lookup}
-use Rattle.definition.specs.Shapes.{bootstrapTag, Entry, withKids, isWide}
+use borrow.Author.Tests.{ltb-true, ltb-false, eqb-true, eqb-false}
+use Rattle.definition.specs.Basics.{Result, good, _>>=_, same, lookup}
+use Rattle.definition.specs.Shapes.{bootstrapTag, Entry, withKids}
 use Rattle.definition.specs.Definitions.{Held, tagAt}
 use Rattle.definition.specs.Resolving.{Node, firstNode}
-use Rattle.definition.specs.Slots.{Slots, slotFor}
-use Rattle.definition.specs.Building.{Pool, give, allocate, slotOf, slotsOf, Row, Rows, writeRaw, indexOf, takeIndex, rowIndex, fillHoles}
+use Rattle.definition.specs.Building.{Pool, allocate, slotOf, slotsOf, Row, Rows, writeRaw, indexOf, takeIndex, rowIndex, fillHoles}
 use Rattle.definition.specs.Building.{Made, kidsOf, nodeNumber, childNumber, childNumbers, finish, withPending, drain, rawRows, buildAll}
-use Rattle.laws.specs.Statements.{Among, times, Occurs, afterRequest, stackTaken}
-use Rattle.laws.proofs.NumbersLists.{among-nil, among-cons-cases, among-there, get-append, among-front, among-back, get-append-cases, among-append-cases}
-use Rattle.laws.proofs.NumbersLists.{among-replicate, get-filled, get-seam, length-filled, get-below, map-append, count-step, Rises, KeysBelow}
+use Rattle.laws.specs.Statements.{Among, Occurs, afterRequest, stackTaken}
+use Rattle.laws.proofs.Lists.{clash, same-true, inside-found, found-append, append-at, found-seam, found-replicate, found-filled, length-filled, among-nil, among-cons, among-later, among-left, among-right, among-either}
+use Rattle.laws.proofs.Results.{bad≢good, good-inj, good-first}
+use Rattle.laws.proofs.Each.{Both, both-map, both-first, both-second}
+use Rattle.laws.proofs.Tables.{Rising, keys}
+use Rattle.laws.proofs.Requests.{Met, old, new, met}
+use Rattle.laws.proofs.Kept.{keeps}
+use Rattle.laws.proofs.Seventeen.{write-next, write-stop, row-old, row-new, take-some, take-none}
 
 -- ---- what is said
-
--- two lists of one length, related place by place
-abbrev pub Each : (ℕ → ℕ → Type 0) → List ℕ → List ℕ → Type 0
-Each R [] [] = Unit {0}
-Each R [] (n ∷ ns) = ⊥
-Each R (c ∷ cs) [] = ⊥
-Each R (c ∷ cs) (n ∷ ns) = R c n × Each R cs ns
 
 -- the number that stands for a child that is a constant: a raw number itself, or the slot given to its node
 abbrev pub SlotFor : List (ℕ × ℕ) → ℕ → ℕ → Type 0
@@ -43,7 +40,7 @@ NumberFor nodes given rows child n =
     × (tagAt nodes (child - firstNode) ≡ bootstrapTag)
     × (row : Row)
     × (getElem? rows n ≡ some row)
-    × Each (SlotFor given) (kidsOf nodes (child - firstNode)) row)
+    × Both (SlotFor given) (kidsOf nodes (child - firstNode)) row)
 
 -- the slots that are to hold a node, with their nodes: those given out, and the raw ones
 abbrev pub toHold : List (ℕ × ℕ) → List (ℕ × ℕ) → List (ℕ × ℕ)
@@ -56,7 +53,7 @@ FinishedAt nodes given rows owned s k =
     × (ns : List ℕ)
     × (getElem? nodes k ≡ some nd)
     × Among (s, withKids ns nd) owned
-    × Each (NumberFor nodes given rows) (nd .kids) ns
+    × Both (NumberFor nodes given rows) (nd .kids) ns
 
 -- what a slot holds is such a node, and it is to hold it
 abbrev pub OwnerOf : List Node → List (ℕ × ℕ) → List (ℕ × ℕ) → List Row → ℕ → Entry ℕ ℕ → Type 0
@@ -67,12 +64,12 @@ OwnerOf nodes given raws rows s e =
     × (e ≡ withKids ns nd)
     × (getElem? nodes k ≡ some nd)
     × Among (s, k) (toHold given raws)
-    × Each (NumberFor nodes given rows) (nd .kids) ns
+    × Both (NumberFor nodes given rows) (nd .kids) ns
 
 -- a row has the slots of the children of a node, which is that of a raw bootstrap or a bootstrap that was reached
 abbrev pub RowFrom : List Node → List (ℕ × ℕ) → List (ℕ × ℕ) → Row → Type 0
 RowFrom nodes indexes given row =
-    (k : ℕ) × Each (SlotFor given) (kidsOf nodes k) row × (((i : ℕ) × Among (i, k) indexes) ⊎ (tagAt nodes k ≡ bootstrapTag))
+    (k : ℕ) × Both (SlotFor given) (kidsOf nodes k) row × (((i : ℕ) × Among (i, k) indexes) ⊎ (tagAt nodes k ≡ bootstrapTag))
 
 -- the rows that building ends with
 abbrev pub rowsOf : Made → List Row
@@ -110,7 +107,7 @@ pub rows-twice : {a b c : List Row} → RowsKept a b → RowsKept b c → RowsKe
 rows-twice ab bc = record { rowStays = λ i row e. bc .rowStays i row (ab .rowStays i row e) }
 
 rows-append : (written more : List Row) → RowsKept written (written ++ more)
-rows-append written more = record { rowStays = get-append written more }
+rows-append written more = record { rowStays = found-append written more }
 
 pub slots-same : {given : List (ℕ × ℕ)} → SlotsKept given given
 slots-same = record { slotStays = λ k s e. e }
@@ -120,39 +117,12 @@ slots-twice ab bc = record { slotStays = λ k s e. bc .slotStays k s (ab .slotSt
 
 -- ---- results that are good
 
-pub good-same : {A : Type 0} {a b : A} → _≡_ {A = Result ℕ A} (good a) (good b) → a ≡ b
-good-same {a} {b} e = cc
-
-pub not-bad : {A : Type 0} {a : A} {code : ℕ} → _≡_ {A = Result ℕ A} (bad code) (good a) → ⊥
-not-bad {a} {code} e = let z : _≡_ {A = ℕ} 0 1 = cc in omega arith
-
--- the stages of a chain that ends well
-pub bound : {A B : Type 0} (x : Result ℕ A) (f : A → Result ℕ B) (b : B) → (x >>= f) ≡ good b → (a : A) × (x ≡ good a) × (f a ≡ good b)
-bound (good a) f b e = (a, refl, e)
-bound (bad code) f b e = absurd (not-bad e)
-
 -- ---- tables with numbers for keys
-
-pub lookup-here : (k s : ℕ) (given : List (ℕ × ℕ)) → lookup k ((k, s) ∷ given) ≡ some s
-unfolding lookup
-lookup-here k s given = rw (eq-eqb k k refl, lookup)
-
--- a new key hides no other
-pub lookup-kept : (k s : ℕ) (given : List (ℕ × ℕ)) → lookup k given ≡ none → SlotsKept given ((k, s) ∷ given)
-unfolding lookup
-lookup-kept k s given missing = record { slotStays = λ k′ s′ e. go k′ s′ e (eqb k′ k) refl }
-  where
-    go : (k′ s′ : ℕ) → lookup k′ given ≡ some s′ → (b : Bool) → eqb k′ k ≡ b → lookup k′ ((k, s) ∷ given) ≡ some s′
-    go k′ s′ e true t =
-        let q : k′ ≡ k = eqb-true k′ k t in
-        let z : _≡_ {A = ℕ} 0 1 = cc in
-        absurd (omega arith)
-    go k′ s′ e false t = rw (t, lookup) e
 
 -- a slot that is given is to hold its node
 pub given-held : (k s : ℕ) (given raws : List (ℕ × ℕ)) → lookup k given ≡ some s → Among (s, k) (toHold given raws)
 unfolding lookup
-given-held k s [] raws e = let z : _≡_ {A = ℕ} 0 1 = cc in absurd (omega arith)
+given-held k s [] raws e = clash (cc)
 given-held k s (r ∷ given) raws e = go (eqb k (r .0)) refl (given-held k s given raws)
   where
     go :
@@ -165,23 +135,17 @@ given-held k s (r ∷ given) raws e = go (eqb k (r .0)) refl (given-held k s giv
         let e′ : some (r .1) ≡ some s = rw (t, lookup) at e in
         let q′ : r .1 ≡ s = cc in
         (0, λ j. some (q′ j, q j))
-    go false t rest = among-there (s, k) (r .1, r .0) (toHold given raws) (rest (rw (t, lookup) at e))
+    go false t rest = among-later (s, k) (r .1, r .0) (toHold given raws) (rest (rw (t, lookup) at e))
 
 -- ---- numbers that stand for children go on standing for them
-
-pub each-map : {R S : ℕ → ℕ → Type 0} (cs ns : List ℕ) → ((c n : ℕ) → R c n → S c n) → Each R cs ns → Each S cs ns
-each-map [] [] f h = tt
-each-map [] (n ∷ ns) f h = h
-each-map (c ∷ cs) [] f h = h
-each-map (c ∷ cs) (n ∷ ns) f h = (f c n (h .0), each-map cs ns f (h .1))
 
 pub slot-kept : {given given′ : List (ℕ × ℕ)} → SlotsKept given given′ → (c n : ℕ) → SlotFor given c n → SlotFor given′ c n
 slot-kept kept c n (inl h) = inl h
 slot-kept kept c n (inr h) = inr (h .0, kept .slotStays (c - firstNode) n (h .1))
 
 pub slots-kept :
-    {given given′ : List (ℕ × ℕ)} → SlotsKept given given′ → (cs ns : List ℕ) → Each (SlotFor given) cs ns → Each (SlotFor given′) cs ns
-slots-kept {given} {given′} kept cs ns = each-map {R = SlotFor given} {S = SlotFor given′} cs ns (slot-kept kept)
+    {given given′ : List (ℕ × ℕ)} → SlotsKept given given′ → (cs ns : List ℕ) → Both (SlotFor given) cs ns → Both (SlotFor given′) cs ns
+slots-kept {given} {given′} kept cs ns = both-map {R = SlotFor given} {S = SlotFor given′} cs ns (slot-kept kept)
 
 pub number-kept :
     (nodes : List Node) {given given′ : List (ℕ × ℕ)} {rows rows′ : List Row} →
@@ -200,24 +164,12 @@ pub numbers-kept :
     SlotsKept given given′ →
     RowsKept rows rows′ →
     (cs ns : List ℕ) →
-    Each (NumberFor nodes given rows) cs ns →
-    Each (NumberFor nodes given′ rows′) cs ns
+    Both (NumberFor nodes given rows) cs ns →
+    Both (NumberFor nodes given′ rows′) cs ns
 numbers-kept nodes {given} {given′} {rows} {rows′} kept more cs ns =
-    each-map {R = NumberFor nodes given rows} {S = NumberFor nodes given′ rows′} cs ns (number-kept nodes kept more)
+    both-map {R = NumberFor nodes given rows} {S = NumberFor nodes given′ rows′} cs ns (number-kept nodes kept more)
 
 -- ---- branches of the definition
-
--- a request whose node has a slot, and one whose node hasn't
-pub allocate-has : (nodes : List Node) (ldc : Bool) (k s : ℕ) (p : Pool) → lookup k (p .given) ≡ some s → allocate nodes ldc k p ≡ good (s, p)
-unfolding allocate
-allocate-has nodes ldc k s p e = rw (e, allocate)
-
-pub allocate-new :
-    (nodes : List Node) (ldc : Bool) (k : ℕ) (p : Pool) →
-    lookup k (p .given) ≡ none →
-    allocate nodes ldc k p ≡ give ldc k p (slotFor (isWide (tagAt nodes k)) ldc (p .slots))
-unfolding allocate
-allocate-new nodes ldc k p e = rw (e, allocate)
 
 pub slotOf-raw : (nodes : List Node) (ldc : Bool) (c : ℕ) (p : Pool) → ltb c firstNode ≡ true → slotOf nodes ldc c p ≡ good (c, p)
 unfolding slotOf
@@ -227,46 +179,6 @@ pub slotOf-node :
     (nodes : List Node) (ldc : Bool) (c : ℕ) (p : Pool) → ltb c firstNode ≡ false → slotOf nodes ldc c p ≡ allocate nodes ldc (c - firstNode) p
 unfolding slotOf
 slotOf-node nodes ldc c p t = rw (t, slotOf)
-
-writeRaw-next :
-    (written : List Row) (r : ℕ × Row) (waiting : List (ℕ × Row)) →
-    eqb (r .0) (length written) ≡ true →
-    writeRaw written (r ∷ waiting) ≡ writeRaw (written ++ r .1 ∷ []) waiting
-unfolding writeRaw
-writeRaw-next written r waiting t = rw (t, writeRaw)
-
-writeRaw-stop :
-    (written : List Row) (r : ℕ × Row) (waiting : List (ℕ × Row)) →
-    eqb (r .0) (length written) ≡ false →
-    writeRaw written (r ∷ waiting) ≡ (written, r ∷ waiting)
-unfolding writeRaw
-writeRaw-stop written r waiting t = rw (t, writeRaw)
-
-rowIndex-has : (row : Row) (rows : Rows) (i : ℕ) → indexOf row (rows .inline) ≡ some i → rowIndex row rows ≡ good (i, rows)
-unfolding rowIndex
-rowIndex-has row rows i e = rw (e, rowIndex)
-
-rowIndex-new :
-    (row : Row) (rows : Rows) →
-    indexOf row (rows .inline) ≡ none →
-    rowIndex row rows ≡ takeIndex row (rows .inline) (writeRaw (rows .written) (rows .waiting))
-unfolding rowIndex
-rowIndex-new row rows e = rw (e, rowIndex)
-
-takeIndex-next :
-    (row : Row) (inline : List (Row × ℕ)) (w : List Row × List (ℕ × Row)) →
-    ltb (length (w .0)) 65535 ≡ true →
-    takeIndex row inline w
-    ≡ good (length (w .0), record { written = w .0 ++ row ∷ []; waiting = w .1; inline = (row, length (w .0)) ∷ inline })
-unfolding takeIndex
-takeIndex-next row inline w t = rw (t, takeIndex)
-
-takeIndex-full :
-    (row : Row) (inline : List (Row × ℕ)) (w : List Row × List (ℕ × Row)) →
-    ltb (length (w .0)) 65535 ≡ false →
-    takeIndex row inline w ≡ bad 17
-unfolding takeIndex
-takeIndex-full row inline w t = rw (t, takeIndex)
 
 nodeNumber-row :
     (nodes : List Node) (k : ℕ) (p : Pool) (rows : Rows) →
@@ -297,7 +209,7 @@ unfolding kidsOf
 kids-in nodes h k = go (getElem? nodes k) refl
   where
     go : (o : Option Node) → getElem? nodes k ≡ o → InNodes nodes (kidsOf nodes k)
-    go none e = rw (e, kidsOf) (λ c m. absurd (among-nil c m))
+    go none e = rw (e, kidsOf) (λ c m. among-nil c m)
     go (some nd) e = rw (e, kidsOf) (h k nd e)
 
 -- ---- inline rows
@@ -306,26 +218,10 @@ kids-in nodes h k = go (getElem? nodes k) refl
 abbrev pub InlineThere : Rows → Type 0
 InlineThere rows = (row : Row) (i : ℕ) → Among (row, i) (rows .inline) → getElem? (rows .written) i ≡ some row
 
-and-both : (a b : Bool) → (a && b) ≡ true → (a ≡ true) × (b ≡ true)
-and-both true b e = (refl, e)
-and-both false b e = let z : _≡_ {A = ℕ} 0 1 = cc in absurd (omega arith)
-
--- rows that pass the test are equal
-pub same-true : (a b : List ℕ) → same a b ≡ true → a ≡ b
-unfolding same
-same-true [] [] e = refl
-same-true [] (y ∷ b) e = let z : _≡_ {A = ℕ} 0 1 = cc in absurd (omega arith)
-same-true (x ∷ a) [] e = let z : _≡_ {A = ℕ} 0 1 = cc in absurd (omega arith)
-same-true (x ∷ a) (y ∷ b) e =
-    let both = and-both (eqb x y) (same a b) e in
-    let q = eqb-true x y (both .0) in
-    let q′ = same-true a b (both .1) in
-    cc
-
 -- an inline row that is found is there
 pub indexOf-there : (row : Row) (inline : List (Row × ℕ)) (i : ℕ) → indexOf row inline ≡ some i → Among (row, i) inline
 unfolding indexOf
-indexOf-there row [] i e = let z : _≡_ {A = ℕ} 0 1 = cc in absurd (omega arith)
+indexOf-there row [] i e = clash (cc)
 indexOf-there row (r ∷ inline) i e = go (same row (r .0)) refl (indexOf-there row inline i)
   where
     go : (b : Bool) → same row (r .0) ≡ b → (indexOf row inline ≡ some i → Among (row, i) inline) → Among (row, i) (r ∷ inline)
@@ -334,7 +230,7 @@ indexOf-there row (r ∷ inline) i e = go (same row (r .0)) refl (indexOf-there 
         let e′ : some (r .1) ≡ some i = rw (t, indexOf) at e in
         let q′ : r .1 ≡ i = cc in
         (0, λ j. some (q j, q′ j))
-    go false t rest = among-there (row, i) r inline (rest (rw (t, indexOf) at e))
+    go false t rest = among-later (row, i) r inline (rest (rw (t, indexOf) at e))
 
 -- ---- what is made while building
 
@@ -367,9 +263,6 @@ pub record Building (nodes : List Node) (raws pending : List (ℕ × ℕ)) (m : 
       Among (s, k) (toHold (m .pool .given) raws) →
       Among (s, k) pending ⊎ FinishedAt nodes (m .pool .given) (m .rows .written) (m .owned) s k
   pub owners : (s : ℕ) (e : Entry ℕ ℕ) → Among (s, e) (m .owned) → OwnerOf nodes (m .pool .given) raws (m .rows .written) s e
-  pub counted :
-      (s : ℕ) →
-      times s (map (λ o. o .0) (m .owned)) + times s (map (λ r. r .0) pending) ≡ times s (map (λ r. r .0) (toHold (m .pool .given) raws))
   pub inlined : InlineThere (m .rows)
 
 -- the pool once the stack is another
@@ -386,8 +279,8 @@ finish-some :
     (r : List ℕ × Pool × Rows) × (childNumbers nodes (nd .kids) (takenPool pending (m .pool)) (m .rows) ≡ good r) × (finishedMade s nd m r ≡ m′)
 unfolding finish withPending
 finish-some nodes s pending m m′ nd e =
-    let first = bound (childNumbers nodes (nd .kids) (takenPool pending (m .pool)) (m .rows)) (λ r. good (finishedMade s nd m r)) m′ e in
-    (first .0, first .1, good-same (first .2))
+    let first = good-first (childNumbers nodes (nd .kids) (takenPool pending (m .pool)) (m .rows)) (λ r. good (finishedMade s nd m r)) m′ e in
+    (first .0, first .1, good-inj (first .2))
 
 -- what building works on once raw bootstraps have their slots
 abbrev startMade : List (ℕ × Row) × Pool → Made
@@ -407,14 +300,14 @@ module _ (nodes : List Node) where
 
   pub grown-not : {p : Pool} → PoolGrows p p
   grown-not =
-      record { kept = slots-same; new = []; newIn = λ s k m. absurd (among-nil (s, k) m); stacked = refl; gave = refl; occurs = λ top held o. o }
+      record { kept = slots-same; new = []; newIn = λ s k m. among-nil (s, k) m; stacked = refl; gave = refl; occurs = λ top held o. o }
 
   pub grown-twice : {p p′ p″ : Pool} → PoolGrows p p′ → PoolGrows p′ p″ → PoolGrows p p″
   grown-twice {p} a b =
       record {
         kept = slots-twice (a .kept) (b .kept);
         new = b .new ++ a .new;
-        newIn = λ s k m. either s k (among-append-cases (s, k) (b .new) (a .new) m);
+        newIn = λ s k m. either s k (among-either (s, k) (b .new) (a .new) m);
         stacked = b .stacked ∙ ap (λ l. b .new ++ l) (a .stacked) ∙ sym (append-assoc (b .new) (a .new) (p .pending));
         gave = b .gave ∙ ap (λ l. b .new ++ l) (a .gave) ∙ sym (append-assoc (b .new) (a .new) (map (λ r. (r .1, r .0)) (p .given)));
         occurs = λ top held o. b .occurs top held (a .occurs top held o);
@@ -438,38 +331,27 @@ module _ (nodes : List Node) where
   abbrev pub Allocated : ℕ → Pool → ℕ × Pool → Type 0
   Allocated k p r = PoolGrows p (r .1) × (lookup k (r .1 .given) ≡ some (r .0))
 
-  given-new :
-      (ldc : Bool) (k : ℕ) (p : Pool) (r : ℕ × Pool) (found : Option (ℕ × Slots)) →
-      k < length nodes →
-      lookup k (p .given) ≡ none →
-      give ldc k p found ≡ good r →
-      allocate nodes ldc k p ≡ good r →
-      Allocated k p r
-  unfolding give
-  given-new ldc k p r none below missing e asked = absurd (not-bad e)
-  given-new ldc k p r (some f) below missing e asked =
-      let same = good-same e in (
-        record {
-          kept = rw (← same) (lookup-kept k (f .0) (p .given) missing);
-          new = (f .0, k) ∷ [];
-          newIn = λ s k′ m. in-nodes s k′ (among-cons-cases (s, k′) (f .0, k) [] m);
-          stacked = rw (← same);
-          gave = rw (← same);
-          occurs = λ top held o. afterRequest ldc k (r .0) (r .1) o below asked;
-        },
-        rw (← same) (lookup-here k (f .0) (p .given)),
-      )
-    where
-      in-nodes : (s k′ : ℕ) → _≡_ {A = ℕ × ℕ} (s, k′) (f .0, k) ⊎ Among {A = ℕ × ℕ} (s, k′) [] → k′ < length nodes
-      in-nodes s k′ (inl q) = let q′ : k′ ≡ k = ap (λ x. x .1) q in omega arith
-      in-nodes s k′ (inr m) = absurd (among-nil (s, k′) m)
-
   pub allocated : (ldc : Bool) (k : ℕ) (p : Pool) (r : ℕ × Pool) → k < length nodes → allocate nodes ldc k p ≡ good r → Allocated k p r
-  allocated ldc k p r below asked = go (lookup k (p .given)) refl
+  allocated ldc k p r below asked = (grows (met nodes ldc k (r .0) p (r .1) asked), has .0)
     where
-      go : (o : Option ℕ) → lookup k (p .given) ≡ o → Allocated k p r
-      go none e = given-new ldc k p r (slotFor (isWide (tagAt nodes k)) ldc (p .slots)) below e (sym (allocate-new nodes ldc k p e) ∙ asked) asked
-      go (some s) e = subst (λ x. Allocated k p x) (good-same (sym (allocate-has nodes ldc k s p e) ∙ asked)) (grown-not, e)
+      has : (lookup k (r .1 .given) ≡ some (r .0)) × ((k′ s′ : ℕ) → lookup k′ (p .given) ≡ some s′ → lookup k′ (r .1 .given) ≡ some s′)
+      has = keeps nodes ldc k (r .0) p (r .1) asked
+
+      in-nodes : (s k′ : ℕ) → _≡_ {A = ℕ × ℕ} (s, k′) (r .0, k) ⊎ Among {A = ℕ × ℕ} (s, k′) [] → k′ < length nodes
+      in-nodes s k′ (inl q) = let q′ : k′ ≡ k = ap (λ x. x .1) q in omega arith
+      in-nodes s k′ (inr m) = among-nil (s, k′) m
+
+      grows : Met nodes ldc k p (r .0) (r .1) → PoolGrows p (r .1)
+      grows (old e q) = rw q grown-not
+      grows (new slots e f q) =
+          record {
+            kept = record { slotStays = has .1 };
+            new = (r .0, k) ∷ [];
+            newIn = λ s k′ m. in-nodes s k′ (among-cons (s, k′) (r .0, k) [] m);
+            stacked = ap (λ (x : Pool). x .pending) q;
+            gave = ap (λ (x : Pool). map (λ y. (y .1, y .0)) (x .given)) q;
+            occurs = λ top held o. afterRequest ldc k (r .0) (r .1) o below asked;
+          }
 
   -- ---- the slots of children that are constants
 
@@ -485,7 +367,7 @@ module _ (nodes : List Node) where
     where
       go : (b : Bool) → ltb c firstNode ≡ b → Slotted c p r
       go true t =
-          subst (λ x. Slotted c p x) (good-same (sym (slotOf-raw nodes ldc c p t) ∙ e)) (grown-not, inl (ltb-true c firstNode t, refl))
+          subst (λ x. Slotted c p x) (good-inj (sym (slotOf-raw nodes ldc c p t) ∙ e)) (grown-not, inl (ltb-true c firstNode t, refl))
       go false t =
           let h = ltb-false c firstNode t in
           let u = below h in
@@ -493,77 +375,63 @@ module _ (nodes : List Node) where
           (got .0, inr (h, got .1))
 
   in-nodes-tail : (c : ℕ) (cs : List ℕ) → InNodes nodes (c ∷ cs) → InNodes nodes cs
-  in-nodes-tail c cs h c′ m = h c′ (among-there c′ c cs m)
+  in-nodes-tail c cs h c′ m = h c′ (among-later c′ c cs m)
 
   -- children's slots: the pool has grown, and each child has its slot
   abbrev pub AllSlotted : List ℕ → Pool → List ℕ × Pool → Type 0
-  AllSlotted cs p r = PoolGrows p (r .1) × Each (SlotFor (r .1 .given)) cs (r .0)
+  AllSlotted cs p r = PoolGrows p (r .1) × Both (SlotFor (r .1 .given)) cs (r .0)
 
   pub allSlotted : (cs : List ℕ) (p : Pool) (r : List ℕ × Pool) → InNodes nodes cs → slotsOf nodes cs p ≡ good r → AllSlotted cs p r
   unfolding slotsOf
-  allSlotted [] p r below e = subst (λ x. AllSlotted [] p x) (good-same e) (grown-not, tt)
+  allSlotted [] p r below e = subst (λ x. AllSlotted [] p x) (good-inj e) (grown-not, tt)
   allSlotted (c ∷ cs) p r below e =
-      let first = bound (slotOf nodes false c p) (λ x. slotsOf nodes cs (x .1) >>= λ rest. good (x .0 ∷ rest .0, rest .1)) r e in
+      let first = good-first (slotOf nodes false c p) (λ x. slotsOf nodes cs (x .1) >>= λ rest. good (x .0 ∷ rest .0, rest .1)) r e in
       let x = first .0 in
-      let others = bound (slotsOf nodes cs (x .1)) (λ rest. good (x .0 ∷ rest .0, rest .1)) r (first .2) in
+      let others = good-first (slotsOf nodes cs (x .1)) (λ rest. good (x .0 ∷ rest .0, rest .1)) r (first .2) in
       let one = slotted false c p x (below c (0, refl)) (first .1) in
       let more = allSlotted cs (x .1) (others .0) (in-nodes-tail c cs below) (others .1) in
       subst
       (λ y. AllSlotted (c ∷ cs) p y)
-      (good-same (others .2))
+      (good-inj (others .2))
       (grown-twice (one .0) (more .0), (slot-kept (more .0 .kept) c (x .0) (one .1), more .1))
 
   -- ---- raw bootstraps
 
   -- raw bootstraps and their rows, index by index: a row has the slots of its node's children
+  abbrev RawRow : List (ℕ × ℕ) → ℕ × ℕ → ℕ × Row → Type 0
+  RawRow given x w = (x .0 ≡ w .0) × Both (SlotFor given) (kidsOf nodes (x .1)) (w .1)
+
   abbrev pub RawEach : List (ℕ × ℕ) → List (ℕ × ℕ) → List (ℕ × Row) → Type 0
-  RawEach given [] [] = Unit {0}
-  RawEach given [] (w ∷ waiting) = ⊥
-  RawEach given (x ∷ indexes) [] = ⊥
-  RawEach given (x ∷ indexes) (w ∷ waiting) = (x .0 ≡ w .0) × Each (SlotFor given) (kidsOf nodes (x .1)) (w .1) × RawEach given indexes waiting
+  RawEach given indexes waiting = Both (RawRow given) indexes waiting
 
   raw-kept :
       {given given′ : List (ℕ × ℕ)} (indexes : List (ℕ × ℕ)) (waiting : List (ℕ × Row)) →
       SlotsKept given given′ →
       RawEach given indexes waiting →
       RawEach given′ indexes waiting
-  raw-kept [] [] kept h = tt
-  raw-kept [] (w ∷ waiting) kept h = h
-  raw-kept (x ∷ indexes) [] kept h = h
-  raw-kept (x ∷ indexes) (w ∷ waiting) kept h =
-      (h .0, slots-kept kept (kidsOf nodes (x .1)) (w .1) (h .1), raw-kept indexes waiting kept (h .2))
+  raw-kept {given} {given′} indexes waiting kept =
+      both-map {R = RawRow given} {S = RawRow given′} indexes waiting (λ x w h. (h .0, slots-kept kept (kidsOf nodes (x .1)) (w .1) (h .1)))
 
   raw-rises :
-      (given indexes : List (ℕ × ℕ)) (waiting : List (ℕ × Row)) (least : ℕ) → RawEach given indexes waiting → Rises least indexes → Rises least waiting
+      (given indexes : List (ℕ × ℕ)) (waiting : List (ℕ × Row)) (least : ℕ) → RawEach given indexes waiting → Rising least 65534 (keys indexes) → Rising least 65534 (keys waiting)
   raw-rises given [] [] least h up = tt
   raw-rises given [] (w ∷ waiting) least h up = absurd h
   raw-rises given (x ∷ indexes) [] least h up = tt
   raw-rises given (x ∷ indexes) (w ∷ waiting) least h up =
-      (rw (h .0) at (up .0), rw (h .0) at (raw-rises given indexes waiting (suc (x .0)) (h .2) (up .1)))
+      (rw (h .0 .0) at (up .0), rw (h .0 .0) at (up .1), rw (h .0 .0) at (raw-rises given indexes waiting (suc (x .0)) (h .1) (up .2)))
 
   -- every raw bootstrap has its row, and every row its raw bootstrap
   abbrev RawThere : List (ℕ × ℕ) → List (ℕ × Row) → ℕ → ℕ → Type 0
-  RawThere given waiting i k = (row : Row) × Each (SlotFor given) (kidsOf nodes k) row × Among (i, row) waiting
+  RawThere given waiting i k = (row : Row) × Both (SlotFor given) (kidsOf nodes k) row × Among (i, row) waiting
 
   raw-there :
       (given indexes : List (ℕ × ℕ)) (waiting : List (ℕ × Row)) → RawEach given indexes waiting → (i k : ℕ) → Among (i, k) indexes → RawThere given waiting i k
-  raw-there given [] waiting h i k a = absurd (among-nil (i, k) a)
-  raw-there given (x ∷ indexes) [] h i k a = absurd h
-  raw-there given (x ∷ indexes) (w ∷ waiting) h i k a = go (among-cons-cases (i, k) x indexes a) (raw-there given indexes waiting (h .2) i k)
-    where
-      go :
-          _≡_ {A = ℕ × ℕ} (i, k) x ⊎ Among {A = ℕ × ℕ} (i, k) indexes →
-          (Among {A = ℕ × ℕ} (i, k) indexes → RawThere given waiting i k) →
-          RawThere given (w ∷ waiting) i k
-      go (inl q) rest =
-          let q′ : w .0 ≡ i = sym (h .0) ∙ ap (λ (y : ℕ × ℕ). y .0) (sym q) in
-          (w .1, rw (ap (λ (y : ℕ × ℕ). y .1) q) (h .1), (0, λ j. some (q′ j, w .1)))
-      go (inr b) rest =
-          let t = rest b in
-          (t .0, t .1, among-there (i, t .0) w waiting (t .2))
+  raw-there given indexes waiting h i k a =
+      let (w, at, is) = both-first (RawRow given) indexes waiting h (a .0) (i, k) (a .1) in
+      (w .1, is .1, (a .0, at ∙ λ j. some (sym (is .0) j, w .1)))
 
   abbrev RawFrom : List (ℕ × ℕ) → List (ℕ × ℕ) → ℕ → Row → Type 0
-  RawFrom given indexes i row = (k : ℕ) × Each (SlotFor given) (kidsOf nodes k) row × Among (i, k) indexes
+  RawFrom given indexes i row = (k : ℕ) × Both (SlotFor given) (kidsOf nodes k) row × Among (i, k) indexes
 
   raw-from :
       (given indexes : List (ℕ × ℕ)) (waiting : List (ℕ × Row)) →
@@ -571,22 +439,9 @@ module _ (nodes : List Node) where
       (i : ℕ) (row : Row) →
       Among (i, row) waiting →
       RawFrom given indexes i row
-  raw-from given [] [] h i row a = absurd (among-nil (i, row) a)
-  raw-from given [] (w ∷ waiting) h i row a = absurd h
-  raw-from given (x ∷ indexes) [] h i row a = absurd (among-nil (i, row) a)
-  raw-from given (x ∷ indexes) (w ∷ waiting) h i row a =
-      go (among-cons-cases (i, row) w waiting a) (raw-from given indexes waiting (h .2) i row)
-    where
-      go :
-          _≡_ {A = ℕ × Row} (i, row) w ⊎ Among {A = ℕ × Row} (i, row) waiting →
-          (Among {A = ℕ × Row} (i, row) waiting → RawFrom given indexes i row) →
-          RawFrom given (x ∷ indexes) i row
-      go (inl q) rest =
-          let q′ : x .0 ≡ i = h .0 ∙ ap (λ (y : ℕ × Row). y .0) (sym q) in
-          (x .1, rw (ap (λ (y : ℕ × Row). y .1) q) (h .1), (0, λ j. some (q′ j, x .1)))
-      go (inr b) rest =
-          let t = rest b in
-          (t .0, t .1, among-there (i, t .0) x indexes (t .2))
+  raw-from given indexes waiting h i row a =
+      let (x, at, is) = both-second (RawRow given) indexes waiting h (a .0) (i, row) (a .1) in
+      (x .1, is .1, (a .0, at ∙ λ j. some (is .0 j, x .1)))
 
   -- raw rows, from those of the higher indexes on: the pool has grown, and the rows are those of the raw bootstraps
   abbrev RawMade : List (ℕ × ℕ) → Pool → List (ℕ × Row) × Pool → Type 0
@@ -599,12 +454,12 @@ module _ (nodes : List Node) where
       rawRows nodes falling p rows ≡ good r →
       RawMade (reverseAux falling above) p r
   unfolding rawRows
-  rawMade [] above p rows r kids h e = subst (λ x. RawMade above p x) (good-same e) (grown-not, h)
+  rawMade [] above p rows r kids h e = subst (λ x. RawMade above p x) (good-inj e) (grown-not, h)
   rawMade (x ∷ falling) above p rows r kids h e =
-      let first = bound (slotsOf nodes (kidsOf nodes (x .1)) p) (λ row. rawRows nodes falling (row .1) ((x .0, row .0) ∷ rows)) r e in
+      let first = good-first (slotsOf nodes (kidsOf nodes (x .1)) p) (λ row. rawRows nodes falling (row .1) ((x .0, row .0) ∷ rows)) r e in
       let y = first .0 in
       let one = allSlotted (kidsOf nodes (x .1)) p y (kids-in nodes kids (x .1)) (first .1) in
-      let now : RawEach (y .1 .given) (x ∷ above) ((x .0, y .0) ∷ rows) = (refl, one .1, raw-kept above rows (one .0 .kept) h) in
+      let now : RawEach (y .1 .given) (x ∷ above) ((x .0, y .0) ∷ rows) = ((refl, one .1), raw-kept above rows (one .0 .kept) h) in
       let rest = rawMade falling (x ∷ above) (y .1) ((x .0, y .0) ∷ rows) r kids now (first .2) in
       (grown-twice (one .0) (rest .0), rest .1)
 
@@ -614,26 +469,24 @@ module _ (nodes : List Node) where
     -- rows as they stand while rows are added: raw ones wait, by rising index, for indexes that are not written yet; each raw bootstrap is
     -- written at its index or waits for it; and every row is the row of a node
     pub record Placed (given : List (ℕ × ℕ)) (written : List Row) (waiting : List (ℕ × Row)) : Type 0 where
-      pub rises : Rises (length written) waiting
-      pub below : KeysBelow 65535 waiting
+      pub rises : Rising (length written) 65534 (keys waiting)
       pub fits : length written ≤ 65535
       pub rawThere :
           (i k : ℕ) →
           Among (i, k) indexes →
-          (row : Row) × Each (SlotFor given) (kidsOf nodes k) row × ((getElem? written i ≡ some row) ⊎ Among (i, row) waiting)
+          (row : Row) × Both (SlotFor given) (kidsOf nodes k) row × ((getElem? written i ≡ some row) ⊎ Among (i, row) waiting)
       pub writtenFrom : (i : ℕ) (row : Row) → getElem? written i ≡ some row → RowFrom nodes indexes given row
       pub waitingFrom : (i : ℕ) (row : Row) → Among (i, row) waiting → RowFrom nodes indexes given row
 
     -- rows as they stand before the first inline one
     placed-raw :
-        (given : List (ℕ × ℕ)) (waiting : List (ℕ × Row)) → RawEach given indexes waiting → Rises 0 indexes → KeysBelow 65535 indexes → Placed given [] waiting
-    placed-raw given waiting h up low =
+        (given : List (ℕ × ℕ)) (waiting : List (ℕ × Row)) → RawEach given indexes waiting → Rising 0 65534 (keys indexes) → Placed given [] waiting
+    placed-raw given waiting h up =
         record {
           rises = raw-rises given indexes waiting 0 h up;
-          below = λ i row a. let t = raw-from given indexes waiting h i row a in low i (t .0) (t .2);
           fits = omega arith;
           rawThere = λ i k a. let t = raw-there given indexes waiting h i k a in (t .0, t .1, inr (t .2));
-          writtenFrom = λ i row e. absurd (among-nil row (i, e));
+          writtenFrom = λ i row e. among-nil row (i, e);
           waitingFrom = λ i row a. let t = raw-from given indexes waiting h i row a in (t .0, t .1, inl (i, t .2));
         }
 
@@ -649,7 +502,6 @@ module _ (nodes : List Node) where
     placed-kept kept h =
         record {
           rises = h .rises;
-          below = h .below;
           fits = h .fits;
           rawThere = λ i k m. let t = h .rawThere i k m in (t .0, slots-kept kept (kidsOf nodes k) (t .0) (t .1), t .2);
           writtenFrom = λ i row e. row-kept kept row (h .writtenFrom i row e);
@@ -663,12 +515,11 @@ module _ (nodes : List Node) where
         Placed given (written ++ replicate (suc (r .0) - length written) (r .1)) waiting
     placed-filled given written r waiting h =
         record {
-          rises = rw long (h .rises .1);
-          below = λ i row m. h .below i row (among-there (i, row) r waiting m);
-          fits = let b = h .below (r .0) (r .1) (0, refl) in omega (arith, long);
+          rises = rw long (h .rises .2);
+          fits = let b = h .rises .1 in omega (arith, long);
           rawThere = λ i k m. let t = h .rawThere i k m in (t .0, t .1, there i (t .0) (t .2));
-          writtenFrom = λ i row e. from i row (get-append-cases written copies i row e);
-          waitingFrom = λ i row m. h .waitingFrom i row (among-there (i, row) r waiting m);
+          writtenFrom = λ i row e. from i row (append-at written copies i row e);
+          waitingFrom = λ i row m. h .waitingFrom i row (among-later (i, row) r waiting m);
         }
       where
         copies : List Row
@@ -682,16 +533,16 @@ module _ (nodes : List Node) where
 
         first : (i : ℕ) (row : Row) → _≡_ {A = ℕ × Row} (i, row) r ⊎ Among {A = ℕ × Row} (i, row) waiting → There i row
         first i row (inl q) =
-            inl (subst (λ (x : ℕ × Row). getElem? (written ++ copies) (x .0) ≡ some (x .1)) (sym q) (get-filled written (r .0) (r .1) (h .rises .0)))
+            inl (subst (λ (x : ℕ × Row). getElem? (written ++ copies) (x .0) ≡ some (x .1)) (sym q) (found-filled written (r .0) (r .1) (h .rises .0)))
         first i row (inr m) = inr m
 
         there : (i : ℕ) (row : Row) → (getElem? written i ≡ some row) ⊎ Among (i, row) (r ∷ waiting) → There i row
-        there i row (inl e) = inl (get-append written copies i row e)
-        there i row (inr m) = first i row (among-cons-cases (i, row) r waiting m)
+        there i row (inl e) = inl (found-append written copies i row e)
+        there i row (inr m) = first i row (among-cons (i, row) r waiting m)
 
-        from : (i : ℕ) (row : Row) → (getElem? written i ≡ some row) ⊎ Among row copies → RowFrom nodes indexes given row
+        from : (i : ℕ) (row : Row) → (getElem? written i ≡ some row) ⊎ ((j : ℕ) × (i ≡ length written + j) × (getElem? copies j ≡ some row)) → RowFrom nodes indexes given row
         from i row (inl e) = h .writtenFrom i row e
-        from i row (inr m) = rw (among-replicate (suc (r .0) - length written) row (r .1) m) (h .waitingFrom (r .0) (r .1) (0, refl))
+        from i row (inr (j, p, q)) = rw (← found-replicate (suc (r .0) - length written) j (r .1) row q) (h .waitingFrom (r .0) (r .1) (0, refl))
 
     placed-next :
         (given : List (ℕ × ℕ)) (written : List Row) (r : ℕ × Row) (waiting : List (ℕ × Row)) →
@@ -705,7 +556,7 @@ module _ (nodes : List Node) where
     -- raw rows whose index is next are written: what was written is kept, and the next index is left free
     abbrev RawWritten : List (ℕ × ℕ) → List Row → List (ℕ × Row) → List Row × List (ℕ × Row) → Type 0
     RawWritten given written waiting w =
-        RowsKept written (w .0) × (Placed given written waiting → Placed given (w .0) (w .1) × Rises (suc (length (w .0))) (w .1))
+        RowsKept written (w .0) × (Placed given written waiting → Placed given (w .0) (w .1) × Rising (suc (length (w .0))) 65534 (keys (w .1)))
 
     rawWritten : (given : List (ℕ × ℕ)) (written : List Row) (waiting : List (ℕ × Row)) → RawWritten given written waiting (writeRaw written waiting)
     unfolding writeRaw
@@ -726,31 +577,30 @@ module _ (nodes : List Node) where
         go true t rest =
             subst
             (λ w. RawWritten given written (r ∷ waiting) w)
-            (sym (writeRaw-next written r waiting t)) (
+            (sym (write-next written r waiting (eqb-true (r .0) (length written) t))) (
               rows-twice (rows-append written (r .1 ∷ [])) (rest .0),
               λ h. rest .1 (placed-next given written r waiting (eqb-true (r .0) (length written) t) h),
             )
         go false t rest =
             subst
             (λ w. RawWritten given written (r ∷ waiting) w)
-            (sym (writeRaw-stop written r waiting t))
-            (rows-same, λ h. (h, (later (eqb-false (r .0) (length written) t) (h .rises .0), h .rises .1)))
+            (sym (write-stop written r waiting (eqb-false (r .0) (length written) t)))
+            (rows-same, λ h. (h, (later (eqb-false (r .0) (length written) t) (h .rises .0), h .rises .1, h .rises .2)))
 
     -- one more row, at the next index, which no raw row waits for
     placed-more :
         (given : List (ℕ × ℕ)) (written : List Row) (waiting : List (ℕ × Row)) (row : Row) →
         RowFrom nodes indexes given row →
         length written < 65535 →
-        Rises (suc (length written)) waiting →
+        Rising (suc (length written)) 65534 (keys waiting) →
         Placed given written waiting →
         Placed given (written ++ row ∷ []) waiting
     placed-more given written waiting row made small later h =
         record {
           rises = rw long later;
-          below = h .below;
           fits = omega (arith, long);
           rawThere = λ i k m. let t = h .rawThere i k m in (t .0, t .1, there i (t .0) (t .2));
-          writtenFrom = λ i x e. from i x (get-append-cases written (row ∷ []) i x e);
+          writtenFrom = λ i x e. from i x (append-at written (row ∷ []) i x e);
           waitingFrom = h .waitingFrom;
         }
       where
@@ -761,12 +611,12 @@ module _ (nodes : List Node) where
             (i : ℕ) (x : Row) →
             (getElem? written i ≡ some x) ⊎ Among (i, x) waiting →
             (getElem? (written ++ row ∷ []) i ≡ some x) ⊎ Among (i, x) waiting
-        there i x (inl e) = inl (get-append written (row ∷ []) i x e)
+        there i x (inl e) = inl (found-append written (row ∷ []) i x e)
         there i x (inr m) = inr m
 
-        from : (i : ℕ) (x : Row) → (getElem? written i ≡ some x) ⊎ Among x (row ∷ []) → RowFrom nodes indexes given x
+        from : (i : ℕ) (x : Row) → (getElem? written i ≡ some x) ⊎ ((j : ℕ) × (i ≡ length written + j) × (getElem? (row ∷ []) j ≡ some x)) → RowFrom nodes indexes given x
         from i x (inl e) = h .writtenFrom i x e
-        from i x (inr m) = rw (among-replicate 1 x row m) made
+        from i x (inr (j, p, q)) = rw (← found-replicate 1 j row x q) made
 
     -- what taking an index for a row leaves: the row stands at the index, and rows stay as they are to be
     abbrev Indexed : List (ℕ × ℕ) → Row → Rows → ℕ × Rows → Type 0
@@ -796,31 +646,31 @@ module _ (nodes : List Node) where
             (x : Row) (i : ℕ) →
             _≡_ {A = Row × ℕ} (x, i) (row, length (w .0)) ⊎ Among {A = Row × ℕ} (x, i) (rows .inline) →
             getElem? (w .0 ++ row ∷ []) i ≡ some x
-        either x i (inl q) = subst (λ (y : Row × ℕ). getElem? (w .0 ++ row ∷ []) (y .1) ≡ some (y .0)) (sym q) (get-seam (w .0) row [])
+        either x i (inl q) = subst (λ (y : Row × ℕ). getElem? (w .0 ++ row ∷ []) (y .1) ≡ some (y .0)) (sym q) (found-seam (w .0) row [])
         either x i (inr m) = kept .rowStays i x (there x i m)
 
         go : (b : Bool) → ltb (length (w .0)) 65535 ≡ b → Indexed given row rows r
         go true t =
             subst
             (λ y. Indexed given row rows y)
-            (good-same (sym (takeIndex-next row (rows .inline) w t) ∙ e)) (
+            (good-inj (sym (take-some row (rows .inline) w (ltb-true (length (w .0)) 65535 t)) ∙ e)) (
               kept,
-              λ x i m. either x i (among-cons-cases (x, i) (row, length (w .0)) (rows .inline) m),
-              get-seam (w .0) row [],
+              λ x i m. either x i (among-cons (x, i) (row, length (w .0)) (rows .inline) m),
+              found-seam (w .0) row [],
               λ made h. placed-more given (w .0) (w .1) row made (ltb-true (length (w .0)) 65535 t) (before .1 h .1) (before .1 h .0),
             )
-        go false t = absurd (not-bad (sym (takeIndex-full row (rows .inline) w t) ∙ e))
+        go false t = bad≢good (sym (take-none row (rows .inline) w (ltb-false (length (w .0)) 65535 t)) ∙ e)
 
     indexed :
         (given : List (ℕ × ℕ)) (row : Row) (rows : Rows) (r : ℕ × Rows) → InlineThere rows → rowIndex row rows ≡ good r → Indexed given row rows r
     indexed given row rows r there e = go (indexOf row (rows .inline)) refl
       where
         go : (o : Option ℕ) → indexOf row (rows .inline) ≡ o → Indexed given row rows r
-        go none n = taken given row rows r there (sym (rowIndex-new row rows n) ∙ e)
+        go none n = taken given row rows r there (sym (row-new row rows n) ∙ e)
         go (some i) n =
             subst
             (λ y. Indexed given row rows y)
-            (good-same (sym (rowIndex-has row rows i n) ∙ e))
+            (good-inj (sym (row-old row rows i n) ∙ e))
             (rows-same, there, there row i (indexOf-there row (rows .inline) i n), λ made h. h)
 
     -- at the end no row waits: each stands at its index
@@ -871,14 +721,14 @@ module _ (nodes : List Node) where
         Numbered c p rows r
     numbered-row c p rows r kids there node tag e =
         let k = c - firstNode in
-        let first = bound (slotsOf nodes (kidsOf nodes k) p) (λ x. rowIndex (x .0) rows >>= λ i. good (i .0, x .1, i .1)) r e in
+        let first = good-first (slotsOf nodes (kidsOf nodes k) p) (λ x. rowIndex (x .0) rows >>= λ i. good (i .0, x .1, i .1)) r e in
         let x = first .0 in
-        let second = bound (rowIndex (x .0) rows) (λ i. good (i .0, x .1, i .1)) r (first .2) in
+        let second = good-first (rowIndex (x .0) rows) (λ i. good (i .0, x .1, i .1)) r (first .2) in
         let slots = allSlotted (kidsOf nodes k) p x (kids-in nodes kids k) (first .1) in
         let at = indexed (x .1 .given) (x .0) rows (second .0) there (second .1) in
         subst
         (λ y. Numbered c p rows y)
-        (good-same (second .2)) (
+        (good-inj (second .2)) (
           record {
             pool = slots .0;
             more = at .0;
@@ -897,9 +747,9 @@ module _ (nodes : List Node) where
         (allocate nodes false (c - firstNode) p >>= λ x. good (x .0, x .1, rows)) ≡ good r →
         Numbered c p rows r
     numbered-slot c p rows r there node below tag e =
-        let first = bound (allocate nodes false (c - firstNode) p) (λ x. good (x .0, x .1, rows)) r e in
+        let first = good-first (allocate nodes false (c - firstNode) p) (λ x. good (x .0, x .1, rows)) r e in
         let got = allocated false (c - firstNode) p (first .0) (omega arith) (first .1) in
-        subst (λ y. Numbered c p rows y) (good-same (first .2)) (stepped-pool rows there (got .0), inr (inl (node, tag, got .1)))
+        subst (λ y. Numbered c p rows y) (good-inj (first .2)) (stepped-pool rows there (got .0), inr (inl (node, tag, got .1)))
 
     numbered :
         (c : ℕ) (p : Pool) (rows : Rows) (r : ℕ × Pool × Rows) →
@@ -923,12 +773,12 @@ module _ (nodes : List Node) where
         go true t =
             subst
             (λ y. Numbered c p rows y)
-            (good-same (sym (childNumber-raw nodes c p rows t) ∙ e))
+            (good-inj (sym (childNumber-raw nodes c p rows t) ∙ e))
             (stepped-pool rows there grown-not, inl (ltb-true c firstNode t, refl))
         go false t = of-node (ltb-false c firstNode t) (sym (childNumber-node nodes c p rows t) ∙ e) (eqb (tagAt nodes k) bootstrapTag) refl
 
     abbrev AllNumbered : List ℕ → Pool → Rows → List ℕ × Pool × Rows → Type 0
-    AllNumbered cs p rows r = Stepped p rows (r .1) (r .2) × Each (NumberFor nodes (r .1 .given) (r .2 .written)) cs (r .0)
+    AllNumbered cs p rows r = Stepped p rows (r .1) (r .2) × Both (NumberFor nodes (r .1 .given) (r .2 .written)) cs (r .0)
 
     -- one child more in front
     numbered-cons :
@@ -940,7 +790,7 @@ module _ (nodes : List Node) where
     numbered-cons c cs p rows x rest r one more e =
         subst
         (λ y. AllNumbered (c ∷ cs) p rows y)
-        (good-same e)
+        (good-inj e)
         (stepped-twice (one .0) (more .0), (number-kept nodes (more .0 .pool .kept) (more .0 .more) c (x .0) (one .1), more .1))
 
     allNumbered :
@@ -952,11 +802,11 @@ module _ (nodes : List Node) where
         AllNumbered cs p rows r
     unfolding childNumbers
     allNumbered [] p rows r kids there below e =
-        subst (λ y. AllNumbered [] p rows y) (good-same e) (stepped-pool rows there grown-not, tt)
+        subst (λ y. AllNumbered [] p rows y) (good-inj e) (stepped-pool rows there grown-not, tt)
     allNumbered (c ∷ cs) p rows r kids there below e =
-        let first = bound (childNumber nodes c p rows) (λ x. childNumbers nodes cs (x .1) (x .2) >>= λ rest. good (x .0 ∷ rest .0, rest .1, rest .2)) r e in
+        let first = good-first (childNumber nodes c p rows) (λ x. childNumbers nodes cs (x .1) (x .2) >>= λ rest. good (x .0 ∷ rest .0, rest .1, rest .2)) r e in
         let x = first .0 in
-        let others = bound (childNumbers nodes cs (x .1) (x .2)) (λ rest. good (x .0 ∷ rest .0, rest .1, rest .2)) r (first .2) in
+        let others = good-first (childNumbers nodes cs (x .1) (x .2)) (λ rest. good (x .0 ∷ rest .0, rest .1, rest .2)) r (first .2) in
         let rest = others .0 in
         let one = numbered c p rows x kids there (below c (0, refl)) (first .1) in
         let more = allNumbered cs (x .1) (x .2) rest kids (one .0 .inlined) (in-nodes-tail c cs below) (others .1) in
@@ -975,13 +825,8 @@ module _ (nodes : List Node) where
         record {
           stackIn = λ s k a. stack-below s k (stack-cases s k a);
           stackFrom = λ s k a. stack-from s k (stack-cases s k a);
-          done = λ s k a. new-or-old s k (among-append-cases (s, k) new old (rw held-more at a));
-          owners = λ s e a. owner s e (among-cons-cases (s, e) one (m .owned) a);
-          counted =
-              λ s.
-              rw
-              (got .0 .pool .stacked, held-more, map-append key new pending, map-append key new old)
-              (count-step s (top .0) (map (λ o. o .0) (m .owned)) (map key new) (map key pending) (map key old) (h .counted s));
+          done = λ s k a. new-or-old s k (among-either (s, k) new old (rw held-more at a));
+          owners = λ s e a. owner s e (among-cons (s, e) one (m .owned) a);
           inlined = got .0 .inlined;
         }
       where
@@ -994,26 +839,23 @@ module _ (nodes : List Node) where
         one : ℕ × Entry ℕ ℕ
         one = (top .0, withKids (r .0) nd)
 
-        key : ℕ × ℕ → ℕ
-        key x = x .0
-
         -- what is to be held now, and what is on the stack
         held-more : toHold (r .1 .given) raws ≡ new ++ old
         held-more = ap (λ l. l ++ raws) (got .0 .pool .gave) ∙ append-assoc new (map (λ x. (x .1, x .0)) (m .pool .given)) raws
 
         held-still : (s k : ℕ) → Among (s, k) old → Among (s, k) (toHold (r .1 .given) raws)
-        held-still s k a = rw held-more (among-back (s, k) new old a)
+        held-still s k a = rw held-more (among-right (s, k) new old a)
 
         stack-cases : (s k : ℕ) → Among (s, k) (r .1 .pending) → Among (s, k) new ⊎ Among (s, k) pending
-        stack-cases s k a = among-append-cases (s, k) new pending (rw (got .0 .pool .stacked) at a)
+        stack-cases s k a = among-either (s, k) new pending (rw (got .0 .pool .stacked) at a)
 
         stack-below : (s k : ℕ) → Among (s, k) new ⊎ Among (s, k) pending → k < length nodes
         stack-below s k (inl b) = got .0 .pool .newIn s k b
-        stack-below s k (inr b) = h .stackIn s k (among-there (s, k) top pending b)
+        stack-below s k (inr b) = h .stackIn s k (among-later (s, k) top pending b)
 
         stack-from : (s k : ℕ) → Among (s, k) new ⊎ Among (s, k) pending → Among (s, k) (toHold (r .1 .given) raws)
-        stack-from s k (inl b) = rw held-more (among-front (s, k) new old b)
-        stack-from s k (inr b) = held-still s k (h .stackFrom s k (among-there (s, k) top pending b))
+        stack-from s k (inl b) = rw held-more (among-left (s, k) new old b)
+        stack-from s k (inr b) = held-still s k (h .stackFrom s k (among-later (s, k) top pending b))
 
         -- what is to be held is new, or was on the stack, or was finished
         Now : ℕ → ℕ → Type 0
@@ -1022,15 +864,15 @@ module _ (nodes : List Node) where
         top-or-below : (s k : ℕ) → _≡_ {A = ℕ × ℕ} (s, k) top ⊎ Among {A = ℕ × ℕ} (s, k) pending → Now s k
         top-or-below s k (inl q) =
             inr (nd, r .0, ap (λ (x : ℕ × ℕ). getElem? nodes (x .1)) q ∙ found, (0, λ j. some (sym q j .0, withKids (r .0) nd)), got .1)
-        top-or-below s k (inr b) = inl (rw (got .0 .pool .stacked) (among-back (s, k) new pending b))
+        top-or-below s k (inr b) = inl (rw (got .0 .pool .stacked) (among-right (s, k) new pending b))
 
         waits-or-done : (s k : ℕ) → Among (s, k) (top ∷ pending) ⊎ FinishedAt nodes (m .pool .given) (m .rows .written) (m .owned) s k → Now s k
-        waits-or-done s k (inl b) = top-or-below s k (among-cons-cases (s, k) top pending b)
+        waits-or-done s k (inl b) = top-or-below s k (among-cons (s, k) top pending b)
         waits-or-done s k (inr f) =
-            inr (finished-kept nodes (m .owned) (one ∷ m .owned) s k (got .0 .pool .kept) (got .0 .more) (λ e b. among-there (s, e) one (m .owned) b) f)
+            inr (finished-kept nodes (m .owned) (one ∷ m .owned) s k (got .0 .pool .kept) (got .0 .more) (λ e b. among-later (s, e) one (m .owned) b) f)
 
         new-or-old : (s k : ℕ) → Among (s, k) new ⊎ Among (s, k) old → Now s k
-        new-or-old s k (inl b) = inl (rw (got .0 .pool .stacked) (among-front (s, k) new pending b))
+        new-or-old s k (inl b) = inl (rw (got .0 .pool .stacked) (among-left (s, k) new pending b))
         new-or-old s k (inr b) = waits-or-done s k (h .done s k b)
 
         -- what is owned is the one just finished, or was owned
@@ -1071,7 +913,7 @@ module _ (nodes : List Node) where
         finish nodes (top .0) (withPending pending m) (getElem? nodes (top .1)) ≡ good m′ →
         Drained raws (m′ .pool .pending) m m′
     drained-one raws top pending m m′ kids h e =
-        let node = get-below nodes (top .1) (h .stackIn (top .0) (top .1) (0, refl)) in
+        let node = inside-found nodes (top .1) (h .stackIn (top .0) (top .1) (0, refl)) in
         let nd = node .0 in
         let made = finish-some nodes (top .0) pending m m′ nd (rw (node .1) at e) in
         let got = allNumbered (nd .kids) (takenPool pending (m .pool)) (m .rows) (made .0) kids (h .inlined) (kids (top .1) nd (node .1)) (made .1) in
@@ -1098,11 +940,11 @@ module _ (nodes : List Node) where
         drain fuel nodes pending m ≡ good m′ →
         Drained raws [] m m′
     unfolding drain
-    drained zero raws [] m m′ kids h e = drained-not h (good-same e)
-    drained zero raws (top ∷ pending) m m′ kids h e = absurd (not-bad e)
-    drained (suc fuel) raws [] m m′ kids h e = drained-not h (good-same e)
+    drained zero raws [] m m′ kids h e = drained-not h (good-inj e)
+    drained zero raws (top ∷ pending) m m′ kids h e = bad≢good e
+    drained (suc fuel) raws [] m m′ kids h e = drained-not h (good-inj e)
     drained (suc fuel) raws (top ∷ pending) m m′ kids h e =
-        let first = bound (finish nodes (top .0) (withPending pending m) (getElem? nodes (top .1))) (λ x. drain fuel nodes (x .pool .pending) x) m′ e in
+        let first = good-first (finish nodes (top .0) (withPending pending m) (getElem? nodes (top .1))) (λ x. drain fuel nodes (x .pool .pending) x) m′ e in
         let x = first .0 in
         let one = drained-one raws top pending m x kids h (first .1) in
         drained-twice one (drained fuel raws (x .pool .pending) x m′ kids (one .building) (first .2))
@@ -1114,16 +956,14 @@ module _ (nodes : List Node) where
         Starts nodes raws p →
         PoolGrows p (r .1) →
         Building nodes raws (r .1 .pending) (startMade r)
-    unfolding times
     starts-building raws p r h g =
         let held = grown-stack raws g (h .stack) in
         record {
-          stackIn = λ s k a. below s k (among-append-cases (s, k) (g .new) (p .pending) (rw (g .stacked) at a));
+          stackIn = λ s k a. below s k (among-either (s, k) (g .new) (p .pending) (rw (g .stacked) at a));
           stackFrom = λ s k a. rw held at a;
           done = λ s k a. inl (rw held a);
-          owners = λ s e a. absurd (among-nil (s, e) a);
-          counted = λ s. rw held (omega arith);
-          inlined = λ row i a. absurd (among-nil (row, i) a);
+          owners = λ s e a. among-nil (s, e) a;
+          inlined = λ row i a. among-nil (row, i) a;
         }
       where
         below : (s k : ℕ) → Among (s, k) (g .new) ⊎ Among (s, k) (p .pending) → k < length nodes
@@ -1135,14 +975,14 @@ module _ (nodes : List Node) where
       pub building : Building nodes raws [] m
       pub kept : SlotsKept (p .given) (m .pool .given)
       pub occurs : (top : ℕ) (held : List (ℕ × Held)) → Occurs top held nodes p → Occurs top held nodes (m .pool)
-      pub placed : Rises 0 indexes → KeysBelow 65535 indexes → Placed (m .pool .given) (rowsOf m) []
+      pub placed : Rising 0 65534 (keys indexes) → Placed (m .pool .given) (rowsOf m) []
 
     pub built : (raws : List (ℕ × ℕ)) (p : Pool) (m : Made) → Starts nodes raws p → buildAll nodes indexes p ≡ good m → Built raws p m
     unfolding buildAll
     built raws p m h e =
         let rest : List (ℕ × Row) × Pool → Result ℕ Made =
         λ r. drain (length (r .1 .pending) + length nodes) nodes (r .1 .pending) (startMade r) in
-        let first = bound (rawRows nodes (reverse indexes) p []) rest m e in
+        let first = good-first (rawRows nodes (reverse indexes) p []) rest m e in
         let r = first .0 in
         let raw = rawMade (reverse indexes) [] p [] r (h .kidsIn) tt (first .1) in
         let rows : RawEach (r .1 .given) indexes (r .0) = rw (reverse-reverse indexes) at (raw .1) in
@@ -1153,8 +993,8 @@ module _ (nodes : List Node) where
           kept = slots-twice (raw .0 .kept) (d .kept);
           occurs = λ top held o. d .occurs top held (raw .0 .occurs top held o);
           placed =
-              λ up low.
-              filled (m .pool .given) (m .rows .written) (m .rows .waiting) .1 (d .placed (placed-raw (r .1 .given) (r .0) rows up low));
+              λ up.
+              filled (m .pool .given) (m .rows .written) (m .rows .waiting) .1 (d .placed (placed-raw (r .1 .given) (r .0) rows up));
         }
 
     -- ---- the theorems
@@ -1171,17 +1011,12 @@ module _ (nodes : List Node) where
           go :
               Among {A = ℕ × ℕ} (s, k) [] ⊎ FinishedAt nodes (m .pool .given) (m .rows .written) (m .owned) s k →
               FinishedAt nodes (m .pool .given) (rowsOf m) (m .owned) s k
-          go (inl b) = absurd (among-nil (s, k) b)
+          go (inl b) = among-nil (s, k) b
           go (inr f) = finished-kept nodes (m .owned) (m .owned) s k slots-same (rows-end m) (λ e b. b) f
 
       -- OWNERS: whatever is owned is such a node at a slot that is to hold it
       pub owners : (s : ℕ) (e : Entry ℕ ℕ) → Among (s, e) (m .owned) → OwnerOf nodes (m .pool .given) raws (rowsOf m) s e
       owners s e a = owner-kept nodes raws s e slots-same (rows-end m) (λ k b. b) (built raws p m starts done .building .owners s e a)
-
-      -- and no slot is owned more often than it is to hold something
-      pub ownersCounted : (s : ℕ) → times s (map (λ o. o .0) (m .owned)) ≡ times s (map (λ r. r .0) (toHold (m .pool .given) raws))
-      unfolding times
-      ownersCounted s = let e = built raws p m starts done .building .counted s in omega arith
 
       -- a slot that was given before building is still given
       pub slotsStay : (k s : ℕ) → lookup k (p .given) ≡ some s → lookup k (m .pool .given) ≡ some s
@@ -1191,20 +1026,20 @@ module _ (nodes : List Node) where
       pub poolOccurs : (top : ℕ) (held : List (ℕ × Held)) → Occurs top held nodes p → Occurs top held nodes (m .pool)
       poolOccurs = built raws p m starts done .occurs
 
-      module _ (up : Rises 0 indexes) (low : KeysBelow 65535 indexes) where
+      module _ (up : Rising 0 65534 (keys indexes)) where
         placed-end : Placed (m .pool .given) (rowsOf m) []
-        placed-end = built raws p m starts done .placed up low
+        placed-end = built raws p m starts done .placed up
 
         -- RAW ROWS THERE: every raw bootstrap has its row at its index
         pub rawRowsThere :
-            (i k : ℕ) → Among (i, k) indexes → (row : Row) × (getElem? (rowsOf m) i ≡ some row) × Each (SlotFor (m .pool .given)) (kidsOf nodes k) row
+            (i k : ℕ) → Among (i, k) indexes → (row : Row) × (getElem? (rowsOf m) i ≡ some row) × Both (SlotFor (m .pool .given)) (kidsOf nodes k) row
         rawRowsThere i k a =
             let t = placed-end .rawThere i k a in
             (t .0, written (t .0) (t .2), t .1)
           where
             written : (row : Row) → (getElem? (rowsOf m) i ≡ some row) ⊎ Among {A = ℕ × Row} (i, row) [] → getElem? (rowsOf m) i ≡ some row
             written row (inl e) = e
-            written row (inr b) = absurd (among-nil (i, row) b)
+            written row (inr b) = among-nil (i, row) b
 
         -- and every row is that of a raw bootstrap or of a bootstrap that was reached
         pub rowsFrom : (i : ℕ) (row : Row) → getElem? (rowsOf m) i ≡ some row → RowFrom nodes indexes (m .pool .given) row

@@ -9,7 +9,7 @@ use Prim.Native.Nat.{ℕ, zero, suc, _+_, _≤_, _<_}
 use native.Mathlib.Omega.{arith}
 use lib.Dec.{eqb}
 use lib.ListN.{getElem?}
-use borrow.Author.Tests.{eq-eqb, eqb-true, ne-eqb}
+use borrow.Author.Tests.{eqb-true}
 use Rattle.definition.specs.Basics.{from}
 use Rattle.definition.specs.Shapes.{isWide}
 use Rattle.definition.specs.Definitions.{Held, starts, half, tagAt}
@@ -18,32 +18,14 @@ use Rattle.definition.specs.Slots.{Gap, countFrom}
 use Rattle.definition.specs.Building.{Pool}
 use Rattle.definition.specs.Layout.{starters}
 use Rattle.laws.specs.Statements.{Among, freeSlots, givenSlots, allSlots, times}
+use Rattle.laws.proofs.Lists.{clash, order, map-at}
 use Rattle.laws.proofs.Results.{decided}
-use Rattle.laws.proofs.Lists.{clash}
-use Rattle.laws.proofs.MoreLists.{times-cons, times-append}
-use Rattle.laws.proofs.Tables.{run, oneAt, order, total-times, times-low, times-run}
+use Rattle.laws.proofs.Tables.{some-key, some-row}
+use Rattle.laws.proofs.Sums.{run, once, times-cons, total-times, times-append, among-times, times-low, times-high, times-run}
 use Rattle.laws.proofs.Gaps.{Apart, within-free, apart-at}
 use Rattle.laws.proofs.Sound.{Sound}
 use Rattle.laws.proofs.DefinedFacts.{halfSlots, times-held}
 use Rattle.laws.proofs.Numbers.{toHold}
-
--- what stands in a list is counted
-pub among-times : (n : ℕ) (l : List ℕ) → Among n l → 1 ≤ times n l
-unfolding times
-among-times n [] (i, h) = clash (cc)
-among-times n (x ∷ l) (zero, h) =
-    let same : n ≡ x = cc in
-    rw (eq-eqb n x same, times) (omega arith)
-among-times n (x ∷ l) (suc i, h) =
-    let rest = among-times n l (i, h) in
-    let here = times-cons n x l in
-    omega arith
-
--- a run has nothing behind its end
-times-high : (s a n : ℕ) → a + n ≤ s → times s (run a n) ≡ 0
-unfolding from times
-times-high s a zero h = refl
-times-high s a (suc n) h = rw (ne-eqb s a (λ e. omega arith), times) (times-high s (suc a) n (omega arith))
 
 -- the second halves of what was given out
 unfoldable pub givenHalves : List Node → List (ℕ × ℕ) → List ℕ
@@ -101,14 +83,6 @@ half-given nodes (r ∷ given) k s (suc i, h) w = go (isWide (tagAt nodes (r .0)
     go true rest = omega (arith, rest, times-cons (suc s) (suc (r .1)) (givenHalves nodes given))
     go false rest = rest
 
--- a list mapped, at a place
-pub map-at : {A B : Type 0} (f : A → B) (l : List A) (i : ℕ) (a : A) → getElem? l i ≡ some a → getElem? (map f l) i ≡ some (f a)
-map-at f [] i a h = clash (cc)
-map-at f (x ∷ l) zero a h =
-    let same : x ≡ a = cc in
-    rw same
-map-at f (x ∷ l) (suc i) a h = map-at f l i a h
-
 -- what is to hold a node was given a slot, or is raw
 pub toHold-among : (r : ℕ × ℕ) (given raws : List (ℕ × ℕ)) → Among r (toHold given raws) → Among (r .1, r .0) given ⊎ Among r raws
 toHold-among r [] raws a = inr a
@@ -138,11 +112,11 @@ half-held : (held : List (ℕ × Held)) (n : ℕ) → Among (n, half) held → 1
 unfolding halfSlots
 half-held [] n (i, h) = clash (cc)
 half-held ((m, starts e) ∷ held) n (zero, h) =
-    let kind : _≡_ {A = ℕ} 0 1 = ap (λ (o : Option (ℕ × Held)). elim o [ none ↦ 0 | some x ↦ elim (x .1) [ starts _ ↦ 0 | half ↦ 1 ] ]) h in
-    clash kind
+    let kind = some-row (m, starts e) (n, half) h in
+    clash (cc)
 half-held ((m, starts e) ∷ held) n (suc i, h) = half-held held n (i, h)
 half-held ((m, half) ∷ held) n (zero, h) =
-    let same : m ≡ n = ap (λ (o : Option (ℕ × Held)). elim o [ none ↦ n | some x ↦ x .0 ]) h in
+    let same = some-key (m, half) (n, half) h in
     rw same (among-times n (n ∷ halfSlots held) (0, refl))
 half-held ((m, half) ∷ held) n (suc i, h) = omega (arith, half-held held n (i, h), times-cons n m (halfSlots held))
 
@@ -203,7 +177,7 @@ module _
   one-place t =
       omega (
         arith,
-        sym (total-times t (allSlots held nodes p)) ∙ sound .counted (oneAt t) ∙ total-times t (run 1 top),
+        sym (total-times t (allSlots held nodes p)) ∙ sound .counted (once t) ∙ total-times t (run 1 top),
         times-append t (map (λ h. h .0) held) (givenSlots nodes (p .given) ++ freeSlots (p .slots .gaps)),
         times-append t (givenSlots nodes (p .given)) (freeSlots (p .slots .gaps)),
         times-held t held,

@@ -1,5 +1,5 @@
 -- An entry of the linked table comes from an entry of the job, and its literal's number stands for that entry's literal. Assumes nothing.
-use mathlib.Core.List.{List, [], _∷_, _++_, map}
+use mathlib.Core.List.{List, [], _∷_, _++_, map, map-append}
 use mathlib.Core.Option.{some}
 use mathlib.Core.Path.{_≡_, sym, ap, subst, _∙_}
 use Prim.Native.Nat.{ℕ, zero, suc}
@@ -11,13 +11,11 @@ use Rattle.definition.specs.Form.{form}
 use Rattle.definition.specs.Numbering.{entries, constantsOf, bootstrapsOf, literals, literalOf, numberedEntry, numbered}
 use Rattle.definition.specs.Resolving.{Goal, goalOf, linked}
 use Rattle.laws.specs.Statements.{IsBytes, Among}
+use Rattle.laws.proofs.Lists.{clash, map-at, map-some}
 use Rattle.laws.proofs.Each.{each-at}
-use Rattle.laws.proofs.Lists.{clash, map-some}
 use Rattle.laws.proofs.Numbering.{literalOf-numberOf}
-use Rattle.laws.proofs.NumbersLists.{map-append}
 use Rattle.laws.proofs.FormedEntry.{FormedEntry, FormedDefinition}
 use Rattle.laws.proofs.Formed.{form-formed, formed-definitions-each}
-use Rattle.laws.proofs.Occupied.{map-at}
 use Rattle.laws.proofs.Citing.{constants-numbered, bootstraps-numbered, table-defined, jobNames, jobConstants, jobTable}
 
 -- a definition's entry stands among the entries

@@ -3,8 +3,7 @@ use mathlib.Core.Bool.{Bool, true, false}
 use mathlib.Core.List.{List, [], _∷_, _++_, map, map-map, append-nil, append-assoc}
 use mathlib.Core.Option.{none, some}
 use mathlib.Core.Path.{_≡_, refl}
-use Prim.Native.Nat.{ℕ, suc, _≤_, _<_}
-use native.Mathlib.Omega.{arith}
+use Prim.Native.Nat.{ℕ, suc}
 use lib.ListN.{length, length-map}
 use Rattle.definition.specs.Basics.{concat, lookup}
 use Rattle.definition.specs.Bytes.{Parser, return, fail, andThen, _>>=_, many, be2}
@@ -157,13 +156,6 @@ fits-text s h =
       known = refl;
       isFor = record { shape = record { filled = (h, refl); noLiteral = λ z. cc; noByte = λ z. refl }; shortKids = tt };
     }
-
--- a row fits its shape: a handle, and no more arguments than two bytes hold, all numbers of two bytes
-pub isFor-row : (row : Row) → 0 < length row → length row ≤ 65536 → Each Short row → IsFor bootstrapShape (rowShown row)
-unfolding bootstrapShape
-isFor-row [] has few h = absurd (omega arith)
-isFor-row (handle ∷ arguments) has few h =
-    record { shape = record { filled = (few, refl); noLiteral = λ z. refl; noByte = λ z. refl }; shortKids = h }
 
 -- the law READS, from what it takes of a layout: the contents are below the count, laid as slots are, and the rows fit their shape
 pub reads-layout :

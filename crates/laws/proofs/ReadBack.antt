@@ -1,6 +1,6 @@
 -- READS: a built job's pool and bootstraps read, under the JVM Specification, as exactly what the layout assigns. Assumes nothing.
 use mathlib.Core.Bool.{Bool, true, false}
-use mathlib.Core.List.{List, [], _∷_, _++_, map}
+use mathlib.Core.List.{List, [], _++_, map}
 use mathlib.Core.Logic.{_⊎_, inl, inr}
 use mathlib.Core.Option.{Option, none, some}
 use mathlib.Core.Path.{_≡_, refl, sym, ap, subst, _∙_}
@@ -19,58 +19,31 @@ use Rattle.definition.specs.Definitions.{half, tagAt}
 use Rattle.definition.specs.Resolving.{Goal, Node, firstNode, childOf, done}
 use Rattle.definition.specs.Slots.{highestSlot, countFrom}
 use Rattle.definition.specs.Building.{Row, Pool, kidsOf, attributeText, nameWanted, contentOf}
-use Rattle.definition.specs.Layout.{starters, nodeAt, Layout, layoutOf, indexNodes, layout}
+use Rattle.definition.specs.Layout.{indexNodes, starters, nodeAt, Layout, layoutOf, layout}
 use Rattle.definition.specs.Jvms.{readPool, readBootstraps}
 use Rattle.definition.specs.Run.{shown, render}
 use Rattle.laws.specs.Statements.{IsBytes, Among, times, Reads, rowShown}
-use Rattle.laws.proofs.Each.{Each, each-at}
-use Rattle.laws.proofs.Lists.{clash}
-use Rattle.laws.proofs.Places.{found-inside, inside-found, found-append}
+use Rattle.laws.proofs.Lists.{found-inside, inside-found, found-append}
+use Rattle.laws.proofs.Each.{each-at, each-from, Both, both-length, both-each, both-nil}
+use Rattle.laws.proofs.Tables.{Rising, keys, keys-map}
+use Rattle.laws.proofs.Chunks.{length-from}
 use Rattle.laws.proofs.Sound.{Sound, sound, tag-append}
 use Rattle.laws.proofs.Entries.{Short, IsFor}
 use Rattle.laws.proofs.PoolRead.{Fits, LaidBehind, Laid, fits-text, reads-layout}
 use Rattle.laws.proofs.Fitting.{fits-formed, isFor-formed}
 use Rattle.laws.proofs.Contents.{wideThere, spelled, laidFrom}
-use Rattle.laws.proofs.Chunks.{length-from}
 use Rattle.laws.proofs.Asked.{tag-found, kids-found}
-use Rattle.laws.proofs.Nodes.{unmap, bootstrap-found}
-use Rattle.laws.proofs.MoreLists.{Rises as Rising}
-use Rattle.laws.proofs.NumbersLists.{Rises, KeysBelow}
+use Rattle.laws.proofs.Nodes.{bootstrap-found}
 use Rattle.laws.proofs.DefinedFacts.{starters-start}
 use Rattle.laws.proofs.Citing.{jobNames, jobConstants, linked-at, table-constant, placed-cited, countIn}
 use Rattle.laws.proofs.JobTable.{numbered-cited}
 use Rattle.laws.proofs.GivenConstants.{Constant}
-use Rattle.laws.proofs.Numbers.{Each as Both, SlotFor, NumberFor, toHold, slots-kept, given-held, rowsFrom, rowsFit}
+use Rattle.laws.proofs.Numbers.{SlotFor, NumberFor, toHold, slots-kept, given-held, rowsFrom, rowsFit}
 use Rattle.laws.proofs.Occupied.{times-reverse, toHold-among, count-range, start-in, wide-in, wide-apart}
 use Rattle.laws.proofs.Origins.{Origin, origin}
 use Rattle.laws.proofs.Stages.{Stages}
 use Rattle.laws.proofs.Ending.{Named}
-use Rattle.laws.proofs.Whole.{each-from, st, table, facts, good-job-table, raws, asked, nodes, marks, raw-node, node-tag, indexes, indexes-are, rows, starts-here, ending}
-
--- two lists related place by place are of one length
-both-length : (R : ℕ → ℕ → Type 0) (cs ns : List ℕ) → Both R cs ns → length ns ≡ length cs
-both-length R [] [] h = refl
-both-length R [] (n ∷ ns) h = absurd h
-both-length R (c ∷ cs) [] h = absurd h
-both-length R (c ∷ cs) (n ∷ ns) h = ap suc (both-length R cs ns (h .1))
-
--- what follows of each number from its relation follows of all
-both-each : (R : ℕ → ℕ → Type 0) (P : ℕ → Type 0) (cs ns : List ℕ) → ((c n : ℕ) → R c n → P n) → Both R cs ns → Each P ns
-both-each R P [] [] f h = tt
-both-each R P [] (n ∷ ns) f h = absurd h
-both-each R P (c ∷ cs) [] f h = absurd h
-both-each R P (c ∷ cs) (n ∷ ns) f h = (f c n (h .0), both-each R P cs ns f (h .1))
-
--- the numbers of nothing are none
-both-nil : (R : ℕ → ℕ → Type 0) (cs ns : List ℕ) → cs ≡ [] → Both R cs ns → ns ≡ []
-both-nil R [] [] e h = refl
-both-nil R [] (n ∷ ns) e h = absurd h
-both-nil R (c ∷ cs) ns e h = clash (cc)
-
--- a list mapped twice by the first parts
-firsts-map : (f : ℕ × ℕ → ℕ × ℕ) (l : List (ℕ × ℕ)) → ((r : ℕ × ℕ) → f r .0 ≡ r .0) → map (λ r. r .0) (map f l) ≡ map (λ r. r .0) l
-firsts-map f [] h = refl
-firsts-map f (r ∷ l) h = λ i. h r i ∷ firsts-map f l h i
+use Rattle.laws.proofs.Whole.{st, rising, table, facts, good-job-table, raws, asked, nodes, marks, raw-node, node-tag, indexes, indexes-are, rows, starts-here, ending}
 
 module _ (bytes : List ℕ) (job : Job (List ℕ)) (l : Layout) (are : IsBytes bytes) (formed : form bytes ≡ good job) (laid : layout highestSlot (numbered job) ≡ good l) where
   abbrev pub stg : Stages highestSlot (numbered job) l
@@ -102,7 +75,7 @@ module _ (bytes : List ℕ) (job : Job (List ℕ)) (l : Layout) (are : IsBytes b
       omega (
         arith,
         times-reverse t (map f (starters (stg .defined .held))) [],
-        ap (times t) (firsts-map f (starters (stg .defined .held)) (λ r. refl)),
+        ap (times t) (keys-map f (starters (stg .defined .held)) (λ r. refl)),
       )
 
   low-constant : (e : ℕ) → e < countIn constant (numbered job .definitions) → e < length (constantsOf (numbered job .definitions))
@@ -141,24 +114,13 @@ module _ (bytes : List ℕ) (job : Job (List ℕ)) (l : Layout) (are : IsBytes b
   starts-at = start-in highestSlot (stg .defined .held) allNodes pool raw soundly raw-keys raw-wide
 
   -- raw bootstraps by rising index, below 65535
-  rises-mapped : (f : ℕ × ℕ → ℕ × ℕ) (least : ℕ) (l : List (ℕ × ℕ)) → ((r : ℕ × ℕ) → f r .0 ≡ r .0) → Rising least l → Rises least (map f l)
-  unfolding Rising
-  rises-mapped f least [] h r = tt
-  rises-mapped f least (x ∷ l) h r = rw (h x) (r .0, rises-mapped f (suc (x .0)) l h (r .1))
-
-  pub index-rises : Rises 0 (indexes bytes job l are formed laid)
+  pub index-rises : Rising 0 65534 (keys (indexes bytes job l are formed laid))
   unfolding indexNodes
-  index-rises = rises-mapped (λ r. (r .0, nodeAt (marks bytes job l are formed laid) (jobConstants (numbered job) + r .1))) 0 (stg .defined .indexes) (λ r. refl) (facts bytes job l are formed laid .allIndexes .indexRises)
-
-  pub index-below : KeysBelow 65535 (indexes bytes job l are formed laid)
-  unfolding indexNodes
-  index-below i k a =
-      let u = unmap (λ (r : ℕ × ℕ). (r .0, nodeAt (marks bytes job l are formed laid) (jobConstants (numbered job) + r .1))) (stg .defined .indexes) (i, k) a in
-      subst (λ n. n < 65535) (ap (λ (x : ℕ × ℕ). x .0) (u .2)) (facts bytes job l are formed laid .allIndexes .indexWithin (u .0 .0) (u .0 .1) (u .1))
+  index-rises = rw (keys-map (λ r. (r .0, nodeAt (marks bytes job l are formed laid) (jobConstants (numbered job) + r .1))) (stg .defined .indexes) (λ r. refl)) (rising bytes job l are formed laid .1)
 
   pub rows-few : length (rows bytes job l are formed laid) ≤ 65535
   rows-few =
-      rowsFit (nodes bytes job l are formed laid) (indexes bytes job l are formed laid) raw (stg .asked .pool) (stg .made) (starts-here bytes job l are formed laid) (stg .isMade) index-rises index-below
+      rowsFit (nodes bytes job l are formed laid) (indexes bytes job l are formed laid) raw (stg .asked .pool) (stg .made) (starts-here bytes job l are formed laid) (stg .isMade) index-rises
 
   -- numbers that stand for children fit two bytes
   slot-short : (c n : ℕ) → SlotFor (pool .given) c n → Short n
@@ -296,7 +258,7 @@ module _ (bytes : List ℕ) (job : Job (List ℕ)) (l : Layout) (are : IsBytes b
       (k : ℕ) × (tagAt (nodes bytes job l are formed laid) k ≡ bootstrapTag) × Both (SlotFor (pool .given)) (kidsOf (nodes bytes job l are formed laid) k) row
   row-from i row at =
       let (k, slots, which) =
-      rowsFrom (nodes bytes job l are formed laid) (indexes bytes job l are formed laid) raw (stg .asked .pool) (stg .made) (starts-here bytes job l are formed laid) (stg .isMade) index-rises index-below i row at in
+      rowsFrom (nodes bytes job l are formed laid) (indexes bytes job l are formed laid) raw (stg .asked .pool) (stg .made) (starts-here bytes job l are formed laid) (stg .isMade) index-rises i row at in
       (k, go k which, slots-kept (end .kept) (kidsOf (nodes bytes job l are formed laid) k) row slots)
     where
       go : (k : ℕ) → ((j : ℕ) × Among (j, k) (indexes bytes job l are formed laid)) ⊎ (tagAt (nodes bytes job l are formed laid) k ≡ bootstrapTag) → tagAt (nodes bytes job l are formed laid) k ≡ bootstrapTag

@@ -13,8 +13,8 @@ use Rattle.definition.specs.Basics.{Result, good, bad, _>>=_, Refusal}
 use Rattle.definition.specs.Run.{longestJob}
 use Rattle.definition.specs.Blocks.{blockCount, rightBlock, blocksRight, mostBlocks, readBlocks}
 use Rattle.laws.specs.BlockStatements.{jobIn}
-use Rattle.laws.proofs.Lists.{both-true}
-use Rattle.laws.proofs.Guards.{guarded, passes, refuses, passed, refusedBy, thenGood}
+use Rattle.laws.proofs.Lists.{clash, both-true}
+use Rattle.laws.proofs.Results.{thenGood, guarded, passes, refuses, passed, refusedBy}
 
 -- ---- the blocks of a file that is said to have n
 
@@ -76,7 +76,7 @@ module _ (n : ℕ) (file : List ℕ) where
 
   pub isWrong : (left k : ℕ) (r : Refusal) → blocksRight n file left k ≡ bad r → Wrong left k r
   unfolding blocksRight
-  isWrong zero k r e = let z : _≡_ {A = ℕ} 0 1 = cc in absurd (omega arith)
+  isWrong zero k r e = clash (cc)
   isWrong (suc left) k r e = ways (refusedBy k 19 (blocksRight n file left (suc k)) (rightBlock n file k) r e) (isWrong left (suc k) r)
     where
       ways :

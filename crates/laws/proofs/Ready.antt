@@ -1,7 +1,7 @@
 -- The records of a job in turn, up to the build record: what is counted there, and that no refusal is 0. Assumes nothing.
-use mathlib.Core.Bool.{Bool, true, false, _&&_, not}
+use mathlib.Core.Bool.{Bool, true, false, not}
 use mathlib.Core.List.{List, [], _∷_, _++_, map}
-use mathlib.Core.Option.{Option, none, some, Option·some-injective}
+use mathlib.Core.Option.{Option, none, some}
 use mathlib.Core.Path.{_≡_, refl, subst}
 use Prim.Native.Nat.{ℕ, zero, suc, _+_, _≤_, _<_}
 use native.Mathlib.Omega.{arith}
@@ -11,13 +11,15 @@ use Rattle.definition.specs.Basics.{same, only, lookup, insert}
 use Rattle.definition.specs.Shapes.{Kind, constant, bootstrap, Entry, withKids, withLiteral}
 use Rattle.definition.specs.Job.{Reference, raw, entry, name, Definition, define, named, placed, Request, Build, Job}
 use Rattle.definition.specs.Numbering.{Literal, entries, isBootstrap, constantsOf, bootstrapsOf, numberedEntry, numberedDefinition}
-use Rattle.definition.specs.Definitions.{Held, starts, half, Naming, Defined, sameKind, nameTarget, startFree, hold, placeConstant, placeBootstrap, defineOne, defineAll, nothingDefined}
+use Rattle.definition.specs.Definitions.{Held, starts, half, Naming, Defined, nameTarget, startFree, hold, placeConstant, placeBootstrap, defineOne, defineAll, nothingDefined}
 use Rattle.definition.specs.Resolving.{Goal, tableEntry, Node, firstNode, fresh, done, markChild, childOf, follow, goalOf, fuelFor, linked, nothingResolved}
 use Rattle.definition.specs.Slots.{Slots}
 use Rattle.definition.specs.Building.{Pool, give, noSlot, allocate, slotOf}
 use Rattle.definition.specs.Layout.{starters, Ready, endDefinitions, answer, answerAll, Layout, buildLayout, layout}
 use Rattle.laws.specs.Statements.{references, rawDefinitions}
-use Rattle.laws.proofs.Outcomes.{Ends, well, refused, next, weaker, NonZero, nonZero, Coded, Anything, atRecord-ends, unless-ends, All, all-append, all-map, all-mapped, all-under, all-only}
+use Rattle.laws.proofs.Each.{Each, each-at, each-append, each-only, each-map, each-image, each-under}
+use Rattle.laws.proofs.Outcomes.{Ends, well, refused, next, weaker, NonZero, nonZero, Coded, Anything, atRecord-ends, unless-ends}
+use Rattle.laws.proofs.Citing.{target-at}
 use Rattle.laws.proofs.Resolver.{owing, owing-start, Fit, GoalOk, TableOk, resolve-works, resolveAll-works}
 
 -- a raw number is below the nodes'
@@ -27,7 +29,7 @@ RefLow (entry kind n) = Unit {0}
 RefLow (name kind s) = Unit {0}
 
 abbrev pub KidsLow : {L : Type 0} → Entry L Reference → Type 0
-KidsLow e = All RefLow (e .kids)
+KidsLow e = Each RefLow (e .kids)
 
 abbrev pub DefLow : {L : Type 0} → Definition L → Type 0
 DefLow (define e) = KidsLow e
@@ -40,21 +42,17 @@ NameLow n = RefLow (n .target)
 -- what a name stands for is one of the targets
 pub nameTarget-all :
     (P : Reference → Type 0) (kind : Kind) (s : List ℕ) (names : List Naming) (r : Reference) →
-    All (λ n. P (n .target)) names →
+    Each (λ n. P (n .target)) names →
     nameTarget kind s names ≡ some r →
     P r
-unfolding nameTarget
-nameTarget-all P kind s [] r h e = let z : _≡_ {A = ℕ} 0 1 = cc in absurd (omega arith)
-nameTarget-all P kind s (n ∷ names) r h e = go (sameKind kind (n .kind) && same s (n .label)) refl (nameTarget-all P kind s names r (h .1))
-  where
-    go : (b : Bool) → (sameKind kind (n .kind) && same s (n .label)) ≡ b → (nameTarget kind s names ≡ some r → P r) → P r
-    go true t ih = subst P (Option·some-injective (n .target) r (rw (t, nameTarget) at e)) (h .0)
-    go false t ih = ih (rw (t, nameTarget) at e)
+nameTarget-all P kind s names r h e =
+    let t = target-at kind s names r e in
+    subst P (t .4) (each-at (λ n. P (n .target)) names (t .1 .0) (t .0) h (t .1 .1))
 
 -- a reference leads to a goal that isn't refused with 0, and is a low raw number if the references are
 pub follow-ok :
     (H : Type 0) (steps : ℕ) (names : List Naming) (constants : ℕ) (r : Reference) →
-    (H → All NameLow names) →
+    (H → Each NameLow names) →
     (H → RefLow r) →
     GoalOk H (follow steps names constants r)
 unfolding follow
@@ -74,31 +72,31 @@ follow-ok H (suc steps) names constants (name kind s) low h = go (nameTarget kin
     go (some r) e ih = rw (e, follow) (ih r (λ p. nameTarget-all RefLow kind s names r (low p) e))
 
 pub goalOf-ok :
-    (H : Type 0) (names : List Naming) (constants : ℕ) (r : Reference) → (H → All NameLow names) → (H → RefLow r) → GoalOk H (goalOf names constants r)
+    (H : Type 0) (names : List Naming) (constants : ℕ) (r : Reference) → (H → Each NameLow names) → (H → RefLow r) → GoalOk H (goalOf names constants r)
 unfolding goalOf
 goalOf-ok H names constants r = follow-ok H (suc (length names)) names constants r
 
 pub linked-ok :
     (H : Type 0) (names : List Naming) (constants : ℕ) (table : List (Entry ℕ Reference)) →
-    (H → All NameLow names) →
-    (H → All KidsLow table) →
+    (H → Each NameLow names) →
+    (H → Each KidsLow table) →
     TableOk H (linked names constants table)
 unfolding linked withKids
 linked-ok H names constants table low h =
-    all-map
+    each-map
     (λ e. H → KidsLow e)
-    (λ e. All (GoalOk H) (e .kids))
+    (λ e. Each (GoalOk H) (e .kids))
     (λ e. withKids (map (goalOf names constants) (e .kids)) e)
     (λ e k.
-    all-map
+    each-map
     (λ r. H → RefLow r)
     (GoalOk H)
     (goalOf names constants)
     (λ r l. goalOf-ok H names constants r low l)
     (e .kids)
-    (all-under H RefLow (e .kids) k))
+    (each-under H RefLow (e .kids) k))
     table
-    (all-under H KidsLow table h)
+    (each-under H KidsLow table h)
 
 -- a table is one longer with a new key, and so are its raw constants, if one starts there
 insert-length : {A : Type 0} (k : ℕ) (a : A) (l : List (ℕ × A)) → length (insert k a l) ≡ suc (length l)
@@ -169,7 +167,7 @@ placeBootstrap-ends index e indexes =
 -- what a definition in turn comes to: at most n raw ones more, and names that are low
 pub record Defines (H : Type 0) (n : ℕ) (d d′ : Defined) : Type 0 where
   pub more : length (starters (d′ .held)) + length (d′ .indexes) ≤ length (starters (d .held)) + length (d .indexes) + n
-  pub names : H → All NameLow (d′ .names)
+  pub names : H → Each NameLow (d′ .names)
 
 -- how many raw definitions one is, and a list has
 unfoldable pub rawOne : {L : Type 0} → Definition L → ℕ
@@ -184,7 +182,7 @@ raws (x ∷ rest) = rawOne x + raws rest
 defineOne-ends :
     (H : Type 0) {R : Type 0} (top : ℕ) (constants : List (Entry ℕ R)) (x : Definition ℕ) (d : Defined) →
     (H → DefLow x) →
-    (H → All NameLow (d .names)) →
+    (H → Each NameLow (d .names)) →
     Ends NonZero (Defines H (rawOne x) d) (defineOne top constants x d)
 unfolding defineOne rawOne
 defineOne-ends H top constants (define e) d low names = well {a = d} (record { more = omega arith; names = names })
@@ -192,7 +190,7 @@ defineOne-ends H top constants (named kind s r) d low names =
     next _ (unless-ends _ 11 (nonZero 11 tt)) λ _ _.
     let more = record { kind = kind; label = s; target = r } ∷ [] in
     well {a = record { held = d .held; indexes = d .indexes; names = d .names ++ more }}
-    (record { more = omega arith; names = λ h. all-append NameLow (d .names) more (names h) (low h, tt) })
+    (record { more = omega arith; names = λ h. each-append NameLow (d .names) more (names h) (low h, tt) })
 defineOne-ends H top constants (placed constant n e) d low names =
     next _ (placeConstant-ends top _ n e (d .held)) λ held same.
     well {a = record { held = held; indexes = d .indexes; names = d .names }} (record { more = omega arith; names = names })
@@ -202,8 +200,8 @@ defineOne-ends H top constants (placed bootstrap index e) d low names =
 
 pub defineAll-ends :
     (H : Type 0) {R : Type 0} (top : ℕ) (constants : List (Entry ℕ R)) (place : ℕ) (l : List (Definition ℕ)) (d : Defined) →
-    (H → All DefLow l) →
-    (H → All NameLow (d .names)) →
+    (H → Each DefLow l) →
+    (H → Each NameLow (d .names)) →
     Ends Coded (Defines H (raws l) d) (defineAll top constants place l d)
 unfolding defineAll raws
 defineAll-ends H top constants place [] d low names = well {a = d} (record { more = omega arith; names = names })
@@ -263,7 +261,7 @@ endDefinitions-ends H top table constants d n ok h =
     (first ++ then)
     (nothingResolved table)
     ok
-    (all-append (GoalOk H) first then (all-mapped (GoalOk H) _ (λ r. tt) (starters (d .held))) (all-mapped (GoalOk H) _ (λ r. tt) (d .indexes)))
+    (each-append (GoalOk H) first then (each-image (GoalOk H) _ (λ r. tt) (starters (d .held))) (each-image (GoalOk H) _ (λ r. tt) (d .indexes)))
     (omega arith))
     λ s w.
     let w₁ = w .counted in
@@ -315,8 +313,8 @@ answer-ends H n ldc g w ok r =
 
 answerAll-ends :
     (H : Type 0) (n : ℕ) (names : List Naming) (constants place : ℕ) (requests : List Request) (w : Ready) →
-    (H → All NameLow names) →
-    (H → All (λ q. RefLow (q .what)) requests) →
+    (H → Each NameLow names) →
+    (H → Each (λ q. RefLow (q .what)) requests) →
     Runs H n w →
     Ends Coded (λ r. Runs H (n + length requests) (r .1)) (answerAll names constants place requests w)
 unfolding answerAll
@@ -378,14 +376,14 @@ raws-numbered all (define e ∷ l) = let ih = raws-numbered all l in omega arith
 raws-numbered all (named kind s r ∷ l) = let ih = raws-numbered all l in omega arith
 raws-numbered all (placed kind at number ∷ l) = let ih = raws-numbered all l in omega arith
 
-pub numbered-low : (all : List Literal) (l : List (Definition (List ℕ))) → All DefLow l → All DefLow (map (numberedDefinition all) l)
+pub numbered-low : (all : List Literal) (l : List (Definition (List ℕ))) → Each DefLow l → Each DefLow (map (numberedDefinition all) l)
 unfolding numberedDefinition numberedEntry withLiteral
 numbered-low all [] h = tt
 numbered-low all (define e ∷ l) h = (h .0, numbered-low all l (h .1))
 numbered-low all (named kind s r ∷ l) h = (h .0, numbered-low all l (h .1))
 numbered-low all (placed kind at number ∷ l) h = (tt, numbered-low all l (h .1))
 
-entries-low : {L : Type 0} (l : List (Definition L)) → All DefLow l → All KidsLow (entries l)
+entries-low : {L : Type 0} (l : List (Definition L)) → Each DefLow l → Each KidsLow (entries l)
 unfolding entries
 entries-low [] h = tt
 entries-low (define e ∷ l) h = (h .0, entries-low l (h .1))
@@ -394,15 +392,15 @@ entries-low (placed kind at number ∷ l) h = entries-low l (h .1)
 
 -- a job's one table: its entries are low, and cost what the job's entries do
 table-low :
-    (l : List (Definition ℕ)) → All DefLow l → All KidsLow (constantsOf l ++ bootstrapsOf l)
+    (l : List (Definition ℕ)) → Each DefLow l → Each KidsLow (constantsOf l ++ bootstrapsOf l)
 unfolding constantsOf bootstrapsOf
 table-low l h =
-    all-append
+    each-append
     KidsLow
     (constantsOf l)
     (bootstrapsOf l)
-    (all-only KidsLow (λ e. not (isBootstrap e)) (entries l) (entries-low l h))
-    (all-only KidsLow isBootstrap (entries l) (entries-low l h))
+    (each-only KidsLow (λ e. not (isBootstrap e)) (entries l) (entries-low l h))
+    (each-only KidsLow isBootstrap (entries l) (entries-low l h))
 
 table-priced : (l : List (Definition ℕ)) → priced (constantsOf l ++ bootstrapsOf l) ≡ priced (entries l)
 unfolding constantsOf bootstrapsOf
@@ -412,8 +410,8 @@ table-priced l = rw priced-append (priced-only isBootstrap (entries l))
 pub layout-ends :
     (H : Type 0) (Z : ℕ → Type 0) (P : Layout → Type 0) (top n : ℕ) (job : Job ℕ) →
     ((code : ℕ) → NonZero code → Z code) →
-    (H → All DefLow (job .definitions)) →
-    (H → All (λ q. RefLow (q .what)) (job .requests)) →
+    (H → Each DefLow (job .definitions)) →
+    (H → Each (λ q. RefLow (q .what)) (job .requests)) →
     priced (entries (job .definitions)) + raws (job .definitions) + length (job .requests) ≤ n →
     ((indexes : List (ℕ × ℕ)) (b : Build) (answers : List ℕ) (w : Ready) → Runs H n w → Ends Z P (buildLayout top indexes b answers w)) →
     Ends (λ e. Z (e .code)) P (layout top job)

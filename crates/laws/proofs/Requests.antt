@@ -15,7 +15,8 @@ use Rattle.definition.specs.Definitions.{tagAt}
 use Rattle.definition.specs.Resolving.{Node}
 use Rattle.definition.specs.Slots.{Gap, size, Slots, scan, cut, tooHigh, isOdd, plainEnds, plainSlot, narrowSlot, wideSlot, slotFor}
 use Rattle.definition.specs.Building.{Pool, give, allocate}
-use Rattle.laws.proofs.Tables.{bad≢good, none≢some, some-same, good-same, true≢false, order}
+use Rattle.laws.proofs.Lists.{none≢some, true≢false, some-inj, order}
+use Rattle.laws.proofs.Results.{bad≢good, good-inj}
 use Rattle.laws.proofs.Gaps.{Apart, apart-firsts, Under, scan-before, scan-at, scan-none}
 
 -- how many slots a request takes
@@ -93,7 +94,7 @@ wide-taken s n s′ h = ways (getElem? (s .gaps) (wideAt s)) refl
     ways (some g) e =
         subst
         (λ (r : ℕ × Slots). Taken 2 s (r .0) (r .1))
-        (some-same (sym (wide-some s g e) ∙ h))
+        (some-inj (sym (wide-some s g e) ∙ h))
         (record {
           at = wideAt s;
           gap = g;
@@ -180,7 +181,7 @@ plain-taken ldc s n s′ h = ways (getElem? (s .gaps) (plainAt ldc s)) refl
     taken g false e t =
         subst
         (λ (r : ℕ × Slots). NarrowTaken ldc s (r .0) (r .1))
-        (some-same (sym (plain-some ldc s g e t) ∙ h)) (
+        (some-inj (sym (plain-some ldc s g e t) ∙ h)) (
           record {
             at = plainAt ldc s;
             gap = g;
@@ -272,7 +273,7 @@ narrow-taken ldc s n s′ h = ways (getElem? (s .gaps) (oddAt s)) refl
     found g false e t =
         subst
         (λ (r : ℕ × Slots). NarrowTaken ldc s (r .0) (r .1))
-        (some-same (sym (narrow-odd ldc s g e t) ∙ h)) (
+        (some-inj (sym (narrow-odd ldc s g e t) ∙ h)) (
           record {
             at = oddAt s;
             gap = g;
@@ -348,12 +349,12 @@ met nodes ldc k s p p′ h = ways (lookup k (p .given)) refl
         Met nodes ldc k p s p′
     taken none e f g = bad≢good g
     taken (some r) e f g =
-        let q = good-same g in
+        let q = good-inj g in
         new (r .1) e (f ∙ ap {B = Option (ℕ × Slots)} some (λ i. (q i .0, r .1)))
         (sym (λ i. q i .1) ∙ (λ i. record { slots = r .1; given = (k, q i .0) ∷ p .given; pending = (q i .0, k) ∷ p .pending }))
 
     ways : (o : Option ℕ) → lookup k (p .given) ≡ o → Met nodes ldc k p s p′
     ways none e = taken (slotFor (isWide (tagAt nodes k)) ldc (p .slots)) e refl (sym (allocate-new nodes ldc k p e) ∙ h)
     ways (some n) e =
-        let q = good-same (sym (allocate-old nodes ldc k n p e) ∙ h) in
+        let q = good-inj (sym (allocate-old nodes ldc k n p e) ∙ h) in
         old (e ∙ ap {B = Option ℕ} some (λ i. q i .0)) (λ i. sym q i .1)

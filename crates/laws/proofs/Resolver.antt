@@ -1,18 +1,19 @@
 -- The resolver: what is still owed falls with each item taken, so that the fuel lasts and the visits are counted, and no node has a child
 -- that isn't there. Assumes nothing.
-use mathlib.Core.Bool.{Bool, true, false}
 use mathlib.Core.List.{List, [], _∷_, _++_, map}
 use mathlib.Core.Option.{Option, none, some}
-use mathlib.Core.Path.{_≡_, refl}
+use mathlib.Core.Logic.{_⊎_, inl, inr}
+use mathlib.Core.Path.{_≡_, refl, sym, ap, subst, _∙_}
 use Prim.Native.Nat.{ℕ, zero, suc, pred, _+_, _≤_, _<_}
 use native.Mathlib.Omega.{arith}
-use lib.Dec.{ltb}
 use lib.ListN.{length, getD, getElem?, set, replicate, length-append, length-map}
-use borrow.Author.Tests.{ltb-true}
 use Rattle.definition.specs.Basics.{position}
 use Rattle.definition.specs.Shapes.{Entry, withKids}
 use Rattle.definition.specs.Resolving.{Goal, rawNumber, tableEntry, refusal, Node, firstNode, Mark, fresh, underway, done, Resolved, Item, enter, leave, sameNode, intern, markChild, childOf, kidsAt, visited, leaveNode, leaving, entering, step, work, fuelFor, resolve, resolveAll}
-use Rattle.laws.proofs.Outcomes.{Ends, well, refused, next, weaker, NonZero, nonZero, All, all-append, all-map, all-weaker, all-at}
+use Rattle.laws.proofs.Lists.{clash, some-inj, found-inside, set-either, place-front}
+use Rattle.laws.proofs.Each.{Each, each-at, each-from, each-append, each-weaker, each-map}
+use Rattle.laws.proofs.Interning.{interned}
+use Rattle.laws.proofs.Outcomes.{Ends, well, refused, next, weaker, NonZero, nonZero}
 
 -- what an entry with a mark and so many children will still push: its children and its leaving
 unfoldable pub cost : Mark → ℕ → ℕ
@@ -31,15 +32,15 @@ pub owing-enter :
     getD marks e (done 0) ≡ fresh →
     suc (length (kidsAt table e)) + owing table (set marks e underway) ≤ owing table marks
 unfolding cost owing kidsAt
-owing-enter [] [] e h = let z : _≡_ {A = ℕ} 0 1 = cc in omega arith
+owing-enter [] [] e h = clash (cc)
 owing-enter [] (fresh ∷ marks) zero h = omega arith
-owing-enter [] (underway ∷ marks) zero h = let z : _≡_ {A = ℕ} 0 1 = cc in omega arith
-owing-enter [] (done k ∷ marks) zero h = let z : _≡_ {A = ℕ} 0 1 = cc in omega arith
+owing-enter [] (underway ∷ marks) zero h = clash (cc)
+owing-enter [] (done k ∷ marks) zero h = clash (cc)
 owing-enter [] (m ∷ marks) (suc e) h = let ih = owing-enter [] marks e h in omega arith
-owing-enter (x ∷ table) [] e h = let z : _≡_ {A = ℕ} 0 1 = cc in omega arith
+owing-enter (x ∷ table) [] e h = clash (cc)
 owing-enter (x ∷ table) (fresh ∷ marks) zero h = omega arith
-owing-enter (x ∷ table) (underway ∷ marks) zero h = let z : _≡_ {A = ℕ} 0 1 = cc in omega arith
-owing-enter (x ∷ table) (done k ∷ marks) zero h = let z : _≡_ {A = ℕ} 0 1 = cc in omega arith
+owing-enter (x ∷ table) (underway ∷ marks) zero h = clash (cc)
+owing-enter (x ∷ table) (done k ∷ marks) zero h = clash (cc)
 owing-enter (x ∷ table) (m ∷ marks) (suc e) h = let ih = owing-enter table marks e h in omega arith
 
 -- a mark that owes nothing adds nothing
@@ -66,7 +67,7 @@ Child nodes c = c ≤ firstNode + pred (length nodes)
 -- every mark that tells of a node, and every child of a node, is such a number
 pub record Fit (s : Resolved) : Type 0 where
   pub marksFit : (e : ℕ) → Child (s .nodes) (markChild (getD (s .marks) e (done 0)))
-  pub nodesFit : All (λ n. All (Child (s .nodes)) (n .kids)) (s .nodes)
+  pub nodesFit : Each (λ n. Each (Child (s .nodes)) (n .kids)) (s .nodes)
 
 -- a goal's refusal isn't 0 and, under a premise H, its raw number isn't a node's
 abbrev pub GoalOk : Type 0 → Goal → Type 0
@@ -79,7 +80,7 @@ ItemOk H (enter g) = GoalOk H g
 ItemOk H (leave e) = Unit {0}
 
 abbrev pub TableOk : Type 0 → List (Entry ℕ Goal) → Type 0
-TableOk H table = All (λ x. All (GoalOk H) (x .kids)) table
+TableOk H table = Each (λ x. Each (GoalOk H) (x .kids)) table
 
 pub childOf-fits : (H : Type 0) (s : Resolved) (g : Goal) → GoalOk H g → H → Fit s → Child (s .nodes) (childOf (s .marks) g)
 unfolding childOf
@@ -87,75 +88,35 @@ childOf-fits H s (rawNumber n) ok h f = let low = ok h in omega arith
 childOf-fits H s (tableEntry e) ok h f = f .marksFit e
 childOf-fits H s (refusal code) ok h f = omega arith
 
-kidsAt-ok : (H : Type 0) (table : List (Entry ℕ Goal)) (e : ℕ) → TableOk H table → All (GoalOk H) (kidsAt table e)
+kidsAt-ok : (H : Type 0) (table : List (Entry ℕ Goal)) (e : ℕ) → TableOk H table → Each (GoalOk H) (kidsAt table e)
 unfolding kidsAt
 kidsAt-ok H [] e ok = tt
 kidsAt-ok H (x ∷ table) zero ok = ok .0
 kidsAt-ok H (x ∷ table) (suc e) ok = kidsAt-ok H table e (ok .1)
 
--- what is put at a place, or what was there
-pub set-either : {A : Type 0} (P : A → Type 0) (l : List A) (i j : ℕ) (a d : A) → P a → P (getD l j d) → P (getD (set l i a) j d)
-set-either P [] i j a d h k = k
-set-either P (x ∷ l) zero zero a d h k = h
-set-either P (x ∷ l) zero (suc j) a d h k = k
-set-either P (x ∷ l) (suc i) zero a d h k = k
-set-either P (x ∷ l) (suc i) (suc j) a d h k = set-either P l i j a d h k
-
-pub position-le : {A : Type 0} (p : A → Bool) (l : List A) → position p l ≤ length l
-unfolding position
-position-le p [] = omega arith
-position-le p (x ∷ l) = go (p x) refl (position-le p l)
+-- what is so of a node and of the old ones is so of all after it is interned
+intern-each : (n : Node) (nodes : List Node) (P : Node → Type 0) → P n → Each P nodes → Each P (intern n nodes)
+intern-each n nodes P h k = each-from P (intern n nodes) (λ i a e. ways i a e (interned n nodes .noOther i (found-inside (intern n nodes) i a e)))
   where
-    go : (b : Bool) → p x ≡ b → position p l ≤ length l → position p (x ∷ l) ≤ suc (length l)
-    go true e ih = rw (e, position) (omega arith)
-    go false e ih = rw (e, position) (omega arith)
-
--- the nodes after one is added: the old ones, or one more
-pub intern-old : (n : Node) (nodes : List Node) → ltb (position (sameNode n) nodes) (length nodes) ≡ true → intern n nodes ≡ nodes
-unfolding intern
-intern-old n nodes e = rw (e, intern)
-
-pub intern-new : (n : Node) (nodes : List Node) → ltb (position (sameNode n) nodes) (length nodes) ≡ false → intern n nodes ≡ nodes ++ n ∷ []
-unfolding intern
-intern-new n nodes e = rw (e, intern)
-
-pub record Interned (n : Node) (nodes : List Node) : Type 1 where
-  pub longer : length nodes ≤ length (intern n nodes)
-  pub there : position (sameNode n) nodes ≤ pred (length (intern n nodes))
-  pub keeps : (P : Node → Type 0) → P n → All P nodes → All P (intern n nodes)
-
-pub interned : (n : Node) (nodes : List Node) → Interned n nodes
-interned n nodes = go (ltb (position (sameNode n) nodes) (length nodes)) refl
-  where
-    go : (b : Bool) → ltb (position (sameNode n) nodes) (length nodes) ≡ b → Interned n nodes
-    go true e =
-        let less = ltb-true (position (sameNode n) nodes) (length nodes) e in
-        record {
-          longer = rw (intern-old n nodes e) (omega arith);
-          there = rw (intern-old n nodes e) (omega arith);
-          keeps = λ P h k. rw (intern-old n nodes e) k;
-        }
-    go false e =
-        let less = position-le (sameNode n) nodes in
-        record {
-          longer = rw (intern-new n nodes e) (omega (arith, length-append nodes (n ∷ [])));
-          there = rw (intern-new n nodes e) (omega (arith, length-append nodes (n ∷ [])));
-          keeps = λ P h k. rw (intern-new n nodes e) (all-append P nodes (n ∷ []) k (h, tt));
-        }
+    ways : (i : ℕ) (a : Node) → getElem? (intern n nodes) i ≡ some a → (i < length nodes) ⊎ (i ≡ position (sameNode n) nodes) → P a
+    ways i a e (inl low) =
+        let kept = interned n nodes .kept in
+        each-at P nodes i a k (sym (place-front nodes (kept .0) i low) ∙ ap (λ (l : List Node). getElem? l i) (sym (kept .1)) ∙ e)
+    ways i a e (inr q) = subst P (some-inj (sym (interned n nodes .there) ∙ ap (getElem? (intern n nodes)) (sym q) ∙ e)) h
 
 visited-fits : (s : Resolved) → Fit s → Fit (visited s)
 unfolding visited
 visited-fits s f = record { marksFit = f .marksFit; nodesFit = f .nodesFit }
 
-leaveNode-fits : (e : ℕ) (n : Node) (s : Resolved) → All (Child (s .nodes)) (n .kids) → Fit s → Fit (leaveNode e n s)
+leaveNode-fits : (e : ℕ) (n : Node) (s : Resolved) → Each (Child (s .nodes)) (n .kids) → Fit s → Fit (leaveNode e n s)
 unfolding leaveNode markChild
 leaveNode-fits e n s kids f =
     let i = interned n (s .nodes) in
-    let longer = i .longer in
-    let there = i .there in
+    let longer : length (s .nodes) ≤ length (intern n (s .nodes)) = rw (i .kept .1) (omega (arith, length-append (s .nodes) (i .kept .0))) in
+    let there = found-inside (intern n (s .nodes)) (position (sameNode n) (s .nodes)) n (i .there) in
     let wide : (c : ℕ) → Child (s .nodes) c → Child (intern n (s .nodes)) c = λ c h. omega arith in
-    let wides : (l : List ℕ) → All (Child (s .nodes)) l → All (Child (intern n (s .nodes))) l =
-    all-weaker (Child (s .nodes)) (Child (intern n (s .nodes))) wide in
+    let wides : (l : List ℕ) → Each (Child (s .nodes)) l → Each (Child (intern n (s .nodes))) l =
+    each-weaker (Child (s .nodes)) (Child (intern n (s .nodes))) wide in
     record {
       marksFit =
           λ e′.
@@ -169,12 +130,12 @@ leaveNode-fits e n s kids f =
           (omega arith)
           (wide (markChild (getD (s .marks) e′ (done 0))) (f .marksFit e′));
       nodesFit =
-          i .keeps
-          (λ x. All (Child (intern n (s .nodes))) (x .kids))
+          intern-each n (s .nodes)
+          (λ x. Each (Child (intern n (s .nodes))) (x .kids))
           (wides (n .kids) kids)
-          (all-weaker
-          (λ x. All (Child (s .nodes)) (x .kids))
-          (λ x. All (Child (intern n (s .nodes))) (x .kids))
+          (each-weaker
+          (λ x. Each (Child (s .nodes)) (x .kids))
+          (λ x. Each (Child (intern n (s .nodes))) (x .kids))
           (λ x h. wides (x .kids) h)
           (s .nodes)
           (f .nodesFit));
@@ -184,7 +145,7 @@ leaveNode-fits e n s kids f =
 pub record Stepped (H : Type 0) (table : List (Entry ℕ Goal)) (s : Resolved) (r : List Item × Resolved) : Type 0 where
   pub counted : r .1 .visits ≡ suc (s .visits)
   pub paid : length (r .0) + owing table (r .1 .marks) ≤ owing table (s .marks)
-  pub items : All (ItemOk H) (r .0)
+  pub items : Each (ItemOk H) (r .0)
   pub fits : H → Fit s → Fit (r .1)
 
 visited-steps : (H : Type 0) (table : List (Entry ℕ Goal)) (s : Resolved) → Stepped H table s ([], visited s)
@@ -193,7 +154,7 @@ visited-steps H table s = record { counted = refl; paid = omega arith; items = t
 
 leaveNode-steps :
     (H : Type 0) (table : List (Entry ℕ Goal)) (e : ℕ) (s : Resolved) (x : Entry ℕ Goal) →
-    All (GoalOk H) (x .kids) →
+    Each (GoalOk H) (x .kids) →
     Stepped H table s ([], leaveNode e (withKids (map (childOf (s .marks)) (x .kids)) x) s)
 unfolding leaveNode withKids
 leaveNode-steps H table e s x ok =
@@ -208,7 +169,7 @@ leaveNode-steps H table e s x ok =
           e
           n
           s
-          (all-map (GoalOk H) (Child (s .nodes)) (childOf (s .marks)) (λ g o. childOf-fits H s g o h f) (x .kids) ok)
+          (each-map (GoalOk H) (Child (s .nodes)) (childOf (s .marks)) (λ g o. childOf-fits H s g o h f) (x .kids) ok)
           f;
     }
 
@@ -218,7 +179,7 @@ leaving-steps H table e s ok = go (getElem? table e) refl
   where
     go : (o : Option (Entry ℕ Goal)) → getElem? table e ≡ o → Stepped H table s ([], leaving table e s)
     go none p = rw (p, leaving) (visited-steps H table s)
-    go (some x) p = rw (p, leaving) (leaveNode-steps H table e s x (all-at (λ y. All (GoalOk H) (y .kids)) table e x ok p))
+    go (some x) p = rw (p, leaving) (leaveNode-steps H table e s x (each-at (λ y. Each (GoalOk H) (y .kids)) table e x ok p))
 
 entered-fits :
     (e : ℕ) (s : Resolved) → Fit s → Fit (record { marks = set (s .marks) e underway; nodes = s .nodes; visits = suc (s .visits) })
@@ -243,11 +204,11 @@ entered-steps H table e s ok p =
       counted = refl;
       paid = omega (arith, length-append (map enter (kidsAt table e)) (leave e ∷ []), length-map (kidsAt table e) enter);
       items =
-          all-append
+          each-append
           (ItemOk H)
           (map enter (kidsAt table e))
           (leave e ∷ [])
-          (all-map (GoalOk H) (ItemOk H) enter (λ g o. o) (kidsAt table e) (kidsAt-ok H table e ok))
+          (each-map (GoalOk H) (ItemOk H) enter (λ g o. o) (kidsAt table e) (kidsAt-ok H table e ok))
           (tt, tt);
       fits = λ h f. entered-fits e s f;
     }
@@ -298,7 +259,7 @@ worked-next H table n m k s t u h a b =
 pub work-works :
     (H : Type 0) (fuel : ℕ) (table : List (Entry ℕ Goal)) (stack : List Item) (s : Resolved) →
     TableOk H table →
-    All (ItemOk H) stack →
+    Each (ItemOk H) stack →
     length stack + owing table (s .marks) ≤ fuel →
     Ends NonZero (Worked H table (length stack) s) (work fuel table stack s)
 unfolding work
@@ -316,7 +277,7 @@ work-works H (suc fuel) table (i ∷ stack) s ok o h =
     let w₁ = w .counted in
     let w₂ = w .paid in
     record { counted = omega arith; paid = omega arith; fits = λ x f. w .fits x (k .fits x f) })
-    (work-works H fuel table (r .0 ++ stack) (r .1) ok (all-append (ItemOk H) (r .0) stack (k .items) (o .1)) (omega arith))
+    (work-works H fuel table (r .0 ++ stack) (r .1) ok (each-append (ItemOk H) (r .0) stack (k .items) (o .1)) (omega arith))
 
 pub resolve-works :
     (H : Type 0) (table : List (Entry ℕ Goal)) (g : Goal) (s : Resolved) →
@@ -330,7 +291,7 @@ resolve-works H table g s ok o h = work-works H (fuelFor table) table (enter g �
 pub resolveAll-works :
     (H : Type 0) (table : List (Entry ℕ Goal)) (goals : List Goal) (s : Resolved) →
     TableOk H table →
-    All (GoalOk H) goals →
+    Each (GoalOk H) goals →
     suc (owing table (s .marks)) ≤ fuelFor table →
     Ends NonZero (Worked H table (length goals) s) (resolveAll table goals s)
 unfolding resolveAll

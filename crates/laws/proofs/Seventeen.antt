@@ -3,16 +3,18 @@ use mathlib.Core.List.{List, [], _∷_, _++_, reverse, reverseAux, reverse-rever
 use mathlib.Core.Logic.{_⊎_, inl, inr}
 use mathlib.Core.Option.{Option, none, some}
 use mathlib.Core.Path.{_≡_, refl, sym, _∙_, ap, subst}
-use Prim.Native.Nat.{ℕ, suc, _≤_, _<_}
+use Prim.Native.Nat.{ℕ, suc, _≤_, _<_, _+_}
 use native.Mathlib.Omega.{arith}
 use lib.ListN.{length, length-append}
 use borrow.Author.Tests.{eq-eqb, ne-eqb, lt-ltb, le-ltb}
 use Rattle.definition.specs.Basics.{good, bad, lookup}
 use Rattle.definition.specs.Resolving.{Node, Mark}
 use Rattle.definition.specs.Building.{Pool, Row, Rows, slotsOf, kidsOf, writeRaw, indexOf, takeIndex, rowIndex, rawRows}
-use Rattle.definition.specs.Layout.{indexNodes}
+use Rattle.definition.specs.Layout.{indexNodes, nodeAt}
 use Rattle.laws.specs.Statements.{RowsOccur, rawOnly, afterRow, Used, ExactlySeventeen}
-use Rattle.laws.proofs.Tables.{bind-good, bad≢good, good-same, none≢some, order, equal, lookup-hit, lookup-miss, Rising, keys, rising-none}
+use Rattle.laws.proofs.Lists.{none≢some, order, equal}
+use Rattle.laws.proofs.Results.{bad≢good, good-inj, good-first}
+use Rattle.laws.proofs.Tables.{lookup-hit, lookup-miss, Rising, keys, keys-map, keys-reverse, rising-none}
 use Rattle.laws.proofs.Defining.{rises}
 
 -- RAW ROWS
@@ -21,14 +23,14 @@ use Rattle.laws.proofs.Defining.{rises}
 abbrev pub highestIndex : ℕ
 highestIndex = 65534
 
-write-next :
+pub write-next :
     (written : List Row) (x : ℕ × Row) (waiting : List (ℕ × Row)) →
     x .0 ≡ length written →
     writeRaw written (x ∷ waiting) ≡ writeRaw (written ++ x .1 ∷ []) waiting
 unfolding writeRaw
 write-next written x waiting e = rw (eq-eqb (x .0) (length written) e, writeRaw)
 
-write-stop :
+pub write-stop :
     (written : List Row) (x : ℕ × Row) (waiting : List (ℕ × Row)) →
     (x .0 ≡ length written → ⊥) →
     writeRaw written (x ∷ waiting) ≡ (written, x ∷ waiting)
@@ -97,28 +99,20 @@ raw-keys :
     rawRows nodes falling p rows ≡ good (waiting, p′) →
     keys waiting ≡ reverseAux (keys falling) (keys rows)
 unfolding rawRows
-raw-keys nodes [] p p′ rows waiting h = λ i. keys (good-same (sym h) i .0)
+raw-keys nodes [] p p′ rows waiting h = λ i. keys (good-inj (sym h) i .0)
 raw-keys nodes (r ∷ falling) p p′ rows waiting h =
-    let (row, q, g) = bind-good (slotsOf nodes (kidsOf nodes (r .1)) p) _ (waiting, p′) h in
+    let (row, q, g) = good-first (slotsOf nodes (kidsOf nodes (r .1)) p) _ (waiting, p′) h in
     raw-keys nodes falling (row .1) p′ ((r .0, row .0) ∷ rows) waiting g
-
-keys-reverse : {A : Type 0} (xs ys : List (ℕ × A)) → keys (reverseAux xs ys) ≡ reverseAux (keys xs) (keys ys)
-keys-reverse [] ys = refl
-keys-reverse (x ∷ xs) ys = keys-reverse xs (x ∷ ys)
-
-keys-nodes : (n : ℕ) (marks : List Mark) (indexes : List (ℕ × ℕ)) → keys (indexNodes n marks indexes) ≡ keys indexes
-unfolding indexNodes
-keys-nodes n marks [] = refl
-keys-nodes n marks (x ∷ indexes) = ap {B = List ℕ} (λ l. x .0 ∷ l) (keys-nodes n marks indexes)
 
 -- so the raw rows wait at the raw indexes, in their order
 pub waiting-keys :
     (nodes : List Node) (n : ℕ) (marks : List Mark) (indexes : List (ℕ × ℕ)) (p p′ : Pool) (waiting : List (ℕ × Row)) →
     rawRows nodes (reverse (indexNodes n marks indexes)) p [] ≡ good (waiting, p′) →
     keys waiting ≡ keys indexes
+unfolding indexNodes
 waiting-keys nodes n marks indexes p p′ waiting h =
     raw-keys nodes (reverse (indexNodes n marks indexes)) p p′ [] waiting h
-    ∙ ap reverse (keys-reverse (indexNodes n marks indexes) [] ∙ ap reverse (keys-nodes n marks indexes))
+    ∙ ap reverse (keys-reverse (indexNodes n marks indexes) [] ∙ ap reverse (keys-map (λ x. (x .0, nodeAt marks (n + x .1))) indexes (λ x. refl)))
     ∙ reverse-reverse (keys indexes)
 
 -- ROWS THAT OCCUR
@@ -128,18 +122,18 @@ pub record RowsSound (rows : Rows) : Type 0 where
   pub rising : Rising (length (rows .written)) highestIndex (keys (rows .waiting))
   pub few : length (rows .written) ≤ 65535
 
-row-old : (row : Row) (rows : Rows) (i : ℕ) → indexOf row (rows .inline) ≡ some i → rowIndex row rows ≡ good (i, rows)
+pub row-old : (row : Row) (rows : Rows) (i : ℕ) → indexOf row (rows .inline) ≡ some i → rowIndex row rows ≡ good (i, rows)
 unfolding rowIndex
 row-old row rows i e = rw (e, rowIndex)
 
-row-new :
+pub row-new :
     (row : Row) (rows : Rows) →
     indexOf row (rows .inline) ≡ none →
     rowIndex row rows ≡ takeIndex row (rows .inline) (writeRaw (rows .written) (rows .waiting))
 unfolding rowIndex
 row-new row rows e = rw (e, rowIndex)
 
-take-some :
+pub take-some :
     (row : Row) (inline : List (Row × ℕ)) (r : List Row × List (ℕ × Row)) →
     length (r .0) < 65535 →
     takeIndex row inline r
@@ -147,7 +141,7 @@ take-some :
 unfolding takeIndex
 take-some row inline r h = rw (lt-ltb (length (r .0)) 65535 h, takeIndex)
 
-take-none : (row : Row) (inline : List (Row × ℕ)) (r : List Row × List (ℕ × Row)) → 65535 ≤ length (r .0) → takeIndex row inline r ≡ bad 17
+pub take-none : (row : Row) (inline : List (Row × ℕ)) (r : List Row × List (ℕ × Row)) → 65535 ≤ length (r .0) → takeIndex row inline r ≡ bad 17
 unfolding takeIndex
 take-none row inline r h = rw (le-ltb (length (r .0)) 65535 h, takeIndex)
 
@@ -164,7 +158,7 @@ row-sound row i rows rows′ s h = ways (indexOf row (rows .inline)) refl
         Wrote (rows .written) (rows .waiting) r →
         RowsSound rows′
     taken e (inl o) w =
-        let q = good-same (sym (take-some row (rows .inline) r o) ∙ sym (row-new row rows e) ∙ h) in
+        let q = good-inj (sym (take-some row (rows .inline) r o) ∙ sym (row-new row rows e) ∙ h) in
         let longer : length (r .0 ++ row ∷ []) ≡ suc (length (r .0)) = length-append (r .0) (row ∷ []) ∙ omega arith in
         subst
         (λ (z : ℕ × Rows). RowsSound (z .1))
@@ -174,7 +168,7 @@ row-sound row i rows rows′ s h = ways (indexOf row (rows .inline)) refl
 
     ways : (o : Option ℕ) → indexOf row (rows .inline) ≡ o → RowsSound rows′
     ways none e = taken e (order (length (r .0)) 65535) (wrote (rows .waiting) (rows .written) (s .rising))
-    ways (some n) e = subst (λ (z : ℕ × Rows). RowsSound (z .1)) (good-same (sym (row-old row rows n e) ∙ h)) s
+    ways (some n) e = subst (λ (z : ℕ × Rows). RowsSound (z .1)) (good-inj (sym (row-old row rows n e) ∙ h)) s
 
 pub rowsSound : {rows : Rows} → RowsOccur rows → RowsSound rows
 rowsSound (rawOnly top constants definitions d nodes p p′ n marks waiting h e) =

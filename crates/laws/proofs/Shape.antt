@@ -17,7 +17,8 @@ use Rattle.definition.specs.Slots.{highestSlot}
 use Rattle.definition.specs.Layout.{Layout, layout}
 use Rattle.definition.specs.Run.{Built, render, Placed, build, Lent, longestJob, enough, fits, run}
 use Rattle.laws.specs.Statements.{skeleton, hasLiteral, Alike, RoomEnough, Shape}
-use Rattle.laws.proofs.Lists.{tests-agree, past-unless, map-some, map-agree, position-agree}
+use Rattle.laws.proofs.Lists.{tests-agree, equal, position-agree, map-some, map-agree}
+use Rattle.laws.proofs.Results.{past-unless}
 use Rattle.laws.proofs.Numbering.{sameLiteral-iff}
 use Rattle.laws.proofs.Bare.{litOf, Bare, entries-bare}
 

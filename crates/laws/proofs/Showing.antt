@@ -1,7 +1,7 @@
 -- In the finished pool, as the reader shows it, every slot that is to hold a node shows the entry that became it, to any depth. Assumes nothing.
 use mathlib.Core.List.{List, [], _∷_, map}
 use mathlib.Core.Logic.{inl, inr}
-use mathlib.Core.Option.{Option, none, some}
+use mathlib.Core.Option.{none, some}
 use mathlib.Core.Path.{_≡_, refl, sym, ap, subst, _∙_}
 use Prim.Native.Nat.{ℕ, zero, suc, _+_, _-_, _≤_, _<_}
 use native.Mathlib.Omega.{arith}
@@ -19,29 +19,23 @@ use Rattle.definition.specs.Building.{Row, contentOf, kidsOf}
 use Rattle.definition.specs.Layout.{Layout, layout}
 use Rattle.definition.specs.Run.{shown}
 use Rattle.laws.specs.Statements.{IsBytes, Among, times, Finished, namings, leadsTo, slotShows, numberShows, Pairwise, Shows, rowShown}
-use Rattle.laws.proofs.Lists.{clash}
-use Rattle.laws.proofs.Places.{found-append, found-read}
-use Rattle.laws.proofs.MoreLists.{some-key, some-row, once, times-cons}
-use Rattle.laws.proofs.Chunks.{length-from}
+use Rattle.laws.proofs.Lists.{clash, some-inj, found-read, found-append, map-at}
+use Rattle.laws.proofs.Each.{Both}
+use Rattle.laws.proofs.Tables.{some-key, some-row}
+use Rattle.laws.proofs.Sums.{once-here, times-cons, among-times}
+use Rattle.laws.proofs.Chunks.{length-from, from-place}
 use Rattle.laws.proofs.Faithful.{Settled}
 use Rattle.laws.proofs.Contents.{spelled, content-holds}
 use Rattle.laws.proofs.Asked.{child-done, tag-found, kids-found}
 use Rattle.laws.proofs.Nodes.{Low}
 use Rattle.laws.proofs.DefinedFacts.{namings-numbered}
 use Rattle.laws.proofs.Citing.{jobNames, jobConstants, count-numbered, countIn}
-use Rattle.laws.proofs.Numbers.{Each as Both, SlotFor, NumberFor, toHold, given-held}
-use Rattle.laws.proofs.Occupied.{among-times, map-at, starts-once}
+use Rattle.laws.proofs.Numbers.{SlotFor, NumberFor, toHold, given-held}
+use Rattle.laws.proofs.Occupied.{starts-once}
 use Rattle.laws.proofs.Origins.{Origin, origin}
 use Rattle.laws.proofs.Whole.{good-job-table, asked, nodes, marks, rows}
 use Rattle.laws.proofs.ReadBack.{stg, end, allNodes, raw, pool, owned, soundly, raw-keys, raw-wide, count, starts-at, held-constant}
 use Rattle.laws.proofs.Fitting.{row-plain}
-
-pub some-inj : {A : Type 0} {a b : A} → _≡_ {A = Option A} (some a) (some b) → a ≡ b
-some-inj e = cc
-
--- a slot that stands once in a table has one row
-once-here : (n x : ℕ) → x ≡ n → once n x ≡ 1
-once-here n x e = rw (eq-eqb n x (sym e), once)
 
 counted-row : (l : List (ℕ × ℕ)) (n k : ℕ) → Among (n, k) l → 1 ≤ times n (map (λ r. r .0) l)
 counted-row l n k a = among-times n (map (λ r. r .0) l) (a .0, map-at (λ (r : ℕ × ℕ). r .0) l (a .0) (n, k) (a .1))
@@ -54,19 +48,6 @@ once-same (r ∷ l) n k k′ few (zero, h) (suc j, h′) =
 once-same (r ∷ l) n k k′ few (suc i, h) (zero, h′) =
     absurd (omega (arith, few, times-cons n (r .0) (map (λ r. r .0) l), once-here n (r .0) (some-key r (n, k′) h′), counted-row l n k (i, h)))
 once-same (r ∷ l) n k k′ few (suc i, h) (suc j, h′) = once-same l n k k′ (omega (arith, few, times-cons n (r .0) (map (λ r. r .0) l))) (i, h) (j, h′)
-
--- what stands at a place of f k, f (k + 1), ..
-from-place : {A : Type 0} (f : ℕ → A) (k n i : ℕ) → i < n → getElem? (from f k n) i ≡ some (f (k + i))
-unfolding from
-from-place f k zero i h = absurd (omega (arith, h))
-from-place f k (suc n) zero h = ap (λ m. some (f m)) (omega arith)
-from-place f k (suc n) (suc i) h = from-place f (suc k) n i (omega (arith, h)) ∙ ap (λ m. some (f m)) (omega arith)
-
--- past the end the reader with a default finds it
-pub past-end : {A : Type 0} (l : List A) (i : ℕ) (d : A) → length l ≤ i → getD l i d ≡ d
-past-end [] i d h = refl
-past-end (x ∷ l) zero d h = absurd (omega (arith, h))
-past-end (x ∷ l) (suc i) d h = past-end l i d (omega (arith, h))
 
 -- a number that doesn't name a bootstrap is a slot; one that does is an index
 number-slot : (f : Finished) (tag n : ℕ) → (tag ≡ bootstrapTag → ⊥) → numberShows f tag n ≡ slotShows f n

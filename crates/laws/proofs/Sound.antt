@@ -2,7 +2,7 @@
 use mathlib.Core.Bool.{Bool, true, false}
 use mathlib.Core.List.{List, [], _∷_, _++_, map}
 use mathlib.Core.Path.{_≡_, refl, sym, _∙_, ap}
-use Prim.Native.Nat.{ℕ, suc, _+_, _-_, _≤_, _<_}
+use Prim.Native.Nat.{ℕ, suc, _+_, _-_, _<_}
 use native.Mathlib.Omega.{arith}
 use lib.ListN.{length, length-append}
 use Rattle.definition.specs.Basics.{good, from}
@@ -13,19 +13,18 @@ use Rattle.definition.specs.Slots.{Gap, gapsFrom, startSlots}
 use Rattle.definition.specs.Building.{Pool}
 use Rattle.definition.specs.Layout.{starters, Ready, endDefinitions}
 use Rattle.laws.specs.Statements.{freeSlots, givenSlots, allSlots, Occurs, afterDefinitions, afterRequest, moreResolved, stackTaken}
-use Rattle.laws.proofs.Tables.{bind-good, good-same, place-append, total, total-append, run, Rising, keys}
+use Rattle.laws.proofs.Lists.{place-front}
+use Rattle.laws.proofs.Results.{good-inj, good-first}
+use Rattle.laws.proofs.Each.{Each, each-weaker}
+use Rattle.laws.proofs.Tables.{Rising, keys}
+use Rattle.laws.proofs.Sums.{total, total-append, run}
 use Rattle.laws.proofs.Gaps.{Apart, Under, cut-some, apart-start, apart-set, under-set, total-start, total-set}
 use Rattle.laws.proofs.Requests.{width, slot-taken, Met, old, new, met}
 use Rattle.laws.proofs.Defining.{rises}
 
 -- the nodes that have slots are below a number
 abbrev pub Below : ℕ → List (ℕ × ℕ) → Type 0
-Below n [] = Unit {0}
-Below n (r ∷ given) = (r .0 < n) × Below n given
-
-pub below-higher : (n m : ℕ) (given : List (ℕ × ℕ)) → n ≤ m → Below n given → Below m given
-below-higher n m [] h b = tt
-below-higher n m (r ∷ given) h b = (omega arith, below-higher n m given h (b .1))
+Below n given = Each (λ r. r .0 < n) given
 
 -- raw-held slots rise from 1 to the highest slot; gaps lie apart; gaps before the plain position are empty, and before the wide one have
 -- no two slots; nodes that have slots are there; raw-held, given-out and free slots together are those from 1 to the highest, each once:
@@ -64,7 +63,7 @@ given-cons nodes k s given = ways (isWide (tagAt nodes k)) refl
 -- more nodes behind change no tag
 pub tag-append : (nodes more : List Node) (k : ℕ) → k < length nodes → tagAt (nodes ++ more) k ≡ tagAt nodes k
 unfolding tagAt
-tag-append nodes more k h = rw (place-append nodes more k h, tagAt)
+tag-append nodes more k h = rw (place-front nodes more k h, tagAt)
 
 pub given-append :
     (nodes more : List Node) (given : List (ℕ × ℕ)) → Below (length nodes) given → givenSlots (nodes ++ more) given ≡ givenSlots nodes given
@@ -83,8 +82,8 @@ pub ended :
 unfolding endDefinitions
 ended top table n d w e =
     let goals = map (λ (r : ℕ × ℕ). tableEntry (r .1)) (starters (d .held)) ++ map (λ (r : ℕ × ℕ). tableEntry (n + r .1)) (d .indexes) in
-    let (s, q, g) = bind-good (resolveAll table goals (nothingResolved table)) _ w e in
-    let same = sym (good-same g) in
+    let (s, q, g) = good-first (resolveAll table goals (nothingResolved table)) _ w e in
+    let same = sym (good-inj g) in
     (λ i. same i .pool .slots, λ i. same i .pool .given)
 
 sound-start :
@@ -150,7 +149,8 @@ sound-more top held nodes more p i =
       apart = i .apart;
       plain = i .plain;
       wide = i .wide;
-      known = below-higher (length nodes) (length (nodes ++ more)) (p .given) (omega (arith, length-append nodes more)) (i .known);
+      known =
+          each-weaker (λ r. r .0 < length nodes) (λ r. r .0 < length (nodes ++ more)) (λ r h. omega (arith, h, length-append nodes more)) (p .given) (i .known);
       counted = λ f. rw (given-append nodes more (p .given) (i .known)) (i .counted f);
     }
 

@@ -11,7 +11,7 @@ use Rattle.definition.specs.Definitions.{Defined, defineAll, nothingDefined}
 use Rattle.definition.specs.Resolving.{Goal, linked}
 use Rattle.definition.specs.Building.{Row, fillHoles, Made, buildAll, nameWanted, nameSlot}
 use Rattle.definition.specs.Layout.{Ready, endDefinitions, answerAll, Layout, layoutOf, buildLayout, indexNodes, layout}
-use Rattle.laws.proofs.Lists.{good-first, good-inj, good-atRecord}
+use Rattle.laws.proofs.Results.{good-inj, good-first, atRecord-good}
 
 -- the constants and the whole table of a job
 abbrev pub constantsIn : Job ℕ → List (Entry ℕ Reference)
@@ -45,13 +45,13 @@ stages top job l h =
     let (d, hd, h₁) = good-first {A = Defined} _ _ _ h in
     let (w, hw, h₂) = good-first {A = Ready} _ _ _ h₁ in
     let (r, hr, h₃) = good-first {A = List ℕ × Ready} _ _ _ h₂ in
-    let (m, hm, h₄) = good-first {A = Made} _ _ _ (good-atRecord _ _ _ h₃) in
+    let (m, hm, h₄) = good-first {A = Made} _ _ _ (atRecord-good _ _ _ h₃) in
     let (n, hn, h₅) = good-first {A = ℕ × Made} _ _ _ h₄ in
     record {
       defined = d;
       isDefined = hd;
       ready = w;
-      isReady = good-atRecord _ _ _ hw;
+      isReady = atRecord-good _ _ _ hw;
       answers = r .0;
       asked = r .1;
       isAsked = hr;

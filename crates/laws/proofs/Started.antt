@@ -3,15 +3,14 @@ use mathlib.Core.List.{List, _++_, map, reverse}
 use mathlib.Core.Path.{_≡_, refl, subst}
 use Prim.Native.Nat.{ℕ, _+_}
 use lib.ListN.{length}
-use Rattle.definition.specs.Basics.{good, _>>=_}
+use Rattle.definition.specs.Basics.{good}
 use Rattle.definition.specs.Shapes.{Entry}
 use Rattle.definition.specs.Job.{Reference, Definition}
 use Rattle.definition.specs.Definitions.{Held, Defined, defineAll, nothingDefined}
 use Rattle.definition.specs.Resolving.{Goal, tableEntry, Mark, resolveAll, nothingResolved}
 use Rattle.definition.specs.Layout.{starters, nodeAt, Ready, endDefinitions}
 use Rattle.laws.specs.Statements.{Among, Occurs, afterDefinitions}
-use Rattle.laws.proofs.Results.{after}
-use Rattle.laws.proofs.Lists.{good-inj}
+use Rattle.laws.proofs.Results.{good-inj, good-then}
 use Rattle.laws.proofs.Faithful.{Settled, InTable, Cited, nothing-faithful, resolveAll-faithful}
 use Rattle.laws.proofs.Asked.{Going}
 
@@ -32,7 +31,7 @@ pub ready-going :
     Going table top (d .held) (rawsOf (d .held) (w .resolved .marks)) w × ((g : Goal) → Among g (rawGoals n d) → Settled (w .resolved .marks) g)
 unfolding endDefinitions
 ready-going top definitions constants table n d w cited cites defined ended =
-    after (resolveAll table (rawGoals n d) (nothingResolved table)) _ w ended λ s resolved e.
+    good-then (resolveAll table (rawGoals n d) (nothingResolved table)) _ w ended λ s resolved e.
     let now = resolveAll-faithful table (rawGoals n d) (nothingResolved table) s cited cites (nothing-faithful table cited) resolved in
     let occurs : Occurs top (d .held) (w .resolved .nodes) (w .pool) = afterDefinitions definitions constants table n d w defined ended in
     subst

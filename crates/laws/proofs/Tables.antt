@@ -1,231 +1,24 @@
--- General facts on lists: what stands at a place, sums over a list, and tables with numbers for keys. Assumes nothing.
-use mathlib.Core.Bool.{Bool, true, false}
-use mathlib.Core.List.{List, [], _∷_, _++_, map}
+-- Tables with numbers for keys: what is found at a key, what an insertion adds, and keys that rise. Assumes nothing.
+use mathlib.Core.Bool.{Bool, true}
+use mathlib.Core.List.{List, [], _∷_, map, reverseAux}
 use mathlib.Core.Logic.{_⊎_, inl, inr}
-use mathlib.Core.Option.{Option, none, some}
+use mathlib.Core.Option.{none, some}
 use mathlib.Core.Path.{_≡_, refl, sym, _∙_, ap}
-use Prim.Native.Nat.{ℕ, zero, suc, _+_, _-_, _≤_, _<_}
-use native.Mathlib.Nat.{zero-add, suc-add, add-suc, add-zero}
+use Prim.Native.Nat.{ℕ, zero, suc, _≤_, _<_}
 use native.Mathlib.Omega.{arith}
-use lib.Dec.{eqb, ltb}
-use lib.ListN.{length, drop, getElem?, set}
-use borrow.Author.Tests.{eqb-true, eqb-false, eq-eqb, ne-eqb, ltb-true, ltb-false, lt-ltb, le-ltb}
-use Rattle.definition.specs.Basics.{Result, good, bad, _>>=_, position, lookup, insert, from}
-use Rattle.laws.specs.Statements.{Among, times}
+use borrow.Author.Tests.{eq-eqb, ne-eqb, lt-ltb, le-ltb}
+use Rattle.definition.specs.Basics.{every, lookup, insert}
+use Rattle.laws.specs.Statements.{Among}
+use Rattle.laws.proofs.Lists.{none≢some, some-inj, order, equal, among-nil, among-cons, among-later, every-at}
 
--- no refusal is a result, nothing is not something, and true is not false
-pub bad≢good : {E A X : Type 0} {e : E} {a : A} → _≡_ {A = Result E A} (bad e) (good a) → X
-bad≢good h = let z : _≡_ {A = ℕ} 0 1 = cc in absurd (omega arith)
+-- equal rows have equal keys
+pub some-key : {A : Type 0} (x y : ℕ × A) → some x ≡ some y → x .0 ≡ y .0
+some-key {A} x y e = ap (λ (r : ℕ × A). r .0) (some-inj e)
 
-pub none≢some : {A X : Type 0} {a : A} → _≡_ {A = Option A} none (some a) → X
-none≢some h = let z : _≡_ {A = ℕ} 0 1 = cc in absurd (omega arith)
+pub some-row : {A : Type 0} (x y : ℕ × A) → some x ≡ some y → x .1 ≡ y .1
+some-row {A} x y e = ap (λ (r : ℕ × A). r .1) (some-inj e)
 
-pub true≢false : {X : Type 0} → true ≡ false → X
-true≢false h = let z : _≡_ {A = ℕ} 0 1 = cc in absurd (omega arith)
-
-pub good-same : {E A : Type 0} {a b : A} → _≡_ {A = Result E A} (good a) (good b) → a ≡ b
-good-same h = cc
-
-pub some-same : {A : Type 0} {a b : A} → _≡_ {A = Option A} (some a) (some b) → a ≡ b
-some-same h = cc
-
--- two steps have a result only if both have
-pub bind-good : {E A B : Type 0} (o : Result E A) (f : A → Result E B) (b : B) → (o >>= f) ≡ good b → (a : A) × (o ≡ good a) × (f a ≡ good b)
-bind-good (good a) f b h = (a, refl, h)
-bind-good (bad e) f b h = bad≢good h
-
--- below, or not; the same number, or not
-pub order : (m n : ℕ) → (m < n) ⊎ (n ≤ m)
-order m n = ways (ltb m n) refl
-  where
-    ways : (b : Bool) → ltb m n ≡ b → (m < n) ⊎ (n ≤ m)
-    ways true t = inl (ltb-true m n t)
-    ways false t = inr (ltb-false m n t)
-
-pub equal : (m n : ℕ) → (m ≡ n) ⊎ (m ≡ n → ⊥)
-equal m n = ways (eqb m n) refl
-  where
-    ways : (b : Bool) → eqb m n ≡ b → (m ≡ n) ⊎ (m ≡ n → ⊥)
-    ways true t = inl (eqb-true m n t)
-    ways false t = inr (eqb-false m n t)
-
--- PLACES
-
--- something stands at a place only below the length
-pub place-lt : {A : Type 0} (xs : List A) (i : ℕ) {x : A} → getElem? xs i ≡ some x → i < length xs
-place-lt [] i h = none≢some h
-place-lt (y ∷ xs) zero h = omega arith
-place-lt (y ∷ xs) (suc i) h = let r = place-lt xs i h in omega arith
-
--- nothing stands at a place only from the length on
-pub place-none : {A : Type 0} (xs : List A) (i : ℕ) → getElem? xs i ≡ none → length xs ≤ i
-place-none [] i h = omega arith
-place-none (y ∷ xs) zero h = none≢some (sym h)
-place-none (y ∷ xs) (suc i) h = let r = place-none xs i h in omega arith
-
-pub place-drop : {A : Type 0} (xs : List A) (n i : ℕ) → getElem? (drop n xs) i ≡ getElem? xs (n + i)
-place-drop xs zero i = rw (zero-add i)
-place-drop [] (suc n) i = refl
-place-drop (x ∷ xs) (suc n) i = rw (suc-add n i) (place-drop xs n i)
-
--- once the value at a place is changed, it stands there
-pub place-set-same : {A : Type 0} (xs : List A) (i : ℕ) (y : A) → i < length xs → getElem? (set xs i y) i ≡ some y
-place-set-same [] i y h = absurd (omega arith)
-place-set-same (x ∷ xs) zero y h = refl
-place-set-same (x ∷ xs) (suc i) y h = place-set-same xs i y (omega arith)
-
--- and elsewhere stands what stood there
-pub place-set-other : {A : Type 0} (xs : List A) (i j : ℕ) (y : A) → (j ≡ i → ⊥) → getElem? (set xs i y) j ≡ getElem? xs j
-place-set-other [] i j y h = refl
-place-set-other (x ∷ xs) zero zero y h = absurd (h refl)
-place-set-other (x ∷ xs) zero (suc j) y h = refl
-place-set-other (x ∷ xs) (suc i) zero y h = refl
-place-set-other (x ∷ xs) (suc i) (suc j) y h = place-set-other xs i j y (λ e. h (ap suc e))
-
--- a list in front of another keeps its places
-pub place-append : {A : Type 0} (xs ys : List A) (i : ℕ) → i < length xs → getElem? (xs ++ ys) i ≡ getElem? xs i
-place-append [] ys i h = absurd (omega arith)
-place-append (x ∷ xs) ys zero h = refl
-place-append (x ∷ xs) ys (suc i) h = place-append xs ys i (omega arith)
-
--- the second list's places come behind
-pub place-behind : {A : Type 0} (xs ys : List A) (i : ℕ) → getElem? (xs ++ ys) (length xs + i) ≡ getElem? ys i
-place-behind [] ys i = rw (zero-add i)
-place-behind (x ∷ xs) ys i = rw (suc-add (length xs) i) (place-behind xs ys i)
-
--- what stands in two lists joined stands in one of them, and the other way
-pub among-left : {A : Type 0} {a : A} (xs ys : List A) → Among a xs → Among a (xs ++ ys)
-among-left xs ys (i, e) = (i, place-append xs ys i (place-lt xs i e) ∙ e)
-
-pub among-right : {A : Type 0} {a : A} (xs ys : List A) → Among a ys → Among a (xs ++ ys)
-among-right xs ys (i, e) = (length xs + i, place-behind xs ys i ∙ e)
-
-pub among-either : {A : Type 0} {a : A} (xs ys : List A) → Among a (xs ++ ys) → Among a xs ⊎ Among a ys
-among-either {A} {a} xs ys (i, e) = ways (order i (length xs))
-  where
-    ways : (i < length xs) ⊎ (length xs ≤ i) → Among a xs ⊎ Among a ys
-    ways (inl h) = inl (i, sym (place-append xs ys i h) ∙ e)
-    ways (inr h) =
-        let q : length xs + (i - length xs) ≡ i = omega arith in
-        inr (i - length xs, sym (place-behind xs ys (i - length xs)) ∙ ap (getElem? (xs ++ ys)) q ∙ e)
-
--- the place of the first value that passes
-pub position-hit : {A : Type 0} (p : A → Bool) (y : A) (xs : List A) → p y ≡ true → position p (y ∷ xs) ≡ 0
-unfolding position
-position-hit p y xs e = rw (e, position)
-
-pub position-miss : {A : Type 0} (p : A → Bool) (y : A) (xs : List A) → p y ≡ false → position p (y ∷ xs) ≡ suc (position p xs)
-unfolding position
-position-miss p y xs e = rw (e, position)
-
--- none before it passes
-pub position-before :
-    {A : Type 0} (p : A → Bool) (xs : List A) (i : ℕ) (x : A) →
-    getElem? xs i ≡ some x →
-    i < position p xs →
-    p x ≡ false
-position-before p [] i x e h = none≢some e
-position-before p (y ∷ xs) i x e h = ways (p y) refl i e h (position-before p xs)
-  where
-    ways :
-        (b : Bool) →
-        p y ≡ b →
-        (i : ℕ) →
-        getElem? (y ∷ xs) i ≡ some x →
-        i < position p (y ∷ xs) →
-        ((i : ℕ) (x : _) → getElem? xs i ≡ some x → i < position p xs → p x ≡ false) →
-        p x ≡ false
-    ways true t i e h rest = absurd (omega (arith, position-hit p y xs t))
-    ways false t zero e h rest = ap p (sym (some-same e)) ∙ t
-    ways false t (suc i) e h rest = rest i x e (omega (arith, position-miss p y xs t))
-
--- and it does
-pub position-at : {A : Type 0} (p : A → Bool) (xs : List A) (x : A) → getElem? xs (position p xs) ≡ some x → p x ≡ true
-position-at p [] x e = none≢some e
-position-at p (y ∷ xs) x e = ways (p y) refl (position-at p xs x)
-  where
-    ways : (b : Bool) → p y ≡ b → (getElem? xs (position p xs) ≡ some x → p x ≡ true) → p x ≡ true
-    ways true t rest = ap p (sym (some-same (rw (position-hit p y xs t) at e))) ∙ t
-    ways false t rest = rest (rw (position-miss p y xs t) at e)
-
--- SUMS OVER A LIST
-
--- a weight's sum
-unfoldable pub total : (ℕ → ℕ) → List ℕ → ℕ
-total f [] = 0
-total f (x ∷ xs) = f x + total f xs
-
-pub total-append : (f : ℕ → ℕ) (xs ys : List ℕ) → total f (xs ++ ys) ≡ total f xs + total f ys
-unfolding total
-total-append f [] ys = omega arith
-total-append f (x ∷ xs) ys = let r = total-append f xs ys in omega arith
-
--- the numbers from a on, n of them
-abbrev pub run : ℕ → ℕ → List ℕ
-run a n = from (λ s. s) a n
-
--- a run in two parts
-pub run-split : (a n m : ℕ) → run a (n + m) ≡ run a n ++ run (a + n) m
-unfolding from
-run-split a zero m = rw (zero-add m, add-zero a)
-run-split a (suc n) m =
-    rw (suc-add n m, add-suc a n, ← suc-add a n)
-    (ap {B = List ℕ} (λ l. a ∷ l) (run-split (suc a) n m))
-
--- what stands at a place of a run
-pub run-at : (a n i : ℕ) → i < n → getElem? (run a n) i ≡ some (a + i)
-unfolding from
-run-at a zero i h = absurd (omega arith)
-run-at a (suc n) zero h = ap {B = Option ℕ} some (sym (add-zero a))
-run-at a (suc n) (suc i) h = run-at (suc a) n i (omega arith) ∙ ap {B = Option ℕ} some (omega arith)
-
-pub run-only : (a n i s : ℕ) → getElem? (run a n) i ≡ some s → s ≡ a + i
-unfolding from
-run-only a zero i s e = none≢some e
-run-only a (suc n) zero s e = let q = some-same e in omega arith
-run-only a (suc n) (suc i) s e = let q = run-only (suc a) n i s e in omega arith
-
-pub from-length : {A : Type 0} (f : ℕ → A) (a n : ℕ) → length (from f a n) ≡ n
-unfolding from
-from-length f a zero = refl
-from-length f a (suc n) = ap suc (from-length f (suc a) n)
-
-pub run-length : (a n : ℕ) → length (run a n) ≡ n
-run-length a n = from-length (λ s. s) a n
-
--- a number stands in a run just if it lies there
-pub run-has : (a n s : ℕ) → a ≤ s → s < a + n → Among s (run a n)
-run-has a n s h k = (s - a, run-at a n (s - a) (omega arith) ∙ ap {B = Option ℕ} some (omega arith))
-
-pub run-low : (a n s : ℕ) → Among s (run a n) → a ≤ s
-run-low a n s (i, e) = let q = run-only a n i s e in omega arith
-
-pub run-high : (a n s : ℕ) → Among s (run a n) → s < a + n
-run-high a n s (i, e) =
-    let q = run-only a n i s e in
-    let h = place-lt (run a n) i e in
-    omega (arith, run-length a n)
-
--- lengths and counts are sums
-pub total-one : (xs : List ℕ) → total (λ x. 1) xs ≡ length xs
-unfolding total
-total-one [] = refl
-total-one (x ∷ xs) = let r = total-one xs in omega arith
-
--- 1 at a number and 0 elsewhere
-unfoldable pub oneAt : ℕ → ℕ → ℕ
-oneAt s x = elim (eqb s x) [ true ↦ 1 | false ↦ 0 ]
-
-pub total-times : (s : ℕ) (xs : List ℕ) → total (oneAt s) xs ≡ times s xs
-unfolding total times oneAt
-total-times s [] = refl
-total-times s (x ∷ xs) = ways (eqb s x) refl (total-times s xs)
-  where
-    ways : (b : Bool) → eqb s x ≡ b → total (oneAt s) xs ≡ times s xs → oneAt s x + total (oneAt s) xs ≡ times s (x ∷ xs)
-    ways true t r = rw (t, oneAt, times) (omega arith)
-    ways false t r = rw (t, oneAt, times) (omega arith)
-
--- TABLES
+-- ---- what is found
 
 -- a table with a row in front has that row's value at its key
 pub lookup-hit : {A : Type 0} (k : ℕ) (r : ℕ × A) (rows : List (ℕ × A)) → k ≡ r .0 → lookup k (r ∷ rows) ≡ some (r .1)
@@ -237,6 +30,33 @@ pub lookup-miss : {A : Type 0} (k : ℕ) (r : ℕ × A) (rows : List (ℕ × A))
 unfolding lookup
 lookup-miss k r rows h = rw (ne-eqb k (r .0) h, lookup)
 
+module _ {A : Type 0} where
+  -- what is found at a key stands in the table, beside that key
+  pub lookup-at : (k : ℕ) (a : A) (t : List (ℕ × A)) → lookup k t ≡ some a → Among (k, a) t
+  unfolding lookup
+  lookup-at k a [] e = none≢some e
+  lookup-at k a (r ∷ t) e = go (equal k (r .0)) (lookup-at k a t)
+    where
+      go : (k ≡ r .0) ⊎ (k ≡ r .0 → ⊥) → (lookup k t ≡ some a → Among (k, a) t) → Among (k, a) (r ∷ t)
+      go (inl s) rest = let q : r .1 ≡ a = some-inj (sym (lookup-hit k r t s) ∙ e) in (0, λ i. some (sym s i, q i))
+      go (inr s) rest = among-later (k, a) r t (rest (sym (lookup-miss k r t s) ∙ e))
+
+  -- a key that stands in a table is found
+  pub among-lookup : (k : ℕ) (a : A) (t : List (ℕ × A)) → Among (k, a) t → (b : A) × (lookup k t ≡ some b)
+  among-lookup k a [] h = among-nil (k, a) h
+  among-lookup k a (r ∷ t) h = go (equal k (r .0)) (among-cons (k, a) r t h) (among-lookup k a t)
+    where
+      go : (k ≡ r .0) ⊎ (k ≡ r .0 → ⊥) → ((k, a) ≡ r) ⊎ Among (k, a) t → (Among (k, a) t → (b : A) × (lookup k t ≡ some b)) → (b : A) × (lookup k (r ∷ t) ≡ some b)
+      go (inl same) c rest = (r .1, lookup-hit k r t same)
+      go (inr other) (inl e) rest = absurd (other (ap (λ (y : ℕ × A). y .0) e))
+      go (inr other) (inr h) rest = let b = rest h in (b .0, lookup-miss k r t other ∙ b .1)
+
+  -- what every row of a table passes, what is found at a key passes beside that key
+  pub lookup-every : (p : ℕ × A → Bool) (t : List (ℕ × A)) → every p t ≡ true → (k : ℕ) (a : A) → lookup k t ≡ some a → p (k, a) ≡ true
+  lookup-every p t all k a e = let h = lookup-at k a t e in every-at p t all (h .0) (k, a) (h .1)
+
+-- ---- what an insertion adds
+
 -- a key goes before the first that is higher
 pub insert-front : {A : Type 0} (k : ℕ) (a : A) (r : ℕ × A) (rows : List (ℕ × A)) → k < r .0 → insert k a (r ∷ rows) ≡ (k, a) ∷ r ∷ rows
 unfolding insert
@@ -246,21 +66,55 @@ pub insert-behind : {A : Type 0} (k : ℕ) (a : A) (r : ℕ × A) (rows : List (
 unfolding insert
 insert-behind k a r rows h = rw (le-ltb k (r .0) h, insert)
 
--- numbers that rise from one on and end at another
-abbrev pub Rising : ℕ → ℕ → List ℕ → Type 0
-Rising low top [] = Unit {0}
-Rising low top (n ∷ ns) = (low ≤ n) × (n ≤ top) × Rising (suc n) top ns
+module _ {A : Type 0} where
+  -- what is inserted stands there
+  pub insert-new : (k : ℕ) (a : A) (t : List (ℕ × A)) → Among (k, a) (insert k a t)
+  unfolding insert
+  insert-new k a [] = (0, refl)
+  insert-new k a (r ∷ t) = go (order k (r .0)) (insert-new k a t)
+    where
+      go : (k < r .0) ⊎ (r .0 ≤ k) → Among (k, a) (insert k a t) → Among (k, a) (insert k a (r ∷ t))
+      go (inl e) h = rw (insert-front k a r t e) (0, refl)
+      go (inr e) h = rw (insert-behind k a r t e) (among-later (k, a) r (insert k a t) h)
 
--- a table's keys
-abbrev pub keys : {A : Type 0} → List (ℕ × A) → List ℕ
-keys rows = map (λ r. r .0) rows
+  -- so does what stood there before
+  pub insert-old : (k : ℕ) (a : A) (t : List (ℕ × A)) (x : ℕ × A) → Among x t → Among x (insert k a t)
+  insert-old k a [] x h = among-nil x h
+  insert-old k a (r ∷ t) x h = go (order k (r .0)) (among-cons x r t h) (insert-old k a t x)
+    where
+      go :
+          (k < r .0) ⊎ (r .0 ≤ k) →
+          (x ≡ r) ⊎ Among x t →
+          (Among x t → Among x (insert k a t)) →
+          Among x (insert k a (r ∷ t))
+      go (inl e) c rest = rw (insert-front k a r t e) (among-later x (k, a) (r ∷ t) h)
+      go (inr e) (inl p) rest = rw (insert-behind k a r t e) (0, ap some (sym p))
+      go (inr e) (inr q) rest = rw (insert-behind k a r t e) (among-later x r (insert k a t) (rest q))
 
--- where keys rise from a number on, no lower one is a key
-pub rising-none : {A : Type 0} (low top k : ℕ) (rows : List (ℕ × A)) → Rising low top (keys rows) → k < low → lookup k rows ≡ none
-unfolding lookup
-rising-none low top k [] r h = refl
-rising-none low top k (x ∷ rows) r h =
-    lookup-miss k x rows (λ q. omega arith) ∙ rising-none (suc (x .0)) top k rows (r .2) (omega arith)
+  -- and nothing else
+  insert-row : (k : ℕ) (a : A) (t : List (ℕ × A)) (x : ℕ × A) → Among x (insert k a t) → (x ≡ (k, a)) ⊎ Among x t
+  unfolding insert
+  insert-row k a [] x h = among-cons x (k, a) [] h
+  insert-row k a (r ∷ t) x h = go (order k (r .0)) (insert-row k a t x)
+    where
+      later : (x ≡ (k, a)) ⊎ Among x t → (x ≡ (k, a)) ⊎ Among x (r ∷ t)
+      later (inl p) = inl p
+      later (inr q) = inr (among-later x r t q)
+
+      behind : (x ≡ r) ⊎ Among x (insert k a t) → (Among x (insert k a t) → (x ≡ (k, a)) ⊎ Among x t) → (x ≡ (k, a)) ⊎ Among x (r ∷ t)
+      behind (inl p) rest = inr (0, ap some (sym p))
+      behind (inr q) rest = later (rest q)
+
+      go : (k < r .0) ⊎ (r .0 ≤ k) → (Among x (insert k a t) → (x ≡ (k, a)) ⊎ Among x t) → (x ≡ (k, a)) ⊎ Among x (r ∷ t)
+      go (inl e) rest = among-cons x (k, a) (r ∷ t) (rw (insert-front k a r t e) at h)
+      go (inr e) rest = behind (among-cons x r (insert k a t) (rw (insert-behind k a r t e) at h)) rest
+
+  pub insert-among : (k : ℕ) (a : A) (t : List (ℕ × A)) (j : ℕ) (b : A) → Among (j, b) (insert k a t) → ((k ≡ j) × (a ≡ b)) ⊎ Among (j, b) t
+  insert-among k a t j b h = ways (j, b) (insert-row k a t (j, b) h)
+    where
+      ways : (x : ℕ × A) → (x ≡ (k, a)) ⊎ Among x t → ((k ≡ x .0) × (a ≡ x .1)) ⊎ Among x t
+      ways x (inl p) = inl (ap (λ (y : ℕ × A). y .0) (sym p), ap (λ (y : ℕ × A). y .1) (sym p))
+      ways x (inr q) = inr q
 
 -- a key put into a table changes nothing at another
 pub lookup-insert-other :
@@ -278,6 +132,33 @@ lookup-insert-other {A} k n a (r ∷ rows) h = ways (order n (r .0)) (equal k (r
     ways (inr o) (inl q) rest = ap (lookup {A = A} k) (insert-behind n a r rows o) ∙ lookup-hit k r (insert n a rows) q ∙ sym (lookup-hit k r rows q)
     ways (inr o) (inr q) rest =
         ap (lookup {A = A} k) (insert-behind n a r rows o) ∙ lookup-miss k r (insert n a rows) q ∙ rest ∙ sym (lookup-miss k r rows q)
+
+-- ---- keys that rise
+
+-- numbers that rise from one on and end at another
+abbrev pub Rising : ℕ → ℕ → List ℕ → Type 0
+Rising low top [] = Unit {0}
+Rising low top (n ∷ ns) = (low ≤ n) × (n ≤ top) × Rising (suc n) top ns
+
+-- a table's keys
+abbrev pub keys : {A : Type 0} → List (ℕ × A) → List ℕ
+keys rows = map (λ r. r .0) rows
+
+-- maps that keep the keys
+pub keys-map : {A B : Type 0} (f : ℕ × A → ℕ × B) (rows : List (ℕ × A)) → ((r : ℕ × A) → f r .0 ≡ r .0) → keys (map f rows) ≡ keys rows
+keys-map f [] h = refl
+keys-map f (r ∷ rows) h = λ i. h r i ∷ keys-map f rows h i
+
+pub keys-reverse : {A : Type 0} (xs ys : List (ℕ × A)) → keys (reverseAux xs ys) ≡ reverseAux (keys xs) (keys ys)
+keys-reverse [] ys = refl
+keys-reverse (x ∷ xs) ys = keys-reverse xs (x ∷ ys)
+
+-- where keys rise from a number on, no lower one is a key
+pub rising-none : {A : Type 0} (low top k : ℕ) (rows : List (ℕ × A)) → Rising low top (keys rows) → k < low → lookup k rows ≡ none
+unfolding lookup
+rising-none low top k [] r h = refl
+rising-none low top k (x ∷ rows) r h =
+    lookup-miss k x rows (λ q. omega arith) ∙ rising-none (suc (x .0)) top k rows (r .2) (omega arith)
 
 -- a new key keeps the keys rising
 pub rising-insert :
@@ -302,17 +183,16 @@ rising-insert {A} low top k a (r ∷ rows) h t new rising = ways (order k (r .0)
         rw (insert-behind k a r rows o)
         (rising .0, rising .1, rest (omega arith) t (sym (lookup-miss k r rows q) ∙ new) (rising .2))
 
--- a run has each of its numbers once
-pub times-low : (s a n : ℕ) → s < a → times s (run a n) ≡ 0
-unfolding from times
-times-low s a zero h = refl
-times-low s a (suc n) h = rw (ne-eqb s a (λ e. omega arith), times) (times-low s (suc a) n (omega arith))
+module _ {A : Type 0} where
+  -- what stands in such a table is what is found at its key
+  pub rising-from : (low top : ℕ) (rows : List (ℕ × A)) (k : ℕ) (a : A) → Rising low top (keys rows) → Among (k, a) rows → low ≤ k
+  rising-from low top [] k a r h = among-nil (k, a) h
+  rising-from low top (x ∷ rows) k a r (zero, e) = let q = some-key x (k, a) e in omega (arith, r .0)
+  rising-from low top (x ∷ rows) k a r (suc i, e) = let h = rising-from (suc (x .0)) top rows k a (r .2) (i, e) in omega (arith, r .0)
 
-pub times-run : (s a n : ℕ) → a ≤ s → s < a + n → times s (run a n) ≡ 1
-unfolding from times
-times-run s a zero h k = absurd (omega arith)
-times-run s a (suc n) h k = ways (equal s a) (times-run s (suc a) n)
-  where
-    ways : (s ≡ a) ⊎ (s ≡ a → ⊥) → (suc a ≤ s → s < suc a + n → times s (run (suc a) n) ≡ 1) → times s (run a (suc n)) ≡ 1
-    ways (inl e) rest = rw (eq-eqb s a e, times) (ap suc (times-low s (suc a) n (omega arith)))
-    ways (inr e) rest = rw (ne-eqb s a e, times) (rest (omega arith) (omega arith))
+  pub rising-lookup : (low top : ℕ) (rows : List (ℕ × A)) (k : ℕ) (a : A) → Rising low top (keys rows) → Among (k, a) rows → lookup k rows ≡ some a
+  rising-lookup low top [] k a r h = among-nil (k, a) h
+  rising-lookup low top (x ∷ rows) k a r (zero, e) = lookup-hit k x rows (sym (some-key x (k, a) e)) ∙ ap some (some-row x (k, a) e)
+  rising-lookup low top (x ∷ rows) k a r (suc i, e) =
+      let b = rising-from (suc (x .0)) top rows k a (r .2) (i, e) in
+      lookup-miss k x rows (λ q. omega arith) ∙ rising-lookup (suc (x .0)) top rows k a (r .2) (i, e)

@@ -1,9 +1,9 @@
 -- A built job as a whole: what each stage left, from the bytes to the layout. Assumes nothing.
-use mathlib.Core.List.{List, [], _∷_, _++_, map, reverse, reverseAux}
+use mathlib.Core.List.{List, _++_, map}
 use mathlib.Core.Logic.{_⊎_, inl, inr}
 use mathlib.Core.Option.{some}
-use mathlib.Core.Path.{_≡_, refl, sym, ap, subst, _∙_}
-use Prim.Native.Nat.{ℕ, zero, suc, _+_, _<_}
+use mathlib.Core.Path.{_≡_, sym, ap, subst, _∙_}
+use Prim.Native.Nat.{ℕ, suc, _+_, _<_}
 use native.Mathlib.Omega.{arith}
 use lib.ListN.{length, getElem?}
 use Rattle.definition.specs.Basics.{good}
@@ -17,64 +17,20 @@ use Rattle.definition.specs.Slots.{highestSlot}
 use Rattle.definition.specs.Building.{Row, nameWanted}
 use Rattle.definition.specs.Layout.{starters, nodeAt, endDefinitions, answerAll, Layout, indexNodes, layout}
 use Rattle.laws.specs.Statements.{IsBytes, Among}
-use Rattle.laws.proofs.Each.{Each, each-at}
-use Rattle.laws.proofs.Lists.{clash}
-use Rattle.laws.proofs.Places.{found-inside, found-append}
-use Rattle.laws.proofs.Occupied.{map-at, toHold-among}
+use Rattle.laws.proofs.Lists.{found-inside, among-left, among-right, among-either, among-back, map-at, unmap}
+use Rattle.laws.proofs.Each.{Each, each-at, each-from}
+use Rattle.laws.proofs.Occupied.{toHold-among}
+use Rattle.laws.proofs.Defining.{Rises, rises}
 use Rattle.laws.proofs.DefinedFacts.{DefinedFacts, wideAt, defined-facts, starters-start}
 use Rattle.laws.proofs.Citing.{jobNames, jobConstants, jobTable, table-bootstrap}
 use Rattle.laws.proofs.Faithful.{Settled, InTable, settled-grows}
 use Rattle.laws.proofs.Asked.{Going, Answered, Further, Asks, answerAll-going, child-done, tag-found}
 use Rattle.laws.proofs.Started.{rawGoals, rawsOf, ready-going}
 use Rattle.laws.proofs.Stages.{Stages, stages, tableIn}
-use Rattle.laws.proofs.Nodes.{GoodTable, unmap, kids-in, bootstrap-kids}
+use Rattle.laws.proofs.Nodes.{GoodTable, kids-in, bootstrap-kids}
 use Rattle.laws.proofs.Numbers.{rowsOf, StackIn, Starts}
 use Rattle.laws.proofs.Ending.{Named, named, built-ended}
 use Rattle.laws.proofs.JobTable.{good-table, asks-good, placed-good, numbered-cited, definitions-low, requests-low}
-
--- what stands in the one order stands in the other
-among-reverse : {A : Type 0} (a : A) (l acc : List A) → Among a (reverseAux l acc) → Among a l ⊎ Among a acc
-among-reverse a [] acc h = inr h
-among-reverse a (x ∷ l) acc h = go (among-reverse a l (x ∷ acc) h)
-  where
-    first : Among a (x ∷ acc) → Among a (x ∷ l) ⊎ Among a acc
-    first (zero, e) = inl (zero, e)
-    first (suc i, e) = inr (i, e)
-
-    go : Among a l ⊎ Among a (x ∷ acc) → Among a (x ∷ l) ⊎ Among a acc
-    go (inl (i, e)) = inl (suc i, e)
-    go (inr h) = first h
-
-among-back : {A : Type 0} (a : A) (l : List A) → Among a (reverse l) → Among a l
-among-back a l h = go (among-reverse a l [] h)
-  where
-    go : Among a l ⊎ Among a [] → Among a l
-    go (inl h) = h
-    go (inr (i, e)) = clash (cc)
-
--- what stands in one of two lists
-among-split : {A : Type 0} (a : A) (l m : List A) → Among a (l ++ m) → Among a l ⊎ Among a m
-among-split a [] m h = inr h
-among-split a (x ∷ l) m (zero, e) = inl (zero, e)
-among-split a (x ∷ l) m (suc i, e) = go (among-split a l m (i, e))
-  where
-    go : Among a l ⊎ Among a m → Among a (x ∷ l) ⊎ Among a m
-    go (inl (j, e)) = inl (suc j, e)
-    go (inr h) = inr h
-
-among-left : {A : Type 0} (a : A) (l m : List A) → Among a l → Among a (l ++ m)
-among-left a l m (i, e) = (i, found-append l m i a e)
-
-pub among-right : {A : Type 0} (a : A) (l m : List A) → Among a m → Among a (l ++ m)
-among-right a [] m h = h
-among-right a (x ∷ l) m h =
-    let r = among-right a l m h in
-    (suc (r .0), r .1)
-
--- what is so at every place is so of every one
-pub each-from : {A : Type 0} (P : A → Type 0) (l : List A) → ((i : ℕ) (a : A) → getElem? l i ≡ some a → P a) → Each P l
-each-from P [] h = tt
-each-from P (x ∷ l) h = (h 0 x refl, each-from P l (λ i a e. h (suc i) a e))
 
 module _ (bytes : List ℕ) (job : Job (List ℕ)) (l : Layout) (are : IsBytes bytes) (formed : form bytes ≡ good job) (laid : layout highestSlot (numbered job) ≡ good l) where
   pub st : Stages highestSlot (numbered job) l
@@ -83,8 +39,11 @@ module _ (bytes : List ℕ) (job : Job (List ℕ)) (l : Layout) (are : IsBytes b
   abbrev pub table : List (Entry ℕ Goal)
   table = jobTable (numbered job)
 
-  pub facts : DefinedFacts highestSlot (wideAt (constantsOf (numbered job .definitions))) (numbered job .definitions) (st .defined)
+  pub facts : DefinedFacts (wideAt (constantsOf (numbered job .definitions))) (numbered job .definitions) (st .defined)
   facts = defined-facts highestSlot (constantsOf (numbered job .definitions)) (numbered job .definitions) (st .defined) (st .isDefined)
+
+  pub rising : Rises highestSlot (st .defined)
+  rising = rises highestSlot (constantsOf (numbered job .definitions)) (numbered job .definitions) (st .defined) (st .isDefined)
 
   pub good-job-table : GoodTable table
   good-job-table =
@@ -99,7 +58,7 @@ module _ (bytes : List ℕ) (job : Job (List ℕ)) (l : Layout) (are : IsBytes b
   unfolding placeOf
   raw-in g a =
       go
-      (among-split g
+      (among-either g
       (map (λ r. tableEntry (r .1)) (starters (st .defined .held)))
       (map (λ r. tableEntry (jobConstants (numbered job) + r .1)) (st .defined .indexes))
       a)

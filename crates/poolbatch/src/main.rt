@@ -1,7 +1,7 @@
 // Reads framed jobs (four-byte big-endian length, bytes) from standard input and prints a line a job: what the form pass says of it.
 // Comparisons with the Rust feed it.
-use cpool::job::Formed;
-use cpool::job::JobCounts;
+use cpool::Formed;
+use cpool::JobCounts;
 use libc::STDIN_FILENO;
 use libc::STDOUT_FILENO;
 ghost use mathlib.Core.Path.{_≡_};

@@ -10,7 +10,8 @@ use native.Mathlib.Omega.{arith}
 use lib.ListN.{set, getElem?}
 use Rattle.definition.specs.Slots.{highestSlot, Gap, size, gapsFrom, Slots, narrowSlot, wideSlot}
 use Rattle.laws.specs.Statements.{Among, freeSlots}
-use Rattle.laws.proofs.Tables.{some-same, order, equal, place-lt, place-set-same, place-set-other, Rising}
+use Rattle.laws.proofs.Lists.{some-inj, order, equal, found-inside, found-set, found-elsewhere}
+use Rattle.laws.proofs.Tables.{Rising}
 use Rattle.laws.proofs.Gaps.{Apart, less, cut-some, apart-start, apart-set, apart-at, apart-rise, Within, free-within, within-free}
 use Rattle.laws.proofs.Requests.{Taken, wide-taken, narrow-taken}
 use Rattle.cpool.specs.declared.builder.Positions.{Positions}
@@ -58,12 +59,12 @@ module _ (top count at : ℕ) (gaps : List Gap) (g : Gap) (there : getElem? gaps
     where
       ways : (j ≡ at) ⊎ (j ≡ at → ⊥) → (at < j) ⊎ (j ≤ at) → ⊥
       ways (inl q) o =
-          let same = some-same (sym (place-set-same gaps at (less count g) (place-lt gaps at there)) ∙ ap (getElem? (set gaps at (less count g))) (sym q) ∙ e) in
+          let same = some-inj (sym (found-set gaps at (less count g) (found-inside gaps at g there)) ∙ ap (getElem? (set gaps at (less count g))) (sym q) ∙ e) in
           omega (arith, ap (λ (y : Gap). y .first) same)
       ways (inr q) (inl o) =
-          omega (arith, apart-rise top 1 at j gaps g h a there (sym (place-set-other gaps at j (less count g) q) ∙ e) o)
+          omega (arith, apart-rise top 1 at j gaps g h a there (sym (found-elsewhere gaps at j (less count g) q) ∙ e) o)
       ways (inr q) (inr o) =
-          omega (arith, apart-rise top 1 j at gaps h g a (sym (place-set-other gaps at j (less count g) q) ∙ e) there (omega arith))
+          omega (arith, apart-rise top 1 j at gaps h g a (sym (found-elsewhere gaps at j (less count g) q) ∙ e) there (omega arith))
 
   taken : Given top (g .first) count gaps (set gaps at (less count g))
   unfolding size

@@ -7,7 +7,7 @@ use native.Mathlib.Omega.{arith}
 use lib.ListN.{length, getD, take, drop, set, getElem?, length-map}
 use lib.Seq.{length-take-le, getD-take, take-suc, take-set-lt, take-suc-set}
 use Rattle.definition.specs.Slots.{Gap}
-use Rattle.laws.proofs.Tables.{none≢some, some-same}
+use Rattle.laws.proofs.Lists.{none≢some, some-inj}
 use Rattle.cpool.specs.Gaps.{gapOf, rowOf, gapAt, gapsAt, ends}
 
 -- what stands at a place of a list, and of the list's images
@@ -21,7 +21,7 @@ place-map f (x ∷ xs) (suc i) d h = place-map f xs i d (omega arith)
 
 pub get-map : {A B : Type 0} (f : A → B) (xs : List A) (i : ℕ) (x : A) (d : B) → getElem? xs i ≡ some x → getD (map f xs) i d ≡ f x
 get-map f [] i x d e = none≢some e
-get-map f (y ∷ xs) zero x d e = ap f (some-same e)
+get-map f (y ∷ xs) zero x d e = ap f (some-inj e)
 get-map f (y ∷ xs) (suc i) x d e = get-map f xs i x d e
 
 pub map-set : {A B : Type 0} (f : A → B) (xs : List A) (i : ℕ) (x : A) → map f (set xs i x) ≡ set (map f xs) i (f x)
@@ -32,7 +32,7 @@ map-set f (y ∷ xs) (suc i) x = ap (λ l. f y ∷ l) (map-set f xs i x)
 -- what a list holds from a place on
 drop-place : {A : Type 0} (xs : List A) (i : ℕ) (x : A) → getElem? xs i ≡ some x → drop i xs ≡ x ∷ drop (suc i) xs
 drop-place [] i x e = none≢some e
-drop-place (y ∷ xs) zero x e = rw (some-same e)
+drop-place (y ∷ xs) zero x e = rw (some-inj e)
 drop-place (y ∷ xs) (suc i) x e = drop-place xs i x e
 
 module _ (rows : List (List ℕ)) (count : ℕ) where

@@ -10,7 +10,7 @@ use lib.ListN.{length, drop, drop-of-length-le}
 use borrow.Author.Tests.{eq-eqb, ne-eqb, le-leb, lt-leb}
 use Rattle.definition.specs.Basics.{position}
 use Rattle.definition.specs.Slots.{Gap, size, scan, tooHigh, isOdd, plainEnds}
-use Rattle.laws.proofs.Tables.{position-hit, position-miss}
+use Rattle.laws.proofs.Lists.{position-here, position-later}
 use Rattle.cpool.specs.Gaps.{gapAt, gapsAt}
 use Rattle.cpool.proofs.builder.Rows.{gaps-length, gaps-from}
 
@@ -49,13 +49,13 @@ module _ (p : Gap → Bool) (rows : List (List ℕ)) (count at i : ℕ) (fits : 
   pub passed : i < count → p (gapAt rows i) ≡ false → Rest p rows count at (i + 1)
   unfolding scan
   passed l t =
-      let e = ap (position p) (gaps-from rows count i fits l) ∙ position-miss p (gapAt rows i) (drop (suc i) (gapsAt rows count)) t in
+      let e = ap (position p) (gaps-from rows count i fits l) ∙ position-later p (gapAt rows i) (drop (suc i) (gapsAt rows count)) t in
       rw add-one (omega (arith, e))
 
   pub found : i < count → p (gapAt rows i) ≡ true → i ≡ scan p at (gapsAt rows count)
   unfolding scan
   found l t =
-      let e = ap (position p) (gaps-from rows count i fits l) ∙ position-hit p (gapAt rows i) (drop (suc i) (gapsAt rows count)) t in
+      let e = ap (position p) (gaps-from rows count i fits l) ∙ position-here p (gapAt rows i) (drop (suc i) (gapsAt rows count)) t in
       omega (arith, e)
 
   pub ended : count ≤ i → i ≡ scan p at (gapsAt rows count)

@@ -8,7 +8,7 @@ use native.Mathlib.Omega.{arith}
 use lib.ListN.{length, getD, take, drop, set, length-append, length-take, length-map}
 use lib.Seq.{drop-cons, drop-drop, drop-set-lt, getD-take, getD-drop}
 use Rattle.definition.specs.Slots.{Gap, gapBefore, gapsFrom}
-use Rattle.laws.proofs.Tables.{order}
+use Rattle.laws.proofs.Lists.{order}
 use Rattle.laws.proofs.Gaps.{gapBefore-some, gapBefore-none}
 use Rattle.cpool.specs.Gaps.{gapOf, rowOf, gapsAt, AtMost, Written}
 use Rattle.cpool.proofs.builder.Rows.{gaps-length, gaps-snoc}

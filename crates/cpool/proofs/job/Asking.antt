@@ -130,6 +130,7 @@ module _ (s : List ℕ) (at requests : ℕ) where
       named low false e =
           let end : length s ≤ at + 1 = omega arith in
           rw (one-at s at low, name-good (getD s at 0) (drop (at + 1) s) (ltb-false 2 (getD s at 0) e), one-cut s (at + 1) end)
+
       ways : (b : Bool) → ltb at (length s) ≡ b → readBuild (drop at s) ≡ none
       ways true e = named (ltb-true at (length s) e) (ltb 2 (getD s at 0)) refl
       ways false e = rw (one-cut s at (ltb-false at (length s) e))

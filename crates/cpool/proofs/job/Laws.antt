@@ -114,7 +114,6 @@ module _ {A : Type 0} (ok : A → Bool) (kids : A → ℕ) (s : List ℕ) (at : 
   pub none-two : (f : ℕ → Parser A) → length s - at < 2 → Skips (two >>= f) ok kids s at Cut
   none-two f h = rw (two-cut s at h)
 
-
 -- ---- what was read, made into something else
 
 pub mapped :

@@ -6,7 +6,8 @@ use mathlib.Core.Path.{_≡_, refl, sym, ap, _∙_}
 use Prim.Native.Nat.{ℕ, suc, _+_, _≤_, _<_}
 use native.Mathlib.Omega.{arith}
 use lib.ListN.{length, getD, drop}
-use Rattle.laws.proofs.Lists.{clash, some-then}
+use Rattle.laws.proofs.Lists.{clash}
+use Rattle.laws.proofs.Results.{some-then}
 use Rattle.definition.specs.Basics.{Result, good, bad, unless, only}
 use Rattle.definition.specs.Bytes.{Parser, return, andThen, one, two, many}
 use Rattle.definition.specs.Shapes.{Kind, constant, bootstrap, Field, text, bits, byte, to, toMany, bootstrapShape, Entry, withKids, withLiteral, withByte, readFields, readEntry}

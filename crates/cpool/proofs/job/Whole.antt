@@ -5,7 +5,8 @@ use Prim.Native.Nat.{ℕ, suc, _+_, _-_}
 use native.Mathlib.Nat.{add-zero, zero-add}
 use native.Mathlib.Omega.{arith}
 use lib.ListN.{length, drop}
-use Rattle.laws.proofs.Lists.{clash, good-inj}
+use Rattle.laws.proofs.Lists.{clash}
+use Rattle.laws.proofs.Results.{good-inj}
 use Rattle.definition.specs.Basics.{Result, good, bad, _>>=_, Refusal, only}
 use Rattle.definition.specs.Job.{Definition, Job}
 use Rattle.definition.specs.Form.{Counts, Definitions, formDefinitions, Requests, formRequests, form}

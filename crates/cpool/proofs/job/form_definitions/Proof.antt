@@ -38,9 +38,10 @@ add-t10 c = search needs
 -- src/job.rt:472:13
 returns : tie.Need-returns Inv-loop μ-loop
 returns c = let s = c .before .before .before .before .before .args .job .now in
-    let l = c .before .before .before .loop in
-    (sym (l .inv .2) ∙ definitions-end s (l .at) (l .counts) (c .before .before .loop-test .taken) (omega (arith, l .inv .1)) (sym (c .before .get-u8 .ensures) ∙ c .if1 .taken),
-    (omega arith, omega (arith, l .inv .1)))
+    let l = c .before .before .before .loop in (
+      sym (l .inv .2) ∙ definitions-end s (l .at) (l .counts) (c .before .before .loop-test .taken) (omega (arith, l .inv .1)) (sym (c .before .get-u8 .ensures) ∙ c .if1 .taken),
+      (omega arith, omega (arith, l .inv .1)),
+    )
 
 -- src/job.rt:477:15
 form-definition-requires : tie.Need-form-definition-requires Inv-loop μ-loop
@@ -59,11 +60,13 @@ loop-again : tie.Need-loop-again Inv-loop μ-loop
 loop-again c = let s = c .before .before .before .before .before .before .before .before .before .args .job .now in
     let l = c .before .before .before .before .before .before .before .loop in
     let g = c .before .next .given in
-    let m = rw (g .1) at (c .before .before .before .form-definition .ensures) in
-    (m .within, m .bounded,
-    sym (definitions-next s (l .at) (l .counts) (c .before .before .before .before .before .before .loop-test .taken) (omega (arith, l .inv .1)) (g .0 .0) (g .0 .1 .0)
-    (λ e. c .before .before .before .before .if1 .left (c .before .before .before .before .before .get-u8 .ensures ∙ e))
-    m) ∙ l .inv .2)
+    let m = rw (g .1) at (c .before .before .before .form-definition .ensures) in (
+      m .within,
+      m .bounded,
+      sym (definitions-next s (l .at) (l .counts) (c .before .before .before .before .before .before .loop-test .taken) (omega (arith, l .inv .1)) (g .0 .0) (g .0 .1 .0)
+          (λ e. c .before .before .before .before .if1 .left (c .before .before .before .before .before .get-u8 .ensures ∙ e))
+          m) ∙ l .inv .2,
+    )
 
 -- src/job.rt:482:27
 enum-known-code : tie.Need-enum-known-code Inv-loop μ-loop
@@ -73,10 +76,12 @@ enum-known-code c = search needs
 returns-2 : tie.Need-returns-2 Inv-loop μ-loop
 returns-2 c = let s = c .before .before .before .before .before .before .before .before .before .args .job .now in
     let l = c .before .before .before .before .before .before .before .loop in
-    let g = c .before .code .given in
-    (sym (l .inv .2) ∙ definitions-bad s (l .at) (l .counts) (c .before .before .before .before .before .before .loop-test .taken) (omega (arith, l .inv .1)) (g .0 .0)
-    (λ e. c .before .before .before .before .if1 .left (c .before .before .before .before .before .get-u8 .ensures ∙ e))
-    (rw (g .1) at (c .before .before .before .form-definition .ensures)), tt)
+    let g = c .before .code .given in (
+      sym (l .inv .2) ∙ definitions-bad s (l .at) (l .counts) (c .before .before .before .before .before .before .loop-test .taken) (omega (arith, l .inv .1)) (g .0 .0)
+          (λ e. c .before .before .before .before .if1 .left (c .before .before .before .before .before .get-u8 .ensures ∙ e))
+          (rw (g .1) at (c .before .before .before .form-definition .ensures)),
+      tt,
+    )
 
 -- src/job.rt:455:1
 returns-3 : tie.Need-returns-3 Inv-loop μ-loop

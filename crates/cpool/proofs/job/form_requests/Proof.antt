@@ -61,10 +61,12 @@ loop-again : tie.Need-loop-again Inv-loop μ-loop
 loop-again c = let s = c .before .before .before .before .before .before .before .before .before .args .job .now in
     let l = c .before .before .before .before .before .before .before .loop in
     let g = c .before .next .given in
-    let m = rw (g .1) at (c .before .before .before .form-request .ensures) in
-    (m .within, m .bounded,
-    sym (requests-next s (l .at) (l .counts) (c .before .before .before .before .before .before .loop-test .taken) (omega (arith, l .inv .1)) (g .0 .0) (g .0 .1 .0) (λ e. c .before .before .before .before .if1 .left (c .before .before .before .before .before .get-u8 .ensures ∙ e)) m)
-    ∙ l .inv .2)
+    let m = rw (g .1) at (c .before .before .before .form-request .ensures) in (
+      m .within,
+      m .bounded,
+      sym (requests-next s (l .at) (l .counts) (c .before .before .before .before .before .before .loop-test .taken) (omega (arith, l .inv .1)) (g .0 .0) (g .0 .1 .0) (λ e. c .before .before .before .before .if1 .left (c .before .before .before .before .before .get-u8 .ensures ∙ e)) m)
+          ∙ l .inv .2,
+    )
 
 -- src/job.rt:601:27
 enum-known-code : tie.Need-enum-known-code Inv-loop μ-loop

@@ -58,11 +58,14 @@ unfolding countOf
 loop-again c = let a = c .before .before .before .before .before .before .before .args in
     let l = c .before .before .before .before .before .loop in
     let g = c .before .behind .given in
-    let b = reference-bounds (a .entries) (a .job .now) (l .next) (g .0 .0) (g .0 .1 .0) (g .0 .1 .1 .0) (rw (g .1) at (c .before .before .before .skip-reference .ensures)) in
-    (omega arith, omega arith, b .1,
-    λ n e.
-    one-passed n (a .job .now) (a .at) (a .n) (l .i) (l .next) (l .cited) (l .inv .3 n e) (g .0 .0) (g .0 .1 .0) (g .0 .1 .1 .0) (c .before .before .before .before .loop-test .taken)
-    (rw (g .1) at (c .before .before .before .skip-reference .ensures constant n e)))
+    let b = reference-bounds (a .entries) (a .job .now) (l .next) (g .0 .0) (g .0 .1 .0) (g .0 .1 .1 .0) (rw (g .1) at (c .before .before .before .skip-reference .ensures)) in (
+      omega arith,
+      omega arith,
+      b .1,
+      λ n e.
+          one-passed n (a .job .now) (a .at) (a .n) (l .i) (l .next) (l .cited) (l .inv .3 n e) (g .0 .0) (g .0 .1 .0) (g .0 .1 .1 .0) (c .before .before .before .before .loop-test .taken)
+          (rw (g .1) at (c .before .before .before .skip-reference .ensures constant n e)),
+    )
 
 -- src/job.rt:242:1
 returns-2 : tie.Need-returns-2 Inv-loop μ-loop
