@@ -7,9 +7,7 @@ use libc::STDOUT_FILENO;
 ghost use mathlib.Core.Path.{_≡_};
 ghost use Prim.Native.Nat.{_≤_};
 
-// The longest job that is read, and the longest line.
-const LONGEST: usize = 1048576;
-
+// The longest line.
 const LINE: usize = 256;
 
 fn put(line: &mut [u8; 256], at: usize, b: u8) -> usize
@@ -24,16 +22,22 @@ fn put(line: &mut [u8; 256], at: usize, b: u8) -> usize
     }
 }
 
+// The unit of a number's first decimal digit.
+fn first_unit(n: usize) -> usize {
+    let mut unit: usize = 1;
+    while unit <= n / 10 {
+        unit *= 10;
+    }
+    unit
+}
+
 // A number's decimal digits, behind a space.
 fn put_number(line: &mut [u8; 256], start: usize, n: usize) -> usize
     requires { ⌜ start ≤ 256 ⌝ }
     ensures { λ r. ⌜ r ≤ 256 ⌝ }
 {
     let mut at = put(line, start, b' ');
-    let mut unit: usize = 1;
-    while unit <= n / 10 {
-        unit *= 10;
-    }
+    let mut unit = first_unit(n);
     while 0 < unit {
         at = put(line, at, (n / unit % 10) as u8 + b'0');
         unit /= 10;
@@ -75,30 +79,66 @@ fn put_refusal(line: &mut [u8; 256], code: u32, place: usize) -> usize
     put_number(line, behind, place)
 }
 
-fn print_formed(formed: Formed) -> bool {
+fn write_part(s: &[u8], n: usize) -> bool {
+    if s.len() < n {
+        return false;
+    }
+    io::write_all(STDOUT_FILENO, &s[..n])
+}
+
+fn write_line(line: &mut [u8; 256], end: usize) -> bool
+    requires { ⌜ end ≤ 256 ⌝ }
+{
+    let n = put(line, end, b'\n');
+    write_part(line, n)
+}
+
+fn print_counts(c: JobCounts) -> bool {
     let mut line = [0u8; 256];
-    let end = match formed {
-        Formed::Refused { code, place } => put_refusal(&mut line, code, place),
-        Formed::Counts(c) => put_counts(&mut line, c),
-    };
-    let n = put(&mut line, end, b'\n');
-    io::write_all(STDOUT_FILENO, &line[..n])
+    let end = put_counts(&mut line, c);
+    write_line(&mut line, end)
+}
+
+fn print_refusal(code: u32, place: usize) -> bool {
+    let mut line = [0u8; 256];
+    let end = put_refusal(&mut line, code, place);
+    write_line(&mut line, end)
+}
+
+fn print_formed(formed: Formed) -> bool {
+    match formed {
+        Formed::Refused { code, place } => print_refusal(code, place),
+        Formed::Counts(c) => print_counts(c),
+    }
+}
+
+// Runs the form pass over the first n bytes; whether its line was written.
+fn run_part(s: &[u8], n: usize) -> bool {
+    if s.len() < n {
+        return false;
+    }
+    print_formed(cpool::form(&s[..n]))
+}
+
+// Reads the first n bytes; whether all of them came.
+fn read_part(s: &mut [u8], n: usize) -> bool {
+    if s.len() < n {
+        return false;
+    }
+    io::read_full(STDIN_FILENO, &mut s[..n]) == n
 }
 
 // One job, if there is one; whether to go on.
-fn next_job(job: &mut [u8]) -> bool {
+fn next_job(job: &mut [u8; 1048576]) -> bool {
     let mut head = [0u8; 4];
-    if io::read_full(STDIN_FILENO, &mut head) < 4 {
+    if !read_part(&mut head, 4) {
         return false;
     }
     let n = writer::get_u32(&head, 0) as usize;
-    if job.len() < n {
+    if !read_part(job, n) {
         return false;
     }
-    if io::read_full(STDIN_FILENO, &mut job[..n]) < n {
-        return false;
-    }
-    print_formed(cpool::form(&job[..n]))
+    run_part(job, n)
 }
 
 fn main() {

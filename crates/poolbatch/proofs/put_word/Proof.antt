@@ -1,3 +1,5 @@
+use Prim.Native.Nat.{_≤_, _-_}
+use lib.ListN.{length}
 use borrow.Author.Needs.{needs}
 use Rattle.poolbatch.proofs.put_word.Statement.{statement}
 use Rattle.poolbatch.proofs.put_word.Tie as tie
@@ -6,10 +8,10 @@ use Rattle.poolbatch.proofs.put_word.Lts as lts
 use Rattle.poolbatch.proofs.put.Reads as put-reads
 
 abbrev Inv-loop : tie.InvT-loop
-Inv-loop line₀ word at₀ i₀ line at i = ?
+Inv-loop line₀ word at₀ i₀ line at i = (i ≤ length word) × (at ≤ 256)
 
 abbrev μ-loop : tie.MeasureT-loop
-μ-loop line₀ word at₀ i₀ line at i = ?
+μ-loop line₀ word at₀ i₀ line at i = length word - i
 
 -- src/main.rt:49:5
 loop-holds : tie.Need-loop-holds Inv-loop μ-loop
