@@ -1,18 +1,19 @@
 -- Parts of a list written one behind the other. Assumes nothing.
 use mathlib.Core.Path.{_≡_, refl, sym, ap, _∙_}
-use mathlib.Core.List.{List, [], _∷_, _++_, append-assoc, append-nil}
+use mathlib.Core.List.{List, _++_, append-assoc, append-nil}
 use Prim.Native.Nat.{ℕ, zero, suc, _+_, _*_, _<_, _≤_}
 use native.Mathlib.Nat.{add-zero, zero-add, mul-zero, mul-suc, le-refl}
 use native.Mathlib.Numerals.{add-one}
 use native.Mathlib.Omega.{arith}
-use lib.ListN.{length, getD, set, take, drop, replicate, length-append, length-replicate, getD-replicate}
+use lib.ListN.{length, set, take, drop, replicate, length-append, length-replicate, getD-replicate}
 use lib.Seq.{paste, paste-suc, take-append-seam, take-length, take-take, drop-append-add, drop-drop}
 use Rattle.definition.specs.Basics.{concat, from}
 use Rattle.definition.specs.Run.{overwrite}
 
 -- a turn of the loop that pads with zeros
 pub pad-more :
-    (d : List ℕ) (at n i : ℕ) → at + n ≤ length d → i < n → set (paste d at (replicate n 0) i) (at + i) 0 ≡ paste d at (replicate n 0) (i + 1)
+    (d : List ℕ) (at n i : ℕ) → at + n ≤ length d → i < n →
+    set (paste d at (replicate n 0) i) (at + i) 0 ≡ paste d at (replicate n 0) (i + 1)
 pad-more d at n i room more =
     let zeros : List ℕ = replicate n 0 in
     let long : i < length zeros = rw length-replicate more in
@@ -37,7 +38,8 @@ pub joined-more : {A : Type 0} (f : ℕ → List A) (k : ℕ) → joined f (suc 
 joined-more f k = joined-from f 0 k ∙ ap (λ j. joined f k ++ f j) (zero-add k)
 
 -- parts of one size
-pub length-joined : {A : Type 0} (f : ℕ → List A) (size k : ℕ) → ((j : ℕ) → j < k → length (f j) ≡ size) → length (joined f k) ≡ size * k
+pub length-joined :
+    {A : Type 0} (f : ℕ → List A) (size k : ℕ) → ((j : ℕ) → j < k → length (f j) ≡ size) → length (joined f k) ≡ size * k
 unfolding concat from
 length-joined f size zero each = sym (mul-zero size)
 length-joined f size (suc k) each =
@@ -51,13 +53,17 @@ paste-front d s at n = ap (λ l. take at d ++ l ++ drop (at + n) d) (sym (take-t
 
 -- what is copied behind a written prefix makes it longer
 pub overwrite-more :
-    (new more d : List ℕ) (at n : ℕ) → length new ≡ at → length more ≡ n → paste (overwrite new d) at more n ≡ overwrite (new ++ more) d
+    (new more d : List ℕ) (at n : ℕ) → length new ≡ at → length more ≡ n →
+    paste (overwrite new d) at more n ≡ overwrite (new ++ more) d
 unfolding overwrite
 overwrite-more new more d at n ln lm =
+    let n₁ = length new in
+    let n₂ = length more in
+    let rest = drop n₁ d in
     rw (← ln, ← lm)
-    (ap (λ l. l ++ take (length more) more ++ drop (length new + length more) (new ++ drop (length new) d)) (take-append-seam new (drop (length new) d))
-    ∙ ap (λ l. new ++ l ++ drop (length new + length more) (new ++ drop (length new) d)) (take-length more)
-    ∙ ap (λ l. new ++ more ++ l) (drop-append-add new (drop (length new) d) (length more) ∙ drop-drop (length more) (length new) d)
+    (ap (λ l. l ++ take n₂ more ++ drop (n₁ + n₂) (new ++ rest)) (take-append-seam new rest)
+    ∙ ap (λ l. new ++ l ++ drop (n₁ + n₂) (new ++ rest)) (take-length more)
+    ∙ ap (λ l. new ++ more ++ l) (drop-append-add new rest n₂ ∙ drop-drop n₂ n₁ d)
     ∙ ap (λ k. new ++ more ++ drop k d) (sym (length-append new more)))
 
 pub joined-none : (f : ℕ → List ℕ) (d : List ℕ) → d ≡ overwrite (joined f 0) d

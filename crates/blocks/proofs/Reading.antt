@@ -2,7 +2,7 @@
 use mathlib.Core.Path.{_≡_, refl, sym, ap, _∙_}
 use mathlib.Core.Bool.{Bool, true, false, _&&_}
 use mathlib.Core.List.{List}
-use Prim.Native.Nat.{ℕ, zero, suc, _+_, _*_, _-_, _/_, _%_, _<_, _≤_}
+use Prim.Native.Nat.{ℕ, zero, suc, _-_, _/_, _%_, _<_, _≤_}
 use native.Mathlib.Nat.{sub-zero, sub-self, le-refl, pos-of-ne-zero}
 use native.Mathlib.Omega.{arith}
 use borrow.Author.Tests.{lt-ltb, le-ltb, le-leb, lt-leb, eq-eqb, ne-eqb}
@@ -21,7 +21,9 @@ and-false false = refl
 
 -- the definition's walk over the blocks: past those that are right, to its end or to one that isn't
 module _ (n : ℕ) (file : List ℕ) where
-  walk : (k : ℕ) → k < n → blocksRight n file (n - k) k ≡ (atRecord k (unless (rightBlock n file k) 19) >>= λ _. blocksRight n file (n - suc k) (suc k))
+  walk :
+      (k : ℕ) → k < n →
+      blocksRight n file (n - k) k ≡ (atRecord k (unless (rightBlock n file k) 19) >>= λ _. blocksRight n file (n - suc k) (suc k))
   unfolding blocksRight
   walk k inside =
       let left : n - k ≡ suc (n - suc k) = omega arith in

@@ -1,6 +1,5 @@
 -- The three ends of writing a job. Assumes nothing.
 use mathlib.Core.Path.{_≡_, refl, _∙_}
-use mathlib.Core.Bool.{Bool, true, false}
 use mathlib.Core.List.{List}
 use Prim.Native.Nat.{ℕ, zero, suc, _+_, _*_, _-_, _/_, _<_, _≤_}
 use native.Mathlib.Omega.{arith}
@@ -35,13 +34,16 @@ module _ (room : ℕ) (job : List ℕ) where
   unfolding writeBlocks
   write-long long = refused (leb (length job) longestJob) 1 0 _ (lt-leb (length job) longestJob long)
 
-  pub write-narrow : length job ≤ longestJob → room < 512 * blocksFor (length job) → writeBlocks room job ≡ bad (record { code = 18; place = 0 })
+  pub write-narrow :
+      length job ≤ longestJob → room < 512 * blocksFor (length job) → writeBlocks room job ≡ bad (record { code = 18; place = 0 })
   unfolding writeBlocks
   write-narrow small narrow =
       passed (leb (length job) longestJob) 1 0 _ (le-leb (length job) longestJob small)
       ∙ refused (leb (512 * blocksFor (length job)) room) 18 0 _ (lt-leb (512 * blocksFor (length job)) room narrow)
 
-  pub write-good : length job ≤ longestJob → 512 * blocksFor (length job) ≤ room → writeBlocks room job ≡ good (joined (writtenBlock job) (blocksFor (length job)))
+  pub write-good :
+      length job ≤ longestJob → 512 * blocksFor (length job) ≤ room →
+      writeBlocks room job ≡ good (joined (writtenBlock job) (blocksFor (length job)))
   unfolding writeBlocks
   write-good small fits =
       passed (leb (length job) longestJob) 1 0 _ (le-leb (length job) longestJob small)

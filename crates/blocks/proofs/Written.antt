@@ -1,8 +1,7 @@
 -- A block that is written field by field behind each other is the definition's. Assumes nothing.
 use mathlib.Core.Path.{_≡_, refl, sym, ap, _∙_}
-use mathlib.Core.List.{List, [], _∷_, _++_, append-assoc}
-use Prim.Native.Nat.{ℕ, _+_, _*_, _-_, _<_, _≤_, min}
-use native.Mathlib.Nat.{le-refl}
+use mathlib.Core.List.{List, _++_, append-assoc}
+use Prim.Native.Nat.{ℕ, _+_, _*_, _-_, _≤_, min}
 use native.Mathlib.Omega.{arith}
 use lib.ListN.{length, take, drop, replicate, length-append, length-take, length-drop, length-replicate, take-append-drop}
 use lib.Seq.{paste, take-length, take-append-seam, take-at, drop-at, length-take-le}
@@ -36,12 +35,13 @@ module _ (job : List ℕ) (k : ℕ) where
   front used = be2 k ++ be2 used ++ take 504 (drop (504 * k) job) ++ replicate (504 - used) 0
 
   block-fields :
-      (used sum : ℕ) → used ≡ length (take 504 (drop (504 * k) job)) → sum ≡ weighted 0 (front used) → front used ++ be4 sum ≡ writtenBlock job k
+      (used sum : ℕ) → used ≡ length (take 504 (drop (504 * k) job)) → sum ≡ weighted 0 (front used) →
+      front used ++ be4 sum ≡ writtenBlock job k
   unfolding writtenBlock block front
   block-fields used sum eu es =
-      rw (es, eu)
-      (ap (λ l. l ++ be4 (weighted 0 l))
-      (append-assoc (be2 k ++ be2 (length (take 504 (drop (504 * k) job)))) (take 504 (drop (504 * k) job)) (replicate (504 - length (take 504 (drop (504 * k) job))) 0)))
+      let part = take 504 (drop (504 * k) job) in
+      let zeros : List ℕ = replicate (504 - length part) 0 in
+      rw (es, eu) (ap (λ l. l ++ be4 (weighted 0 l)) (append-assoc (be2 k ++ be2 (length part)) part zeros))
 
   length-front : (used : ℕ) → used ≡ length (take 504 (drop (504 * k) job)) → used ≤ 504 → length (front used) ≡ 508
   unfolding front be2
@@ -73,15 +73,17 @@ block-written job out o₁ o₂ o₃ o₄ o₅ k used sum room eu e₁ e₂ e₃
     let lf : length (front job k used) ≡ 508 = length-front job k used lp small in
     let whole : paste o₂ (base + 4) rest used ≡ paste o₂ (base + 4) part used =
     paste-front o₂ rest (base + 4) used ∙ ap (λ l. paste o₂ (base + 4) l used) (ap (λ n. take n rest) lp ∙ take-short 504 rest) in
+    let head = be2 k ++ be2 used in
     let p₂ = grown out o₁ o₂ (be2 k) (be2 used) base (base + 2) 2 e₁ e₂ refl refl (omega arith) in
-    let p₃ = grown out o₂ o₃ (be2 k ++ be2 used) part base (base + 4) used p₂ (e₃ ∙ whole) refl lp (omega arith) in
-    let p₄ = grown out o₃ o₄ (be2 k ++ be2 used ++ part) zeros base (base + 4 + used) (504 - used) p₃ e₄ (omega arith) (omega arith) (omega arith) in
+    let p₃ = grown out o₂ o₃ head part base (base + 4) used p₂ (e₃ ∙ whole) refl lp (omega arith) in
+    let end : base + 4 + used ≡ base + length (head ++ part) = omega arith in
+    let p₄ = grown out o₃ o₄ (head ++ part) zeros base (base + 4 + used) (504 - used) p₃ e₄ end (sym lz) (omega arith) in
     let p₅ = grown out o₄ o₅ (front job k used) (be4 sum) base (base + 508) 4 p₄ e₅ (omega arith) refl (omega arith) in
     let size₄ : base + 508 - base ≡ length (front job k used) = omega arith in
     let there : take (base + 508 - base) (drop base o₄) ≡ front job k used =
     ap (λ n. take n (drop base o₄)) size₄
     ∙ ap (λ l. take (length (front job k used)) (drop base l)) p₄
-    ∙ paste-there out (front job k used) base (length (front job k used)) (omega arith) (le-refl (length (front job k used)))
+    ∙ paste-there out (front job k used) base (length (front job k used)) (omega arith) (omega arith)
     ∙ take-length (front job k used) in
     let summed : sum ≡ weighted 0 (front job k used) = es ∙ ap (weighted 0) there in
     let size : length (front job k used ++ be4 sum) ≡ 512 = length-append (front job k used) (be4 sum) ∙ ap (λ n. n + 4) lf in
@@ -104,6 +106,7 @@ length-file job n = length-joined (writtenBlock job) 512 n (λ j _. length-writt
 -- a turn of the loop over the blocks
 pub blocks-more :
     (job d : List ℕ) (k : ℕ) →
-    paste (overwrite (joined (writtenBlock job) k) d) (512 * k) (writtenBlock job k) 512 ≡ overwrite (joined (writtenBlock job) (k + 1)) d
+    paste (overwrite (joined (writtenBlock job) k) d) (512 * k) (writtenBlock job k) 512 ≡
+    overwrite (joined (writtenBlock job) (k + 1)) d
 blocks-more job d k =
     part-more (writtenBlock job) k d (512 * k) 512 (length-file job k) (length-written job k)

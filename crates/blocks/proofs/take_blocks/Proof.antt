@@ -1,4 +1,4 @@
--- `blocks::take_blocks` meets its contract. The loop keeps: what the first k blocks hold is copied, the rest as it was. Assumes nothing.
+-- `blocks::take_blocks` meets its contract. The loop keeps: what the first k blocks hold is copied. Assumes nothing.
 use mathlib.Core.Path.{_≡_, ap, _∙_}
 use Prim.Native.Nat.{_≤_, _-_}
 use native.Mathlib.Omega.{arith}

@@ -1,4 +1,4 @@
--- `blocks::weighted_sum` meets its contract. The loop keeps: the sum so far and what the definition has left come to the definition's sum. Assumes nothing.
+-- `blocks::weighted_sum` meets its contract. The loop keeps: what is summed and what is left come to the definition's sum. Assumes nothing.
 use mathlib.Core.Path.{_≡_}
 use Prim.Native.Nat.{_≤_, _-_, _+_, _*_}
 use native.Mathlib.Omega.{arith}

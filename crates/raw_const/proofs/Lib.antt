@@ -1,0 +1,6 @@
+pub mod Tables
+pub mod Shaped
+pub mod Writes
+pub mod Rows
+pub mod Readers
+pub mod Single
