@@ -10,6 +10,8 @@ ghost use Prim.Native.Nat.{_≤_};
 // The longest line.
 const LINE: usize = 256;
 
+const LONGEST_JOB: usize = 1048576;
+
 fn put(line: &mut [u8; 256], at: usize, b: u8) -> usize
     requires { ⌜ at ≤ 256 ⌝ }
     ensures { λ r. ⌜ r ≤ 256 ⌝ }
@@ -128,8 +130,8 @@ fn read_part(s: &mut [u8], n: usize) -> bool {
     io::read_full(STDIN_FILENO, &mut s[..n]) == n
 }
 
-// One job, if there is one; whether to go on.
-fn next_job(job: &mut [u8; 1048576]) -> bool {
+// One job, if there is one; whether to go on. A job a little longer than any accepted one has room, to be refused.
+fn next_job(job: &mut [u8; 1048640]) -> bool {
     let mut head = [0u8; 4];
     if !read_part(&mut head, 4) {
         return false;
@@ -138,11 +140,15 @@ fn next_job(job: &mut [u8; 1048576]) -> bool {
     if !read_part(job, n) {
         return false;
     }
-    run_part(job, n)
+    if LONGEST_JOB < n {
+        print_refusal(1, 0)
+    } else {
+        run_part(job, n)
+    }
 }
 
 fn main() {
-    let mut job = [0u8; 1048576];
+    let mut job = [0u8; 1048640];
     let mut turns = u64::MAX;
     while 0 < turns && next_job(&mut job) {
         turns -= 1;
