@@ -221,10 +221,16 @@ fn main() {
     say(b"numbers", numbers());
     say(b"references", references());
     say(b"later tags", later_tags());
-    say(b"unknown", unknown(0) && unknown(2) && unknown(13));
-    say(b"unknown", unknown(14) && unknown(21) && unknown(255));
+    say(b"unknown 0", unknown(0));
+    say(b"unknown 2", unknown(2));
+    say(b"unknown 13", unknown(13));
+    say(b"unknown 14", unknown(14));
+    say(b"unknown 21", unknown(21));
+    say(b"unknown 255", unknown(255));
     say(b"long text", long_text());
-    say(b"wide", raw_const::is_long(5) && raw_const::is_long(6));
-    say(b"narrow", !raw_const::is_long(4) && !raw_const::is_long(7));
+    say(b"Long is wide", raw_const::is_long(5));
+    say(b"Double is wide", raw_const::is_long(6));
+    say(b"Float is narrow", !raw_const::is_long(4));
+    say(b"Class is narrow", !raw_const::is_long(7));
     say(b"rows", rows());
 }
