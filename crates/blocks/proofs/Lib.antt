@@ -6,3 +6,4 @@ pub mod Writing
 pub mod Right
 pub mod Joined
 pub mod Reading
+pub mod Back
