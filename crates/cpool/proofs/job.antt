@@ -8,3 +8,7 @@ pub mod Stepping
 pub mod Passes
 pub mod Asking
 pub mod Whole
+pub mod Taking
+pub mod Standing
+pub mod Stored
+pub mod Laying

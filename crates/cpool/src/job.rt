@@ -1,17 +1,18 @@
 // The form pass (document 01, "A job"): goes over a job's records once, keeps nothing of them, and counts them.
 ghost use mathlib.Core.Path.{_≡_};
 ghost use mathlib.Core.Bool.{true};
-ghost use mathlib.Core.List.{[], _∷_};
+ghost use mathlib.Core.List.{List, [], _∷_};
 ghost use mathlib.Core.Option.{some};
 ghost use Prim.Native.Nat.{ℕ, _+_, _-_, _^_, _<_, _≤_};
 ghost use lib.Dec.{ltb};
 ghost use lib.ListN.{length, drop};
 ghost use Rattle.definition.specs.Basics.{every, lookup};
 ghost use Rattle.definition.specs.Bytes.{one, two, many};
-ghost use Rattle.definition.specs.Shapes.{Kind, constant, text, byte, to, bootstrapShape};
-ghost use Rattle.definition.specs.Job.{shortName, referenceForm, reference, bodies, ofName, ofRaw, asks, readRequest, readBuild};
+ghost use Rattle.definition.specs.Shapes.{Kind, Entry, constant, text, byte, to, bootstrapShape};
+ghost use Rattle.definition.specs.Job.{Reference, define, shortName, referenceForm, reference, bodies, ofName, ofRaw, asks, readRequest, readBuild};
 ghost use Rattle.definition.specs.Form.{Counts, countOf, cites, kindOf, citesRequest, formDefinition, formDefinitions, formRequest, formBuild, formRequests, form};
 ghost use Rattle.cpool.specs.Forms.{Skips, SkipsReference, SkipsEntry, SkipsDefinition, fieldsOf, bodyOf, tableOf, tables, roomFor, Bounded, Room, plus, oneOf, countsOf, tablesIn, Steps, tallied, definedAs, Within, placeOf, formedBuild, formedRequests, formedOf};
+ghost use Rattle.cpool.specs.Stored.{Found, Stands, WhatStands, ReferenceStands, WhatReference, EntryStands, WhatEntry, Spans, Cites, anyDefinition, KidAt};
 
 // How many entries each table takes.
 const TABLE_SIZE: usize = 65536;
@@ -634,4 +635,162 @@ pub fn form(job: &[u8]) -> Formed
         Defined::To { next, counts } => form_requests(job, next, counts),
         Defined::Refused { code, place } => Formed::Refused { code, place },
     }
+}
+
+// From one place of the job to another.
+pub(crate) struct Extent {
+    pub(crate) start: usize,
+    pub(crate) end: usize,
+}
+
+// What a reference says: a raw number, the number of an entry, or where a name stands.
+pub(crate) enum Cited {
+    Raw(usize),
+    Entry(usize),
+    Name(Extent),
+}
+
+// What follows reads at stored places, where the form pass has found a record or a part of one.
+
+// The name at a place.
+pub(crate) fn name_at(job: &[u8], at: usize) -> Extent
+    requires { ⌜ Stands shortName (now job) at ⌝ }
+    ensures { λ r. ⌜ WhatStands shortName (now (job .entry)) at (λ l next. Spans (now (job .entry)) r l × (r .end ≡ next)) ⌝ }
+{
+    let start = at + 1;
+    let n = writer::get_u8(job, at) as usize;
+    Extent {
+        start,
+        end: start + n,
+    }
+}
+
+// The reference at a place.
+pub(crate) fn reference_at(job: &[u8], at: usize) -> Cited
+    requires { ⌜ ReferenceStands (now job) at ⌝ }
+    ensures { λ r. ⌜ WhatReference (now (job .entry)) at (λ kind a next. Cites (now (job .entry)) kind a r) ⌝ }
+{
+    match writer::get_u8(job, at) {
+        0 => Cited::Raw(writer::get_u16(job, at + 1) as usize),
+        1 => Cited::Entry(writer::get_u16(job, at + 1) as usize),
+        _ => Cited::Name(name_at(job, at + 1)),
+    }
+}
+
+// The place behind the reference at a place.
+pub(crate) fn after_reference(job: &[u8], at: usize) -> usize
+    requires { ⌜ ReferenceStands (now job) at ⌝ }
+    ensures { λ r. ⌜ WhatReference (now (job .entry)) at (λ kind a next. r ≡ next) ⌝ }
+{
+    match writer::get_u8(job, at) {
+        2 => name_at(job, at + 1).end,
+        _ => at + 3,
+    }
+}
+
+// The tag of the entry at a place, 40 hex for a bootstrap.
+pub(crate) fn tag_at(job: &[u8], at: usize) -> u8
+    requires { ⌜ EntryStands (now job) at ⌝ }
+    ensures { λ r. ⌜ WhatEntry (now (job .entry)) at (λ e. r ≡ e .tag) ⌝ }
+{
+    writer::get_u8(job, at)
+}
+
+// The literal of the entry at a place: no bytes if it has none.
+pub(crate) fn literal_at(job: &[u8], at: usize) -> Extent
+    requires { ⌜ EntryStands (now job) at ⌝ }
+    ensures { λ r. ⌜ WhatEntry (now (job .entry)) at (λ e. Spans (now (job .entry)) r (e .literal)) ⌝ }
+{
+    let Shape::Constant(fields) = shape_of(tag_at(job, at)) else {
+        return Extent { start: at, end: at };
+    };
+    match fields {
+        Fields::Text => {
+            let start = at + 3;
+            let n = writer::get_u16(job, at + 1) as usize;
+            Extent {
+                start,
+                end: start + n,
+            }
+        }
+        Fields::Bits(n) => Extent {
+            start: at + 1,
+            end: at + 1 + n,
+        },
+        _ => Extent { start: at, end: at },
+    }
+}
+
+// The kind byte of the entry at a place, 0 if it has none.
+pub(crate) fn kind_byte(job: &[u8], at: usize) -> u8
+    requires { ⌜ EntryStands (now job) at ⌝ }
+    ensures { λ r. ⌜ WhatEntry (now (job .entry)) at (λ e. r ≡ e .byte) ⌝ }
+{
+    let Shape::Constant(fields) = shape_of(tag_at(job, at)) else {
+        return 0;
+    };
+    match fields {
+        Fields::Handle => writer::get_u8(job, at + 1),
+        _ => 0,
+    }
+}
+
+// How many references the entry at a place has.
+pub(crate) fn reference_count(job: &[u8], at: usize) -> usize
+    requires { ⌜ EntryStands (now job) at ⌝ }
+    ensures { λ r. ⌜ WhatEntry (now (job .entry)) at (λ e. r ≡ length (e .kids)) ⌝ }
+{
+    let Shape::Constant(fields) = shape_of(tag_at(job, at)) else {
+        let behind = after_reference(job, at + 1);
+        return writer::get_u16(job, behind) as usize + 1;
+    };
+    match fields {
+        Fields::Text => 0,
+        Fields::Bits(_) => 0,
+        Fields::One => 1,
+        Fields::Two => 2,
+        Fields::Handle => 1,
+        Fields::Dynamic => 2,
+    }
+}
+
+// Where the first reference of the entry at a place stands, if it has one.
+fn first_reference(job: &[u8], at: usize) -> usize
+    requires { ⌜ EntryStands (now job) at ⌝ }
+    ensures { λ r. ⌜ WhatEntry (now (job .entry)) at (λ e. 0 < length (e .kids) → KidAt (now (job .entry)) e 0 r) ⌝ }
+{
+    let Shape::Constant(fields) = shape_of(tag_at(job, at)) else {
+        return at + 1;
+    };
+    match fields {
+        Fields::Handle => at + 2,
+        _ => at + 1,
+    }
+}
+
+// Where the reference behind the i-th one stands, which stands at `place`; a bootstrap's count stands behind its first.
+pub(crate) fn next_reference(job: &[u8], at: usize, i: usize, place: usize) -> usize
+    requires { ⌜ ((e : Entry (List ℕ) Reference) × (next : ℕ) × Found anyDefinition (now job) at (define e) next × KidAt (now job) e i place × (i + 1 < length (e .kids))) ⌝ }
+    ensures { λ r. ⌜ WhatEntry (now (job .entry)) at (λ e. KidAt (now (job .entry)) e i place → i + 1 < length (e .kids) → KidAt (now (job .entry)) e (i + 1) r) ⌝ }
+{
+    let behind = after_reference(job, place);
+    if (tag_at(job, at) == 0x40) & (i == 0) {
+        behind + 2
+    } else {
+        behind
+    }
+}
+
+// Where the n-th reference of the entry at a place stands.
+pub(crate) fn nth_reference(job: &[u8], at: usize, n: usize) -> usize
+    requires { ⌜ ((e : Entry (List ℕ) Reference) × (next : ℕ) × Found anyDefinition (now job) at (define e) next × (n < length (e .kids))) ⌝ }
+    ensures { λ r. ⌜ WhatEntry (now (job .entry)) at (λ e. n < length (e .kids) → KidAt (now (job .entry)) e n r) ⌝ }
+{
+    let mut place = first_reference(job, at);
+    let mut i = 0;
+    while i < n {
+        place = next_reference(job, at, i, place);
+        i += 1;
+    }
+    place
 }
