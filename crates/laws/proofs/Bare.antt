@@ -3,11 +3,11 @@
 use mathlib.Core.Bool.{Bool, true, false, _||_, not}
 use mathlib.Core.List.{List, [], _∷_, _++_}
 use mathlib.Core.Option.{Option, none, some}
-use mathlib.Core.Path.{_≡_, refl, ap, _∙_}
+use mathlib.Core.Path.{_≡_, refl, sym, ap, _∙_}
 use Prim.Native.Nat.{ℕ, zero, suc}
 use lib.Dec.{eqb}
 use lib.ListN.{length, getElem?}
-use borrow.Author.Tests.{not-true}
+use borrow.Author.Tests.{not-true, eqb-true}
 use Rattle.laws.specs.Statements.{Among}
 use Rattle.definition.specs.Basics.{good, atRecord, unless, every, lookup}
 use Rattle.definition.specs.Bytes.{Parser, one, two, many}
@@ -15,7 +15,6 @@ use Rattle.definition.specs.Shapes.{Kind, constant, Field, text, bits, byte, to
 use Rattle.definition.specs.Job.{Reference, Definition, define, named, placed, Job, shortName, reference, Body, ofEntry, ofName, ofRaw, bodies, readBody, readDefinition}
 use Rattle.definition.specs.Form.{Counts, counted, whole, hasRoom, citesEarlier, formDefinition, Definitions, formDefinitions, formRequests, form}
 use Rattle.definition.specs.Numbering.{Literal, entries}
-use Rattle.laws.specs.Statements.{hasLiteral}
 use Rattle.laws.proofs.Lists.{clash, all-cons, among-later}
 use Rattle.laws.proofs.Results.{good-then, atRecord-good, whole-good, some-then}
 use Rattle.laws.proofs.Tables.{lookup-every}
@@ -145,6 +144,23 @@ fields-keep kid (toMany ∷ fields) e bytes r p =
     some-then (two bytes) _ r p λ size rest _ q.
     some-then (many size (kid constant) rest) _ r q λ ks rest _ t.
     fields-keep kid fields (withKids (e .kids ++ ks) e) rest r t
+
+-- a number stands in a list
+abbrev pub stands : ℕ → List ℕ → Bool
+stands n [] = false
+stands n (x ∷ l) = eqb n x || stands n l
+
+pub stands-among : (n : ℕ) (l : List ℕ) → stands n l ≡ true → Among n l
+stands-among n [] h = clash (cc)
+stands-among n (x ∷ l) h = go (eqb n x) refl h (stands-among n l)
+  where
+    go : (b : Bool) → eqb n x ≡ b → (b || stands n l) ≡ true → (stands n l ≡ true → Among n l) → Among n (x ∷ l)
+    go true e h rest = (0, ap some (sym (eqb-true n x e)))
+    go false e h rest = among-later n x l (rest h)
+
+-- text and the four kinds of number
+abbrev pub hasLiteral : ℕ → Bool
+hasLiteral tag = stands tag (1 ∷ 3 ∷ 4 ∷ 5 ∷ 6 ∷ [])
 
 -- in the table of first bytes a tag has a literal, or its shape has no field for one
 bareBody : ℕ × Body → Bool

@@ -14,12 +14,11 @@ use Rattle.definition.specs.Basics.{good, concat, from, same}
 use Rattle.definition.specs.Bytes.{be2, be4}
 use Rattle.definition.specs.Run.{longestJob}
 use Rattle.definition.specs.Blocks.{weighted, block, blockCount, blockAt, usedIn, rightUse, rightBlock, blockData, mostBlocks, readBlocks, blocksFor, writtenBlock, writeBlocks}
-use Rattle.laws.specs.BlockStatements.{Part, fileOf, jobOf, AsDescribed, BlocksRead, BlocksBack, jobIn}
-use Rattle.laws.specs.Statements.{IsBytes}
-use Rattle.laws.proofs.Lists.{both-true, same-true, same-refl, read-found}
+use Rattle.laws.specs.Statements.{IsBytes, BlocksRead, BlocksBack}
+use Rattle.laws.proofs.Lists.{both-true, same-true, same-refl}
 use Rattle.laws.proofs.Results.{good-inj, guarded, passed}
-use Rattle.laws.proofs.Chunks.{length-from, from-same, from-getD, from-at, length-joined, cut-out, cut-join}
-use Rattle.laws.proofs.Reading.{Accepted, isRead, wasRead}
+use Rattle.laws.proofs.Chunks.{from-same, length-joined, cut-out, cut-join}
+use Rattle.laws.proofs.Reading.{jobIn, Accepted, isRead, wasRead}
 
 -- ---- one block
 
@@ -112,16 +111,9 @@ block-is k b l x y number check =
 
 -- ---- the blocks of parts p 0, p 1, .. of n
 
--- the file of parts listed by number: their blocks, joined; and the job: their used bytes
-pub fileOf-from : (p : ℕ → Part) (k n : ℕ) → fileOf k (from p k n) ≡ concat (from (λ i. block i (p i .0) (p i .1)) k n)
-unfolding fileOf from concat
-fileOf-from p k zero = refl
-fileOf-from p k (suc n) = ap (λ (r : List ℕ). block k (p k .0) (p k .1) ++ r) (fileOf-from p (suc k) n)
-
-pub jobOf-from : (p : ℕ → Part) (k n : ℕ) → jobOf (from p k n) ≡ concat (from (λ i. take (p i .0) (p i .1)) k n)
-unfolding jobOf from concat
-jobOf-from p k zero = refl
-jobOf-from p k (suc n) = ap (λ (r : List ℕ). take (p k .0) (p k .1) ++ r) (jobOf-from p (suc k) n)
+-- a part: how much of its 504 bytes is used, and the bytes
+abbrev pub Part : Type 0
+Part = ℕ × List ℕ
 
 -- their file and their job
 abbrev pub theirFile : ℕ → (ℕ → Part) → List ℕ
@@ -255,44 +247,24 @@ module _ (room : ℕ) (file job : List ℕ) (bytes : IsBytes file) (a : Accepted
 
 -- ---- the statement
 
--- parts listed, and parts by number, are described alike
-pub listed : (n : ℕ) (p : ℕ → Part) → Described n p → AsDescribed (from p 0 n)
-listed n p d i q e =
-    let there = from-at p 0 n i q e in
-    let is : p i ≡ q = rw zero-add at (there .1) in
-    rw (length-from, ← is) (d i (there .0))
-
-pub unlisted : (parts : List Part) → AsDescribed parts → Described (length parts) (λ i. getD parts i (0, []))
-unlisted parts d i h = d i (getD parts i (0, [])) (read-found parts i (0, []) h)
-
--- the file and job of parts listed, and of parts by number, are the same
-pub file-listed : (parts : List Part) → theirFile (length parts) (λ i. getD parts i (0, [])) ≡ fileOf 0 parts
-file-listed parts = sym (fileOf-from (λ i. getD parts i (0, [])) 0 (length parts)) ∙ ap (fileOf 0) (from-getD parts (0, []))
-
-pub job-listed : (parts : List Part) → theirJob (length parts) (λ i. getD parts i (0, [])) ≡ jobOf parts
-job-listed parts = sym (jobOf-from (λ i. getD parts i (0, [])) 0 (length parts)) ∙ ap jobOf (from-getD parts (0, []))
-
 -- BLOCKS READ: a file is accepted exactly if it is the blocks of parts as described, few enough, and their job isn't too long and has room
 pub blocksRead : BlocksRead
 blocksRead room file job bytes = (
   λ e.
-      let a = wasRead room file job e in
-      let n = blockCount file in
-      let p = partIn file in (
-        from p 0 n,
-        sym (fileOf-from p 0 n ∙ own-file room file job bytes a),
-        jobOf-from p 0 n ∙ own-job room file job bytes a ∙ a .held,
-        listed n p (own-described room file job bytes a),
-        rw length-from (some-block room file job a),
-        rw length-from (a .few),
+      let a = wasRead room file job e in (
+        blockCount file,
+        λ k. partIn file k .0,
+        λ k. partIn file k .1,
+        some-block room file job a,
+        a .few,
+        own-described room file job bytes a,
+        sym (own-file room file job bytes a),
+        sym (own-job room file job bytes a ∙ a .held),
         a .short,
         a .fits,
       ),
-  λ (parts, e, j, d, low, high, short, fits).
-      let n = length parts in
-      let p : ℕ → Part = λ i. getD parts i (0, []) in
-      rw (e, ← j, ← file-listed parts, ← job-listed parts)
-      (parts-read n p (unlisted parts d) room low high (rw (job-listed parts, j) short) (rw (job-listed parts, j) fits)),
+  λ (n, used, part, low, high, d, is, holds, short, fits).
+      rw (is, holds) (parts-read n (λ k. (used k, part k)) d room low high (rw holds at short) (rw holds at fits)),
 )
 
 -- ---- writing

@@ -1,11 +1,11 @@
 -- General facts about lists made of parts: `from` and `concat`, and a list cut into parts of one length. Assumes nothing.
-use mathlib.Core.List.{List, [], _∷_}
+use mathlib.Core.List.{List, _∷_}
 use mathlib.Core.Option.{some}
 use mathlib.Core.Path.{_≡_, refl, sym, ap, subst, _∙_}
 use Prim.Native.Nat.{ℕ, zero, suc, _+_, _*_, _≤_, _<_}
 use native.Mathlib.Nat.{mul-zero, mul-suc, add-zero}
 use native.Mathlib.Omega.{arith}
-use lib.ListN.{length, take, drop, getD, getElem?, length-append}
+use lib.ListN.{length, take, drop, getElem?, length-append}
 use lib.Seq.{take-at, drop-append-add, drop-drop, take-add}
 use Rattle.definition.specs.Basics.{concat, from}
 use Rattle.laws.proofs.Lists.{none≢some, inside-found}
@@ -25,18 +25,6 @@ module _ {A : Type 0} where
   from-same f g k zero e = refl
   from-same f g k (suc n) e =
       λ i. e k (omega arith) (omega arith) i ∷ from-same f g (suc k) n (λ j low high. e j (omega arith) (omega arith)) i
-
-  -- the numbers may as well be moved down by one
-  pub from-down : (f : ℕ → A) (k n : ℕ) → from f (suc k) n ≡ from (λ i. f (suc i)) k n
-  unfolding from
-  from-down f k zero = refl
-  from-down f k (suc n) = ap (λ (r : List A). f (suc k) ∷ r) (from-down f (suc k) n)
-
-  -- a list read place by place is the list
-  pub from-getD : (l : List A) (d : A) → from (λ i. getD l i d) 0 (length l) ≡ l
-  unfolding from
-  from-getD [] d = refl
-  from-getD (x ∷ xs) d = ap (λ (r : List A). x ∷ r) (from-down (λ i. getD (x ∷ xs) i d) 0 (length xs) ∙ from-getD xs d)
 
   -- what stands at place i of it
   pub from-at : (f : ℕ → A) (k n i : ℕ) (a : A) → getElem? (from f k n) i ≡ some a → (i < n) × (f (k + i) ≡ a)

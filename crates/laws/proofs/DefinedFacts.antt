@@ -13,11 +13,11 @@ use Rattle.definition.specs.Job.{Definition, define, named, placed, Job}
 use Rattle.definition.specs.Numbering.{Literal, literals, numberedDefinition, numbered}
 use Rattle.definition.specs.Definitions.{Held, starts, half, Naming, Defined, nameTarget, isNone, tagAt, hold, placeConstant, placeBootstrap, defineOne, defineAll, nothingDefined}
 use Rattle.definition.specs.Layout.{starters}
-use Rattle.laws.specs.Statements.{Among, times, namings}
+use Rattle.laws.specs.Statements.{Among, namings}
 use Rattle.laws.proofs.Lists.{clash, among-nil, among-later, among-left, among-right, among-snoc}
 use Rattle.laws.proofs.Results.{good-then}
 use Rattle.laws.proofs.Tables.{some-key, some-row, insert-new, insert-old, insert-among}
-use Rattle.laws.proofs.Sums.{times-cons}
+use Rattle.laws.proofs.Sums.{times, times-cons}
 use Rattle.laws.proofs.Defining.{defined-all, placed-constant, placed-bootstrap}
 
 -- the name records in turn

@@ -2,7 +2,7 @@
 use mathlib.Core.Bool.{Bool, true, false}
 use mathlib.Core.List.{List, [], _∷_, _++_, map, reverseAux}
 use mathlib.Core.Option.{some}
-use mathlib.Core.Path.{_≡_, refl, ap, subst}
+use mathlib.Core.Path.{_≡_, refl, sym, ap, subst, _∙_}
 use Prim.Native.Nat.{ℕ, zero, suc}
 use lib.ListN.{length, getElem?}
 use Rattle.definition.specs.Basics.{lookup, only}
@@ -97,6 +97,9 @@ module _ {A B : Type 0} (R : A → B → Type 0) where
   both-first (x ∷ cs) [] h i c e = absurd h
   both-first (x ∷ cs) (y ∷ ns) h zero c e = (y, refl, subst (λ a. R a y) (some-inj e) (h .0))
   both-first (x ∷ cs) (y ∷ ns) h (suc i) c e = both-first cs ns (h .1) i c e
+
+  pub both-at : (cs : List A) (ns : List B) → Both R cs ns → (i : ℕ) (c : A) (n : B) → getElem? cs i ≡ some c → getElem? ns i ≡ some n → R c n
+  both-at cs ns h i c n e q = let t = both-first cs ns h i c e in subst (R c) (some-inj (sym (t .1) ∙ q)) (t .2)
 
   pub both-second : (cs : List A) (ns : List B) → Both R cs ns → (i : ℕ) (n : B) → getElem? ns i ≡ some n → (c : A) × (getElem? cs i ≡ some c) × R c n
   both-second cs [] h i n e = none≢some e

@@ -10,11 +10,10 @@ use Rattle.definition.specs.Basics.{lookup}
 use Rattle.definition.specs.Shapes.{Field, shapes, bootstrapShape, bootstrapTag, Entry}
 use Rattle.definition.specs.Job.{Reference}
 use Rattle.definition.specs.Building.{Row}
-use Rattle.laws.specs.Statements.{rowShown}
 use Rattle.laws.proofs.Lists.{clash}
 use Rattle.laws.proofs.Each.{Each}
 use Rattle.laws.proofs.Entries.{Short, HasShape, IsFor, isFor-like}
-use Rattle.laws.proofs.PoolRead.{Fits}
+use Rattle.laws.proofs.PoolRead.{rowShown, Fits}
 use Rattle.laws.proofs.FormedEntry.{ShapeOf, FormedEntry}
 
 -- a bootstrap's tag isn't in the table of shapes

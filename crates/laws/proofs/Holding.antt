@@ -8,8 +8,7 @@ use mathlib.Core.Path.{_≡_, refl, sym, ap, subst, _∙_}
 use Prim.Native.Nat.{ℕ, zero, suc, _+_, _≤_, _<_}
 use native.Mathlib.Omega.{arith}
 use lib.Dec.{eqb}
-use lib.ListN.{length, getD, getElem?, List·getD-eq-default}
-use borrow.Author.Tests.{lt-ltb, le-ltb}
+use lib.ListN.{length, getD, getElem?, length-map, List·getD-eq-default}
 use Rattle.definition.specs.Basics.{good, lookup}
 use Rattle.definition.specs.Shapes.{Kind, constant, bootstrap, bootstrapTag, Entry, isWide, withLiteral}
 use Rattle.definition.specs.Job.{entry, placed, Job}
@@ -22,11 +21,12 @@ use Rattle.definition.specs.Building.{kidsOf, Content, nothing, emptyText, hold
 use Rattle.definition.specs.Layout.{starters, nodeAt, classSlotOf, Layout, layoutOf, indexNodes, layout}
 use Rattle.definition.specs.Run.{shown, classBytes, Built, render, build, Lent, run}
 use Rattle.definition.specs.Jvms.{readPool, readBootstraps}
-use Rattle.laws.specs.Statements.{IsBytes, Among, Finished, leadsTo, slotShows, Shows, textOf, textAt, classOf, HeldBy, Holds, rowShown}
-use Rattle.laws.proofs.Lists.{some-inj, order, found-inside, among-right, among-forth, map-at}
+use Rattle.laws.specs.Statements.{IsBytes, Among, Finished, leadsTo, slotShows, Shows, textOf, textAt, classOf, HeldBy, Holds}
+use Rattle.laws.proofs.Lists.{some-inj, order, found-inside, found-read, read-found, among-right, among-forth, map-at}
 use Rattle.laws.proofs.Results.{bad≢good, good-inj, good-first, decided}
 use Rattle.laws.proofs.Each.{each-at, Both}
 use Rattle.laws.proofs.Tables.{rising-lookup}
+use Rattle.laws.proofs.PoolRead.{rowShown}
 use Rattle.laws.proofs.Shape.{room-run, build-layout}
 use Rattle.laws.proofs.Sound.{tag-append}
 use Rattle.laws.proofs.Ending.{kids-append}
@@ -62,11 +62,13 @@ text-of all (holds e) = go (eqb (e .tag) 1) refl
 -- the text at a slot below the count, and past it
 text-below : (f : Finished) (n : ℕ) → n < length (f .pool) → textAt f (suc n) ≡ textOf (getD (f .pool) n none)
 unfolding textAt
-text-below f n h = rw (lt-ltb n (length (f .pool)) h, textAt)
+text-below f n h =
+    found-read (map textOf (f .pool)) n (textOf (getD (f .pool) n none)) (some [])
+    (map-at textOf (f .pool) n (getD (f .pool) n none) (read-found (f .pool) n none h))
 
 text-past : (f : Finished) (n : ℕ) → length (f .pool) ≤ n → textAt f (suc n) ≡ some []
 unfolding textAt
-text-past f n h = rw (le-ltb n (length (f .pool)) h, textAt)
+text-past f n h = List·getD-eq-default (map textOf (f .pool)) (some []) (omega (arith, h, length-map (f .pool) textOf))
 
 module _ (bytes : List ℕ) (job : Job (List ℕ)) (l : Layout) (are : IsBytes bytes) (formed : form bytes ≡ good job) (laid : layout highestSlot (numbered job) ≡ good l) where
   abbrev own : List (ℕ × Entry ℕ ℕ)
@@ -110,7 +112,7 @@ module _ (bytes : List ℕ) (job : Job (List ℕ)) (l : Layout) (are : IsBytes b
 
   -- the text at a slot
   text-at : (u : ℕ) → classBytes (literals job) (textIn (contentOf own u)) ≡ textAt f u
-  unfolding contentOf textIn classBytes textAt
+  unfolding contentOf textIn textOf classBytes textAt
   text-at zero = refl
   text-at (suc n) = go (order (suc n) top)
     where

@@ -8,7 +8,7 @@ use Rattle.definition.specs.Basics.{lookup}
 use Rattle.laws.specs.Statements.{allSlots, Kept, Keeps}
 use Rattle.laws.proofs.Lists.{none≢some}
 use Rattle.laws.proofs.Tables.{lookup-hit, lookup-miss}
-use Rattle.laws.proofs.Sums.{run, total-one, once, total-times, times-run}
+use Rattle.laws.proofs.Sums.{run, total-one, once, times-only, total-times, times-run}
 use Rattle.laws.proofs.Chunks.{length-from}
 use Rattle.laws.proofs.Requests.{Met, old, new, met}
 use Rattle.laws.proofs.Sound.{sound}
@@ -18,7 +18,11 @@ kept top held nodes p o =
     let counted = sound o .counted in (
       sym (total-one (allSlots held nodes p)) ∙ counted (λ x. 1) ∙ total-one (run 1 top) ∙ length-from (λ s. s) 1 top,
       λ s h k.
-          sym (total-times s (allSlots held nodes p)) ∙ counted (once s) ∙ total-times s (run 1 top) ∙ times-run s 1 top h (omega arith),
+          sym (times-only s (allSlots held nodes p))
+          ∙ sym (total-times s (allSlots held nodes p))
+          ∙ counted (once s)
+          ∙ total-times s (run 1 top)
+          ∙ times-run s 1 top h (omega arith),
     )
 
 pub keeps : Keeps

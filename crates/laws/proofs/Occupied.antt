@@ -10,18 +10,18 @@ use native.Mathlib.Omega.{arith}
 use lib.Dec.{eqb}
 use lib.ListN.{getElem?}
 use borrow.Author.Tests.{eqb-true}
-use Rattle.definition.specs.Basics.{from}
+use Rattle.definition.specs.Basics.{concat, from}
 use Rattle.definition.specs.Shapes.{isWide}
 use Rattle.definition.specs.Definitions.{Held, starts, half, tagAt}
 use Rattle.definition.specs.Resolving.{Node}
 use Rattle.definition.specs.Slots.{Gap, countFrom}
 use Rattle.definition.specs.Building.{Pool}
 use Rattle.definition.specs.Layout.{starters}
-use Rattle.laws.specs.Statements.{Among, freeSlots, givenSlots, allSlots, times}
+use Rattle.laws.specs.Statements.{Among, freeSlots, givenSlots, allSlots}
 use Rattle.laws.proofs.Lists.{clash, order, map-at}
 use Rattle.laws.proofs.Results.{decided}
 use Rattle.laws.proofs.Tables.{some-key, some-row}
-use Rattle.laws.proofs.Sums.{run, once, times-cons, total-times, times-append, among-times, times-low, times-high, times-run}
+use Rattle.laws.proofs.Sums.{run, once, times, times-cons, total-times, times-append, among-times, times-low, times-high, times-run}
 use Rattle.laws.proofs.Gaps.{Apart, within-free, apart-at}
 use Rattle.laws.proofs.Sound.{Sound}
 use Rattle.laws.proofs.DefinedFacts.{halfSlots, times-held}
@@ -34,14 +34,14 @@ givenHalves nodes (r ∷ given) = elim (isWide (tagAt nodes (r .0))) [ true ↦ 
 
 -- what was given out is starts and second halves
 times-given : (t : ℕ) (nodes : List Node) (given : List (ℕ × ℕ)) → times t (givenSlots nodes given) ≡ times t (map (λ r. r .1) given) + times t (givenHalves nodes given)
-unfolding givenSlots givenHalves times
+unfolding givenSlots givenHalves times concat
 times-given t nodes [] = refl
 times-given t nodes (r ∷ given) = ways (isWide (tagAt nodes (r .0))) (times-given t nodes given)
   where
     ways :
         (w : Bool) →
         times t (givenSlots nodes given) ≡ times t (map (λ r. r .1) given) + times t (givenHalves nodes given) →
-        times t (elim w [ true ↦ r .1 ∷ suc (r .1) ∷ givenSlots nodes given | false ↦ r .1 ∷ givenSlots nodes given ])
+        times t (elim w [ true ↦ r .1 ∷ suc (r .1) ∷ [] | false ↦ r .1 ∷ [] ] ++ givenSlots nodes given)
         ≡ times t (r .1 ∷ map (λ r. r .1) given) + times t (elim w [ true ↦ suc (r .1) ∷ givenHalves nodes given | false ↦ givenHalves nodes given ])
     ways true h =
         omega (

@@ -13,9 +13,12 @@ use Rattle.definition.specs.Layout.{Layout}
 use Rattle.definition.specs.Numbering.{Literal}
 use Rattle.definition.specs.Jvms.{Shown, index, cpInfo, readSlots, belowCount, wholly, readPool, readBootstraps}
 use Rattle.definition.specs.Run.{shown, entryBytes, slotBytes, rowBytes, render}
-use Rattle.laws.specs.Statements.{rowShown}
 use Rattle.laws.proofs.Each.{Each}
 use Rattle.laws.proofs.Entries.{Short, IsFor, two-be2, readEntry-writeFields, cpInfo-entryBytes}
+
+-- a row as the reader of bootstraps shows it
+abbrev pub rowShown : Row → Entry (List ℕ) ℕ
+rowShown row = record { tag = bootstrapTag; literal = []; byte = 0; kids = row }
 
 -- an entry that fits the shape that its tag has
 pub record Fits (e : Entry (List ℕ) ℕ) : Type 0 where

@@ -22,14 +22,15 @@ use Rattle.definition.specs.Building.{Row, Pool, kidsOf, attributeText, nameWan
 use Rattle.definition.specs.Layout.{indexNodes, starters, nodeAt, Layout, layoutOf, layout}
 use Rattle.definition.specs.Jvms.{readPool, readBootstraps}
 use Rattle.definition.specs.Run.{shown, render}
-use Rattle.laws.specs.Statements.{IsBytes, Among, times, Reads, rowShown}
+use Rattle.laws.specs.Statements.{IsBytes, Among, Reads}
 use Rattle.laws.proofs.Lists.{found-inside, inside-found, found-append}
 use Rattle.laws.proofs.Each.{each-at, each-from, Both, both-length, both-each, both-nil}
 use Rattle.laws.proofs.Tables.{Rising, keys, keys-map}
+use Rattle.laws.proofs.Sums.{times}
 use Rattle.laws.proofs.Chunks.{length-from}
 use Rattle.laws.proofs.Sound.{Sound, sound, tag-append}
 use Rattle.laws.proofs.Entries.{Short, IsFor}
-use Rattle.laws.proofs.PoolRead.{Fits, LaidBehind, Laid, fits-text, reads-layout}
+use Rattle.laws.proofs.PoolRead.{rowShown, Fits, LaidBehind, Laid, fits-text, reads-layout}
 use Rattle.laws.proofs.Fitting.{fits-formed, isFor-formed}
 use Rattle.laws.proofs.Contents.{wideThere, spelled, laidFrom}
 use Rattle.laws.proofs.Asked.{tag-found, kids-found}

@@ -9,10 +9,9 @@ use native.Mathlib.Omega.{arith}
 use lib.Dec.{eqb, leb, ltb}
 use lib.ListN.{length}
 use borrow.Author.Tests.{ltb-true, leb-true, eqb-true, lt-ltb, le-leb, eq-eqb}
-use Rattle.definition.specs.Basics.{Result, good, bad, _>>=_, Refusal}
+use Rattle.definition.specs.Basics.{Result, good, bad, _>>=_, Refusal, concat, from}
 use Rattle.definition.specs.Run.{longestJob}
-use Rattle.definition.specs.Blocks.{blockCount, rightBlock, blocksRight, mostBlocks, readBlocks}
-use Rattle.laws.specs.BlockStatements.{jobIn}
+use Rattle.definition.specs.Blocks.{blockCount, blockAt, rightBlock, blocksRight, blockData, mostBlocks, readBlocks}
 use Rattle.laws.proofs.Lists.{clash, both-true}
 use Rattle.laws.proofs.Results.{thenGood, guarded, passes, refuses, passed, refusedBy}
 
@@ -88,6 +87,10 @@ module _ (n : ℕ) (file : List ℕ) where
       ways (inr w) later = wrongLater left k r (w .0) (later (w .1))
 
 -- ---- the whole file
+
+-- the job that its blocks hold
+unfoldable pub jobIn : List ℕ → List ℕ
+jobIn file = concat (from (λ k. blockData (blockAt file k)) 0 (blockCount file))
 
 -- the tests from behind: the job's length and room; before those the blocks; before those their number
 abbrev pub room-test : ℕ → List ℕ → Result Refusal (List ℕ)

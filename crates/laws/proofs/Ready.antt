@@ -7,7 +7,7 @@ use Prim.Native.Nat.{ℕ, zero, suc, _+_, _≤_, _<_}
 use native.Mathlib.Omega.{arith}
 use lib.Dec.{ltb}
 use lib.ListN.{length, getD, replicate, length-append, length-map}
-use Rattle.definition.specs.Basics.{same, only, lookup, insert}
+use Rattle.definition.specs.Basics.{same, only, concat, lookup, insert}
 use Rattle.definition.specs.Shapes.{Kind, constant, bootstrap, Entry, withKids, withLiteral}
 use Rattle.definition.specs.Job.{Reference, raw, entry, name, Definition, define, named, placed, Request, Build, Job}
 use Rattle.definition.specs.Numbering.{Literal, entries, isBootstrap, constantsOf, bootstrapsOf, numberedEntry, numberedDefinition}
@@ -16,7 +16,7 @@ use Rattle.definition.specs.Resolving.{Goal, tableEntry, Node, firstNode, fresh
 use Rattle.definition.specs.Slots.{Slots}
 use Rattle.definition.specs.Building.{Pool, give, noSlot, allocate, slotOf}
 use Rattle.definition.specs.Layout.{starters, Ready, endDefinitions, answer, answerAll, Layout, buildLayout, layout}
-use Rattle.laws.specs.Statements.{references, rawDefinitions}
+use Rattle.laws.specs.Statements.{isRaw}
 use Rattle.laws.proofs.Each.{Each, each-at, each-append, each-only, each-map, each-image, each-under}
 use Rattle.laws.proofs.Outcomes.{Ends, well, refused, next, weaker, NonZero, nonZero, Coded, Anything, atRecord-ends, unless-ends}
 use Rattle.laws.proofs.Citing.{target-at}
@@ -362,15 +362,16 @@ fuelFor-linked names constants (x ∷ table) =
 -- the literals' numbers change none of the counts
 pub priced-numbered :
     (all : List Literal) (l : List (Definition (List ℕ))) →
-    priced (entries (map (numberedDefinition all) l)) ≡ length (entries l) + references l
-unfolding entries numberedDefinition numberedEntry withLiteral priced references
+    priced (entries (map (numberedDefinition all) l)) ≡ length (entries l) + length (concat (map (λ e. e .kids) (entries l)))
+unfolding entries numberedDefinition numberedEntry withLiteral priced concat
 priced-numbered all [] = refl
-priced-numbered all (define e ∷ l) = let ih = priced-numbered all l in omega arith
+priced-numbered all (define e ∷ l) =
+    omega (arith, priced-numbered all l, length-append (e .kids) (concat (map (λ e. e .kids) (entries l))))
 priced-numbered all (named kind s r ∷ l) = priced-numbered all l
 priced-numbered all (placed kind at number ∷ l) = priced-numbered all l
 
-pub raws-numbered : (all : List Literal) (l : List (Definition (List ℕ))) → raws (map (numberedDefinition all) l) ≡ rawDefinitions l
-unfolding numberedDefinition rawOne raws rawDefinitions
+pub raws-numbered : (all : List Literal) (l : List (Definition (List ℕ))) → raws (map (numberedDefinition all) l) ≡ length (only isRaw l)
+unfolding numberedDefinition rawOne raws only isRaw
 raws-numbered all [] = refl
 raws-numbered all (define e ∷ l) = let ih = raws-numbered all l in omega arith
 raws-numbered all (named kind s r ∷ l) = let ih = raws-numbered all l in omega arith

@@ -11,7 +11,7 @@ use Rattle.definition.specs.Basics.{good, bad, lookup}
 use Rattle.definition.specs.Resolving.{Node, Mark}
 use Rattle.definition.specs.Building.{Pool, Row, Rows, slotsOf, kidsOf, writeRaw, indexOf, takeIndex, rowIndex, rawRows}
 use Rattle.definition.specs.Layout.{indexNodes, nodeAt}
-use Rattle.laws.specs.Statements.{RowsOccur, rawOnly, afterRow, Used, ExactlySeventeen}
+use Rattle.laws.specs.Statements.{RowsOccur, rawOnly, afterRow, ExactlySeventeen}
 use Rattle.laws.proofs.Lists.{none≢some, order, equal}
 use Rattle.laws.proofs.Results.{bad≢good, good-inj, good-first}
 use Rattle.laws.proofs.Tables.{lookup-hit, lookup-miss, Rising, keys, keys-map, keys-reverse, rising-none}
@@ -176,6 +176,10 @@ rowsSound (rawOnly top constants definitions d nodes p p′ n marks waiting h e)
     let q = waiting-keys nodes n marks (d .indexes) p p′ waiting e in
     record { rising = rw q r; few = omega arith }
 rowsSound (afterRow row i rows rows′ o h) = row-sound row i rows rows′ (rowsSound o) h
+
+-- an index is used: written, or kept by a raw bootstrap
+abbrev Used : Rows → ℕ → Type 0
+Used rows i = (i < length (rows .written)) ⊎ ((r : Row) × (lookup i (rows .waiting) ≡ some r))
 
 pub exactlySeventeen : ExactlySeventeen
 exactlySeventeen rows row o = (used, refused)

@@ -16,11 +16,11 @@ use Rattle.definition.specs.Numbering.{Literal, sameLiteral, attributeName, ent
 use Rattle.definition.specs.Slots.{highestSlot}
 use Rattle.definition.specs.Layout.{Layout, layout}
 use Rattle.definition.specs.Run.{Built, render, Placed, build, Lent, longestJob, enough, fits, run}
-use Rattle.laws.specs.Statements.{skeleton, hasLiteral, Alike, RoomEnough, Shape}
+use Rattle.laws.specs.Statements.{skeleton, Alike, RoomEnough, Shape}
 use Rattle.laws.proofs.Lists.{tests-agree, equal, position-agree, map-some, map-agree}
 use Rattle.laws.proofs.Results.{past-unless}
 use Rattle.laws.proofs.Numbering.{sameLiteral-iff}
-use Rattle.laws.proofs.Bare.{litOf, Bare, entries-bare}
+use Rattle.laws.proofs.Bare.{stands-among, hasLiteral, litOf, Bare, entries-bare}
 
 -- an entry without its literal
 abbrev stripped : Entry (List ℕ) Reference → Entry (Unit {0}) Reference
@@ -154,7 +154,7 @@ module _
       (carry-both (litOf x₁) (litOf y₁) (litOf x₂) (litOf y₂) (tags i x₁ x₂ p₁ p₂) (tags k y₁ y₂ (h₁ .1) (h₂ .1))
       (entries-bare bytes₁ j₁ formed₁ i x₁ p₁) (entries-bare bytes₁ j₁ formed₁ k y₁ (h₁ .1))
       (entries-bare bytes₂ j₂ formed₂ i x₂ p₂) (entries-bare bytes₂ j₂ formed₂ k y₂ (h₂ .1))
-      (alike .sameEqualities i k x₁ y₁ x₂ y₂ p₁ (h₁ .1) p₂ (h₂ .1)))
+      (λ s h. alike .sameEqualities i k x₁ y₁ x₂ y₂ p₁ (h₁ .1) p₂ (h₂ .1) s (stands-among (x₁ .tag) (1 ∷ 3 ∷ 4 ∷ 5 ∷ 6 ∷ []) h)))
 
   -- so a literal has one number in both
   same-number :

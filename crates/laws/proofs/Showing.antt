@@ -18,12 +18,13 @@ use Rattle.definition.specs.Slots.{highestSlot}
 use Rattle.definition.specs.Building.{Row, contentOf, kidsOf}
 use Rattle.definition.specs.Layout.{Layout, layout}
 use Rattle.definition.specs.Run.{shown}
-use Rattle.laws.specs.Statements.{IsBytes, Among, times, Finished, namings, leadsTo, slotShows, numberShows, Pairwise, Shows, rowShown}
+use Rattle.laws.specs.Statements.{IsBytes, Among, Finished, namings, leadsTo, slotShows, numberShows, Shows}
 use Rattle.laws.proofs.Lists.{clash, some-inj, found-read, found-append, map-at}
-use Rattle.laws.proofs.Each.{Both}
+use Rattle.laws.proofs.Each.{Both, both-length, both-at}
 use Rattle.laws.proofs.Tables.{some-key, some-row}
-use Rattle.laws.proofs.Sums.{once-here, times-cons, among-times}
+use Rattle.laws.proofs.Sums.{times, once-here, times-cons, among-times}
 use Rattle.laws.proofs.Chunks.{length-from, from-place}
+use Rattle.laws.proofs.PoolRead.{rowShown}
 use Rattle.laws.proofs.Faithful.{Settled}
 use Rattle.laws.proofs.Contents.{spelled, content-holds}
 use Rattle.laws.proofs.Asked.{child-done, tag-found, kids-found}
@@ -172,14 +173,18 @@ module _ (bytes : List ℕ) (job : Job (List ℕ)) (l : Layout) (are : IsBytes b
             (subst (λ c. Both (SlotFor (pool bytes job l are formed laid .given)) (kidsOf (allNodes bytes job l are formed laid) c) (s .2)) same (s .4))
         go (refusal code) h s = absurd (h .1)
 
-    -- and all of them
+    -- a number shows what a reference leads to
+    abbrev KidShows : Reference → ℕ → Type 0
+    KidShows r m = Shows depth finished (leadsTo finished r) m
+
+    -- all of an entry's do
     kids-show :
         (R : ℕ → ℕ → Type 0) →
         ((g : Goal) (n : ℕ) → Fine g → R (childOf (marks bytes job l are formed laid) g) n → Shows depth finished g n) →
         (rs : List Reference) (ns : List ℕ) →
         ((g : Goal) → Among g (map isOf rs) → Fine g) →
         Both R (map (childOf (marks bytes job l are formed laid)) (map isOf rs)) ns →
-        Pairwise (λ r m. Shows depth finished (leadsTo finished r) m) rs ns
+        Both KidShows rs ns
     kids-show R f [] [] fine h = tt
     kids-show R f [] (n ∷ ns) fine h = h
     kids-show R f (r ∷ rs) [] fine h = h
@@ -187,6 +192,14 @@ module _ (bytes : List ℕ) (job : Job (List ℕ)) (l : Layout) (are : IsBytes b
       subst (λ g. Shows depth finished g n) (same-goal r) (f (isOf r) n (fine (isOf r) (0, refl)) (h .0)),
       kids-show R f rs ns (λ g a. fine g (suc (a .0), a .1)) (h .1),
     )
+
+    -- which is what is asked of them: as many, and each at its place
+    kids-there :
+        (rs : List Reference) (ns : List ℕ) →
+        Both KidShows rs ns →
+        (length ns ≡ length rs)
+        × ((i : ℕ) (r : Reference) (m : ℕ) → getElem? rs i ≡ some r → getElem? ns i ≡ some m → KidShows r m)
+    kids-there rs ns h = (both-length KidShows rs ns h, λ i r m p q. both-at KidShows rs ns h i r m p q)
 
   -- what an entry became, where it comes from, and that its children's goals are fine
   record Became (e k : ℕ) : Type 0 where
@@ -231,7 +244,8 @@ module _ (bytes : List ℕ) (job : Job (List ℕ)) (l : Layout) (are : IsBytes b
       some-inj (sym (subst (λ i. getElem? (allNodes bytes job l are formed laid) i ≡ some nd) one at) ∙ b .node) in
       let range = starts-at bytes job l are formed laid n k a in
       let shows = owner-shown n (withKids ns nd) (range .0) (range .2) (own .1 ∙ ap some same) in
-      let kids = subst (λ cs. Both (NumberFor (allNodes bytes job l are formed laid) (pool bytes job l are formed laid .given) (rows bytes job l are formed laid)) cs ns) (ap (λ (y : Node). y .kids) is ∙ b .kids) nums in (
+      let kids = subst (λ cs. Both (NumberFor (allNodes bytes job l are formed laid) (pool bytes job l are formed laid .given) (rows bytes job l are formed laid)) cs ns) (ap (λ (y : Node). y .kids) is ∙ b .kids) nums in
+      let there = kids-there depth heldShow rowShow (z .kids) ns (kids-show depth heldShow rowShow (NumberFor (allNodes bytes job l are formed laid) (pool bytes job l are formed laid .given) (rows bytes job l are formed laid)) (number-shows depth heldShow rowShow) (z .kids) ns (b .fine) kids) in (
         z,
         spelled (literals job) (withKids ns nd),
         b .from-job .there,
@@ -239,7 +253,8 @@ module _ (bytes : List ℕ) (job : Job (List ℕ)) (l : Layout) (are : IsBytes b
         ap (λ (y : Node). y .tag) is ∙ b .from-job .sameTag,
         ap (λ (y : Node). literalOf (literals job) (y .literal)) is ∙ b .from-job .literalIs,
         ap (λ (y : Node). y .byte) is ∙ b .from-job .sameByte,
-        kids-show depth heldShow rowShow (NumberFor (allNodes bytes job l are formed laid) (pool bytes job l are formed laid .given) (rows bytes job l are formed laid)) (number-shows depth heldShow rowShow) (z .kids) ns (b .fine) kids,
+        there .0,
+        there .1,
       )
 
   row-step : (depth : ℕ) → HeldShow depth → RowShow depth → RowShow (suc depth)
@@ -249,7 +264,8 @@ module _ (bytes : List ℕ) (job : Job (List ℕ)) (l : Layout) (are : IsBytes b
       let z = b .from-job .entry in
       let tag : z .tag ≡ bootstrapTag = sym (b .tag) ∙ t in
       let plain = row-plain z (b .from-job .formed) tag in
-      let kids = subst (λ cs. Both (SlotFor (pool bytes job l are formed laid .given)) cs row) (kids-found (allNodes bytes job l are formed laid) k _ (b .node) ∙ b .kids) slots in (
+      let kids = subst (λ cs. Both (SlotFor (pool bytes job l are formed laid .given)) cs row) (kids-found (allNodes bytes job l are formed laid) k _ (b .node) ∙ b .kids) slots in
+      let there = kids-there depth heldShow rowShow (z .kids) row (kids-show depth heldShow rowShow (SlotFor (pool bytes job l are formed laid .given)) (slot-shows depth heldShow rowShow) (z .kids) row (b .fine) kids) in (
         z,
         rowShown row,
         b .from-job .there,
@@ -257,7 +273,8 @@ module _ (bytes : List ℕ) (job : Job (List ℕ)) (l : Layout) (are : IsBytes b
         sym tag,
         sym (plain .0),
         sym (plain .1),
-        kids-show depth heldShow rowShow (SlotFor (pool bytes job l are formed laid .given)) (slot-shows depth heldShow rowShow) (z .kids) row (b .fine) kids,
+        there .0,
+        there .1,
       )
 
   -- so to any depth

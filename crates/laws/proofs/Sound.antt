@@ -5,7 +5,7 @@ use mathlib.Core.Path.{_≡_, refl, sym, _∙_, ap}
 use Prim.Native.Nat.{ℕ, suc, _+_, _-_, _<_}
 use native.Mathlib.Omega.{arith}
 use lib.ListN.{length, length-append}
-use Rattle.definition.specs.Basics.{good, from}
+use Rattle.definition.specs.Basics.{good, concat, from}
 use Rattle.definition.specs.Shapes.{Entry, isWide}
 use Rattle.definition.specs.Definitions.{Held, Defined, tagAt}
 use Rattle.definition.specs.Resolving.{Goal, tableEntry, Node, resolveAll, nothingResolved}
@@ -53,7 +53,7 @@ total-all f held nodes p =
 pub given-cons :
     (nodes : List Node) (k s : ℕ) (given : List (ℕ × ℕ)) →
     givenSlots nodes ((k, s) ∷ given) ≡ run s (width (isWide (tagAt nodes k))) ++ givenSlots nodes given
-unfolding givenSlots from width
+unfolding givenSlots from width concat
 given-cons nodes k s given = ways (isWide (tagAt nodes k)) refl
   where
     ways : (b : Bool) → isWide (tagAt nodes k) ≡ b → givenSlots nodes ((k, s) ∷ given) ≡ run s (width (isWide (tagAt nodes k))) ++ givenSlots nodes given
@@ -67,7 +67,7 @@ tag-append nodes more k h = rw (place-front nodes more k h, tagAt)
 
 pub given-append :
     (nodes more : List Node) (given : List (ℕ × ℕ)) → Below (length nodes) given → givenSlots (nodes ++ more) given ≡ givenSlots nodes given
-unfolding givenSlots
+unfolding givenSlots concat
 given-append nodes more [] b = refl
 given-append nodes more (r ∷ given) b =
     given-cons (nodes ++ more) (r .0) (r .1) given
@@ -92,7 +92,7 @@ sound-start :
     p .slots ≡ startSlots (gapsFrom top 1 (keys held)) →
     p .given ≡ [] →
     Sound top held nodes p
-unfolding startSlots givenSlots total
+unfolding startSlots givenSlots total concat
 sound-start top held nodes p r slots given =
     record {
       rising = r;

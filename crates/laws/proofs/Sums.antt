@@ -10,8 +10,8 @@ use native.Mathlib.Omega.{arith}
 use lib.Dec.{eqb}
 use lib.ListN.{length}
 use borrow.Author.Tests.{eq-eqb, ne-eqb}
-use Rattle.definition.specs.Basics.{from}
-use Rattle.laws.specs.Statements.{Among, times}
+use Rattle.definition.specs.Basics.{only, from}
+use Rattle.laws.specs.Statements.{Among}
 use Rattle.laws.proofs.Lists.{clash, equal}
 use Rattle.laws.proofs.Chunks.{from-at, from-place}
 
@@ -61,7 +61,22 @@ pub once-here : (n x : ℕ) → x ≡ n → once n x ≡ 1
 unfolding once
 once-here n x e = rw (eq-eqb n x (sym e), once)
 
--- how often a number stands in a list, by its head and the rest
+-- how often a number stands in a list
+unfoldable pub times : ℕ → List ℕ → ℕ
+times n [] = 0
+times n (x ∷ xs) = elim (eqb n x) [ true ↦ suc (times n xs) | false ↦ times n xs ]
+
+-- so many are left if only its equals are
+pub times-only : (n : ℕ) (l : List ℕ) → times n l ≡ length (only (eqb n) l)
+unfolding times only
+times-only n [] = refl
+times-only n (x ∷ l) = go (eqb n x) refl (times-only n l)
+  where
+    go : (b : Bool) → eqb n x ≡ b → times n l ≡ length (only (eqb n) l) → times n (x ∷ l) ≡ length (only (eqb n) (x ∷ l))
+    go true e h = rw (e, times, only) (ap suc h)
+    go false e h = rw (e, times, only) h
+
+-- by its head and the rest
 pub times-cons : (n x : ℕ) (l : List ℕ) → times n (x ∷ l) ≡ once n x + times n l
 unfolding times once
 times-cons n x l = go (eqb n x) refl

@@ -1,11 +1,11 @@
 -- The visits of a built job are at most its entries, references in entries, raw definitions and requests together. Assumes nothing.
-use mathlib.Core.List.{List}
+use mathlib.Core.List.{List, map}
 use mathlib.Core.Path.{_≡_}
 use Prim.Native.Nat.{ℕ, _+_, _≤_}
 use native.Mathlib.Omega.{arith}
 use lib.Dec.{leb}
 use lib.ListN.{length}
-use Rattle.definition.specs.Basics.{Result, good, bad, atRecord, unless}
+use Rattle.definition.specs.Basics.{Result, good, bad, atRecord, unless, only, concat}
 use Rattle.definition.specs.Job.{Job, Build}
 use Rattle.definition.specs.Form.{form}
 use Rattle.definition.specs.Numbering.{entries, literals, numbered}
@@ -13,7 +13,7 @@ use Rattle.definition.specs.Slots.{highestSlot}
 use Rattle.definition.specs.Building.{buildAll, fillHoles, nameWanted, nameSlot}
 use Rattle.definition.specs.Layout.{Ready, layoutOf, buildLayout, layout}
 use Rattle.definition.specs.Run.{render, build, longestJob, enough, fits, run}
-use Rattle.laws.specs.Statements.{references, rawDefinitions, Visits}
+use Rattle.laws.specs.Statements.{isRaw, Visits}
 use Rattle.laws.proofs.Outcomes.{Ends, well, refused, next, whenGood, Anything}
 use Rattle.laws.proofs.Ready.{Runs, layout-ends, priced-numbered, raws-numbered}
 
@@ -24,7 +24,9 @@ anyhow (bad e) = refused tt
 
 -- what a job's visits are held to
 most : Job (List ℕ) → ℕ
-most job = length (entries (job .definitions)) + references (job .definitions) + rawDefinitions (job .definitions) + length (job .requests)
+most job =
+    let all = entries (job .definitions) in
+    length all + length (concat (map (λ e. e .kids) all)) + length (only isRaw (job .definitions)) + length (job .requests)
 
 buildLayout-visits :
     (n top : ℕ) (indexes : List (ℕ × ℕ)) (b : Build) (answers : List ℕ) (w : Ready) →

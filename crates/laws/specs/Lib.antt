@@ -1,4 +1,3 @@
 pub mod Starred
 pub mod Decided
 pub mod Statements
-pub mod BlockStatements

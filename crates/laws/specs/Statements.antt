@@ -1,13 +1,15 @@
--- What is promised of every job, as statements about the definition: the proofs stand in proofs/. Assumes nothing.
-use mathlib.Core.Bool.{Bool, true, false, _||_}
+-- What is promised of every job and of the block file, as statements about the definition: the proofs stand in proofs/. Assumes nothing.
+-- To read: (x : A) → P is "for every x", (x : A) × P "there is an x", P → ⊥ "not P", × "and", ⊎ "or", ↔ "exactly if", ∷ and ++ join lists,
+-- r .f is a part of r and elim goes by cases; getElem? l i ≡ some a: a stands at place i of l; getD l i d: what stands there, else d
+use mathlib.Core.Bool.{Bool, true, false}
 use mathlib.Core.List.{List, [], _∷_, _++_, map, reverse}
-use mathlib.Core.Logic.{_↔_, _⊎_}
+use mathlib.Core.Logic.{_↔_, _⊎_, _≢_}
 use mathlib.Core.Option.{Option, none, some}
 use mathlib.Core.Path.{_≡_}
-use Prim.Native.Nat.{ℕ, zero, suc, _+_, _≤_, _<_}
-use lib.Dec.{eqb, ltb}
-use lib.ListN.{length, getD, getElem?}
-use Rattle.definition.specs.Basics.{Result, good, bad, Refusal, concat, lookup, from}
+use Prim.Native.Nat.{ℕ, zero, suc, _+_, _%_, _≤_, _<_}
+use lib.Dec.{eqb}
+use lib.ListN.{length, take, getD, getElem?}
+use Rattle.definition.specs.Basics.{Result, good, bad, Refusal, only, concat, lookup, from}
 use Rattle.definition.specs.Shapes.{Kind, bootstrapTag, Entry, withLiteral, isWide}
 use Rattle.definition.specs.Job.{Reference, entry, Definition, define, named, placed, Request, Build, Job}
 use Rattle.definition.specs.Form.{form}
@@ -17,8 +19,9 @@ use Rattle.definition.specs.Resolving.{Goal, rawNumber, tableEntry, refusal, fo
 use Rattle.definition.specs.Slots.{highestSlot, Gap, size}
 use Rattle.definition.specs.Building.{Pool, allocate, Row, Rows, indexOf, rowIndex, rawRows, nameWanted}
 use Rattle.definition.specs.Layout.{Ready, endDefinitions, classSlotOf, Layout, indexNodes, layout}
-use Rattle.definition.specs.Run.{shown, Built, render, Lent, Memory, lentOf, memoryAfter, run}
+use Rattle.definition.specs.Run.{shown, Built, render, Lent, Memory, lentOf, longestJob, memoryAfter, run}
 use Rattle.definition.specs.Jvms.{Shown, readPool, readBootstraps}
+use Rattle.definition.specs.Blocks.{block, blockCount, blockAt, blockData, rightUse, rightBlock, mostBlocks, readBlocks, writeBlocks, blocksAfter}
 
 -- a byte string
 abbrev pub IsBytes : List ℕ → Type 0
@@ -34,15 +37,22 @@ Numbering =
     (job : Job (List ℕ)) (a b : Literal) → Among a (literals job) → Among b (literals job) →
     ((numberOf (literals job) a ≡ numberOf (literals job) b) ↔ (a ≡ b)) × (literalOf (literals job) (numberOf (literals job) a) ≡ a .1)
 
--- an outcome and the later contents of all that was lent are those that the definition states
-abbrev pub Meets : List ℕ → Memory → Result Refusal Built → Memory → Type 0
-Meets job before outcome after = (outcome ≡ run (lentOf before) job) × (after ≡ memoryAfter outcome before)
+-- an outcome, and what is afterwards of what was lent, are those that the definition states
+abbrev pub Meets : {O M : Type 0} → O → (O → M → M) → M → O → M → Type 0
+Meets stated afterwards before outcome after = (outcome ≡ stated) × (after ≡ afterwards outcome before)
 
--- ONE OUTCOME: no second outcome, and no second contents of a buffer, meets the statement
+-- two outcomes, and two contents, that are so are equal
+abbrev pub OnlyOne : {O M : Type 0} → O → (O → M → M) → M → Type 0
+OnlyOne {O} {M} stated afterwards before =
+    (o₁ o₂ : O) (after₁ after₂ : M) → Meets stated afterwards before o₁ after₁ → Meets stated afterwards before o₂ after₂ →
+    (o₁ ≡ o₂) × (after₁ ≡ after₂)
+
+-- ONE OUTCOME: no second outcome, and no second contents of a buffer, meets the statement of a run, of reading and of writing a block file
 abbrev pub OneOutcome : Type 0
 OneOutcome =
-    (job : List ℕ) (before : Memory) (o₁ o₂ : Result Refusal Built) (after₁ after₂ : Memory) → Meets job before o₁ after₁ →
-    Meets job before o₂ after₂ → (o₁ ≡ o₂) × (after₁ ≡ after₂)
+    ((job : List ℕ) (before : Memory) → OnlyOne (run (lentOf before) job) memoryAfter before)
+    × ((file before : List ℕ) → OnlyOne (readBlocks (length before) file) blocksAfter before)
+    × ((job before : List ℕ) → OnlyOne (writeBlocks (length before) job) blocksAfter before)
 
 -- a definition without its literal
 unfoldable pub skeleton : Definition (List ℕ) → Definition (Unit {0})
@@ -50,12 +60,8 @@ skeleton (define e) = define (withLiteral tt e)
 skeleton (named kind s r) = named kind s r
 skeleton (placed kind at number) = placed kind at number
 
--- text and the four kinds of number
-abbrev pub hasLiteral : ℕ → Bool
-hasLiteral tag = eqb tag 1 || (eqb tag 3 || (eqb tag 4 || (eqb tag 5 || eqb tag 6)))
-
--- two jobs alike but for their literals: two literals of a kind are equal in one exactly when they are in the other,
--- and a text is "BootstrapMethods" in both or neither
+-- two jobs alike but for their literals: two literals of a kind (text, or one of the four kinds of number) are equal in one exactly when
+-- they are in the other, and a text is "BootstrapMethods" in both or neither
 pub record Alike (j₁ j₂ : Job (List ℕ)) : Type 0 where
   pub sameDefinitions : map skeleton (j₁ .definitions) ≡ map skeleton (j₂ .definitions)
   pub sameRequests : j₁ .requests ≡ j₂ .requests
@@ -63,7 +69,7 @@ pub record Alike (j₁ j₂ : Job (List ℕ)) : Type 0 where
   pub sameEqualities :
       (i k : ℕ) (x₁ y₁ x₂ y₂ : Entry (List ℕ) Reference) → getElem? (entries (j₁ .definitions)) i ≡ some x₁ →
       getElem? (entries (j₁ .definitions)) k ≡ some y₁ → getElem? (entries (j₂ .definitions)) i ≡ some x₂ →
-      getElem? (entries (j₂ .definitions)) k ≡ some y₂ → x₁ .tag ≡ y₁ .tag → hasLiteral (x₁ .tag) ≡ true →
+      getElem? (entries (j₂ .definitions)) k ≡ some y₂ → x₁ .tag ≡ y₁ .tag → Among (x₁ .tag) (1 ∷ 3 ∷ 4 ∷ 5 ∷ 6 ∷ []) →
       (x₁ .literal ≡ y₁ .literal) ↔ (x₂ .literal ≡ y₂ .literal)
   pub sameAttribute :
       (i : ℕ) (x₁ x₂ : Entry (List ℕ) Reference) → getElem? (entries (j₁ .definitions)) i ≡ some x₁ →
@@ -81,24 +87,18 @@ Shape =
     ((r : Refusal) × (run lent₁ bytes₁ ≡ bad r) × (run lent₂ bytes₂ ≡ bad r))
     ⊎ ((l : Layout) × (run lent₁ bytes₁ ≡ good (render (literals j₁) l)) × (run lent₂ bytes₂ ≡ good (render (literals j₂) l)))
 
--- how many references the entries have, and how many raw definitions there are
-unfoldable pub references : List (Definition (List ℕ)) → ℕ
-references [] = 0
-references (define e ∷ rest) = length (e .kids) + references rest
-references (named kind s r ∷ rest) = references rest
-references (placed kind at number ∷ rest) = references rest
-
-unfoldable pub rawDefinitions : List (Definition (List ℕ)) → ℕ
-rawDefinitions [] = 0
-rawDefinitions (define e ∷ rest) = rawDefinitions rest
-rawDefinitions (named kind s r ∷ rest) = rawDefinitions rest
-rawDefinitions (placed kind at number ∷ rest) = suc (rawDefinitions rest)
+-- a raw constant or a raw bootstrap
+unfoldable pub isRaw : Definition (List ℕ) → Bool
+isRaw (define e) = false
+isRaw (named kind s r) = false
+isRaw (placed kind at number) = true
 
 -- VISITS: the count is at most entries, references in entries, raw definitions and requests together
 abbrev pub Visits : Type 0
 Visits =
     (bytes : List ℕ) (job : Job (List ℕ)) (lent : Lent) (b : Built) → form bytes ≡ good job → run lent bytes ≡ good b →
-    b .visits ≤ length (entries (job .definitions)) + references (job .definitions) + rawDefinitions (job .definitions) + length (job .requests)
+    let all = entries (job .definitions) in
+    b .visits ≤ length all + length (concat (map (λ e. e .kids) all)) + length (only isRaw (job .definitions)) + length (job .requests)
 
 -- FUEL: it never runs out, in the form pass, in resolving and in building: no refusal has number 0
 abbrev pub FuelLasts : Type 0
@@ -116,18 +116,11 @@ freeSlots gaps = concat (map (λ g. from (λ s. s) (g .first) (size g)) gaps)
 
 -- the slots given out to nodes, a wide one as two
 unfoldable pub givenSlots : List Node → List (ℕ × ℕ) → List ℕ
-givenSlots nodes [] = []
-givenSlots nodes (r ∷ given) =
-    elim (isWide (tagAt nodes (r .0))) [ true ↦ r .1 ∷ suc (r .1) ∷ givenSlots nodes given | false ↦ r .1 ∷ givenSlots nodes given ]
+givenSlots nodes given = concat (map (λ r. elim (isWide (tagAt nodes (r .0))) [ true ↦ r .1 ∷ suc (r .1) ∷ [] | false ↦ r .1 ∷ [] ]) given)
 
 -- raw-held slots, given-out ones and free ones, one after the other
 unfoldable pub allSlots : List (ℕ × Held) → List Node → Pool → List ℕ
 allSlots held nodes p = map (λ h. h .0) held ++ (givenSlots nodes (p .given) ++ freeSlots (p .slots .gaps))
-
--- how often a number stands in a list
-unfoldable pub times : ℕ → List ℕ → ℕ
-times n [] = 0
-times n (x ∷ xs) = elim (eqb n x) [ true ↦ suc (times n xs) | false ↦ times n xs ]
 
 -- the pools that occur over a highest slot: after record 50, after each slot request, while more is resolved and the building stack
 -- is taken from
@@ -151,7 +144,7 @@ pub data Occurs (top : ℕ) : List (ℕ × Held) → List Node → Pool → Type
 abbrev pub Kept : Type 0
 Kept =
     (top : ℕ) (held : List (ℕ × Held)) (nodes : List Node) (p : Pool) → Occurs top held nodes p → (length (allSlots held nodes p) ≡ top)
-    × ((s : ℕ) → 1 ≤ s → s ≤ top → times s (allSlots held nodes p) ≡ 1)
+    × ((s : ℕ) → 1 ≤ s → s ≤ top → length (only (eqb s) (allSlots held nodes p)) ≡ 1)
 
 -- KEEPS: a constant given a slot keeps it
 abbrev pub Keeps : Type 0
@@ -159,6 +152,7 @@ Keeps =
     (nodes : List Node) (ldc : Bool) (k s : ℕ) (p p′ : Pool) → allocate nodes ldc k p ≡ good (s, p′) → (lookup k (p′ .given) ≡ some s)
     × ((k′ s′ : ℕ) → lookup k′ (p .given) ≡ some s′ → lookup k′ (p′ .given) ≡ some s′)
 
+-- a slot is free
 abbrev pub Free : Pool → ℕ → Type 0
 Free p s = Among s (freeSlots (p .slots .gaps))
 
@@ -182,28 +176,23 @@ pub data RowsOccur : Rows → Type 0 where
       RowsOccur (record { written = []; waiting = waiting; inline = [] })
   afterRow : (row : Row) (i : ℕ) (rows rows′ : Rows) → RowsOccur rows → rowIndex row rows ≡ good (i, rows′) → RowsOccur rows′
 
--- an index is used: written, or kept by a raw bootstrap
-abbrev pub Used : Rows → ℕ → Type 0
-Used rows i = (i < length (rows .written)) ⊎ ((row : Row) × (lookup i (rows .waiting) ≡ some row))
-
--- EXACTLY 17: an inline row that shares no index, with all 65,535 indexes used, raw ones included
+-- EXACTLY 17: an inline row that shares no index, with all 65,535 indexes used (written, or kept by a raw bootstrap)
 abbrev pub ExactlySeventeen : Type 0
 ExactlySeventeen =
     (rows : Rows) (row : Row) → RowsOccur rows → (rowIndex row rows ≡ bad 17)
-    ↔ ((indexOf row (rows .inline) ≡ none) × ((i : ℕ) → i < 65535 → Used rows i))
+    ↔ ((indexOf row (rows .inline) ≡ none)
+    × ((i : ℕ) → i < 65535 → (i < length (rows .written)) ⊎ ((r : Row) × (lookup i (rows .waiting) ≡ some r))))
 
--- a row as the reader of bootstraps shows it
-abbrev pub rowShown : Row → Entry (List ℕ) ℕ
-rowShown row = record { tag = bootstrapTag; literal = []; byte = 0; kids = row }
-
--- READS: the pool's bytes read, under JVMS 4.4, as exactly what the layout assigns to each slot, with nothing left over, and the bootstraps'
--- bytes, under 4.7.23 and with the count returned, as exactly the rows assigned
+-- READS: the pool's bytes read, under JVMS 4.4, as exactly what the layout assigns to each slot, with nothing left over, and the
+-- bootstraps' bytes, under 4.7.23 and with the count returned, as exactly the rows assigned
 abbrev pub Reads : Type 0
 Reads =
     (bytes : List ℕ) (job : Job (List ℕ)) (l : Layout) → IsBytes bytes → form bytes ≡ good job →
     layout highestSlot (numbered job) ≡ good l →
-    (readPool (render (literals job) l .pool) ≡ some (map (shown (literals job)) (l .contents)))
-    × (readBootstraps (render (literals job) l .bootstrapCount) (render (literals job) l .bootstraps) ≡ some (map rowShown (l .rows)))
+    let b = render (literals job) l in
+    (readPool (b .pool) ≡ some (map (shown (literals job)) (l .contents)))
+    × (readBootstraps (b .bootstrapCount) (b .bootstraps)
+    ≡ some (map (λ row. record { tag = bootstrapTag; literal = []; byte = 0; kids = row }) (l .rows)))
 
 -- the name records of a job
 unfoldable pub namings : List (Definition (List ℕ)) → List Naming
@@ -224,18 +213,10 @@ leadsTo f r = goalOf (namings (f .definitions)) (length (constantsOf (f .definit
 
 -- what a slot of the finished pool shows, and what an index of the bootstraps does
 unfoldable pub slotShows : Finished → ℕ → Shown
-slotShows f zero = none
-slotShows f (suc s) = getD (f .pool) s none
+slotShows f s = getD (none ∷ f .pool) s none
 
 unfoldable pub numberShows : Finished → ℕ → ℕ → Shown
 numberShows f tag n = elim (eqb tag bootstrapTag) [ true ↦ getElem? (f .bootstraps) n | false ↦ slotShows f n ]
-
--- two lists of one length, related place by place
-abbrev pub Pairwise : (Reference → ℕ → Type 0) → List Reference → List ℕ → Type 0
-Pairwise R [] [] = Unit {0}
-Pairwise R [] (n ∷ ns) = ⊥
-Pairwise R (r ∷ rs) [] = ⊥
-Pairwise R (r ∷ rs) (n ∷ ns) = R r n × Pairwise R rs ns
 
 -- a number shows, to a depth, what a reference leads to. A raw number shows itself. An entry of the job is shown by an entry of the same
 -- tag, literal and kind byte whose references in turn show its children; a bootstrap by its row
@@ -245,8 +226,8 @@ Shows (suc depth) f (rawNumber m) n = n ≡ m
 Shows (suc depth) f (tableEntry e) n =
     (x : Entry (List ℕ) Reference) × (y : Entry (List ℕ) ℕ)
     × (getElem? (constantsOf (f .definitions) ++ bootstrapsOf (f .definitions)) e ≡ some x) × (numberShows f (x .tag) n ≡ some y)
-    × (y .tag ≡ x .tag) × (y .literal ≡ x .literal) × (y .byte ≡ x .byte)
-    × Pairwise (λ r m. Shows depth f (leadsTo f r) m) (x .kids) (y .kids)
+    × (y .tag ≡ x .tag) × (y .literal ≡ x .literal) × (y .byte ≡ x .byte) × (length (y .kids) ≡ length (x .kids))
+    × ((i : ℕ) (r : Reference) (m : ℕ) → getElem? (x .kids) i ≡ some r → getElem? (y .kids) i ≡ some m → Shows depth f (leadsTo f r) m)
 Shows (suc depth) f (refusal code) n = ⊥
 
 -- the text that a shown entry is, if it is one
@@ -256,8 +237,7 @@ textOf (some e) = elim (eqb (e .tag) 1) [ true ↦ some (e .literal) | false ↦
 
 -- the text at a slot of the finished pool; a slot at or past the count counts as the empty text, slot 0 as nothing
 unfoldable pub textAt : Finished → ℕ → Option (List ℕ)
-textAt f zero = none
-textAt f (suc s) = elim (ltb s (length (f .pool))) [ true ↦ textOf (getD (f .pool) s none) | false ↦ some [] ]
+textAt f s = getD (map textOf (none ∷ f .pool)) s (some [])
 
 -- the class name, read off the finished pool: the class slot shows a Class whose slot shows a text
 unfoldable pub classOf : Finished → Shown → Option (List ℕ)
@@ -285,3 +265,33 @@ Holds =
     IsBytes bytes → form bytes ≡ good job → run lent bytes ≡ good b → readPool (b .pool) ≡ some pool →
     readBootstraps (b .bootstrapCount) (b .bootstraps) ≡ some bootstraps →
     HeldBy (record { definitions = job .definitions; pool = pool; bootstraps = bootstraps }) (job .requests) (job .build) b
+
+-- BLOCKS READ: a file is accepted exactly if it is the blocks of n parts, at most 2,081, and the job is their used bytes, joined, isn't too
+-- long and has room. A part has 504 bytes; all but the last use 504, the last at least 1, and 0 only if it is the only one
+abbrev pub BlocksRead : Type 0
+BlocksRead =
+    (room : ℕ) (file job : List ℕ) → IsBytes file → (readBlocks room file ≡ good job)
+    ↔ ((n : ℕ) × (used : ℕ → ℕ) × (part : ℕ → List ℕ) × (1 ≤ n) × (n ≤ mostBlocks)
+    × ((k : ℕ) → k < n → (length (part k) ≡ 504) × (rightUse (eqb n 1) (eqb (suc k) n) (used k) ≡ true))
+    × (file ≡ concat (from (λ k. block k (used k) (part k)) 0 n)) × (job ≡ concat (from (λ k. take (used k) (part k)) 0 n))
+    × (length job ≤ longestJob) × (length job ≤ room))
+
+-- BLOCKS BACK: reading what writing wrote gives the job back
+abbrev pub BlocksBack : Type 0
+BlocksBack =
+    (room room′ : ℕ) (job file : List ℕ) → writeBlocks room job ≡ good file → length job ≤ room′ → readBlocks room′ file ≡ good job
+
+-- BLOCKS REFUSED, each exactly if it is the first that applies: 20 if the file is empty or no multiple of 512 bytes; 1 if it has more than
+-- 2,081 blocks; 19, at place k, if block k is the first that isn't right; 1 if their job is too long; 18 if it has no room
+abbrev pub BlocksRefused : Type 0
+BlocksRefused =
+    (room : ℕ) (file : List ℕ) (k : ℕ) →
+    let n = blockCount file in
+    let job = concat (from (λ i. blockData (blockAt file i)) 0 n) in
+    let refused : ℕ → ℕ → Type 0 = λ code place. readBlocks room file ≡ bad (record { code = code; place = place }) in
+    let noBlocks : Type 0 = (file ≡ []) ⊎ (length file % 512 ≢ 0) in
+    let rightBefore : ℕ → Type 0 = λ i. (noBlocks → ⊥) × (n ≤ mostBlocks) × ((j : ℕ) → j < i → rightBlock n file j ≡ true) in
+    (refused 20 0 ↔ noBlocks)
+    × (refused 19 k ↔ (rightBefore k × (k < n) × (rightBlock n file k ≡ false)))
+    × (refused 1 0 ↔ (((noBlocks → ⊥) × (mostBlocks < n)) ⊎ (rightBefore n × (longestJob < length job))))
+    × (refused 18 0 ↔ (rightBefore n × (length job ≤ longestJob) × (room < length job)))
