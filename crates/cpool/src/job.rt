@@ -645,12 +645,12 @@ pub(crate) struct Extent {
 
 // What a reference says: a raw number, the number of an entry, or where a name stands.
 pub(crate) enum Cited {
-    Raw(usize),
-    Entry(usize),
+    Raw(u16),
+    Entry(u16),
     Name(Extent),
 }
 
-// What follows reads at stored places, where the form pass has found a record or a part of one.
+// What follows reads at stored places, where the form pass has found a record or a part of one: it tests nothing again.
 
 // The name at a place.
 pub(crate) fn name_at(job: &[u8], at: usize) -> Extent
@@ -671,8 +671,8 @@ pub(crate) fn reference_at(job: &[u8], at: usize) -> Cited
     ensures { λ r. ⌜ WhatReference (now (job .entry)) at (λ kind a next. Cites (now (job .entry)) kind a r) ⌝ }
 {
     match writer::get_u8(job, at) {
-        0 => Cited::Raw(writer::get_u16(job, at + 1) as usize),
-        1 => Cited::Entry(writer::get_u16(job, at + 1) as usize),
+        0 => Cited::Raw(writer::get_u16(job, at + 1)),
+        1 => Cited::Entry(writer::get_u16(job, at + 1)),
         _ => Cited::Name(name_at(job, at + 1)),
     }
 }

@@ -25,10 +25,6 @@ get-u16-requires c κs = let a = c .before .before .before .args in
     let g = c .before .get-u8 .ensures in
     omega (arith, number-room (a .job .now) (a .at) (c .before .before .before .pre) (λ z. absurd (omega arith)))
 
--- src/job.rt:674:25
-cast-t7 : tie.Need-cast-t7
-cast-t7 c = search needs
-
 -- src/job.rt:675:48
 add-get-u16-2 : tie.Need-add-get-u16-2
 add-get-u16-2 c = search needs
@@ -39,10 +35,6 @@ get-u16-requires-2 c κs = let a = c .before .before .before .args in
     let e = c .match .keys2 in
     let g = c .before .get-u8 .ensures in
     omega (arith, number-room (a .job .now) (a .at) (c .before .before .before .pre) (λ z. absurd (omega arith)))
-
--- src/job.rt:675:27
-cast-t10 : tie.Need-cast-t10
-cast-t10 c = search needs
 
 -- src/job.rt:676:39
 add-name-at : tie.Need-add-name-at
@@ -77,10 +69,8 @@ reference-at-spec =
     get-u8-requires
     add-get-u16
     get-u16-requires
-    cast-t7
     add-get-u16-2
     get-u16-requires-2
-    cast-t10
     add-name-at
     name-at-requires
     returns
