@@ -3,13 +3,13 @@ use mathlib.Core.Bool.{Bool, true, false}
 use mathlib.Core.List.{List, [], _∷_}
 use mathlib.Core.Option.{Option, none, some}
 use mathlib.Core.Path.{_≡_}
-use Prim.Native.Nat.{ℕ, suc, _+_, _-_, _^_, _≤_, _<_}
+use Prim.Native.Nat.{ℕ, suc, _+_, _^_, _≤_, _<_}
 use lib.Dec.{ltb}
 use lib.ListN.{length, getD, drop}
-use Rattle.definition.specs.Basics.{Result, good, bad, _>>=_, Refusal, every, only}
+use Rattle.definition.specs.Basics.{Result, good, bad, Refusal, every, only}
 use Rattle.definition.specs.Bytes.{Parser}
-use Rattle.definition.specs.Shapes.{Kind, constant, bootstrap, Field, text, bits, byte, to, bootstrapShape, Entry, readEntry}
-use Rattle.definition.specs.Job.{Reference, Definition, define, named, placed, Build, Job, Body, ofEntry, ofName, ofRaw, reference, readBody}
+use Rattle.definition.specs.Shapes.{Kind, constant, bootstrap, Field, text, bits, byte, to, bootstrapShape, readEntry}
+use Rattle.definition.specs.Job.{Definition, define, named, placed, Build, Job, Body, ofEntry, ofName, ofRaw, reference, readBody}
 use Rattle.definition.specs.Form.{Counts, countOf, cites, citesEarlier, tableSize, Definitions, Requests}
 use Rattle.definition.specs.Numbering.{constantsOf, bootstrapsOf}
 use Rattle.definition.specs.Definitions.{sameKind}

@@ -4,7 +4,6 @@ use cpool::Formed;
 use cpool::JobCounts;
 use libc::STDIN_FILENO;
 use libc::STDOUT_FILENO;
-ghost use mathlib.Core.Path.{_≡_};
 ghost use Prim.Native.Nat.{_≤_};
 
 // The longest line.

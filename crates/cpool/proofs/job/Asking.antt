@@ -1,20 +1,19 @@
 -- One request of the form pass, and 60. Assumes nothing.
 use mathlib.Core.Bool.{Bool, true, false}
-use mathlib.Core.List.{List, [], _∷_}
-use mathlib.Core.Option.{Option, none, some}
-use mathlib.Core.Path.{_≡_, refl, sym, ap, _∙_}
+use mathlib.Core.List.{List, []}
+use mathlib.Core.Option.{none, some}
+use mathlib.Core.Path.{_≡_, refl, sym}
 use Prim.Native.Nat.{ℕ, zero, suc, _+_, _-_, _≤_, _<_}
 use native.Mathlib.Nat.{add-zero}
-use native.Mathlib.Numerals.{add-one}
 use native.Mathlib.Omega.{arith}
 use lib.Dec.{ltb}
 use lib.ListN.{length, getD, drop, drop-of-length-le}
 use lib.Seq.{drop-cons}
 use borrow.Author.Tests.{ltb-true, ltb-false}
-use Rattle.definition.specs.Basics.{Result, good, bad, atRecord, unless, lookup, only}
-use Rattle.definition.specs.Bytes.{Parser, return, andThen, one, two}
+use Rattle.definition.specs.Basics.{bad, atRecord, unless, lookup, only}
+use Rattle.definition.specs.Bytes.{two}
 use Rattle.definition.specs.Shapes.{constant}
-use Rattle.definition.specs.Job.{Reference, Request, ClassSlot, slot, request, Build, reference, asks, readRequest, classForm, nameForm, readBuild}
+use Rattle.definition.specs.Job.{slot, request, reference, asks, readRequest, classForm, nameForm, readBuild}
 use Rattle.definition.specs.Form.{Counts, cites, citesRequest, whole, formRequest, nothingBehind, formBuild}
 use Rattle.definition.specs.Numbering.{entries, constantsOf, bootstrapsOf}
 use Rattle.cpool.specs.declared.job.JobCounts.{JobCounts}

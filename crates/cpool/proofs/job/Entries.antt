@@ -1,21 +1,21 @@
 -- Skipping an entry does as the definition's reader of its fields. Assumes nothing.
-use mathlib.Core.Bool.{Bool, true, false, _&&_, and-true, and-assoc}
-use mathlib.Core.List.{List, [], _∷_, _++_}
-use mathlib.Core.Option.{Option, none, some}
-use mathlib.Core.Path.{_≡_, refl, sym, ap, _∙_}
-use Prim.Native.Nat.{ℕ, zero, suc, _+_, _*_, _-_, _≤_, _<_}
+use mathlib.Core.Bool.{Bool, true, _&&_, and-true}
+use mathlib.Core.List.{List, [], _∷_}
+use mathlib.Core.Option.{none}
+use mathlib.Core.Path.{_≡_, refl, sym}
+use Prim.Native.Nat.{ℕ, _+_, _-_, _≤_, _<_}
 use native.Mathlib.Numerals.{add-one}
 use native.Mathlib.Omega.{arith}
 use lib.ListN.{length, getD, drop}
 use Rattle.definition.specs.Basics.{every}
-use Rattle.definition.specs.Bytes.{Parser, return, andThen, _>>=_, one, two, many}
-use Rattle.definition.specs.Shapes.{Kind, constant, bootstrap, Field, text, bits, byte, to, toMany, bootstrapShape, Entry, withKids, withLiteral, withByte, readFields, readEntry}
-use Rattle.definition.specs.Job.{Reference, reference}
+use Rattle.definition.specs.Bytes.{return, _>>=_, one, many}
+use Rattle.definition.specs.Shapes.{Kind, constant, Field, text, bits, byte, to, bootstrapShape, withKids, withLiteral, withByte, readFields, readEntry}
+use Rattle.definition.specs.Job.{reference}
 use Rattle.definition.specs.Form.{Counts, countOf, cites}
 use Rattle.cpool.specs.declared.job.Skipped.{Skipped}
 use Rattle.cpool.specs.declared.job.Skipped.the-variants.{To, Cut}
 use Rattle.cpool.specs.Forms.{Read, Skips, SkipsReference, SkipsEntry}
-use Rattle.cpool.proofs.job.Laws.{number, two-at, two-cut, then-one, none-one, then-two, none-two, mapped}
+use Rattle.cpool.proofs.job.Laws.{number, two-at, two-cut, then-one, none-one, then-two, mapped}
 
 -- a reference that is skipped takes a byte or more, and ends within the job
 pub reference-bounds :

@@ -1,18 +1,18 @@
 -- Skipping a part of a record does as the definition's reader of that part. Assumes nothing.
-use mathlib.Core.Bool.{Bool, true, false, _&&_}
-use mathlib.Core.List.{List, [], _∷_, _++_}
-use mathlib.Core.Option.{Option, none, some}
-use mathlib.Core.Path.{_≡_, refl, sym, ap, _∙_}
+use mathlib.Core.Bool.{Bool, true, false}
+use mathlib.Core.List.{List, [], _∷_}
+use mathlib.Core.Option.{none, some}
+use mathlib.Core.Path.{_≡_, refl, _∙_}
 use Prim.Native.Nat.{ℕ, zero, suc, _+_, _*_, _-_, _≤_, _<_}
 use native.Mathlib.Numerals.{add-one}
 use native.Mathlib.Omega.{arith}
 use lib.Dec.{ltb}
 use lib.ListN.{length, getD, take, drop, length-drop, drop-of-length-le}
 use lib.Seq.{drop-cons, drop-drop}
-use borrow.Author.Tests.{ltb-true, ltb-false, lt-ltb, ne-eqb}
-use Rattle.definition.specs.Bytes.{Parser, return, andThen, _>>=_, one, two, many}
-use Rattle.definition.specs.Shapes.{Kind, constant, bootstrap}
-use Rattle.definition.specs.Job.{Reference, raw, entry, name, shortName, referenceForm, reference}
+use borrow.Author.Tests.{ltb-true, ltb-false}
+use Rattle.definition.specs.Bytes.{Parser, return, _>>=_, one, two, many}
+use Rattle.definition.specs.Shapes.{Kind}
+use Rattle.definition.specs.Job.{raw, entry, name, shortName, referenceForm, reference}
 use Rattle.definition.specs.Form.{Counts, countOf, cites}
 use Rattle.cpool.specs.declared.job.Skipped.{Skipped}
 use Rattle.cpool.specs.declared.job.Skipped.the-variants.{To, Cut}

@@ -1,18 +1,17 @@
 -- The records of a job that the form pass accepts stand one behind the other. Assumes nothing.
 use mathlib.Core.Bool.{true}
 use mathlib.Core.List.{List, [], _∷_}
-use mathlib.Core.Option.{Option, none, some}
+use mathlib.Core.Option.{none, some}
 use mathlib.Core.Path.{_≡_, refl, sym, ap, subst, _∙_}
-use Prim.Native.Nat.{ℕ, zero, suc, _+_, _-_, _≤_, _<_}
+use Prim.Native.Nat.{ℕ, zero, suc, _<_}
 use native.Mathlib.Numerals.{add-one}
 use native.Mathlib.Omega.{arith}
 use lib.Dec.{eqb}
 use lib.ListN.{length, drop, getElem?}
-use lib.Seq.{drop-drop}
 use borrow.Author.Tests.{eqb-true}
 use Rattle.definition.specs.Basics.{good, atRecord, unless, lookup}
 use Rattle.definition.specs.Bytes.{Parser, _>>=_, one}
-use Rattle.definition.specs.Job.{Definition, Request, Build, Job, readDefinition, asks, readRequest, readBuild}
+use Rattle.definition.specs.Job.{Build, Job, readDefinition, asks, readRequest, readBuild}
 use Rattle.definition.specs.Form.{Counts, counted, whole, hasRoom, cites, citesEarlier, citesRequest, formDefinition, Definitions, formDefinitions, formRequest, nothingBehind, formBuild, Requests, formRequests, form}
 use Rattle.laws.proofs.Lists.{clash, true≢false}
 use Rattle.laws.proofs.Results.{bad≢good, good-inj, good-then, atRecord-good, unless-good, whole-good, decided}

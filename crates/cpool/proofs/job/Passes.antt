@@ -1,12 +1,10 @@
 -- The two loops of the form pass: what is left to do from a place on comes to the whole. Assumes nothing.
-use mathlib.Core.Bool.{Bool, true, false}
 use mathlib.Core.List.{List, [], _∷_}
-use mathlib.Core.Path.{_≡_, refl, sym, ap, _∙_}
+use mathlib.Core.Path.{_≡_, refl, _∙_}
 use Prim.Native.Nat.{ℕ, zero, suc, _+_, _-_, _≤_, _<_}
 use native.Mathlib.Nat.{add-zero, add-suc}
 use native.Mathlib.Numerals.{add-one}
 use native.Mathlib.Omega.{arith}
-use lib.Dec.{eqb}
 use lib.ListN.{length, getD, drop, drop-of-length-le}
 use lib.Seq.{drop-cons}
 use borrow.Author.Tests.{eq-eqb, ne-eqb}
@@ -19,7 +17,7 @@ use Rattle.definition.specs.Definitions.{sameKind}
 use Rattle.cpool.specs.declared.job.JobCounts.{JobCounts}
 use Rattle.cpool.specs.declared.job.Formed.{Formed}
 use Rattle.cpool.specs.declared.job.Formed.the-variants as formed
-use Rattle.cpool.specs.Forms.{referencesIn, isNaming, isPlacing, countsOf, plus, tables, tablesIn, Moved, tallied, placeOf, formedRequests, formedBuild}
+use Rattle.cpool.specs.Forms.{referencesIn, countsOf, plus, tables, tablesIn, Moved, tallied, placeOf, formedRequests, formedBuild}
 use Rattle.cpool.proofs.job.Counting.{plus-assoc, plus-none, counts-more, in-table, one-constant, one-bootstrap}
 
 -- ---- the definitions

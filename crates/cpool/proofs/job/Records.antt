@@ -10,7 +10,7 @@ use lib.ListN.{length, drop}
 use Rattle.definition.specs.Basics.{every}
 use Rattle.definition.specs.Bytes.{return, _>>=_, two}
 use Rattle.definition.specs.Shapes.{Kind, Field, readEntry}
-use Rattle.definition.specs.Job.{Reference, Definition, define, named, placed, Body, ofEntry, ofName, ofRaw, shortName, reference, readBody}
+use Rattle.definition.specs.Job.{define, named, placed, ofEntry, ofName, ofRaw, shortName, reference, readBody}
 use Rattle.definition.specs.Form.{Counts, countOf, cites, citesEarlier}
 use Rattle.cpool.specs.declared.job.Skipped.{Skipped}
 use Rattle.cpool.specs.declared.job.Skipped.the-variants.{To, Cut}

@@ -1,20 +1,19 @@
 -- Skipping several references, one after the other. Assumes nothing.
-use mathlib.Core.Bool.{Bool, true, false, _&&_, and-true, and-assoc}
+use mathlib.Core.Bool.{Bool, true, _&&_, and-true, and-assoc}
 use mathlib.Core.List.{List, [], _∷_, _++_, append-nil}
 use mathlib.Core.Option.{Option, none, some}
-use mathlib.Core.Path.{_≡_, refl, sym, ap, _∙_}
-use Prim.Native.Nat.{ℕ, zero, suc, _+_, _-_, _≤_, _<_}
+use mathlib.Core.Path.{_≡_, refl, sym, _∙_}
+use Prim.Native.Nat.{ℕ, suc, _+_, _-_, _≤_, _<_}
 use native.Mathlib.Omega.{arith}
 use lib.ListN.{length, drop, length-append}
 use lib.Seq.{append-snoc}
 use Rattle.definition.specs.Basics.{every}
-use Rattle.definition.specs.Bytes.{Parser, andThen, many}
+use Rattle.definition.specs.Bytes.{andThen, many}
 use Rattle.definition.specs.Shapes.{constant}
 use Rattle.definition.specs.Job.{Reference, reference}
-use Rattle.definition.specs.Form.{Counts, countOf, cites}
-use Rattle.cpool.specs.declared.job.Skipped.{Skipped}
-use Rattle.cpool.specs.declared.job.Skipped.the-variants.{To, Cut}
-use Rattle.cpool.specs.Forms.{Read, Skips, SkipsReference}
+use Rattle.definition.specs.Form.{Counts, cites}
+use Rattle.cpool.specs.declared.job.Skipped.the-variants.{To}
+use Rattle.cpool.specs.Forms.{Read, Skips}
 
 -- what was read so far, in front of what the rest gives
 abbrev pub prepend : {A : Type 0} → List A → Option (List A × List ℕ) → Option (List A × List ℕ)

@@ -9,7 +9,7 @@ use lib.ListN.{length, getD, take, drop, length-drop}
 use Rattle.laws.proofs.Lists.{none≢some, true≢false, some-inj}
 use Rattle.laws.proofs.Results.{some-then}
 use Rattle.definition.specs.Basics.{lookup}
-use Rattle.definition.specs.Bytes.{Parser, return, andThen, _>>=_, one, two, many}
+use Rattle.definition.specs.Bytes.{return, andThen, _>>=_, one, two, many}
 use Rattle.definition.specs.Shapes.{Kind, constant, bootstrap, Field, text, bits, byte, to, toMany, bootstrapShape, Entry, withKids, withLiteral, withByte, readFields, readEntry}
 use Rattle.definition.specs.Job.{Reference, raw, entry, name, Definition, define, named, placed, Request, ClassSlot, slot, request, Build, Body, ofEntry, ofName, ofRaw, bodies, shortName, referenceForm, reference, readBody, readDefinition, asks, readRequest, classForm, nameForm, readBuild}
 use Rattle.cpool.specs.declared.job.Extent.{Extent}
@@ -20,7 +20,7 @@ use Rattle.cpool.specs.declared.job.Shape.the-variants.{Constant, Bootst
 use Rattle.cpool.specs.Forms.{fieldsOf, bodyOf}
 use Rattle.cpool.specs.Stored.{Found, InTurn, Spans, anyDefinition, anyRequest}
 use Rattle.cpool.proofs.job.Laws.{number}
-use Rattle.cpool.proofs.job.Taking.{takes-name, takes-reference, takes-definition, same-place, finds, finds-then, byte-then, two-then, bytes-then, ends}
+use Rattle.cpool.proofs.job.Taking.{takes-name, takes-reference, finds-then, byte-then, two-then, bytes-then, ends}
 
 -- from a place on, so many bytes
 abbrev pub extent : ℕ → ℕ → Extent

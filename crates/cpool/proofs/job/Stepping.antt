@@ -3,18 +3,18 @@ use mathlib.Core.Bool.{Bool, true, false}
 use mathlib.Core.List.{List, [], _∷_, _++_}
 use mathlib.Core.Option.{Option, none, some}
 use mathlib.Core.Path.{_≡_, refl, sym, ap, _∙_}
-use Prim.Native.Nat.{ℕ, suc, _+_, _≤_, _<_}
+use Prim.Native.Nat.{ℕ, _+_}
 use native.Mathlib.Omega.{arith}
-use lib.ListN.{length, getD, drop}
+use lib.ListN.{getD, drop}
 use Rattle.laws.proofs.Lists.{clash}
 use Rattle.laws.proofs.Results.{some-then}
-use Rattle.definition.specs.Basics.{Result, good, bad, unless, only}
-use Rattle.definition.specs.Bytes.{Parser, return, andThen, one, two, many}
+use Rattle.definition.specs.Basics.{bad, unless, only}
+use Rattle.definition.specs.Bytes.{return, andThen, one, two, many}
 use Rattle.definition.specs.Shapes.{Kind, constant, bootstrap, Field, text, bits, byte, to, toMany, bootstrapShape, Entry, withKids, withLiteral, withByte, readFields, readEntry}
-use Rattle.definition.specs.Job.{Reference, Definition, define, named, placed, ofEntry, ofName, ofRaw, shortName, reference, bodies, readBody, readDefinition}
+use Rattle.definition.specs.Job.{Reference, Definition, define, named, placed, ofEntry, ofName, ofRaw, shortName, reference, readBody, readDefinition}
 use Rattle.definition.specs.Form.{Counts, countOf, kindOf, whole, hasRoom, citesEarlier, formDefinition}
 use Rattle.definition.specs.Definitions.{sameKind}
-use Rattle.definition.specs.Numbering.{entries, isBootstrap, constantsOf, bootstrapsOf}
+use Rattle.definition.specs.Numbering.{entries, constantsOf, bootstrapsOf}
 use Rattle.cpool.specs.declared.job.JobCounts.{JobCounts}
 use Rattle.cpool.specs.declared.job.Fields.{Fields}
 use Rattle.cpool.specs.declared.job.Shape.{Shape}

@@ -1,22 +1,20 @@
 -- What the readers at stored places rest on: they stay inside the job, and find what stands there. Assumes nothing.
 use mathlib.Core.Bool.{Bool, true, false, _&&_}
 use mathlib.Core.List.{List, [], _∷_}
-use mathlib.Core.Logic.{_⊎_, inl, inr}
-use mathlib.Core.Option.{Option, none, some}
-use mathlib.Core.Path.{_≡_, refl, sym, ap, subst, _∙_}
+use mathlib.Core.Path.{_≡_, refl, sym, ap, _∙_}
 use Prim.Native.Nat.{ℕ, zero, suc, _+_, _-_, _≤_, _<_}
 use native.Mathlib.Nat.{add-zero}
 use native.Mathlib.Numerals.{add-one}
 use native.Mathlib.Omega.{arith}
 use lib.Dec.{eqb}
-use lib.ListN.{length, getD, take, drop, length-drop}
+use lib.ListN.{length, getD, drop, length-drop}
 use lib.Seq.{drop-drop}
 use borrow.Author.Tests.{ne-eqb}
 use types.Run.{OneOf, miss}
 use denote.Enum.Declared.{tagOf}
 use Rattle.definition.specs.Basics.{lookup}
-use Rattle.definition.specs.Shapes.{Kind, constant, bootstrap, Field, Entry, bootstrapShape}
-use Rattle.definition.specs.Job.{Reference, raw, entry, name, Definition, define, bodies, shortName, reference}
+use Rattle.definition.specs.Shapes.{Kind, constant, bootstrap, Entry, bootstrapShape}
+use Rattle.definition.specs.Job.{Reference, name, define, bodies, shortName, reference}
 use Rattle.definition.specs.Form.{kindOf}
 use Rattle.cpool.specs.declared.job.Extent.{Extent}
 use Rattle.cpool.specs.declared.job.Cited.the-variants as cited
@@ -29,7 +27,7 @@ use Rattle.cpool.proofs.job.Shape.{the-type}
 use Rattle.cpool.specs.Forms.{fieldsOf, bodyOf, tableOf}
 use Rattle.cpool.specs.Stored.{Found, InTurn, Stands, WhatStands, ReferenceStands, WhatReference, EntryStands, WhatEntry, Spans, Cites, anyDefinition, firstKind, kindIn, kidKind, gapAfter, KidAt}
 use Rattle.cpool.proofs.job.Laws.{number}
-use Rattle.cpool.proofs.job.Standing.{extent, spans, name-there, Says, reference-says, Refers, KidsAre, FieldsAre, BootstrapIs, EntryIs, tag-there, entry-there}
+use Rattle.cpool.proofs.job.Standing.{extent, spans, name-there, Says, reference-says, Refers, FieldsAre, BootstrapIs, EntryIs, tag-there, entry-there}
 
 -- how many references a constant has, by its fields
 abbrev pub kidsOf : Fields → ℕ

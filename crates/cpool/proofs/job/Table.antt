@@ -1,15 +1,14 @@
 -- The table of shapes, by tag. Assumes nothing.
 use mathlib.Core.Bool.{Bool, true, false}
 use mathlib.Core.List.{List, [], _∷_}
-use mathlib.Core.Logic.{_⊎_, inl, inr}
-use mathlib.Core.Option.{Option, none, some}
+use mathlib.Core.Option.{none}
 use mathlib.Core.Path.{_≡_, refl, sym}
 use Prim.Native.Nat.{ℕ, zero, suc, _+_, _≤_, _<_}
 use native.Mathlib.Omega.{arith}
 use lib.Dec.{eqb}
 use borrow.Author.Tests.{ne-eqb, eqb-true, eqb-false}
 use Rattle.definition.specs.Basics.{lookup}
-use Rattle.definition.specs.Shapes.{shapes, constant}
+use Rattle.definition.specs.Shapes.{shapes}
 use Rattle.definition.specs.Job.{bodies}
 use Rattle.definition.specs.Form.{kindOf}
 use Rattle.cpool.specs.declared.job.Shape.{Shape}

@@ -12,10 +12,10 @@ use borrow.Author.Tests.{ltb-true, ltb-false}
 use Rattle.laws.proofs.Lists.{none≢some}
 use Rattle.laws.proofs.Results.{some-then}
 use Rattle.definition.specs.Basics.{lookup}
-use Rattle.definition.specs.Bytes.{Parser, return, fail, andThen, _>>=_, one, two, many}
-use Rattle.definition.specs.Shapes.{Kind, constant, bootstrap, Field, text, bits, byte, to, toMany, Entry, withKids, withLiteral, withByte, readFields, readEntry}
-use Rattle.definition.specs.Job.{Reference, raw, entry, name, Definition, define, named, placed, Body, ofEntry, ofName, ofRaw, bodies, asks, shortName, referenceForm, reference, readBody, readDefinition, readRequest}
-use Rattle.cpool.specs.Stored.{Found, InTurn, anyDefinition, anyRequest}
+use Rattle.definition.specs.Bytes.{Parser, return, fail, _>>=_, one, two, many}
+use Rattle.definition.specs.Shapes.{Kind, constant, Field, text, bits, byte, to, toMany, Entry, withKids, withLiteral, withByte, readFields, readEntry}
+use Rattle.definition.specs.Job.{Reference, raw, entry, name, define, named, placed, Body, ofEntry, ofName, ofRaw, bodies, asks, shortName, referenceForm, reference, readBody, readDefinition, readRequest}
+use Rattle.cpool.specs.Stored.{Found, anyDefinition, anyRequest}
 use Rattle.cpool.proofs.job.Laws.{number, many-reads, many-cut, one-at, one-cut, two-at, two-cut}
 
 -- whatever a parser reads, it takes at least so many bytes from the front and leaves the others

@@ -1,14 +1,14 @@
 -- The form pass over a whole job: its definitions, then its requests and 60. Assumes nothing.
-use mathlib.Core.List.{List, [], _∷_}
+use mathlib.Core.List.{List, []}
 use mathlib.Core.Path.{_≡_, refl, sym, ap, _∙_}
-use Prim.Native.Nat.{ℕ, suc, _+_, _-_}
+use Prim.Native.Nat.{ℕ, suc, _-_}
 use native.Mathlib.Nat.{add-zero, zero-add}
 use native.Mathlib.Omega.{arith}
 use lib.ListN.{length, drop}
 use Rattle.laws.proofs.Lists.{clash}
 use Rattle.laws.proofs.Results.{good-inj}
 use Rattle.definition.specs.Basics.{Result, good, bad, _>>=_, Refusal, only}
-use Rattle.definition.specs.Job.{Definition, Job}
+use Rattle.definition.specs.Job.{Definition}
 use Rattle.definition.specs.Form.{Counts, Definitions, formDefinitions, Requests, formRequests, form}
 use Rattle.definition.specs.Numbering.{entries, constantsOf, bootstrapsOf}
 use Rattle.cpool.specs.declared.job.JobCounts.{JobCounts}

@@ -1,5 +1,5 @@
 use native.Mathlib.Omega.{arith}
-use mathlib.Core.Path.{sym, _∙_}
+use mathlib.Core.Path.{_∙_}
 use Rattle.cpool.proofs.job.Stored.{number-room, number-behind, name-stands, name-behind}
 use borrow.Author.Needs.{needs}
 use Rattle.cpool.proofs.job.after_reference.Statement.{statement}

@@ -1,5 +1,4 @@
 use native.Mathlib.Omega.{arith}
-use mathlib.Core.Path.{sym, _∙_}
 use Rattle.cpool.proofs.job.Stored.{name-room, name-spans}
 use borrow.Author.Needs.{needs}
 use Rattle.cpool.proofs.job.name_at.Statement.{statement}

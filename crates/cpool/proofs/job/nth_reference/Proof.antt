@@ -1,6 +1,6 @@
 use mathlib.Core.Path.{_≡_, subst}
 use native.Mathlib.Omega.{arith}
-use Prim.Native.Nat.{_+_, _-_, _<_, _≤_}
+use Prim.Native.Nat.{_-_, _<_, _≤_}
 use lib.ListN.{length}
 use Rattle.cpool.specs.Stored.{WhatEntry, KidAt}
 use borrow.Author.Needs.{needs}

@@ -1,5 +1,3 @@
-use native.Mathlib.Omega.{arith}
-use mathlib.Core.Path.{refl}
 use Rattle.cpool.proofs.job.Stored.{bootstrap-stands, count-room, bootstrap-count, constant-count}
 use borrow.Author.Needs.{needs}
 use Rattle.cpool.proofs.job.reference_count.Statement.{statement}
