@@ -111,9 +111,6 @@ module _ {A : Type 0} (ok : A → Bool) (kids : A → ℕ) (s : List ℕ) (at : 
       }
   then-two f Cut h v = rw (two-at s at h) v
 
-  pub none-two : (f : ℕ → Parser A) → length s - at < 2 → Skips (two >>= f) ok kids s at Cut
-  none-two f h = rw (two-cut s at h)
-
 -- ---- what was read, made into something else
 
 pub mapped :

@@ -1,12 +1,9 @@
+-- `form_test::counted_at_each` meets its contract. Assumes nothing.
 use lib.ListN.{length}
 use Prim.Native.Nat.{_-_, _≤_}
 use borrow.Author.Needs.{needs}
 use Rattle.form_test.proofs.counted_at_each.Statement.{statement}
 use Rattle.form_test.proofs.counted_at_each.Tie as tie
-use Rattle.form_test.proofs.counted_at_each.Reads as reads
-use Rattle.form_test.proofs.counted_at_each.Lts as lts
-use Rattle.form_test.proofs.counted_with.Reads as counted-with-reads
-use Rattle.form_test.proofs.end_line.Reads as end-line-reads
 
 abbrev Inv-loop : tie.InvT-loop
 Inv-loop job places byte i₀ i = i ≤ length places
@@ -14,39 +11,30 @@ Inv-loop job places byte i₀ i = i ≤ length places
 abbrev μ-loop : tie.MeasureT-loop
 μ-loop job places byte i₀ i = length places - i
 
--- src/main.rt:271:5
 loop-holds : tie.Need-loop-holds Inv-loop μ-loop
 loop-holds c = search needs
 
--- src/main.rt:272:27
 mul-counted-with : tie.Need-mul-counted-with Inv-loop μ-loop
 mul-counted-with c = search needs
 
--- src/main.rt:272:27
 shared-slice-read-counted-with : tie.Need-shared-slice-read-counted-with Inv-loop μ-loop
 shared-slice-read-counted-with c = search needs
 
--- src/main.rt:272:9
 counted-with-requires : tie.Need-counted-with-requires Inv-loop μ-loop
 counted-with-requires c κs = search needs
 
--- src/main.rt:273:9
 add-i : tie.Need-add-i Inv-loop μ-loop
 add-i c = search needs
 
--- src/main.rt:271:5
 loop-less : tie.Need-loop-less Inv-loop μ-loop
 loop-less c = search needs
 
--- src/main.rt:271:5
 loop-again : tie.Need-loop-again Inv-loop μ-loop
 loop-again c = search needs
 
--- src/main.rt:275:5
 end-line-requires : tie.Need-end-line-requires Inv-loop μ-loop
 end-line-requires c κs = search needs
 
--- src/main.rt:269:1
 returns : tie.Need-returns Inv-loop μ-loop
 returns c = search needs
 

@@ -1,13 +1,9 @@
+-- `form_test::cut_everywhere` meets its contract. Assumes nothing.
 use lib.ListN.{length}
 use Prim.Native.Nat.{_-_, _≤_}
 use borrow.Author.Needs.{needs}
 use Rattle.form_test.proofs.cut_everywhere.Statement.{statement}
 use Rattle.form_test.proofs.cut_everywhere.Tie as tie
-use Rattle.form_test.proofs.cut_everywhere.Reads as reads
-use Rattle.form_test.proofs.cut_everywhere.Lts as lts
-use Rattle.form_test.proofs.end_line.Reads as end-line-reads
-use Rattle.form_test.proofs.record_at.Reads as record-at-reads
-use Rattle.form_test.proofs.refused.Reads as refused-reads
 
 abbrev Inv-loop : tie.InvT-loop
 Inv-loop job n₀ n = n ≤ length job
@@ -15,47 +11,36 @@ Inv-loop job n₀ n = n ≤ length job
 abbrev μ-loop : tie.MeasureT-loop
 μ-loop job n₀ n = length job - n
 
--- src/main.rt:232:5
 loop-holds : tie.Need-loop-holds Inv-loop μ-loop
 loop-holds c = search needs
 
--- src/main.rt:233:17
 sub-refused : tie.Need-sub-refused Inv-loop μ-loop
 sub-refused c = search needs
 
--- src/main.rt:233:17
 part-refused-start : tie.Need-part-refused-start Inv-loop μ-loop
 part-refused-start c = search needs
 
--- src/main.rt:233:17
 part-refused-end : tie.Need-part-refused-end Inv-loop μ-loop
 part-refused-end c = search needs
 
--- src/main.rt:233:32
 record-at-requires : tie.Need-record-at-requires Inv-loop μ-loop
 record-at-requires c κs = search needs
 
--- src/main.rt:233:9
 refused-requires : tie.Need-refused-requires Inv-loop μ-loop
 refused-requires c κs = search needs
 
--- src/main.rt:234:9
 add-n : tie.Need-add-n Inv-loop μ-loop
 add-n c = search needs
 
--- src/main.rt:232:5
 loop-less : tie.Need-loop-less Inv-loop μ-loop
 loop-less c = search needs
 
--- src/main.rt:232:5
 loop-again : tie.Need-loop-again Inv-loop μ-loop
 loop-again c = search needs
 
--- src/main.rt:236:5
 end-line-requires : tie.Need-end-line-requires Inv-loop μ-loop
 end-line-requires c κs = search needs
 
--- src/main.rt:230:1
 returns : tie.Need-returns Inv-loop μ-loop
 returns c = search needs
 

@@ -1,11 +1,10 @@
+-- `form_test::fill` meets its contract. Assumes nothing.
 use lib.ListN.{length, length-set}
 use Prim.Native.Nat.{_-_}
 use mathlib.Core.Path.{_≡_}
 use borrow.Author.Needs.{needs}
 use Rattle.form_test.proofs.fill.Statement.{statement}
 use Rattle.form_test.proofs.fill.Tie as tie
-use Rattle.form_test.proofs.fill.Reads as reads
-use Rattle.form_test.proofs.fill.Lts as lts
 
 abbrev Inv-loop : tie.InvT-loop
 Inv-loop job₀ kind size end at₀ job at = length job ≡ length job₀
@@ -13,31 +12,24 @@ Inv-loop job₀ kind size end at₀ job at = length job ≡ length job₀
 abbrev μ-loop : tie.MeasureT-loop
 μ-loop job₀ kind size end at₀ job at = end - at
 
--- src/main.rt:335:5
 loop-holds : tie.Need-loop-holds Inv-loop μ-loop
 loop-holds c = search needs
 
--- src/main.rt:336:9
 slice-write-job : tie.Need-slice-write-job Inv-loop μ-loop
 slice-write-job c = search needs
 
--- src/main.rt:337:9
 add-at : tie.Need-add-at Inv-loop μ-loop
 add-at c = search needs
 
--- src/main.rt:335:5
 loop-less : tie.Need-loop-less Inv-loop μ-loop
 loop-less c = search needs
 
--- src/main.rt:335:5
 loop-again : tie.Need-loop-again Inv-loop μ-loop
 loop-again c = search needs
 
--- src/main.rt:331:1
 same-length : tie.Need-same-length Inv-loop μ-loop
 same-length c = search needs
 
--- src/main.rt:331:1
 returns : tie.Need-returns Inv-loop μ-loop
 returns c = search needs
 

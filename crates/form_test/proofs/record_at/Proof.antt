@@ -1,9 +1,8 @@
+-- `form_test::record_at` meets its contract. Assumes nothing.
 use Prim.Native.Nat.{_-_, _≤_}
 use borrow.Author.Needs.{needs}
 use Rattle.form_test.proofs.record_at.Statement.{statement}
 use Rattle.form_test.proofs.record_at.Tie as tie
-use Rattle.form_test.proofs.record_at.Reads as reads
-use Rattle.form_test.proofs.record_at.Lts as lts
 
 abbrev Inv-loop : tie.InvT-loop
 Inv-loop n k₀ k = k ≤ 29
@@ -11,35 +10,27 @@ Inv-loop n k₀ k = k ≤ 29
 abbrev μ-loop : tie.MeasureT-loop
 μ-loop n k₀ k = 29 - k
 
--- src/main.rt:214:5
 loop-holds : tie.Need-loop-holds Inv-loop μ-loop
 loop-holds c = search needs
 
--- src/main.rt:215:16
 mul-if1 : tie.Need-mul-if1 Inv-loop μ-loop
 mul-if1 c = search needs
 
--- src/main.rt:215:16
 array-read-if1 : tie.Need-array-read-if1 Inv-loop μ-loop
 array-read-if1 c = search needs
 
--- src/main.rt:216:13
 returns : tie.Need-returns Inv-loop μ-loop
 returns c = search needs
 
--- src/main.rt:218:9
 add-k : tie.Need-add-k Inv-loop μ-loop
 add-k c = search needs
 
--- src/main.rt:214:5
 loop-less : tie.Need-loop-less Inv-loop μ-loop
 loop-less c = search needs
 
--- src/main.rt:214:5
 loop-again : tie.Need-loop-again Inv-loop μ-loop
 loop-again c = search needs
 
--- src/main.rt:212:1
 returns-2 : tie.Need-returns-2 Inv-loop μ-loop
 returns-2 c = search needs
 

@@ -1,9 +1,8 @@
+-- `poolbatch::first_unit` meets its contract. Assumes nothing.
 use Prim.Native.Nat.{_≤_, _-_}
 use borrow.Author.Needs.{needs}
 use Rattle.poolbatch.proofs.first_unit.Statement.{statement}
 use Rattle.poolbatch.proofs.first_unit.Tie as tie
-use Rattle.poolbatch.proofs.first_unit.Reads as reads
-use Rattle.poolbatch.proofs.first_unit.Lts as lts
 
 abbrev Inv-loop : tie.InvT-loop
 Inv-loop n unit₀ unit = 1 ≤ unit
@@ -11,23 +10,18 @@ Inv-loop n unit₀ unit = 1 ≤ unit
 abbrev μ-loop : tie.MeasureT-loop
 μ-loop n unit₀ unit = n - unit
 
--- src/main.rt:30:5
 loop-holds : tie.Need-loop-holds Inv-loop μ-loop
 loop-holds c = search needs
 
--- src/main.rt:31:9
 mul-unit : tie.Need-mul-unit Inv-loop μ-loop
 mul-unit c = search needs
 
--- src/main.rt:30:5
 loop-less : tie.Need-loop-less Inv-loop μ-loop
 loop-less c = search needs
 
--- src/main.rt:30:5
 loop-again : tie.Need-loop-again Inv-loop μ-loop
 loop-again c = search needs
 
--- src/main.rt:28:1
 returns : tie.Need-returns Inv-loop μ-loop
 returns c = search needs
 

@@ -1,44 +1,35 @@
+-- `cpool::job::after_reference` meets its contract. Assumes nothing.
 use native.Mathlib.Omega.{arith}
 use mathlib.Core.Path.{_∙_}
 use Rattle.cpool.proofs.job.Stored.{number-room, number-behind, name-stands, name-behind}
 use borrow.Author.Needs.{needs}
 use Rattle.cpool.proofs.job.after_reference.Statement.{statement}
 use Rattle.cpool.proofs.job.after_reference.Tie as tie
-use Rattle.cpool.proofs.job.after_reference.Reads as reads
-use Rattle.cpool.proofs.job.after_reference.Lts as lts
-use Rattle.cpool.proofs.job.name_at.Reads as name-at-reads
-use Rattle.writer.proofs.get_u8.Reads as get-u8-reads
 
--- src/job.rt:685:11
 get-u8-requires : tie.Need-get-u8-requires
 get-u8-requires c κs = search needs
 
--- src/job.rt:686:27
 add-name-at : tie.Need-add-name-at
 add-name-at c = search needs
 
--- src/job.rt:686:14
 name-at-requires : tie.Need-name-at-requires
 name-at-requires c κs = let a = c .before .before .before .args in
     let e = c .match .keys1 in
     let g = c .before .get-u8 .ensures in
     name-stands (a .job .now) (a .at) (λ z. absurd (omega arith)) (λ z. absurd (omega arith)) (c .before .before .before .pre)
 
--- src/job.rt:687:14
 add-result : tie.Need-add-result
 add-result c = let a = c .before .before .before .args in
     let n = c .match .rest .1 in
     let g = c .before .get-u8 .ensures in
     omega (arith, number-room (a .job .now) (a .at) (c .before .before .before .pre) (λ z. n (g ∙ z)))
 
--- src/job.rt:681:1
 returns : tie.Need-returns
 returns c = let a = c .before .before .before .before .args in
     let e = c .before .match .keys1 in
     let g = c .before .before .get-u8 .ensures in
     name-behind (a .job .now) (a .at) (λ z. absurd (omega arith)) (λ z. absurd (omega arith)) _ (c .name-at .ensures)
 
--- src/job.rt:681:1
 returns-2 : tie.Need-returns-2
 returns-2 c = let a = c .before .before .before .args in
     let n = c .match .rest .1 in

@@ -1,102 +1,79 @@
+-- `cpool::job::counted` meets its contract. Assumes nothing.
 use Rattle.cpool.specs.Forms.{plus, oneOf}
 use native.Mathlib.Nat.{add-zero}
 use borrow.Author.Needs.{needs}
 use Rattle.cpool.proofs.job.counted.Statement.{statement}
 use Rattle.cpool.proofs.job.counted.Tie as tie
-use Rattle.cpool.proofs.job.counted.Reads as reads
-use Rattle.cpool.proofs.job.counted.Lts as lts
 
--- src/job.rt:390:5
 add-c : tie.Need-add-c
 add-c c = search needs
 
--- src/job.rt:391:5
 add-c-2 : tie.Need-add-c-2
 add-c-2 c = search needs
 
--- src/job.rt:394:13
 enum-told : tie.Need-enum-told
 enum-told c = search needs
 
--- src/job.rt:394:13
 add-c-3 : tie.Need-add-c-3
 add-c-3 c = search needs
 
--- src/job.rt:398:13
 enum-told-2 : tie.Need-enum-told-2
 enum-told-2 c = search needs
 
--- src/job.rt:398:13
 add-c-4 : tie.Need-add-c-4
 add-c-4 c = search needs
 
--- src/job.rt:402:13
 enum-told-3 : tie.Need-enum-told-3
 enum-told-3 c = search needs
 
--- src/job.rt:402:13
 add-c-5 : tie.Need-add-c-5
 add-c-5 c = search needs
 
--- src/job.rt:406:13
 enum-told-4 : tie.Need-enum-told-4
 enum-told-4 c = search needs
 
--- src/job.rt:406:13
 add-c-6 : tie.Need-add-c-6
 add-c-6 c = search needs
 
--- src/job.rt:410:13
 enum-told-5 : tie.Need-enum-told-5
 enum-told-5 c = search needs
 
--- src/job.rt:410:13
 add-c-7 : tie.Need-add-c-7
 add-c-7 c = search needs
 
--- src/job.rt:414:13
 enum-told-6 : tie.Need-enum-told-6
 enum-told-6 c = search needs
 
--- src/job.rt:414:13
 add-c-8 : tie.Need-add-c-8
 add-c-8 c = search needs
 
--- src/job.rt:417:27
 enum-told-7 : tie.Need-enum-told-7
 enum-told-7 c = search needs
 
--- src/job.rt:385:1
 returns : tie.Need-returns
 unfolding plus oneOf
 returns c = rw (c .before .enum-told .given .1) (simp add-zero)
 
--- src/job.rt:385:1
 returns-2 : tie.Need-returns-2
 unfolding plus oneOf
 returns-2 c = rw (c .before .enum-told2 .given .1) (simp add-zero)
 
--- src/job.rt:385:1
 returns-3 : tie.Need-returns-3
 unfolding plus oneOf
 returns-3 c = rw (c .before .enum-told3 .given .1) (simp add-zero)
 
--- src/job.rt:385:1
 returns-4 : tie.Need-returns-4
 unfolding plus oneOf
 returns-4 c = rw (c .before .enum-told4 .given .1) (simp add-zero)
 
--- src/job.rt:385:1
 returns-5 : tie.Need-returns-5
 unfolding plus oneOf
 returns-5 c = rw (c .before .enum-told5 .given .1) (simp add-zero)
 
--- src/job.rt:385:1
 returns-6 : tie.Need-returns-6
 unfolding plus oneOf
 returns-6 c = rw (c .before .enum-told6 .given .1) (simp add-zero)
 
--- src/job.rt:385:1
 returns-7 : tie.Need-returns-7
 unfolding plus oneOf
 returns-7 c = rw (c .enum-told7 .given .1) (simp add-zero)

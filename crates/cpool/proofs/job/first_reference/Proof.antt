@@ -1,53 +1,40 @@
+-- `cpool::job::first_reference` meets its contract. Assumes nothing.
 use Rattle.cpool.proofs.job.Stored.{bootstrap-first, handle-first, constant-first}
 use borrow.Author.Needs.{needs}
 use Rattle.cpool.proofs.job.first_reference.Statement.{statement}
 use Rattle.cpool.proofs.job.first_reference.Tie as tie
-use Rattle.cpool.proofs.job.first_reference.Reads as reads
-use Rattle.cpool.proofs.job.first_reference.Lts as lts
-use Rattle.cpool.proofs.job.shape_of.Reads as shape-of-reads
-use Rattle.cpool.proofs.job.tag_at.Reads as tag-at-reads
 
--- src/job.rt:748:44
 tag-at-requires : tie.Need-tag-at-requires
 tag-at-requires c κs = search needs
 
--- src/job.rt:748:35
 shape-of-requires : tie.Need-shape-of-requires
 shape-of-requires c κs = search needs
 
--- src/job.rt:748:25
 enum-known-fields : tie.Need-enum-known-fields
 enum-known-fields c = search needs
 
--- src/job.rt:749:16
 add-result : tie.Need-add-result
 add-result c = search needs
 
--- src/job.rt:749:9
 returns : tie.Need-returns
 returns c = let a = c .before .before .before .before .args in
     bootstrap-first (a .job .now) (a .at) _ _ (c .before .before .tag-at .ensures) (c .before .shape-of .ensures .0) (c .match .keys2) (c .before .shape-of .ensures .1)
 
--- src/job.rt:752:27
 enum-told : tie.Need-enum-told
 enum-told c = search needs
 
--- src/job.rt:752:27
 add-result-2 : tie.Need-add-result-2
 add-result-2 c = search needs
 
--- src/job.rt:753:14
 add-result-3 : tie.Need-add-result-3
 add-result-3 c = search needs
 
--- src/job.rt:744:1
 returns-2 : tie.Need-returns-2
 returns-2 c = let a = c .before .before .before .before .before .before .before .before .args in
     let g = c .before .before .before .fields .given in
     let t = c .before .before .before .before .before .shape-of .ensures in
     handle-first (a .job .now) (a .at) _ _ (c .before .before .before .before .before .before .tag-at .ensures) (t .0) (g .0 .0) (g .1) (t .1) (c .enum-told .given .1)
 
--- src/job.rt:744:1
 returns-3 : tie.Need-returns-3
 returns-3 c = let a = c .before .before .before .before .before .before .before .args in
     let g = c .before .before .fields .given in

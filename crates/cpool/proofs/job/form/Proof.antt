@@ -1,35 +1,26 @@
+-- `cpool::job::form` meets its contract. Assumes nothing.
 use Rattle.cpool.proofs.job.Whole.{whole-good, whole-bad}
 use mathlib.Core.Path.{sym, _∙_}
 use borrow.Author.Needs.{needs}
 use Rattle.cpool.proofs.job.form.Statement.{statement}
 use Rattle.cpool.proofs.job.form.Tie as tie
-use Rattle.cpool.proofs.job.form.Reads as reads
-use Rattle.cpool.proofs.job.form.Lts as lts
-use Rattle.cpool.proofs.job.form_definitions.Reads as form-definitions-reads
-use Rattle.cpool.proofs.job.form_requests.Reads as form-requests-reads
 
--- src/job.rt:619:11
 form-definitions-requires : tie.Need-form-definitions-requires
 form-definitions-requires c κs = search needs
 
--- src/job.rt:620:23
 enum-known-next : tie.Need-enum-known-next
 enum-known-next c = search needs
 
--- src/job.rt:620:41
 form-requests-requires : tie.Need-form-requests-requires
 form-requests-requires c κs = rw (c .before .next .given .1) at (c .before .before .before .form-definitions .ensures .1)
 
--- src/job.rt:621:28
 enum-known-code : tie.Need-enum-known-code
 enum-known-code c = search needs
 
--- src/job.rt:616:1
 returns : tie.Need-returns
 returns c = let g = c .before .before .next .given in
     c .form-requests .ensures ∙ sym (whole-good (c .before .before .before .before .before .before .args .job .now) (g .0 .1 .0) (g .0 .0) (rw (g .1) at (c .before .before .before .before .form-definitions .ensures .0)))
 
--- src/job.rt:616:1
 returns-2 : tie.Need-returns-2
 returns-2 c = let g = c .before .code .given in
     sym (whole-bad (c .before .before .before .before .before .args .job .now) (record { code = g .0 .0; place = g .0 .1 .0 }) (rw (g .1) at (c .before .before .before .form-definitions .ensures .0)))

@@ -1,3 +1,4 @@
+-- `cpool::job::form_build` meets its contract. Assumes nothing.
 use Rattle.cpool.proofs.job.Asking.{built-cut, built-missing, built-behind, built}
 use Rattle.cpool.specs.Forms.{placeOf}
 use borrow.Author.Tests.{not-true, not-false}
@@ -7,24 +8,16 @@ use native.Mathlib.Omega.{arith}
 use borrow.Author.Needs.{needs}
 use Rattle.cpool.proofs.job.form_build.Statement.{statement}
 use Rattle.cpool.proofs.job.form_build.Tie as tie
-use Rattle.cpool.proofs.job.form_build.Reads as reads
-use Rattle.cpool.proofs.job.form_build.Lts as lts
-use Rattle.cpool.proofs.job.place_of.Reads as place-of-reads
-use Rattle.cpool.proofs.job.skip_build.Reads as skip-build-reads
 
--- src/job.rt:562:9
 place-of-requires : tie.Need-place-of-requires
 place-of-requires c κs = search needs
 
--- src/job.rt:564:11
 skip-build-requires : tie.Need-skip-build-requires
 skip-build-requires c κs = search needs
 
--- src/job.rt:566:13
 enum-known-next : tie.Need-enum-known-next
 enum-known-next c = search needs
 
--- src/job.rt:571:17
 returns : tie.Need-returns
 returns c = let a = c .before .before .before .before .before .before .before .args in
     let g = c .before .before .next .given in
@@ -33,11 +26,9 @@ returns c = let a = c .before .before .before .before .before .before .before .a
     (rw (g .1) at (c .before .before .before .before .skip-build .ensures))
     (not-true (g .0 .1 .0) (c .if1 .taken))))
 
--- src/job.rt:576:28
 add-t12 : tie.Need-add-t12
 add-t12 c = omega (arith, c .before .before .before .before .before .before .place-of .ensures, c .before .before .before .before .before .before .before .before .pre .0, c .before .before .before .before .before .before .before .before .pre .1, c .before .before .before .before .before .before .before .before .good)
 
--- src/job.rt:574:17
 returns-2 : tie.Need-returns-2
 returns-2 c = let a = c .before .before .before .before .before .before .before .before .args in
     let g = c .before .before .before .next .given in
@@ -47,11 +38,9 @@ returns-2 c = let a = c .before .before .before .before .before .before .before 
     (not-false (g .0 .1 .0) (c .before .if1 .left))
     (c .if2 .taken)))
 
--- src/job.rt:581:25
 enum-told : tie.Need-enum-told
 enum-told c = search needs
 
--- src/job.rt:558:1
 returns-3 : tie.Need-returns-3
 returns-3 c = let a = c .before .before .before .before .before .before .before .before .args in
     let g = c .before .before .before .next .given in
@@ -60,7 +49,6 @@ returns-3 c = let a = c .before .before .before .before .before .before .before 
     (not-false (g .0 .1 .0) (c .before .if1 .left))
     (c .if2 .left))
 
--- src/job.rt:558:1
 returns-4 : tie.Need-returns-4
 returns-4 c = let a = c .before .before .before .before .before .args in
     rw (c .before .before .before .place-of .ensures)

@@ -1,3 +1,4 @@
+-- `cpool::job::form_definition` meets its contract. Assumes nothing.
 use Rattle.cpool.proofs.job.Stepping.{step-cut, step-full, step-cites, step-to}
 use borrow.Author.Tests.{not-true, not-false}
 use lib.ListN.{getD}
@@ -6,39 +7,25 @@ use native.Mathlib.Omega.{arith}
 use borrow.Author.Needs.{needs}
 use Rattle.cpool.proofs.job.form_definition.Statement.{statement}
 use Rattle.cpool.proofs.job.form_definition.Tie as tie
-use Rattle.cpool.proofs.job.form_definition.Reads as reads
-use Rattle.cpool.proofs.job.form_definition.Lts as lts
-use Rattle.cpool.proofs.job.counted.Reads as counted-reads
-use Rattle.cpool.proofs.job.has_room.Reads as has-room-reads
-use Rattle.cpool.proofs.job.shape_of.Reads as shape-of-reads
-use Rattle.cpool.proofs.job.skip_definition.Reads as skip-definition-reads
-use Rattle.writer.proofs.get_u8.Reads as get-u8-reads
 
--- src/job.rt:428:26
 get-u8-requires : tie.Need-get-u8-requires
 get-u8-requires c κs = search needs
 
--- src/job.rt:428:9
 shape-of-requires : tie.Need-shape-of-requires
 shape-of-requires c κs = search needs
 
--- src/job.rt:429:32
 add-skip-definition : tie.Need-add-skip-definition
 add-skip-definition c = search needs
 
--- src/job.rt:429:11
 skip-definition-requires : tie.Need-skip-definition-requires
 skip-definition-requires c κs = search needs
 
--- src/job.rt:431:13
 enum-known-next : tie.Need-enum-known-next
 enum-known-next c = search needs
 
--- src/job.rt:435:17
 has-room-requires : tie.Need-has-room-requires
 has-room-requires c κs = search needs
 
--- src/job.rt:436:17
 returns : tie.Need-returns
 returns c = let a = c .before .before .before .before .before .before .before .before .before .args in
     let g = c .before .before .before .next .given in
@@ -47,7 +34,6 @@ returns c = let a = c .before .before .before .before .before .before .before .b
     (rw (g .1) at (c .before .before .before .before .before .skip-definition .ensures (getD (a .job .now) (a .at) 0)))
     (sym (not-true (c .before .has-room .result) (c .if1 .taken)) ∙ c .before .has-room .ensures)
 
--- src/job.rt:439:17
 returns-2 : tie.Need-returns-2
 returns-2 c = let a = c .before .before .before .before .before .before .before .before .before .before .args in
     let g = c .before .before .before .before .next .given in
@@ -57,18 +43,15 @@ returns-2 c = let a = c .before .before .before .before .before .before .before 
     (sym (not-false (c .before .before .has-room .result) (c .before .if1 .left)) ∙ c .before .before .has-room .ensures)
     (not-true (g .0 .1 .0) (c .if2 .taken))
 
--- src/job.rt:443:25
 counted-requires : tie.Need-counted-requires
 counted-requires c κs = let a = c .before .before .before .before .before .before .before .before .before .before .args in
     let g = c .before .before .before .before .next .given in
     let v = rw (g .1) at (c .before .before .before .before .before .before .skip-definition .ensures 0) in
     record { most = a .at; bounded = c .before .before .before .before .before .before .before .before .before .before .pre .1; small = omega (arith, v .past, v .within, c .before .before .before .before .before .before .before .before .before .before .good) }
 
--- src/job.rt:446:25
 enum-told : tie.Need-enum-told
 enum-told c = search needs
 
--- src/job.rt:422:1
 returns-3 : tie.Need-returns-3
 returns-3 c = let a = c .before .before .before .before .before .before .before .before .before .before .before .args in
     let g = c .before .before .before .before .before .next .given in
@@ -80,7 +63,6 @@ returns-3 c = let a = c .before .before .before .before .before .before .before 
     (not-false (g .0 .1 .0) (c .before .if2 .left))
     (c .before .before .before .before .before .before .before .before .before .before .before .pre .1))
 
--- src/job.rt:422:1
 returns-4 : tie.Need-returns-4
 returns-4 c = let a = c .before .before .before .before .before .before .args in
     let byte = c .before .before .before .before .get-u8 .ensures in

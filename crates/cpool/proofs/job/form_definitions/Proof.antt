@@ -1,3 +1,4 @@
+-- `cpool::job::form_definitions` meets its contract. Assumes nothing.
 use Rattle.cpool.proofs.job.Passes.{DefinitionsLeft, definitions-start, definitions-end, definitions-bad, definitions-next, definitions-none}
 use Rattle.cpool.specs.Forms.{Bounded, countsOf, referencesIn, tables, tallied}
 use Rattle.definition.specs.Numbering.{entries, constantsOf, bootstrapsOf}
@@ -11,10 +12,6 @@ use native.Mathlib.Omega.{arith}
 use borrow.Author.Needs.{needs}
 use Rattle.cpool.proofs.job.form_definitions.Statement.{statement}
 use Rattle.cpool.proofs.job.form_definitions.Tie as tie
-use Rattle.cpool.proofs.job.form_definitions.Reads as reads
-use Rattle.cpool.proofs.job.form_definitions.Lts as lts
-use Rattle.cpool.proofs.job.form_definition.Reads as form-definition-reads
-use Rattle.writer.proofs.get_u8.Reads as get-u8-reads
 
 abbrev Inv-loop : tie.InvT-loop
 Inv-loop job at₀ counts₀ at counts = (at ≤ length job) × Bounded at counts × (DefinitionsLeft job at counts ≡ tallied (countsOf [] 0) (formDefinitions (length job) (tables 0 0) 0 job))
@@ -22,20 +19,16 @@ Inv-loop job at₀ counts₀ at counts = (at ≤ length job) × Bounded at count
 abbrev μ-loop : tie.MeasureT-loop
 μ-loop job at₀ counts₀ at counts = length job - at
 
--- src/job.rt:470:5
 loop-holds : tie.Need-loop-holds Inv-loop μ-loop
 unfolding countsOf constantsOf bootstrapsOf entries only referencesIn
 loop-holds c = (omega arith, omega arith, definitions-start (c .before .args .job .now))
 
--- src/job.rt:471:12
 get-u8-requires : tie.Need-get-u8-requires Inv-loop μ-loop
 get-u8-requires c κs = search needs
 
--- src/job.rt:473:23
 add-t10 : tie.Need-add-t10 Inv-loop μ-loop
 add-t10 c = search needs
 
--- src/job.rt:472:13
 returns : tie.Need-returns Inv-loop μ-loop
 returns c = let s = c .before .before .before .before .before .args .job .now in
     let l = c .before .before .before .loop in (
@@ -43,19 +36,15 @@ returns c = let s = c .before .before .before .before .before .args .job .now in
       (omega arith, omega (arith, l .inv .1)),
     )
 
--- src/job.rt:477:15
 form-definition-requires : tie.Need-form-definition-requires Inv-loop μ-loop
 form-definition-requires c κs = (c .before .before .loop-test .taken, c .before .before .before .loop .inv .1)
 
--- src/job.rt:478:24
 enum-known-next : tie.Need-enum-known-next Inv-loop μ-loop
 enum-known-next c = search needs
 
--- src/job.rt:470:5
 loop-less : tie.Need-loop-less Inv-loop μ-loop
 loop-less c = let g = c .before .next .given in let m = rw (g .1) at (c .before .before .before .form-definition .ensures) in omega (arith, m .past, c .before .before .before .before .before .before .loop-test .taken)
 
--- src/job.rt:470:5
 loop-again : tie.Need-loop-again Inv-loop μ-loop
 loop-again c = let s = c .before .before .before .before .before .before .before .before .before .args .job .now in
     let l = c .before .before .before .before .before .before .before .loop in
@@ -68,11 +57,9 @@ loop-again c = let s = c .before .before .before .before .before .before .before
           m) ∙ l .inv .2,
     )
 
--- src/job.rt:482:27
 enum-known-code : tie.Need-enum-known-code Inv-loop μ-loop
 enum-known-code c = search needs
 
--- src/job.rt:483:17
 returns-2 : tie.Need-returns-2 Inv-loop μ-loop
 returns-2 c = let s = c .before .before .before .before .before .before .before .before .before .args .job .now in
     let l = c .before .before .before .before .before .before .before .loop in
@@ -83,7 +70,6 @@ returns-2 c = let s = c .before .before .before .before .before .before .before 
       tt,
     )
 
--- src/job.rt:455:1
 returns-3 : tie.Need-returns-3 Inv-loop μ-loop
 returns-3 c = let l = c .before .loop in
     (sym (l .inv .2) ∙ definitions-none (c .before .before .before .args .job .now) (l .at) (l .counts) (c .loop-test .left), tt)

@@ -1,3 +1,4 @@
+-- `cpool::job::form_request` meets its contract. Assumes nothing.
 use Rattle.cpool.proofs.job.Asking.{request-cut, request-missing, request-good}
 use Rattle.cpool.specs.Forms.{tablesIn}
 use Rattle.definition.specs.Numbering.{entries, constantsOf, bootstrapsOf}
@@ -7,28 +8,19 @@ use mathlib.Core.Path.{refl, sym}
 use borrow.Author.Needs.{needs}
 use Rattle.cpool.proofs.job.form_request.Statement.{statement}
 use Rattle.cpool.proofs.job.form_request.Tie as tie
-use Rattle.cpool.proofs.job.form_request.Reads as reads
-use Rattle.cpool.proofs.job.form_request.Lts as lts
-use Rattle.cpool.proofs.job.skip_request.Reads as skip-request-reads
-use Rattle.writer.proofs.get_u8.Reads as get-u8-reads
 
--- src/job.rt:513:9
 get-u8-requires : tie.Need-get-u8-requires
 get-u8-requires c κs = search needs
 
--- src/job.rt:514:29
 add-skip-request : tie.Need-add-skip-request
 add-skip-request c = search needs
 
--- src/job.rt:514:11
 skip-request-requires : tie.Need-skip-request-requires
 skip-request-requires c κs = search needs
 
--- src/job.rt:516:13
 enum-known-next : tie.Need-enum-known-next
 enum-known-next c = search needs
 
--- src/job.rt:521:17
 returns : tie.Need-returns
 returns c = let a = c .before .before .before .before .before .before .before .args in
     let g = c .before .before .next .given in
@@ -36,15 +28,12 @@ returns c = let a = c .before .before .before .before .before .before .before .a
     (rw (g .1, c .before .before .before .before .before .get-u8 .ensures) at (c .before .before .before .before .skip-request .ensures (tablesIn (a .counts)) refl))
     (not-true (g .0 .1 .0) (c .if1 .taken))
 
--- src/job.rt:524:13
 add-c : tie.Need-add-c
 add-c c = search needs
 
--- src/job.rt:527:25
 enum-told : tie.Need-enum-told
 enum-told c = search needs
 
--- src/job.rt:508:1
 returns-2 : tie.Need-returns-2
 returns-2 c = let a = c .before .before .before .before .before .before .before .before .args in
     let g = c .before .before .before .next .given in
@@ -53,7 +42,6 @@ returns-2 c = let a = c .before .before .before .before .before .before .before 
     (not-false (g .0 .1 .0) (c .before .if1 .left))
     (c .before .before .before .before .before .before .before .before .pre .1)
 
--- src/job.rt:508:1
 returns-3 : tie.Need-returns-3
 returns-3 c = let a = c .before .before .before .before .before .args in
     request-cut (a .counts) (a .job .now) (a .at)

@@ -1,3 +1,4 @@
+-- `cpool::job::form_requests` meets its contract. Assumes nothing.
 use Rattle.cpool.proofs.job.Passes.{RequestsLeft, requests-end, requests-bad, requests-next, requests-none}
 use Rattle.cpool.specs.Forms.{Bounded}
 use lib.ListN.{length}
@@ -7,12 +8,6 @@ use native.Mathlib.Omega.{arith}
 use borrow.Author.Needs.{needs}
 use Rattle.cpool.proofs.job.form_requests.Statement.{statement}
 use Rattle.cpool.proofs.job.form_requests.Tie as tie
-use Rattle.cpool.proofs.job.form_requests.Reads as reads
-use Rattle.cpool.proofs.job.form_requests.Lts as lts
-use Rattle.cpool.proofs.job.form_build.Reads as form-build-reads
-use Rattle.cpool.proofs.job.form_request.Reads as form-request-reads
-use Rattle.cpool.proofs.job.place_of.Reads as place-of-reads
-use Rattle.writer.proofs.get_u8.Reads as get-u8-reads
 
 abbrev Inv-loop : tie.InvT-loop
 Inv-loop job start at₀ counts₀ at counts = (at ≤ length job) × Bounded at counts × (RequestsLeft job at counts ≡ RequestsLeft job start counts₀)
@@ -20,23 +15,18 @@ Inv-loop job start at₀ counts₀ at counts = (at ≤ length job) × Bounded at
 abbrev μ-loop : tie.MeasureT-loop
 μ-loop job start at₀ counts₀ at counts = length job - at
 
--- src/job.rt:592:5
 loop-holds : tie.Need-loop-holds Inv-loop μ-loop
 loop-holds c = (c .before .pre .0, c .before .pre .1, refl)
 
--- src/job.rt:593:12
 get-u8-requires : tie.Need-get-u8-requires Inv-loop μ-loop
 get-u8-requires c κs = search needs
 
--- src/job.rt:594:36
 add-form-build : tie.Need-add-form-build Inv-loop μ-loop
 add-form-build c = search needs
 
--- src/job.rt:594:13
 form-build-requires : tie.Need-form-build-requires Inv-loop μ-loop
 form-build-requires c κs = (omega arith, omega (arith, c .before .before .before .loop .inv .1))
 
--- src/job.rt:594:13
 returns : tie.Need-returns Inv-loop μ-loop
 returns c = let s = c .before .before .before .before .before .before .args .job .now in
     let l = c .before .before .before .before .loop in
@@ -44,19 +34,15 @@ returns c = let s = c .before .before .before .before .before .before .args .job
     ∙ sym (requests-end s (l .at) (l .counts) (c .before .before .before .loop-test .taken) (omega (arith, l .inv .1)) (sym (c .before .before .get-u8 .ensures) ∙ c .before .if1 .taken))
     ∙ l .inv .2
 
--- src/job.rt:596:15
 form-request-requires : tie.Need-form-request-requires Inv-loop μ-loop
 form-request-requires c κs = (c .before .before .loop-test .taken, c .before .before .before .loop .inv .1)
 
--- src/job.rt:597:24
 enum-known-next : tie.Need-enum-known-next Inv-loop μ-loop
 enum-known-next c = search needs
 
--- src/job.rt:592:5
 loop-less : tie.Need-loop-less Inv-loop μ-loop
 loop-less c = let g = c .before .next .given in let m = rw (g .1) at (c .before .before .before .form-request .ensures) in omega (arith, m .past, c .before .before .before .before .before .before .loop-test .taken)
 
--- src/job.rt:592:5
 loop-again : tie.Need-loop-again Inv-loop μ-loop
 loop-again c = let s = c .before .before .before .before .before .before .before .before .before .args .job .now in
     let l = c .before .before .before .before .before .before .before .loop in
@@ -68,15 +54,12 @@ loop-again c = let s = c .before .before .before .before .before .before .before
           ∙ l .inv .2,
     )
 
--- src/job.rt:601:27
 enum-known-code : tie.Need-enum-known-code Inv-loop μ-loop
 enum-known-code c = search needs
 
--- src/job.rt:604:28
 place-of-requires : tie.Need-place-of-requires Inv-loop μ-loop
 place-of-requires c κs = let l = c .before .before .before .before .before .before .before .loop in omega (arith, l .inv .0, l .inv .1, c .before .before .before .before .before .before .before .before .before .good)
 
--- src/job.rt:602:17
 returns-2 : tie.Need-returns-2 Inv-loop μ-loop
 returns-2 c = let s = c .before .before .before .before .before .before .before .before .before .before .args .job .now in
     let l = c .before .before .before .before .before .before .before .before .loop in
@@ -86,11 +69,9 @@ returns-2 c = let s = c .before .before .before .before .before .before .before 
     (rw (g .1) at (c .before .before .before .before .form-request .ensures)))
     ∙ l .inv .2)
 
--- src/job.rt:611:16
 place-of-requires-2 : tie.Need-place-of-requires-2 Inv-loop μ-loop
 place-of-requires-2 c κs = let l = c .before .loop in omega (arith, l .inv .0, l .inv .1, c .before .before .before .good)
 
--- src/job.rt:586:1
 returns-3 : tie.Need-returns-3 Inv-loop μ-loop
 returns-3 c = let l = c .before .before .loop in
     rw (c .place-of2 .ensures)

@@ -1,69 +1,54 @@
+-- `cpool::job::has_room` meets its contract. Assumes nothing.
 use Rattle.cpool.specs.Forms.{roomFor}
 use borrow.Author.Needs.{needs}
 use Rattle.cpool.proofs.job.has_room.Statement.{statement}
 use Rattle.cpool.proofs.job.has_room.Tie as tie
-use Rattle.cpool.proofs.job.has_room.Reads as reads
-use Rattle.cpool.proofs.job.has_room.Lts as lts
 
--- src/job.rt:378:31
 enum-told : tie.Need-enum-told
 enum-told c = search needs
 
--- src/job.rt:379:29
 enum-told-2 : tie.Need-enum-told-2
 enum-told-2 c = search needs
 
--- src/job.rt:380:33
 enum-told-3 : tie.Need-enum-told-3
 enum-told-3 c = search needs
 
--- src/job.rt:381:34
 enum-told-4 : tie.Need-enum-told-4
 enum-told-4 c = search needs
 
--- src/job.rt:382:31
 enum-told-5 : tie.Need-enum-told-5
 enum-told-5 c = search needs
 
--- src/job.rt:383:32
 enum-told-6 : tie.Need-enum-told-6
 enum-told-6 c = search needs
 
--- src/job.rt:384:27
 enum-told-7 : tie.Need-enum-told-7
 enum-told-7 c = search needs
 
--- src/job.rt:374:1
 returns : tie.Need-returns
 unfolding roomFor
 returns c = rw (c .enum-told .given .1)
 
--- src/job.rt:374:1
 returns-2 : tie.Need-returns-2
 unfolding roomFor
 returns-2 c = rw (c .enum-told2 .given .1)
 
--- src/job.rt:374:1
 returns-3 : tie.Need-returns-3
 unfolding roomFor
 returns-3 c = rw (c .enum-told3 .given .1)
 
--- src/job.rt:374:1
 returns-4 : tie.Need-returns-4
 unfolding roomFor
 returns-4 c = rw (c .enum-told4 .given .1)
 
--- src/job.rt:374:1
 returns-5 : tie.Need-returns-5
 unfolding roomFor
 returns-5 c = rw (c .enum-told5 .given .1)
 
--- src/job.rt:374:1
 returns-6 : tie.Need-returns-6
 unfolding roomFor
 returns-6 c = rw (c .enum-told6 .given .1)
 
--- src/job.rt:374:1
 returns-7 : tie.Need-returns-7
 unfolding roomFor
 returns-7 c = rw (c .enum-told7 .given .1)

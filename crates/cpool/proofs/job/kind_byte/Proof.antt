@@ -1,51 +1,38 @@
+-- `cpool::job::kind_byte` meets its contract. Assumes nothing.
 use Rattle.cpool.proofs.job.Stored.{bootstrap-byte, handle-room, handle-byte, no-byte}
 use borrow.Author.Needs.{needs}
 use Rattle.cpool.proofs.job.kind_byte.Statement.{statement}
 use Rattle.cpool.proofs.job.kind_byte.Tie as tie
-use Rattle.cpool.proofs.job.kind_byte.Reads as reads
-use Rattle.cpool.proofs.job.kind_byte.Lts as lts
-use Rattle.cpool.proofs.job.shape_of.Reads as shape-of-reads
-use Rattle.cpool.proofs.job.tag_at.Reads as tag-at-reads
-use Rattle.writer.proofs.get_u8.Reads as get-u8-reads
 
--- src/job.rt:729:44
 tag-at-requires : tie.Need-tag-at-requires
 tag-at-requires c κs = search needs
 
--- src/job.rt:729:35
 shape-of-requires : tie.Need-shape-of-requires
 shape-of-requires c κs = search needs
 
--- src/job.rt:729:25
 enum-known-fields : tie.Need-enum-known-fields
 enum-known-fields c = search needs
 
--- src/job.rt:730:9
 returns : tie.Need-returns
 returns c = let a = c .before .before .before .before .args in
     bootstrap-byte (a .job .now) (a .at) _ _ (c .before .before .tag-at .ensures) (c .before .shape-of .ensures .0) (c .match .keys2)
 
--- src/job.rt:733:47
 enum-told : tie.Need-enum-told
 enum-told c = search needs
 
--- src/job.rt:733:47
 add-get-u8 : tie.Need-add-get-u8
 add-get-u8 c = search needs
 
--- src/job.rt:733:27
 get-u8-requires : tie.Need-get-u8-requires
 get-u8-requires c κs = let a = c .before .before .before .before .before .before .before .before .args in
     let g = c .before .before .before .fields .given in
     handle-room (a .job .now) (a .at) _ _ (c .before .before .before .before .before .before .tag-at .ensures) (c .before .before .before .before .before .shape-of .ensures .0) (g .0 .0) (g .1) (c .enum-told .given .1) (c .before .before .before .before .before .before .before .before .pre)
 
--- src/job.rt:725:1
 returns-2 : tie.Need-returns-2
 returns-2 c = let a = c .before .before .before .before .before .before .before .before .before .args in
     let g = c .before .before .before .before .fields .given in
     rw (c .get-u8 .ensures) (handle-byte (a .job .now) (a .at) _ _ (c .before .before .before .before .before .before .before .tag-at .ensures) (c .before .before .before .before .before .before .shape-of .ensures .0) (g .0 .0) (g .1) (c .before .enum-told .given .1))
 
--- src/job.rt:725:1
 returns-3 : tie.Need-returns-3
 returns-3 c = let a = c .before .before .before .before .before .before .before .args in
     let g = c .before .before .fields .given in

@@ -1,90 +1,69 @@
+-- `cpool::job::literal_at` meets its contract. Assumes nothing.
 use native.Mathlib.Omega.{arith}
 use Rattle.cpool.proofs.job.Stored.{bootstrap-literal, text-room, text-literal, bits-room, bits-literal, no-literal}
 use borrow.Author.Needs.{needs}
 use Rattle.cpool.proofs.job.literal_at.Statement.{statement}
 use Rattle.cpool.proofs.job.literal_at.Tie as tie
-use Rattle.cpool.proofs.job.literal_at.Reads as reads
-use Rattle.cpool.proofs.job.literal_at.Lts as lts
-use Rattle.cpool.proofs.job.shape_of.Reads as shape-of-reads
-use Rattle.cpool.proofs.job.tag_at.Reads as tag-at-reads
-use Rattle.writer.proofs.get_u16.Reads as get-u16-reads
 
--- src/job.rt:704:44
 tag-at-requires : tie.Need-tag-at-requires
 tag-at-requires c κs = search needs
 
--- src/job.rt:704:35
 shape-of-requires : tie.Need-shape-of-requires
 shape-of-requires c κs = search needs
 
--- src/job.rt:704:25
 enum-known-fields : tie.Need-enum-known-fields
 enum-known-fields c = search needs
 
--- src/job.rt:705:9
 returns : tie.Need-returns
 returns c = let a = c .before .before .before .before .args in
     bootstrap-literal (a .job .now) (a .at) _ _ (c .before .before .tag-at .ensures) (c .before .shape-of .ensures .0) (c .match .keys2)
 
--- src/job.rt:709:25
 enum-told : tie.Need-enum-told
 enum-told c = search needs
 
--- src/job.rt:709:25
 add-start : tie.Need-add-start
 add-start c = search needs
 
--- src/job.rt:710:42
 add-get-u16 : tie.Need-add-get-u16
 add-get-u16 c = search needs
 
--- src/job.rt:710:21
 get-u16-requires : tie.Need-get-u16-requires
 get-u16-requires c κs = let a = c .before .before .before .before .before .before .before .before .args in
     let g = c .before .before .before .fields .given in
     omega (arith, text-room (a .job .now) (a .at) _ _ (c .before .before .before .before .before .before .tag-at .ensures) (c .before .before .before .before .before .shape-of .ensures .0) (g .0 .0) (g .1) (c .enum-told .given .1) (c .before .before .before .before .before .before .before .before .pre))
 
--- src/job.rt:710:21
 cast-n : tie.Need-cast-n
 cast-n c = search needs
 
--- src/job.rt:713:22
 add-t11 : tie.Need-add-t11
 add-t11 c = let a = c .before .before .before .before .before .before .before .before .before .args in
     let g = c .before .before .before .before .fields .given in
     omega (arith, c .get-u16 .ensures, text-room (a .job .now) (a .at) _ _ (c .before .before .before .before .before .before .before .tag-at .ensures) (c .before .before .before .before .before .before .shape-of .ensures .0) (g .0 .0) (g .1) (c .before .enum-told .given .1) (c .before .before .before .before .before .before .before .before .before .pre))
 
--- src/job.rt:716:22
 enum-known-fields-2 : tie.Need-enum-known-fields-2
 enum-known-fields-2 c = search needs
 
--- src/job.rt:717:20
 add-t12 : tie.Need-add-t12
 add-t12 c = search needs
 
--- src/job.rt:718:18
 add-t13 : tie.Need-add-t13
 add-t13 c = search needs
 
--- src/job.rt:718:18
 add-t14 : tie.Need-add-t14
 add-t14 c = let a = c .before .before .before .before .before .before .before .before .before .args in
     let g = c .before .before .before .before .fields .given in
     omega (arith, bits-room (a .job .now) (a .at) _ _ (c .before .before .before .before .before .before .before .tag-at .ensures) (c .before .before .before .before .before .before .shape-of .ensures .0) (g .0 .0) (g .1) (c .before .fields2 .given .0 .0) (c .before .fields2 .given .1) (c .before .before .before .before .before .before .before .before .before .pre))
 
--- src/job.rt:700:1
 returns-2 : tie.Need-returns-2
 returns-2 c = let a = c .before .before .before .before .before .before .before .before .before .args in
     let g = c .before .before .before .before .fields .given in
     rw (c .get-u16 .ensures) (text-literal (a .job .now) (a .at) _ _ (c .before .before .before .before .before .before .before .tag-at .ensures) (c .before .before .before .before .before .before .shape-of .ensures .0) (g .0 .0) (g .1) (c .before .enum-told .given .1))
 
--- src/job.rt:700:1
 returns-3 : tie.Need-returns-3
 returns-3 c = let a = c .before .before .before .before .before .before .before .before .before .args in
     let g = c .before .before .before .before .fields .given in
     bits-literal (a .job .now) (a .at) _ _ (c .before .before .before .before .before .before .before .tag-at .ensures) (c .before .before .before .before .before .before .shape-of .ensures .0) (g .0 .0) (g .1) (c .before .fields2 .given .0 .0) (c .before .fields2 .given .1)
 
--- src/job.rt:700:1
 returns-4 : tie.Need-returns-4
 returns-4 c = let a = c .before .before .before .before .before .before .before .args in
     let g = c .before .before .fields .given in

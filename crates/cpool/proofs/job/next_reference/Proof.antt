@@ -1,3 +1,4 @@
+-- `cpool::job::next_reference` meets its contract. Assumes nothing.
 use native.Mathlib.Nat.{add-zero}
 use native.Mathlib.Omega.{arith}
 use mathlib.Core.Bool.{true, false}
@@ -5,32 +6,23 @@ use Rattle.cpool.proofs.job.Stored.{next-by}
 use borrow.Author.Needs.{needs}
 use Rattle.cpool.proofs.job.next_reference.Statement.{statement}
 use Rattle.cpool.proofs.job.next_reference.Tie as tie
-use Rattle.cpool.proofs.job.next_reference.Reads as reads
-use Rattle.cpool.proofs.job.next_reference.Lts as lts
-use Rattle.cpool.proofs.job.after_reference.Reads as after-reference-reads
-use Rattle.cpool.proofs.job.tag_at.Reads as tag-at-reads
 
--- src/job.rt:762:9
 after-reference-requires : tie.Need-after-reference-requires
 after-reference-requires c κs = let k = c .before .pre .3 in (_, (k .kid, k .behind, k .found))
 
--- src/job.rt:763:9
 tag-at-requires : tie.Need-tag-at-requires
 tag-at-requires c κs = search needs
 
--- src/job.rt:764:9
 add-result : tie.Need-add-result
 add-result c = let a = c .before .before .before .before .args in
     let h = c .before .before .before .before .pre in
     let k = next-by (a .job .now) (a .at) _ (a .i) (a .place) _ (c .before .tag-at .ensures) (c .before .before .after-reference .ensures) true (c .if1 .taken) (h .0) (h .1) (h .2) (h .3) (h .4) in
     omega (arith, k .found .past, k .found .within)
 
--- src/job.rt:758:1
 returns : tie.Need-returns
 returns c = let a = c .before .before .before .before .args in
     next-by (a .job .now) (a .at) _ (a .i) (a .place) _ (c .before .tag-at .ensures) (c .before .before .after-reference .ensures) true (c .if1 .taken)
 
--- src/job.rt:758:1
 returns-2 : tie.Need-returns-2
 returns-2 c = let a = c .before .before .before .before .args in
     rw (add-zero _) at (next-by (a .job .now) (a .at) _ (a .i) (a .place) _ (c .before .tag-at .ensures) (c .before .before .after-reference .ensures) false (c .if1 .left))

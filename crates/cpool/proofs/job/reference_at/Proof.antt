@@ -1,62 +1,48 @@
+-- `cpool::job::reference_at` meets its contract. Assumes nothing.
 use native.Mathlib.Omega.{arith}
 use mathlib.Core.Path.{sym, _∙_}
 use Rattle.cpool.proofs.job.Stored.{number-room, name-stands, raw-cited, number-cited, name-cited}
 use borrow.Author.Needs.{needs}
 use Rattle.cpool.proofs.job.reference_at.Statement.{statement}
 use Rattle.cpool.proofs.job.reference_at.Tie as tie
-use Rattle.cpool.proofs.job.reference_at.Reads as reads
-use Rattle.cpool.proofs.job.reference_at.Lts as lts
-use Rattle.cpool.proofs.job.name_at.Reads as name-at-reads
-use Rattle.writer.proofs.get_u16.Reads as get-u16-reads
-use Rattle.writer.proofs.get_u8.Reads as get-u8-reads
 
--- src/job.rt:673:11
 get-u8-requires : tie.Need-get-u8-requires
 get-u8-requires c κs = search needs
 
--- src/job.rt:674:46
 add-get-u16 : tie.Need-add-get-u16
 add-get-u16 c = search needs
 
--- src/job.rt:674:25
 get-u16-requires : tie.Need-get-u16-requires
 get-u16-requires c κs = let a = c .before .before .before .args in
     let e = c .match .keys1 in
     let g = c .before .get-u8 .ensures in
     omega (arith, number-room (a .job .now) (a .at) (c .before .before .before .pre) (λ z. absurd (omega arith)))
 
--- src/job.rt:675:48
 add-get-u16-2 : tie.Need-add-get-u16-2
 add-get-u16-2 c = search needs
 
--- src/job.rt:675:27
 get-u16-requires-2 : tie.Need-get-u16-requires-2
 get-u16-requires-2 c κs = let a = c .before .before .before .args in
     let e = c .match .keys2 in
     let g = c .before .get-u8 .ensures in
     omega (arith, number-room (a .job .now) (a .at) (c .before .before .before .pre) (λ z. absurd (omega arith)))
 
--- src/job.rt:676:39
 add-name-at : tie.Need-add-name-at
 add-name-at c = search needs
 
--- src/job.rt:676:26
 name-at-requires : tie.Need-name-at-requires
 name-at-requires c κs = let a = c .before .before .before .args in
     let g = c .before .get-u8 .ensures in
     name-stands (a .job .now) (a .at) (λ z. c .match .rest .0 .1 (g ∙ z)) (λ z. c .match .rest .1 (g ∙ z)) (c .before .before .before .pre)
 
--- src/job.rt:669:1
 returns : tie.Need-returns
 returns c = let a = c .before .before .before .before .args in
     rw (c .get-u16 .ensures) (raw-cited (a .job .now) (a .at) (sym (c .before .before .get-u8 .ensures) ∙ c .before .match .keys1))
 
--- src/job.rt:669:1
 returns-2 : tie.Need-returns-2
 returns-2 c = let a = c .before .before .before .before .args in
     rw (c .get-u162 .ensures) (number-cited (a .job .now) (a .at) (sym (c .before .before .get-u8 .ensures) ∙ c .before .match .keys2))
 
--- src/job.rt:669:1
 returns-3 : tie.Need-returns-3
 returns-3 c = let a = c .before .before .before .before .args in
     let g = c .before .before .get-u8 .ensures in

@@ -1,108 +1,82 @@
+-- `cpool::job::reference_count` meets its contract. Assumes nothing.
 use Rattle.cpool.proofs.job.Stored.{bootstrap-stands, count-room, bootstrap-count, constant-count}
 use borrow.Author.Needs.{needs}
 use Rattle.cpool.proofs.job.reference_count.Statement.{statement}
 use Rattle.cpool.proofs.job.reference_count.Tie as tie
-use Rattle.cpool.proofs.job.reference_count.Reads as reads
-use Rattle.cpool.proofs.job.reference_count.Lts as lts
-use Rattle.cpool.proofs.job.after_reference.Reads as after-reference-reads
-use Rattle.cpool.proofs.job.shape_of.Reads as shape-of-reads
-use Rattle.cpool.proofs.job.tag_at.Reads as tag-at-reads
-use Rattle.writer.proofs.get_u16.Reads as get-u16-reads
 
--- src/job.rt:729:44
 tag-at-requires : tie.Need-tag-at-requires
 tag-at-requires c κs = search needs
 
--- src/job.rt:729:35
 shape-of-requires : tie.Need-shape-of-requires
 shape-of-requires c κs = search needs
 
--- src/job.rt:729:25
 enum-known-fields : tie.Need-enum-known-fields
 enum-known-fields c = search needs
 
--- src/job.rt:730:43
 add-after-reference : tie.Need-add-after-reference
 add-after-reference c = search needs
 
--- src/job.rt:730:13
 after-reference-requires : tie.Need-after-reference-requires
 after-reference-requires c κs = let a = c .before .before .before .before .args in
     bootstrap-stands (a .job .now) (a .at) _ _ (c .before .before .tag-at .ensures) (c .before .shape-of .ensures .0) (c .match .keys2) (c .before .before .before .before .pre)
 
--- src/job.rt:731:16
 get-u16-requires : tie.Need-get-u16-requires
 get-u16-requires c κs = let a = c .before .before .before .before .before .args in
     count-room (a .job .now) (a .at) _ _ (c .before .before .before .tag-at .ensures) (c .before .before .shape-of .ensures .0) (c .before .match .keys2) _ (c .after-reference .ensures) (c .before .before .before .before .before .pre)
 
--- src/job.rt:731:16
 cast-result : tie.Need-cast-result
 cast-result c = search needs
 
--- src/job.rt:731:16
 add-result : tie.Need-add-result
 add-result c = search needs
 
--- src/job.rt:731:9
 returns : tie.Need-returns
 returns c = let a = c .before .before .before .before .before .before .args in
     rw (c .get-u16 .ensures) (bootstrap-count (a .job .now) (a .at) _ _ (c .before .before .before .before .tag-at .ensures) (c .before .before .before .shape-of .ensures .0) (c .before .before .match .keys2) _ (c .before .after-reference .ensures))
 
--- src/job.rt:734:25
 enum-told : tie.Need-enum-told
 enum-told c = search needs
 
--- src/job.rt:735:28
 enum-told-2 : tie.Need-enum-told-2
 enum-told-2 c = search needs
 
--- src/job.rt:736:24
 enum-told-3 : tie.Need-enum-told-3
 enum-told-3 c = search needs
 
--- src/job.rt:737:24
 enum-told-4 : tie.Need-enum-told-4
 enum-told-4 c = search needs
 
--- src/job.rt:738:27
 enum-told-5 : tie.Need-enum-told-5
 enum-told-5 c = search needs
 
--- src/job.rt:739:28
 enum-told-6 : tie.Need-enum-told-6
 enum-told-6 c = search needs
 
--- src/job.rt:725:1
 returns-2 : tie.Need-returns-2
 returns-2 c = let a = c .before .before .before .before .before .before .before .before .args in
     let g = c .before .before .before .fields .given in
     constant-count (a .job .now) (a .at) _ _ (c .before .before .before .before .before .before .tag-at .ensures) (c .before .before .before .before .before .shape-of .ensures .0) (g .0 .0) (g .1) 0 (rw (c .enum-told .given .1))
 
--- src/job.rt:725:1
 returns-3 : tie.Need-returns-3
 returns-3 c = let a = c .before .before .before .before .before .before .before .before .args in
     let g = c .before .before .before .fields .given in
     constant-count (a .job .now) (a .at) _ _ (c .before .before .before .before .before .before .tag-at .ensures) (c .before .before .before .before .before .shape-of .ensures .0) (g .0 .0) (g .1) 0 (rw (c .enum-told2 .given .1))
 
--- src/job.rt:725:1
 returns-4 : tie.Need-returns-4
 returns-4 c = let a = c .before .before .before .before .before .before .before .before .args in
     let g = c .before .before .before .fields .given in
     constant-count (a .job .now) (a .at) _ _ (c .before .before .before .before .before .before .tag-at .ensures) (c .before .before .before .before .before .shape-of .ensures .0) (g .0 .0) (g .1) 1 (rw (c .enum-told3 .given .1))
 
--- src/job.rt:725:1
 returns-5 : tie.Need-returns-5
 returns-5 c = let a = c .before .before .before .before .before .before .before .before .args in
     let g = c .before .before .before .fields .given in
     constant-count (a .job .now) (a .at) _ _ (c .before .before .before .before .before .before .tag-at .ensures) (c .before .before .before .before .before .shape-of .ensures .0) (g .0 .0) (g .1) 2 (rw (c .enum-told4 .given .1))
 
--- src/job.rt:725:1
 returns-6 : tie.Need-returns-6
 returns-6 c = let a = c .before .before .before .before .before .before .before .before .args in
     let g = c .before .before .before .fields .given in
     constant-count (a .job .now) (a .at) _ _ (c .before .before .before .before .before .before .tag-at .ensures) (c .before .before .before .before .before .shape-of .ensures .0) (g .0 .0) (g .1) 1 (rw (c .enum-told5 .given .1))
 
--- src/job.rt:725:1
 returns-7 : tie.Need-returns-7
 returns-7 c = let a = c .before .before .before .before .before .before .before .before .args in
     let g = c .before .before .before .fields .given in

@@ -1,3 +1,4 @@
+-- `cpool::job::shape_of` meets its contract. Assumes nothing.
 use Rattle.cpool.proofs.job.Table.{Right, Each, among, unknown, above}
 use Rattle.cpool.specs.Forms.{fieldsOf, bodyOf, tableOf}
 use Rattle.cpool.specs.declared.job.Fields.the-variants.{Bits, One, Two, Dynamic}
@@ -12,95 +13,76 @@ use native.Mathlib.Omega.{arith}
 use borrow.Author.Needs.{needs}
 use Rattle.cpool.proofs.job.shape_of.Statement.{statement}
 use Rattle.cpool.proofs.job.shape_of.Tie as tie
-use Rattle.cpool.proofs.job.shape_of.Reads as reads
-use Rattle.cpool.proofs.job.shape_of.Lts as lts
 
--- src/job.rt:79:1
 returns : tie.Need-returns
 unfolding fieldsOf bodyOf tableOf lookup bodies shapes bootstrapShape kindOf
 returns c = rw (c .match .keys1) (refl, refl)
 
--- src/job.rt:79:1
 returns-2 : tie.Need-returns-2
 unfolding fieldsOf bodyOf tableOf lookup bodies shapes bootstrapShape kindOf
 returns-2 c = rw (c .match .keys3) (refl, refl)
 
--- src/job.rt:79:1
 returns-3 : tie.Need-returns-3
 unfolding fieldsOf bodyOf tableOf lookup bodies shapes bootstrapShape kindOf
 returns-3 c = rw (c .match .keys4) (refl, refl)
 
--- src/job.rt:79:1
 returns-4 : tie.Need-returns-4
 unfolding fieldsOf bodyOf tableOf lookup bodies shapes bootstrapShape kindOf
 returns-4 c = rw (c .match .keys5) (refl, refl)
 
--- src/job.rt:79:1
 returns-5 : tie.Need-returns-5
 unfolding fieldsOf bodyOf tableOf lookup bodies shapes bootstrapShape kindOf
 returns-5 c = rw (c .match .keys6) (refl, refl)
 
--- src/job.rt:79:1
 returns-6 : tie.Need-returns-6
 unfolding fieldsOf bodyOf tableOf lookup bodies shapes bootstrapShape kindOf
 returns-6 c = rw (c .match .keys7) (refl, refl)
 
--- src/job.rt:79:1
 returns-7 : tie.Need-returns-7
 unfolding fieldsOf bodyOf tableOf lookup bodies shapes bootstrapShape kindOf
 returns-7 c = rw (c .match .keys8) (refl, refl)
 
--- src/job.rt:79:1
 returns-8 : tie.Need-returns-8
 unfolding fieldsOf bodyOf tableOf lookup bodies shapes bootstrapShape kindOf
 returns-8 c = among (λ x. Right x (Constant (Bits 4))) 2 3 (c .before .before .before .args .first) (omega arith) (omega arith) ((refl, refl), ((refl, refl), tt))
 
--- src/job.rt:79:1
 returns-9 : tie.Need-returns-9
 unfolding fieldsOf bodyOf tableOf lookup bodies shapes bootstrapShape kindOf
 returns-9 c = among (λ x. Right x (Constant (Bits 8))) 2 5 (c .before .before .before .before .args .first) (omega arith) (omega arith) ((refl, refl), ((refl, refl), tt))
 
--- src/job.rt:79:1
 returns-10 : tie.Need-returns-10
 unfolding fieldsOf bodyOf tableOf lookup bodies shapes bootstrapShape kindOf
 returns-10 c = among (λ x. Right x (Constant Two)) 4 9 (c .before .before .before .before .before .before .args .first) (omega arith) (omega arith) ((refl, refl), ((refl, refl), ((refl, refl), ((refl, refl), tt))))
 
--- src/job.rt:79:1
 returns-11 : tie.Need-returns-11
 unfolding fieldsOf bodyOf tableOf lookup bodies shapes bootstrapShape kindOf
 returns-11 c = let rest = c .before .before .before .before .before .before .before .match .rest in
     let x = c .before .before .before .before .before .before .before .before .args .first in
     among (λ x. Right x (Constant Dynamic)) 2 17 x (above 16 x (above 15 x (c .before .if6 .left) (rest .0 .0 .0 .0 .0 .1)) (rest .0 .0 .0 .0 .0 .0 .1)) (c .if7 .taken) ((refl, refl), ((refl, refl), tt))
 
--- src/job.rt:79:1
 returns-12 : tie.Need-returns-12
 unfolding fieldsOf bodyOf tableOf lookup bodies shapes bootstrapShape kindOf
 returns-12 c = among (λ x. (x ≡ 1 → ⊥) → Right x Unknown) 3 0 (c .before .before .args .first) (omega arith) (c .if1 .taken)
     ((λ _. (refl, refl)), ((λ h. absurd (h refl)), ((λ _. (refl, refl)), tt)))
     (c .before .match .rest .0 .0 .0 .0 .0 .0 .0 .1)
 
--- src/job.rt:79:1
 returns-13 : tie.Need-returns-13
 unfolding fieldsOf bodyOf tableOf lookup bodies shapes bootstrapShape kindOf
 returns-13 c = among (λ x. Right x Unknown) 2 13 (c .before .before .before .before .before .before .before .args .first) (omega arith) (omega arith) ((refl, refl), ((refl, refl), tt))
 
--- src/job.rt:79:1
 returns-14 : tie.Need-returns-14
 unfolding fieldsOf bodyOf tableOf lookup bodies shapes bootstrapShape kindOf
 returns-14 c = let rest = c .before .before .before .before .before .before .before .before .match .rest in
     unknown (c .before .before .before .before .before .before .before .before .before .args .first) (c .if8 .left) (rest .0 .0 .0 .0 .1) (rest .0 .0 .0 .1) (rest .0 .0 .1) (rest .0 .1) (rest .1)
 
--- src/job.rt:79:1
 returns-15 : tie.Need-returns-15
 unfolding fieldsOf bodyOf tableOf lookup bodies shapes bootstrapShape kindOf
 returns-15 c = rw (c .match .keys2) (refl, refl)
 
--- src/job.rt:79:1
 returns-16 : tie.Need-returns-16
 unfolding fieldsOf bodyOf tableOf lookup bodies shapes bootstrapShape kindOf
 returns-16 c = among (λ x. Right x (Constant One)) 2 7 (c .before .before .before .before .before .args .first) (omega arith) (omega arith) ((refl, refl), ((refl, refl), tt))
 
--- src/job.rt:79:1
 returns-17 : tie.Need-returns-17
 unfolding fieldsOf bodyOf tableOf lookup bodies shapes bootstrapShape kindOf
 returns-17 c = among (λ x. Right x (Constant One)) 2 19 (c .before .before .before .before .before .before .before .before .before .args .first) (omega arith) (omega arith) ((refl, refl), ((refl, refl), tt))

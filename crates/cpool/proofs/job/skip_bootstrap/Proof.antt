@@ -1,3 +1,4 @@
+-- `cpool::job::skip_bootstrap` meets its contract. Assumes nothing.
 use Prim.Native.Nat.{_+_}
 use Rattle.cpool.proofs.job.Entries.{reference-bounds, several-bounds, to-cut, bootstrap-to, bootstrap-cut, arguments-cut}
 use Rattle.definition.specs.Shapes.{constant, toMany, bootstrapShape}
@@ -7,37 +8,26 @@ use native.Mathlib.Omega.{arith}
 use borrow.Author.Needs.{needs}
 use Rattle.cpool.proofs.job.skip_bootstrap.Statement.{statement}
 use Rattle.cpool.proofs.job.skip_bootstrap.Tie as tie
-use Rattle.cpool.proofs.job.skip_bootstrap.Reads as reads
-use Rattle.cpool.proofs.job.skip_bootstrap.Lts as lts
-use Rattle.cpool.proofs.job.skip_reference.Reads as skip-reference-reads
-use Rattle.cpool.proofs.job.skip_references.Reads as skip-references-reads
-use Rattle.writer.proofs.get_u16.Reads as get-u16-reads
 
--- src/job.rt:281:9
 skip-reference-requires : tie.Need-skip-reference-requires
 skip-reference-requires c κs = search needs
 
--- src/job.rt:278:9
 enum-known-next : tie.Need-enum-known-next
 enum-known-next c = search needs
 
--- src/job.rt:282:9
 enum-told : tie.Need-enum-told
 enum-told c = search needs
 
--- src/job.rt:282:9
 returns : tie.Need-returns
 unfolding countOf bootstrapShape
 returns c = λ n e.
     to-cut n (c .before .before .before .before .args .job .now) (c .before .before .before .before .args .at) constant (toMany ∷ []) (rw (c .enum-told .given .1) at (c .before .before .skip-reference .ensures constant n e))
 
--- src/job.rt:284:8
 sub-if1 : tie.Need-sub-if1
 sub-if1 c = let g = c .before .next .given in
     let a = c .before .before .before .before .before .args in
     reference-bounds (a .entries) (a .job .now) (a .at) (g .0 .0) (g .0 .1 .0) (g .0 .1 .1 .0) (rw (g .1) at (c .before .before .before .skip-reference .ensures)) .1
 
--- src/job.rt:285:9
 returns-2 : tie.Need-returns-2
 unfolding countOf
 returns-2 c = λ n e.
@@ -45,27 +35,21 @@ returns-2 c = λ n e.
     let a = c .before .before .before .before .before .before .args in
     bootstrap-cut n (a .job .now) (a .at) (g .0 .0) (g .0 .1 .0) (g .0 .1 .1 .0) (rw (g .1) at (c .before .before .before .before .skip-reference .ensures constant n e)) (c .if1 .taken)
 
--- src/job.rt:287:13
 get-u16-requires : tie.Need-get-u16-requires
 get-u16-requires c κs = search needs
 
--- src/job.rt:287:13
 cast-n : tie.Need-cast-n
 cast-n c = search needs
 
--- src/job.rt:288:32
 add-skip-references : tie.Need-add-skip-references
 add-skip-references c = search needs
 
--- src/job.rt:288:11
 skip-references-requires : tie.Need-skip-references-requires
 skip-references-requires c κs = search needs
 
--- src/job.rt:290:19
 enum-known-end : tie.Need-enum-known-end
 enum-known-end c = search needs
 
--- src/job.rt:296:25
 add-t18 : tie.Need-add-t18
 add-t18 c = let g = c .before .before .before .before .before .before .before .next .given in
     let h = c .before .end .given in
@@ -73,11 +57,9 @@ add-t18 c = let g = c .before .before .before .before .before .before .before .n
     let b = several-bounds (a .entries) (c .before .before .before .before .get-u16 .result) (a .job .now) (g .0 .0 + 2) (h .0 .0) (h .0 .1 .0) (h .0 .1 .1 .0) (rw (h .1) at (c .before .before .before .skip-references .ensures)) in
     omega (arith, c .before .before .before .before .before .before .before .before .before .before .before .good)
 
--- src/job.rt:298:25
 enum-told-2 : tie.Need-enum-told-2
 enum-told-2 c = search needs
 
--- src/job.rt:273:1
 returns-3 : tie.Need-returns-3
 unfolding countOf
 returns-3 c = λ n e.
@@ -88,7 +70,6 @@ returns-3 c = λ n e.
     (h .0 .0) (h .0 .1 .0) (h .0 .1 .1 .0) (omega arith)
     (rw (h .1, c .before .before .before .before .get-u16 .ensures) at (c .before .before .before .skip-references .ensures n e))
 
--- src/job.rt:273:1
 returns-4 : tie.Need-returns-4
 unfolding countOf
 returns-4 c = λ n e.

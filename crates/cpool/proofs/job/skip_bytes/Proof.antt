@@ -1,23 +1,18 @@
+-- `cpool::job::skip_bytes` meets its contract. Assumes nothing.
 use Rattle.cpool.proofs.job.Laws.{skips-bytes, cuts-bytes}
 use borrow.Author.Needs.{needs}
 use Rattle.cpool.proofs.job.skip_bytes.Statement.{statement}
 use Rattle.cpool.proofs.job.skip_bytes.Tie as tie
-use Rattle.cpool.proofs.job.skip_bytes.Reads as reads
-use Rattle.cpool.proofs.job.skip_bytes.Lts as lts
 
--- src/job.rt:103:13
 sub-if1 : tie.Need-sub-if1
 sub-if1 c = search needs
 
--- src/job.rt:105:19
 add-t8 : tie.Need-add-t8
 add-t8 c = search needs
 
--- src/job.rt:99:1
 returns : tie.Need-returns
 returns c = skips-bytes (c .before .args .job .now) (c .before .args .at) (c .before .args .n) (c .before .pre) (c .if1 .taken)
 
--- src/job.rt:99:1
 returns-2 : tie.Need-returns-2
 returns-2 c = cuts-bytes (c .before .args .job .now) (c .before .args .at) (c .before .args .n) (c .if1 .left)
 

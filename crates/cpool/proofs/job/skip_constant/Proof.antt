@@ -1,3 +1,4 @@
+-- `cpool::job::skip_constant` meets its contract. Assumes nothing.
 use Rattle.cpool.proofs.job.Entries.{bits-to, one-to}
 use Rattle.cpool.specs.Forms.{fieldsOf, tables}
 use Rattle.definition.specs.Shapes.{constant, bootstrap}
@@ -6,94 +7,69 @@ use mathlib.Core.Path.{refl}
 use borrow.Author.Needs.{needs}
 use Rattle.cpool.proofs.job.skip_constant.Statement.{statement}
 use Rattle.cpool.proofs.job.skip_constant.Tie as tie
-use Rattle.cpool.proofs.job.skip_constant.Reads as reads
-use Rattle.cpool.proofs.job.skip_constant.Lts as lts
-use Rattle.cpool.proofs.job.skip_bytes.Reads as skip-bytes-reads
-use Rattle.cpool.proofs.job.skip_handle.Reads as skip-handle-reads
-use Rattle.cpool.proofs.job.skip_pair.Reads as skip-pair-reads
-use Rattle.cpool.proofs.job.skip_reference.Reads as skip-reference-reads
-use Rattle.cpool.proofs.job.skip_text.Reads as skip-text-reads
 
--- src/job.rt:311:25
 enum-told : tie.Need-enum-told
 enum-told c = search needs
 
--- src/job.rt:311:25
 skip-text-requires : tie.Need-skip-text-requires
 skip-text-requires c κs = search needs
 
--- src/job.rt:312:22
 enum-known-fields : tie.Need-enum-known-fields
 enum-known-fields c = search needs
 
--- src/job.rt:312:28
 skip-bytes-requires : tie.Need-skip-bytes-requires
 skip-bytes-requires c κs = search needs
 
--- src/job.rt:313:24
 enum-told-2 : tie.Need-enum-told-2
 enum-told-2 c = search needs
 
--- src/job.rt:313:24
 skip-reference-requires : tie.Need-skip-reference-requires
 skip-reference-requires c κs = search needs
 
--- src/job.rt:314:24
 enum-told-3 : tie.Need-enum-told-3
 enum-told-3 c = search needs
 
--- src/job.rt:314:24
 skip-pair-requires : tie.Need-skip-pair-requires
 skip-pair-requires c κs = search needs
 
--- src/job.rt:315:27
 enum-told-4 : tie.Need-enum-told-4
 enum-told-4 c = search needs
 
--- src/job.rt:315:27
 skip-handle-requires : tie.Need-skip-handle-requires
 skip-handle-requires c κs = search needs
 
--- src/job.rt:316:28
 enum-told-5 : tie.Need-enum-told-5
 enum-told-5 c = search needs
 
--- src/job.rt:316:28
 skip-pair-requires-2 : tie.Need-skip-pair-requires-2
 skip-pair-requires-2 c κs = search needs
 
--- src/job.rt:306:1
 returns : tie.Need-returns
 unfolding fieldsOf
 returns c = let a = c .before .before .before .before .args in rw (c .before .enum-told .given .1) (c .skip-text .ensures (tables (a .constants) (a .bootstraps)))
 
--- src/job.rt:306:1
 returns-2 : tie.Need-returns-2
 unfolding fieldsOf
 returns-2 c = let a = c .before .before .before .before .before .args in
     let g = c .before .before .fields .given in
     rw (g .1) (bits-to (tables (a .constants) (a .bootstraps)) (a .job .now) (a .at) (g .0 .0) (c .skip-bytes .result) (c .skip-bytes .ensures))
 
--- src/job.rt:306:1
 returns-3 : tie.Need-returns-3
 unfolding fieldsOf countOf
 returns-3 c = let a = c .before .before .before .before .args in
     let n = tables (a .constants) (a .bootstraps) in
     rw (c .before .enum-told2 .given .1) (one-to n (a .job .now) (a .at) constant (c .skip-reference .result) (c .skip-reference .ensures constant n refl))
 
--- src/job.rt:306:1
 returns-4 : tie.Need-returns-4
 unfolding fieldsOf countOf
 returns-4 c = let a = c .before .before .before .before .args in
     rw (c .before .enum-told3 .given .1) (c .skip-pair .ensures constant constant (tables (a .constants) (a .bootstraps)) refl refl)
 
--- src/job.rt:306:1
 returns-5 : tie.Need-returns-5
 unfolding fieldsOf
 returns-5 c = let a = c .before .before .before .before .args in
     rw (c .before .enum-told4 .given .1) (c .skip-handle .ensures (tables (a .constants) (a .bootstraps)) refl)
 
--- src/job.rt:306:1
 returns-6 : tie.Need-returns-6
 unfolding fieldsOf countOf
 returns-6 c = let a = c .before .before .before .before .args in

@@ -1,3 +1,4 @@
+-- `cpool::job::skip_definition` meets its contract. Assumes nothing.
 use Rattle.cpool.proofs.job.Records.{entry-to, unknown-cut}
 use Rattle.cpool.specs.Forms.{bodyOf, fieldsOf, tables}
 use Rattle.definition.specs.Shapes.{constant, bootstrap, bootstrapShape}
@@ -6,66 +7,46 @@ use mathlib.Core.Path.{refl}
 use borrow.Author.Needs.{needs}
 use Rattle.cpool.proofs.job.skip_definition.Statement.{statement}
 use Rattle.cpool.proofs.job.skip_definition.Tie as tie
-use Rattle.cpool.proofs.job.skip_definition.Reads as reads
-use Rattle.cpool.proofs.job.skip_definition.Lts as lts
-use Rattle.cpool.proofs.job.skip_bootstrap.Reads as skip-bootstrap-reads
-use Rattle.cpool.proofs.job.skip_constant.Reads as skip-constant-reads
-use Rattle.cpool.proofs.job.skip_naming.Reads as skip-naming-reads
-use Rattle.cpool.proofs.job.skip_placing.Reads as skip-placing-reads
 
--- src/job.rt:363:25
 enum-known-shape : tie.Need-enum-known-shape
 enum-known-shape c = search needs
 
--- src/job.rt:363:36
 skip-constant-requires : tie.Need-skip-constant-requires
 skip-constant-requires c κs = search needs
 
--- src/job.rt:364:29
 enum-told : tie.Need-enum-told
 enum-told c = search needs
 
--- src/job.rt:364:29
 skip-bootstrap-requires : tie.Need-skip-bootstrap-requires
 skip-bootstrap-requires c κs = search needs
 
--- src/job.rt:365:33
 enum-told-2 : tie.Need-enum-told-2
 enum-told-2 c = search needs
 
--- src/job.rt:365:33
 skip-naming-requires : tie.Need-skip-naming-requires
 skip-naming-requires c κs = search needs
 
--- src/job.rt:366:34
 enum-told-3 : tie.Need-enum-told-3
 enum-told-3 c = search needs
 
--- src/job.rt:366:34
 skip-naming-requires-2 : tie.Need-skip-naming-requires-2
 skip-naming-requires-2 c κs = search needs
 
--- src/job.rt:367:31
 enum-told-4 : tie.Need-enum-told-4
 enum-told-4 c = search needs
 
--- src/job.rt:367:31
 skip-placing-requires : tie.Need-skip-placing-requires
 skip-placing-requires c κs = search needs
 
--- src/job.rt:368:32
 enum-told-5 : tie.Need-enum-told-5
 enum-told-5 c = search needs
 
--- src/job.rt:368:32
 skip-placing-requires-2 : tie.Need-skip-placing-requires-2
 skip-placing-requires-2 c κs = search needs
 
--- src/job.rt:369:27
 enum-told-6 : tie.Need-enum-told-6
 enum-told-6 c = search needs
 
--- src/job.rt:358:1
 returns : tie.Need-returns
 unfolding bodyOf
 returns c = let a = c .before .before .before .before .before .args in
@@ -73,38 +54,32 @@ returns c = let a = c .before .before .before .before .before .args in
     rw (g .1)
     (entry-to (tables (a .constants) (a .bootstraps)) (a .job .now) (a .at) (fieldsOf (g .0 .0)) (c .skip-constant .result) (c .skip-constant .ensures))
 
--- src/job.rt:358:1
 returns-2 : tie.Need-returns-2
 unfolding bodyOf
 returns-2 c = let a = c .before .before .before .before .args in
     let n = tables (a .constants) (a .bootstraps) in
     rw (c .before .enum-told .given .1) (entry-to n (a .job .now) (a .at) bootstrapShape (c .skip-bootstrap .result) (c .skip-bootstrap .ensures n refl))
 
--- src/job.rt:358:1
 returns-3 : tie.Need-returns-3
 unfolding bodyOf countOf
 returns-3 c = let a = c .before .before .before .before .args in
     rw (c .before .enum-told2 .given .1) (c .skip-naming .ensures constant (tables (a .constants) (a .bootstraps)) refl)
 
--- src/job.rt:358:1
 returns-4 : tie.Need-returns-4
 unfolding bodyOf countOf
 returns-4 c = let a = c .before .before .before .before .args in
     rw (c .before .enum-told3 .given .1) (c .skip-naming2 .ensures bootstrap (tables (a .constants) (a .bootstraps)) refl)
 
--- src/job.rt:358:1
 returns-5 : tie.Need-returns-5
 unfolding bodyOf countOf
 returns-5 c = let a = c .before .before .before .before .args in
     rw (c .before .enum-told4 .given .1) (c .skip-placing .ensures constant (tables (a .constants) (a .bootstraps)) refl)
 
--- src/job.rt:358:1
 returns-6 : tie.Need-returns-6
 unfolding bodyOf countOf
 returns-6 c = let a = c .before .before .before .before .args in
     rw (c .before .enum-told5 .given .1) (c .skip-placing2 .ensures bootstrap (tables (a .constants) (a .bootstraps)) refl)
 
--- src/job.rt:358:1
 returns-7 : tie.Need-returns-7
 unfolding bodyOf
 returns-7 c = let a = c .before .before .before .args in

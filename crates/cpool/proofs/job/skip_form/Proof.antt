@@ -1,40 +1,29 @@
+-- `cpool::job::skip_form` meets its contract. Assumes nothing.
 use Rattle.cpool.proofs.job.Laws.{form-raw, form-number, form-name, form-unknown}
 use native.Mathlib.Omega.{arith}
 use borrow.Author.Needs.{needs}
 use Rattle.cpool.proofs.job.skip_form.Statement.{statement}
 use Rattle.cpool.proofs.job.skip_form.Tie as tie
-use Rattle.cpool.proofs.job.skip_form.Reads as reads
-use Rattle.cpool.proofs.job.skip_form.Lts as lts
-use Rattle.cpool.proofs.job.skip_name.Reads as skip-name-reads
-use Rattle.cpool.proofs.job.skip_number.Reads as skip-number-reads
-use Rattle.cpool.proofs.job.skip_raw_slot.Reads as skip-raw-slot-reads
 
--- src/job.rt:163:14
 skip-raw-slot-requires : tie.Need-skip-raw-slot-requires
 skip-raw-slot-requires c κs = search needs
 
--- src/job.rt:164:14
 skip-number-requires : tie.Need-skip-number-requires
 skip-number-requires c κs = search needs
 
--- src/job.rt:165:14
 skip-name-requires : tie.Need-skip-name-requires
 skip-name-requires c κs = search needs
 
--- src/job.rt:158:1
 returns : tie.Need-returns
 returns c = λ kind n e. rw (c .before .match .keys1) (form-raw (c .before .before .before .args .job .now) (c .before .before .before .args .at) kind n (c .skip-raw-slot .result) (c .skip-raw-slot .ensures))
 
--- src/job.rt:158:1
 returns-2 : tie.Need-returns-2
 returns-2 c = λ kind n e.
     rw (c .before .match .keys2) (form-number (c .before .before .before .args .job .now) (c .before .before .before .args .at) kind n (c .skip-number .result) (c .before .before .before .args .entries) e (c .skip-number .ensures))
 
--- src/job.rt:158:1
 returns-3 : tie.Need-returns-3
 returns-3 c = λ kind n e. rw (c .before .match .keys3) (form-name (c .before .before .before .args .job .now) (c .before .before .before .args .at) kind n (c .skip-name .result) (c .skip-name .ensures))
 
--- src/job.rt:158:1
 returns-4 : tie.Need-returns-4
 returns-4 c = λ kind n e. form-unknown (c .before .before .args .job .now) (c .before .before .args .at) kind (c .before .before .args .form) (omega arith)
 

@@ -1,3 +1,4 @@
+-- `cpool::job::skip_name` meets its contract. Assumes nothing.
 use Rattle.cpool.proofs.job.Laws.{then-one, none-one}
 use Rattle.definition.specs.Job.{shortName}
 use Rattle.definition.specs.Bytes.{one, many}
@@ -6,33 +7,23 @@ use native.Mathlib.Omega.{arith}
 use borrow.Author.Needs.{needs}
 use Rattle.cpool.proofs.job.skip_name.Statement.{statement}
 use Rattle.cpool.proofs.job.skip_name.Tie as tie
-use Rattle.cpool.proofs.job.skip_name.Reads as reads
-use Rattle.cpool.proofs.job.skip_name.Lts as lts
-use Rattle.cpool.proofs.job.skip_bytes.Reads as skip-bytes-reads
-use Rattle.writer.proofs.get_u8.Reads as get-u8-reads
 
--- src/job.rt:120:9
 returns : tie.Need-returns
 unfolding shortName
 returns c = none-one (λ _. true) (λ _. 0) (c .before .before .args .job .now) (c .before .before .args .at) (λ size. many size one) (omega arith)
 
--- src/job.rt:122:13
 get-u8-requires : tie.Need-get-u8-requires
 get-u8-requires c κs = search needs
 
--- src/job.rt:122:13
 cast-n : tie.Need-cast-n
 cast-n c = search needs
 
--- src/job.rt:123:21
 add-skip-bytes : tie.Need-add-skip-bytes
 add-skip-bytes c = search needs
 
--- src/job.rt:123:5
 skip-bytes-requires : tie.Need-skip-bytes-requires
 skip-bytes-requires c κs = search needs
 
--- src/job.rt:115:1
 returns-2 : tie.Need-returns-2
 unfolding shortName
 returns-2 c = then-one (λ _. true) (λ _. 0) (c .before .before .before .before .args .job .now) (c .before .before .before .before .args .at) (λ size. many size one) (c .skip-bytes .result) (omega arith)

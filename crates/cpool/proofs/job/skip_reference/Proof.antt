@@ -1,3 +1,4 @@
+-- `cpool::job::skip_reference` meets its contract. Assumes nothing.
 use Rattle.cpool.specs.declared.job.Skipped.the-variants.{Cut}
 use Rattle.cpool.proofs.job.Laws.{none-one, then-one, reference-to}
 use Rattle.definition.specs.Job.{reference, referenceForm}
@@ -6,44 +7,32 @@ use native.Mathlib.Omega.{arith}
 use borrow.Author.Needs.{needs}
 use Rattle.cpool.proofs.job.skip_reference.Statement.{statement}
 use Rattle.cpool.proofs.job.skip_reference.Tie as tie
-use Rattle.cpool.proofs.job.skip_reference.Reads as reads
-use Rattle.cpool.proofs.job.skip_reference.Lts as lts
-use Rattle.cpool.proofs.job.skip_form.Reads as skip-form-reads
-use Rattle.writer.proofs.get_u8.Reads as get-u8-reads
 
--- src/job.rt:175:9
 returns : tie.Need-returns
 unfolding reference
 returns c = λ kind n e. none-one (cites n) (λ _. 1) (c .before .before .args .job .now) (c .before .before .args .at) (referenceForm kind) (omega arith)
 
--- src/job.rt:177:9
 get-u8-requires : tie.Need-get-u8-requires
 get-u8-requires c κs = search needs
 
--- src/job.rt:178:26
 add-skip-form : tie.Need-add-skip-form
 add-skip-form c = search needs
 
--- src/job.rt:178:11
 skip-form-requires : tie.Need-skip-form-requires
 skip-form-requires c κs = search needs
 
--- src/job.rt:180:13
 enum-known-next : tie.Need-enum-known-next
 enum-known-next c = search needs
 
--- src/job.rt:188:25
 enum-told : tie.Need-enum-told
 enum-told c = search needs
 
--- src/job.rt:170:1
 returns-2 : tie.Need-returns-2
 returns-2 c = λ kind n e.
     let g = c .before .next .given in
     reference-to (c .before .before .before .before .before .before .before .args .job .now) (c .before .before .before .before .before .before .before .args .at) kind n (g .0 .0) (g .0 .1 .0) (g .0 .1 .1 .0) (omega arith)
     (rw (g .1, c .before .before .before .before .get-u8 .ensures) at (c .before .before .before .skip-form .ensures kind n e))
 
--- src/job.rt:170:1
 returns-3 : tie.Need-returns-3
 unfolding reference
 returns-3 c = λ kind n e.

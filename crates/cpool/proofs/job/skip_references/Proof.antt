@@ -1,3 +1,4 @@
+-- `cpool::job::skip_references` meets its contract. Assumes nothing.
 use Rattle.cpool.proofs.job.Several.{Passed, none-passed, one-passed, passed-cut, all-passed}
 use Rattle.cpool.proofs.job.Entries.{reference-bounds}
 use Rattle.definition.specs.Shapes.{constant}
@@ -9,9 +10,6 @@ use native.Mathlib.Omega.{arith}
 use borrow.Author.Needs.{needs}
 use Rattle.cpool.proofs.job.skip_references.Statement.{statement}
 use Rattle.cpool.proofs.job.skip_references.Tie as tie
-use Rattle.cpool.proofs.job.skip_references.Reads as reads
-use Rattle.cpool.proofs.job.skip_references.Lts as lts
-use Rattle.cpool.proofs.job.skip_reference.Reads as skip-reference-reads
 
 abbrev Inv-loop : tie.InvT-loop
 Inv-loop job at n entries next₀ cited₀ i₀ next cited i = (i ≤ n) × (at + i ≤ next) × (next ≤ length job) × ((c : Counts) → c .constants ≡ entries → Passed c job at n i next cited)
@@ -19,23 +17,18 @@ Inv-loop job at n entries next₀ cited₀ i₀ next cited i = (i ≤ n) × (at 
 abbrev μ-loop : tie.MeasureT-loop
 μ-loop job at n entries next₀ cited₀ i₀ next cited i = n - i
 
--- src/job.rt:249:5
 loop-holds : tie.Need-loop-holds Inv-loop μ-loop
 loop-holds c = (omega arith, omega arith, omega arith, λ n e. none-passed n (c .before .args .job .now) (c .before .args .at) (c .before .args .n))
 
--- src/job.rt:250:15
 skip-reference-requires : tie.Need-skip-reference-requires Inv-loop μ-loop
 skip-reference-requires c κs = search needs
 
--- src/job.rt:252:23
 enum-known-behind : tie.Need-enum-known-behind Inv-loop μ-loop
 enum-known-behind c = search needs
 
--- src/job.rt:260:17
 enum-told : tie.Need-enum-told Inv-loop μ-loop
 enum-told c = search needs
 
--- src/job.rt:260:17
 returns : tie.Need-returns Inv-loop μ-loop
 unfolding countOf
 returns c = λ n e.
@@ -44,15 +37,12 @@ returns c = λ n e.
     passed-cut n (a .job .now) (a .at) (a .n) (l .i) (l .next) (l .cited) (l .inv .3 n e) (c .before .before .before .loop-test .taken)
     (rw (c .enum-told .given .1) at (c .before .before .skip-reference .ensures constant n e))
 
--- src/job.rt:263:9
 add-i : tie.Need-add-i Inv-loop μ-loop
 add-i c = search needs
 
--- src/job.rt:249:5
 loop-less : tie.Need-loop-less Inv-loop μ-loop
 loop-less c = omega arith
 
--- src/job.rt:249:5
 loop-again : tie.Need-loop-again Inv-loop μ-loop
 unfolding countOf
 loop-again c = let a = c .before .before .before .before .before .before .before .args in
@@ -67,7 +57,6 @@ loop-again c = let a = c .before .before .before .before .before .before .before
           (rw (g .1) at (c .before .before .before .skip-reference .ensures constant n e)),
     )
 
--- src/job.rt:242:1
 returns-2 : tie.Need-returns-2 Inv-loop μ-loop
 returns-2 c = λ n e.
     let a = c .before .before .before .args in

@@ -1,3 +1,4 @@
+-- `cpool::job::skip_request` meets its contract. Assumes nothing.
 use Rattle.cpool.proofs.job.Asking.{request-to, request-unknown}
 use Rattle.cpool.proofs.job.Table.{Each, among}
 use Rattle.cpool.specs.Forms.{Skips}
@@ -11,15 +12,10 @@ use native.Mathlib.Omega.{arith}
 use borrow.Author.Needs.{needs}
 use Rattle.cpool.proofs.job.skip_request.Statement.{statement}
 use Rattle.cpool.proofs.job.skip_request.Tie as tie
-use Rattle.cpool.proofs.job.skip_request.Reads as reads
-use Rattle.cpool.proofs.job.skip_request.Lts as lts
-use Rattle.cpool.proofs.job.skip_reference.Reads as skip-reference-reads
 
--- src/job.rt:502:24
 skip-reference-requires : tie.Need-skip-reference-requires
 skip-reference-requires c κs = search needs
 
--- src/job.rt:497:1
 returns : tie.Need-returns
 unfolding countOf lookup asks
 returns c = λ n e.
@@ -29,12 +25,10 @@ returns c = λ n e.
     among (λ x. Skips (readRequest (lookup x asks)) (λ q. cites n (q .what)) (λ _. 1) (a .job .now) (a .at) r) 2 0x51 (a .first) (omega arith) (omega arith)
     (request-to n (a .job .now) (a .at) 0x51 false r refl v, (request-to n (a .job .now) (a .at) 0x52 true r refl v, tt))
 
--- src/job.rt:497:1
 returns-2 : tie.Need-returns-2
 unfolding asks
 returns-2 c = λ n e. request-unknown n (c .before .before .args .job .now) (c .before .before .args .at) (c .before .before .args .first) (omega arith)
 
--- src/job.rt:497:1
 returns-3 : tie.Need-returns-3
 unfolding asks
 returns-3 c = λ n e. request-unknown n (c .before .before .before .args .job .now) (c .before .before .before .args .at) (c .before .before .before .args .first) (omega arith)
