@@ -48,7 +48,7 @@ bodyOf RawConstant = some (ofRaw constant)
 bodyOf RawBootstrap = some (ofRaw bootstrap)
 bodyOf Unknown = none
 
--- the table that an entry goes into
+-- the table that an entry goes into, as kindOf has it
 unfoldable pub tableOf : Shape → Kind
 tableOf (Constant fields) = constant
 tableOf Bootstrap = bootstrap
@@ -60,7 +60,7 @@ tableOf Unknown = constant
 
 -- ---- skipping
 
--- p reads a value of s at a place, and next is the place behind it
+-- p reads a value of s at a place, and next is the place behind it, a byte or more for each reference
 pub record Read {A : Type 0} (p : Parser A) (ok : A → Bool) (kids : A → ℕ) (s : List ℕ) (at next : ℕ) (cited : Bool) (references : ℕ) : Type 0 where
   pub value : A
   pub read : p (drop at s) ≡ some (value, drop next s)

@@ -10,8 +10,8 @@ use Rattle.definition.specs.Shapes.{Kind, constant, bootstrap, Field, text, bit
 use Rattle.definition.specs.Job.{Reference, raw, entry, name, Definition, define, Request, Job, Body, ofEntry, ofName, ofRaw, bodies, reference, readDefinition, asks, readRequest, readBuild}
 use Rattle.definition.specs.Form.{kindOf}
 use Rattle.cpool.specs.declared.job.Extent.{Extent}
-use Rattle.cpool.specs.declared.job.Cited.{Cited}
-use Rattle.cpool.specs.declared.job.Cited.the-variants as cited
+use Rattle.cpool.specs.declared.job.RefType.{RefType}
+use Rattle.cpool.specs.declared.job.RefType.the-variants as refType
 
 -- p finds a value at a place of s, and next is the place behind it
 pub record Found {A : Type 0} (p : Parser A) (s : List ℕ) (at : ℕ) (value : A) (next : ℕ) : Type 0 where
@@ -59,10 +59,10 @@ abbrev pub WhatEntry : List ℕ → ℕ → (Entry (List ℕ) Reference → Type
 WhatEntry s at P = (e : Entry (List ℕ) Reference) (next : ℕ) → Found anyDefinition s at (define e) next → P e
 
 -- what a reference at a place of s says
-unfoldable pub Cites : List ℕ → Kind → Reference → Cited → Type 0
-Cites s kind r (cited.Raw number) = r ≡ raw number
-Cites s kind r (cited.Entry number) = r ≡ entry kind number
-Cites s kind r (cited.Name extent) = (l : List ℕ) × Spans s extent l × (r ≡ name kind l)
+unfoldable pub Tells : List ℕ → Kind → Reference → RefType → Type 0
+Tells s kind r (refType.Raw number) = r ≡ raw number
+Tells s kind r (refType.Index number) = r ≡ entry kind number
+Tells s kind r (refType.Sym extent) = (l : List ℕ) × Spans s extent l × (r ≡ name kind l)
 
 -- the table that an entry's first reference leads to, by the entry's fields: a Dynamic's cites a bootstrap
 unfoldable pub firstKind : List Field → Kind
@@ -84,12 +84,12 @@ unfoldable pub kidKind : ℕ → ℕ → Kind
 kidKind tag zero = kindIn (lookup tag bodies)
 kidKind tag (suc i) = constant
 
--- what stands between an entry's i-th reference and the next: a bootstrap's count behind its first
-unfoldable pub gapAfter : Kind → ℕ → ℕ
-gapAfter constant zero = 0
-gapAfter constant (suc i) = 0
-gapAfter bootstrap zero = 2
-gapAfter bootstrap (suc i) = 0
+-- how many bytes stand between an entry's i-th reference and the next: a bootstrap's count behind its first
+unfoldable pub bytesBetween : Kind → ℕ → ℕ
+bytesBetween constant zero = 0
+bytesBetween constant (suc i) = 0
+bytesBetween bootstrap zero = 2
+bytesBetween bootstrap (suc i) = 0
 
 -- the i-th reference of an entry stands at a place, and the later ones in turn behind it
 pub record KidAt (s : List ℕ) (e : Entry (List ℕ) Reference) (i place : ℕ) : Type 0 where
@@ -99,7 +99,7 @@ pub record KidAt (s : List ℕ) (e : Entry (List ℕ) Reference) (i place : ℕ)
   pub behind : ℕ
   pub found : Found (reference (kidKind (e .tag) i)) s place kid behind
   pub end : ℕ
-  pub rest : InTurn (reference constant) s (behind + gapAfter (kindOf (e .tag)) i) later end
+  pub rest : InTurn (reference constant) s (behind + bytesBetween (kindOf (e .tag)) i) later end
 
 -- where the records of a job stand: the definitions from the start to 50, then the requests to 60, then 60's fields, and nothing more
 pub record Laid (s : List ℕ) (job : Job (List ℕ)) : Type 0 where

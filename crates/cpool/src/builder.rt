@@ -2,10 +2,10 @@
 ghost use mathlib.Core.List.{_++_, []};
 ghost use mathlib.Core.Path.{_≡_};
 ghost use Prim.Native.Nat.{_+_, _≤_, _<_};
+ghost use lib.Dec.{leb};
 ghost use lib.ListN.{length, take, drop};
 ghost use Rattle.definition.specs.Basics.{every};
 ghost use Rattle.definition.specs.Slots.{highestSlot, size, scan, isOdd, tooHigh, plainEnds, gapBefore, gapsFrom, plainSlot, narrowSlot, wideSlot, slotFor, countFrom};
-ghost use Rattle.laws.proofs.Requests.{hasTwo};
 ghost use Rattle.laws.proofs.Tables.{Rising};
 ghost use Rattle.cpool.specs.Gaps.{gapOf, gapAt, gapsAt, ends, AtMost, slotsAt, rowsLess, Answered, Written, endFits, requested};
 
@@ -72,7 +72,7 @@ fn find_plain(gaps: &[[u16; 2]], count: usize, at: usize, ldc: bool) -> usize
 
 fn find_wide(gaps: &[[u16; 2]], count: usize, at: usize) -> usize
     requires { ⌜ count ≤ length (now gaps) ⌝ }
-    ensures { λ r. ⌜ r ≡ scan hasTwo at (gapsAt (now (gaps .entry)) count) ⌝ }
+    ensures { λ r. ⌜ r ≡ scan (λ g. leb 2 (size g)) at (gapsAt (now (gaps .entry)) count) ⌝ }
 {
     let mut i = at;
     while i < count {

@@ -1,4 +1,5 @@
-// The form pass (document 01, "A job"): goes over a job's records once, keeps nothing of them, and counts them.
+// The form pass (document 01, "A job"): goes over a job's records once, keeps nothing of them, and counts them. Behind it, readers of
+// entries, references and names at stored places.
 ghost use mathlib.Core.Path.{_≡_};
 ghost use mathlib.Core.Bool.{true};
 ghost use mathlib.Core.List.{List, [], _∷_};
@@ -12,7 +13,7 @@ ghost use Rattle.definition.specs.Shapes.{Kind, Entry, constant, text, byte, to
 ghost use Rattle.definition.specs.Job.{Reference, define, shortName, referenceForm, reference, bodies, ofName, ofRaw, asks, readRequest, readBuild};
 ghost use Rattle.definition.specs.Form.{Counts, countOf, cites, kindOf, citesRequest, formDefinition, formDefinitions, formRequest, formBuild, formRequests, form};
 ghost use Rattle.cpool.specs.Forms.{Skips, SkipsReference, SkipsEntry, SkipsDefinition, fieldsOf, bodyOf, tableOf, tables, roomFor, Bounded, Room, plus, oneOf, countsOf, tablesIn, Steps, tallied, definedAs, Within, placeOf, formedBuild, formedRequests, formedOf};
-ghost use Rattle.cpool.specs.Stored.{Found, Stands, WhatStands, ReferenceStands, WhatReference, EntryStands, WhatEntry, Spans, Cites, anyDefinition, KidAt};
+ghost use Rattle.cpool.specs.Stored.{Found, Stands, WhatStands, ReferenceStands, WhatReference, EntryStands, WhatEntry, Spans, Tells, anyDefinition, KidAt};
 
 // How many entries each table takes.
 const TABLE_SIZE: usize = 65536;
@@ -60,7 +61,7 @@ enum Shape {
 
 // What skipping a part of a record finds.
 enum Skipped {
-    // The place behind it, whether what it cites by number stands earlier, and how many references it has.
+    // The place behind it, whether what it cites by number stands earlier, and how many references of an entry are in it.
     To {
         next: usize,
         cited: bool,
@@ -643,11 +644,11 @@ pub(crate) struct Extent {
     pub(crate) end: usize,
 }
 
-// What a reference says: a raw number, the number of an entry, or where a name stands.
-pub(crate) enum Cited {
+// Krakatau's `RefType`: a raw number, the number of an entry of its table, or where a name stands.
+pub(crate) enum RefType {
     Raw(u16),
-    Entry(u16),
-    Name(Extent),
+    Index(u16),
+    Sym(Extent),
 }
 
 // What follows reads at stored places, where the form pass has found a record or a part of one: it tests nothing again.
@@ -666,14 +667,14 @@ pub(crate) fn name_at(job: &[u8], at: usize) -> Extent
 }
 
 // The reference at a place.
-pub(crate) fn reference_at(job: &[u8], at: usize) -> Cited
+pub(crate) fn reference_at(job: &[u8], at: usize) -> RefType
     requires { ⌜ ReferenceStands (now job) at ⌝ }
-    ensures { λ r. ⌜ WhatReference (now (job .entry)) at (λ kind a next. Cites (now (job .entry)) kind a r) ⌝ }
+    ensures { λ r. ⌜ WhatReference (now (job .entry)) at (λ kind a next. Tells (now (job .entry)) kind a r) ⌝ }
 {
     match writer::get_u8(job, at) {
-        0 => Cited::Raw(writer::get_u16(job, at + 1)),
-        1 => Cited::Entry(writer::get_u16(job, at + 1)),
-        _ => Cited::Name(name_at(job, at + 1)),
+        0 => RefType::Raw(writer::get_u16(job, at + 1)),
+        1 => RefType::Index(writer::get_u16(job, at + 1)),
+        _ => RefType::Sym(name_at(job, at + 1)),
     }
 }
 
@@ -754,7 +755,7 @@ pub(crate) fn reference_count(job: &[u8], at: usize) -> usize
     }
 }
 
-// Where the first reference of the entry at a place stands, if it has one.
+// Where reference 0 of the entry at a place stands, if it has one.
 fn first_reference(job: &[u8], at: usize) -> usize
     requires { ⌜ EntryStands (now job) at ⌝ }
     ensures { λ r. ⌜ WhatEntry (now (job .entry)) at (λ e. 0 < length (e .kids) → KidAt (now (job .entry)) e 0 r) ⌝ }
@@ -768,12 +769,12 @@ fn first_reference(job: &[u8], at: usize) -> usize
     }
 }
 
-// Where the reference behind the i-th one stands, which stands at `place`; a bootstrap's count stands behind its first.
-pub(crate) fn next_reference(job: &[u8], at: usize, i: usize, place: usize) -> usize
-    requires { ⌜ ((e : Entry (List ℕ) Reference) × (next : ℕ) × Found anyDefinition (now job) at (define e) next × KidAt (now job) e i place × (i + 1 < length (e .kids))) ⌝ }
-    ensures { λ r. ⌜ WhatEntry (now (job .entry)) at (λ e. KidAt (now (job .entry)) e i place → i + 1 < length (e .kids) → KidAt (now (job .entry)) e (i + 1) r) ⌝ }
+// Where reference i + 1 of the entry at a place stands, if reference i stands at `from`; a bootstrap's count stands behind its first.
+pub(crate) fn next_reference(job: &[u8], at: usize, i: usize, from: usize) -> usize
+    requires { ⌜ ((e : Entry (List ℕ) Reference) × (next : ℕ) × Found anyDefinition (now job) at (define e) next × KidAt (now job) e i from × (i + 1 < length (e .kids))) ⌝ }
+    ensures { λ r. ⌜ WhatEntry (now (job .entry)) at (λ e. KidAt (now (job .entry)) e i from → i + 1 < length (e .kids) → KidAt (now (job .entry)) e (i + 1) r) ⌝ }
 {
-    let behind = after_reference(job, place);
+    let behind = after_reference(job, from);
     if (tag_at(job, at) == 0x40) & (i == 0) {
         behind + 2
     } else {
@@ -781,16 +782,16 @@ pub(crate) fn next_reference(job: &[u8], at: usize, i: usize, place: usize) -> u
     }
 }
 
-// Where the n-th reference of the entry at a place stands.
+// Where reference n of the entry at a place stands, counted from 0.
 pub(crate) fn nth_reference(job: &[u8], at: usize, n: usize) -> usize
     requires { ⌜ ((e : Entry (List ℕ) Reference) × (next : ℕ) × Found anyDefinition (now job) at (define e) next × (n < length (e .kids))) ⌝ }
     ensures { λ r. ⌜ WhatEntry (now (job .entry)) at (λ e. n < length (e .kids) → KidAt (now (job .entry)) e n r) ⌝ }
 {
-    let mut place = first_reference(job, at);
+    let mut from = first_reference(job, at);
     let mut i = 0;
     while i < n {
-        place = next_reference(job, at, i, place);
+        from = next_reference(job, at, i, from);
         i += 1;
     }
-    place
+    from
 }

@@ -1,5 +1,5 @@
 -- The records of a job that the form pass accepts stand one behind the other. Assumes nothing.
-use mathlib.Core.Bool.{true}
+use mathlib.Core.Bool.{Bool, true, false}
 use mathlib.Core.List.{List, [], _∷_}
 use mathlib.Core.Option.{none, some}
 use mathlib.Core.Path.{_≡_, refl, sym, ap, subst, _∙_}
@@ -12,7 +12,8 @@ use borrow.Author.Tests.{eqb-true}
 use Rattle.definition.specs.Basics.{good, atRecord, unless, lookup}
 use Rattle.definition.specs.Bytes.{Parser, _>>=_, one}
 use Rattle.definition.specs.Job.{Build, Job, readDefinition, asks, readRequest, readBuild}
-use Rattle.definition.specs.Form.{Counts, counted, whole, hasRoom, cites, citesEarlier, citesRequest, formDefinition, Definitions, formDefinitions, formRequest, nothingBehind, formBuild, Requests, formRequests, form}
+use Rattle.definition.specs.Form.{Counts, counted, whole, cites, citesRequest, Definitions, formDefinitions, formRequest, nothingBehind, formBuild, Requests, formRequests, form}
+use Rattle.laws.proofs.Bare.{formed-read, formed-end, formed-step}
 use Rattle.laws.proofs.Lists.{clash, true≢false}
 use Rattle.laws.proofs.Results.{bad≢good, good-inj, good-then, atRecord-good, unless-good, whole-good, decided}
 use Rattle.cpool.specs.Stored.{Found, InTurn, anyDefinition, anyRequest, Laid}
@@ -25,10 +26,10 @@ front [] (suc at) b l e = clash (cc)
 front (x ∷ s) zero b l e = (ap some (cc), omega arith, cc)
 front (x ∷ s) (suc at) b l e = let g = front s at b l e in (g .0, omega arith, g .2)
 
-nothing-left : (l : List ℕ) → nothingBehind l ≡ true → l ≡ []
+no-bytes-left : (l : List ℕ) → nothingBehind l ≡ true → l ≡ []
 unfolding nothingBehind
-nothing-left [] e = refl
-nothing-left (b ∷ l) e = true≢false (sym e)
+no-bytes-left [] e = refl
+no-bytes-left (b ∷ l) e = true≢false (sym e)
 
 module _ (s : List ℕ) where
   -- values in turn, up to a byte that ends them
@@ -64,32 +65,26 @@ module _ (s : List ℕ) where
       l ≡ drop at s →
       formDefinitions fuel n place l ≡ good d →
       Ended anyDefinition at 0x50 (d .list) (d .rest)
-  unfolding formDefinitions formDefinition
+  unfolding formDefinitions
   definitions-laid zero n place at [] d same e = bad≢good e
   definitions-laid zero n place at (first ∷ l) d same e = bad≢good e
   definitions-laid (suc fuel) n place at [] d same e = bad≢good e
-  definitions-laid (suc fuel) n place at (first ∷ l) d same e =
-      decided
-      (eqb first 0x50)
-      _
-      _
-      (good d)
-      e
-      (λ t e.
-      let is : record { list = []; counts = n; rest = l } ≡ d = cc in
-      subst (λ x. Ended anyDefinition at 0x50 (x .list) (x .rest)) is (ended-now anyDefinition at 0x50 first l same t))
-      (λ t e.
-      good-then (atRecord place (formDefinition n first l)) _ d e λ r here e₁.
-      good-then (formDefinitions fuel (counted (r .0) n) (suc place) (r .1)) _ d e₁ λ d′ there e₂.
-      good-then (whole (readDefinition first l)) _ r (atRecord-good place (formDefinition n first l) r here) λ x wholly e₃.
-      good-then (unless (hasRoom n (x .0)) 5) _ r e₃ λ _ _ e₄.
-      good-then (unless (citesEarlier n (x .0)) 4) _ r e₄ λ _ _ e₅.
-      let read = whole-good (readDefinition first l) x wholly ∙ ap some (good-inj e₅) in
-      let is : record { list = r .0 ∷ d′ .list; counts = d′ .counts; rest = d′ .rest } ≡ d = cc in
-      subst (λ x. Ended anyDefinition at 0x50 (x .list) (x .rest)) is
-      (let h = stands-first readDefinition takes-definition at first l (r .0) (r .1) same read in
-      ended-later anyDefinition at 0x50 (r .0) (h .0) (d′ .list) (d′ .rest) (h .2)
-      (definitions-laid fuel (counted (r .0) n) (suc place) (h .0) (r .1) d′ (h .1) there)))
+  definitions-laid (suc fuel) n place at (first ∷ l) d same e = ways (eqb first 0x50) refl (definitions-laid fuel)
+    where
+      Laying : ℕ → Type 0
+      Laying fuel =
+          (n : Counts) (place at : ℕ) (l : List ℕ) (d : Definitions) → l ≡ drop at s → formDefinitions fuel n place l ≡ good d →
+          Ended anyDefinition at 0x50 (d .list) (d .rest)
+
+      ways : (b : Bool) → eqb first 0x50 ≡ b → Laying fuel → Ended anyDefinition at 0x50 (d .list) (d .rest)
+      ways true t later =
+          subst (λ x. Ended anyDefinition at 0x50 (x .list) (x .rest)) (sym (formed-end fuel n place first l d t e)) (ended-now anyDefinition at 0x50 first l same t)
+      ways false t later =
+          let g = formed-step fuel n place first l d t e in
+          let h = stands-first readDefinition takes-definition at first l (g .0 .0) (g .0 .1) same (formed-read n first l (g .0) (g .2)) in
+          subst (λ x. Ended anyDefinition at 0x50 (x .list) (x .rest)) (sym (g .4))
+          (ended-later anyDefinition at 0x50 (g .0 .0) (h .0) (g .1 .list) (g .1 .rest) (h .2)
+          (later (counted (g .0 .0) n) (suc place) (h .0) (g .0 .1) (g .1) (h .1) (g .3)))
 
   -- 60, and nothing behind it
   build-laid : (requests place : ℕ) (l : List ℕ) (b : Build) → formBuild requests place l ≡ good b → readBuild l ≡ some (b, [])
@@ -99,7 +94,7 @@ module _ (s : List ℕ) where
       good-then (atRecord place (unless (citesRequest requests (r .0 .class)) 4)) _ b e₁ λ _ _ e₂.
       good-then (atRecord (suc place) (unless (nothingBehind (r .1)) 3)) _ b e₂ λ u empty e₃.
       let read = whole-good (readBuild l) r (atRecord-good place (whole (readBuild l)) r wholly) in
-      let none = nothing-left (r .1) (unless-good (nothingBehind (r .1)) 3 u (atRecord-good (suc place) (unless (nothingBehind (r .1)) 3) u empty)) in
+      let none = no-bytes-left (r .1) (unless-good (nothingBehind (r .1)) 3 u (atRecord-good (suc place) (unless (nothingBehind (r .1)) 3) u empty)) in
       read ∙ rw (good-inj e₃, none)
 
   requests-laid :

@@ -1,16 +1,16 @@
 -- What stands at a place of a job, part by part: names, references, entries. Assumes nothing.
-use mathlib.Core.Bool.{Bool, true, false}
-use mathlib.Core.List.{List, [], _∷_, _++_}
+use mathlib.Core.Bool.{Bool}
+use mathlib.Core.List.{List, [], _∷_}
 use mathlib.Core.Option.{Option, none, some}
 use mathlib.Core.Path.{_≡_, refl, sym, ap, subst, _∙_}
 use Prim.Native.Nat.{ℕ, zero, suc, _+_, _-_, _≤_, _<_}
 use native.Mathlib.Omega.{arith}
 use lib.ListN.{length, getD, take, drop, length-drop}
-use Rattle.laws.proofs.Lists.{none≢some, true≢false, some-inj}
+use Rattle.laws.proofs.Lists.{clash, none≢some, some-inj}
 use Rattle.laws.proofs.Results.{some-then}
 use Rattle.definition.specs.Basics.{lookup}
 use Rattle.definition.specs.Bytes.{return, andThen, _>>=_, one, two, many}
-use Rattle.definition.specs.Shapes.{Kind, constant, bootstrap, Field, text, bits, byte, to, toMany, bootstrapShape, Entry, withKids, withLiteral, withByte, readFields, readEntry}
+use Rattle.definition.specs.Shapes.{Kind, constant, bootstrap, Field, text, bits, byte, to, bootstrapShape, Entry, withKids, withLiteral, withByte, readFields, readEntry}
 use Rattle.definition.specs.Job.{Reference, raw, entry, name, Definition, define, named, placed, Request, ClassSlot, slot, request, Build, Body, ofEntry, ofName, ofRaw, bodies, shortName, referenceForm, reference, readBody, readDefinition, asks, readRequest, classForm, nameForm, readBuild}
 use Rattle.cpool.specs.declared.job.Extent.{Extent}
 use Rattle.cpool.specs.declared.job.Fields.{Fields}
@@ -20,6 +20,7 @@ use Rattle.cpool.specs.declared.job.Shape.the-variants.{Constant, Bootst
 use Rattle.cpool.specs.Forms.{fieldsOf, bodyOf}
 use Rattle.cpool.specs.Stored.{Found, InTurn, Spans, anyDefinition, anyRequest}
 use Rattle.cpool.proofs.job.Laws.{number}
+use Rattle.cpool.proofs.job.Stepping.{entry-read, name-read, raw-read}
 use Rattle.cpool.proofs.job.Taking.{takes-name, takes-reference, finds-then, byte-then, two-then, bytes-then, ends}
 
 -- from a place on, so many bytes
@@ -109,13 +110,13 @@ several s at (suc n) kids rest low e =
     )
 
 -- an entry's references: the first stands at a place, and the others in turn, some bytes behind it
-pub record Refers (s : List ℕ) (kind : Kind) (first gap : ℕ) (kids : List Reference) (end : ℕ) : Type 0 where
+pub record Refers (s : List ℕ) (kind : Kind) (first between : ℕ) (kids : List Reference) (end : ℕ) : Type 0 where
   pub kid : Reference
   pub others : List Reference
   pub are : kids ≡ kid ∷ others
   pub behind : ℕ
   pub found : Found (reference kind) s first kid behind
-  pub rest : InTurn (reference constant) s (behind + gap) others end
+  pub rest : InTurn (reference constant) s (behind + between) others end
 
 module _ (s : List ℕ) where
   one-refers : (kind : Kind) (first : ℕ) (a : Reference) (end : ℕ) → Found (reference kind) s first a end → Refers s kind first 0 (a ∷ []) end
@@ -241,71 +242,34 @@ module _ (s : List ℕ) (p : ℕ) where
 -- ---- the entry at a place, by the shape that its first byte tells
 
 -- what was read for an entry is that entry
+same-entry : (x e : Entry (List ℕ) Reference) → define x ≡ define e → x ≡ e
+same-entry x e h = cc
+
 is-entry :
     (x e : Entry (List ℕ) Reference) (rest left : List ℕ) →
     _≡_ {A = Option (Definition (List ℕ) × List ℕ)} (some (define x, rest)) (some (define e, left)) →
     _≡_ {A = Option (Entry (List ℕ) Reference × List ℕ)} (some (x, rest)) (some (e, left))
 is-entry x e rest left h =
     let pair = some-inj h in
-    let first : define x ≡ define e = ap (λ r. r .0) pair in
-    let same : x ≡ e = cc in
-    rw (same, ap (λ r. r .1) pair)
+    rw (same-entry x e (ap (λ r. r .0) pair), ap (λ r. r .1) pair)
 
--- a name or a raw definition is no entry
-unfoldable isEntry : Definition (List ℕ) → Bool
-isEntry (define e) = true
-isEntry (named kind s r) = false
-isEntry (placed kind at number) = false
+-- a name or a raw definition is no entry, and an entry has the tag that it was read from
+module _ (first : ℕ) (l : List ℕ) (e : Entry (List ℕ) Reference) (left : List ℕ) where
+  no-naming : {X : Type 0} (kind : Kind) → readBody first (some (ofName kind)) l ≡ some (define e, left) → X
+  no-naming kind h = let n = name-read first kind l left (define e) h .2 in clash (cc)
 
-module _ {X : Type 0} (kind : Kind) (l : List ℕ) (e : Entry (List ℕ) Reference) (left : List ℕ) where
-  no-entry :
-      (d : Definition (List ℕ)) (rest : List ℕ) → isEntry d ≡ false →
-      _≡_ {A = Option (Definition (List ℕ) × List ℕ)} (some (d, rest)) (some (define e, left)) → X
-  unfolding isEntry
-  no-entry d rest n h = true≢false (sym (ap isEntry (ap (λ r. r .0) (some-inj h))) ∙ n)
+  no-placing : {X : Type 0} (kind : Kind) → readBody first (some (ofRaw kind)) l ≡ some (define e, left) → X
+  no-placing kind h = let n = raw-read first kind l left (define e) h .2 in clash (cc)
 
-  no-naming : readBody 0 (some (ofName kind)) l ≡ some (define e, left) → X
-  unfolding readBody isEntry
-  no-naming h =
-      some-then (shortName l) _ (define e, left) h λ label rest h₁ h₂.
-      some-then (reference kind rest) _ (define e, left) h₂ λ a last h₃ h₄. no-entry (named kind label a) last refl h₄
-
-  no-placing : readBody 0 (some (ofRaw kind)) l ≡ some (define e, left) → X
-  unfolding readBody isEntry
-  no-placing h =
-      some-then (two l) _ (define e, left) h λ slot rest h₁ h₂.
-      some-then (two rest) _ (define e, left) h₂ λ n last h₃ h₄. no-entry (placed kind slot n) last refl h₄
-
--- fields leave the tag as it was
-fields-tag :
-    (fields : List Field) (x : Entry (List ℕ) Reference) (l : List ℕ) (e : Entry (List ℕ) Reference) (rest : List ℕ) →
-    readFields reference fields x l ≡ some (e, rest) →
-    e .tag ≡ x .tag
-unfolding readFields withLiteral withKids withByte
-fields-tag [] x l e rest h = sym (ap (λ r. r .0 .tag) (some-inj h))
-fields-tag (text ∷ fields) x l e rest h =
-    some-then (two l) _ (e, rest) h λ size left h₁ h₂.
-    some-then (many size one left) _ (e, rest) h₂ λ s more h₃ h₄. fields-tag fields (withLiteral s x) more e rest h₄
-fields-tag (bits size ∷ fields) x l e rest h =
-    some-then (many size one l) _ (e, rest) h λ s more h₁ h₂. fields-tag fields (withLiteral s x) more e rest h₂
-fields-tag (byte ∷ fields) x l e rest h = some-then (one l) _ (e, rest) h λ b more h₁ h₂. fields-tag fields (withByte b x) more e rest h₂
-fields-tag (to kind ∷ fields) x l e rest h =
-    some-then (reference kind l) _ (e, rest) h λ a more h₁ h₂. fields-tag fields (withKids (x .kids ++ a ∷ []) x) more e rest h₂
-fields-tag (toMany ∷ fields) x l e rest h =
-    some-then (two l) _ (e, rest) h λ size left h₁ h₂.
-    some-then (many size (reference constant) left) _ (e, rest) h₂ λ rs more h₃ h₄. fields-tag fields (withKids (x .kids ++ rs) x) more e rest h₄
-
-body-tag :
-    (first : ℕ) (body : Option Body) (l : List ℕ) (e : Entry (List ℕ) Reference) (left : List ℕ) →
-    readBody first body l ≡ some (define e, left) →
-    e .tag ≡ first
-unfolding readBody readEntry
-body-tag first none l e left h = none≢some h
-body-tag first (some (ofEntry fields)) l e left h =
-    some-then (readEntry reference first fields l) _ (define e, left) h λ x rest h₁ h₂.
-    fields-tag fields (record { tag = first; literal = []; byte = 0; kids = [] }) l e left (h₁ ∙ is-entry x e rest left h₂)
-body-tag first (some (ofName kind)) l e left h = no-naming kind l e left h
-body-tag first (some (ofRaw kind)) l e left h = no-placing kind l e left h
+  body-tag : (body : Option Body) → readBody first body l ≡ some (define e, left) → e .tag ≡ first
+  unfolding readBody
+  body-tag none h = none≢some h
+  body-tag (some (ofEntry fields)) h =
+      let r = entry-read first fields l left (define e) h in
+      let same : e ≡ r .0 = same-entry e (r .0) (r .1) in
+      ap (λ x. x .tag) same ∙ r .2
+  body-tag (some (ofName kind)) h = no-naming kind h
+  body-tag (some (ofRaw kind)) h = no-placing kind h
 
 module _ (s : List ℕ) (at : ℕ) where
   abbrev pub EntryIs : Shape → Entry (List ℕ) Reference → ℕ → Type 0
@@ -331,10 +295,10 @@ module _ (s : List ℕ) (at : ℕ) where
     body-is Bootstrap low high h =
         some-then (readEntry reference (getD s at 0) bootstrapShape (drop (at + 1) s)) _ (define e, drop next s) h λ x rest h₁ h₂.
         bootstrap-is s (at + 1) (getD s at 0) e next low high (h₁ ∙ is-entry x e rest (drop next s) h₂)
-    body-is NamedConstant low high h = no-naming constant (drop (at + 1) s) e (drop next s) h
-    body-is NamedBootstrap low high h = no-naming bootstrap (drop (at + 1) s) e (drop next s) h
-    body-is RawConstant low high h = no-placing constant (drop (at + 1) s) e (drop next s) h
-    body-is RawBootstrap low high h = no-placing bootstrap (drop (at + 1) s) e (drop next s) h
+    body-is NamedConstant low high h = no-naming (getD s at 0) (drop (at + 1) s) e (drop next s) constant h
+    body-is NamedBootstrap low high h = no-naming (getD s at 0) (drop (at + 1) s) e (drop next s) bootstrap h
+    body-is RawConstant low high h = no-placing (getD s at 0) (drop (at + 1) s) e (drop next s) constant h
+    body-is RawBootstrap low high h = no-placing (getD s at 0) (drop (at + 1) s) e (drop next s) bootstrap h
     body-is Unknown low high h = none≢some h
 
     -- whatever entry stands at a place, its first byte is its tag
@@ -342,7 +306,7 @@ module _ (s : List ℕ) (at : ℕ) where
     unfolding readDefinition
     tag-there f =
         let b = byte-then s at readDefinition (define e) (drop next s) (f .read) in
-        body-tag (getD s at 0) (lookup (getD s at 0) bodies) (drop (at + 1) s) e (drop next s) (b .1)
+        body-tag (getD s at 0) (drop (at + 1) s) e (drop next s) (lookup (getD s at 0) bodies) (b .1)
 
     -- and it has the shape that the tag tells
     pub entry-there : (shape : Shape) → Found anyDefinition s at (define e) next → bodyOf shape ≡ lookup (e .tag) bodies → EntryIs shape e next
@@ -378,9 +342,7 @@ module _ (s : List ℕ) (at : ℕ) where
     BodyRead first body = readBody first body (drop (at + 1) s) ≡ some (d, drop next s)
 
     defining : (first : ℕ) (fields : List Field) → BodyRead first (some (ofEntry fields)) → (e : Entry (List ℕ) Reference) × (d ≡ define e)
-    unfolding readBody
-    defining first fields h =
-        some-then (readEntry reference first fields (drop (at + 1) s)) _ (d, drop next s) h λ e rest h₁ h₂. (e, sym (ap (λ r. r .0) (some-inj h₂)))
+    defining first fields h = let r = entry-read first fields (drop (at + 1) s) (drop next s) d h in (r .0, r .1)
 
     naming : (first : ℕ) (kind : Kind) → BodyRead first (some (ofName kind)) → NamingIs kind d next
     unfolding readBody

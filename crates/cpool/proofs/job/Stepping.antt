@@ -1,16 +1,17 @@
 -- One record of the form pass: what was skipped by its shape is what the definition reads, and counts as the shape says. Assumes nothing.
 use mathlib.Core.Bool.{Bool, true, false}
-use mathlib.Core.List.{List, [], _∷_, _++_}
+use mathlib.Core.List.{List, [], _∷_}
 use mathlib.Core.Option.{Option, none, some}
 use mathlib.Core.Path.{_≡_, refl, sym, ap, _∙_}
 use Prim.Native.Nat.{ℕ, _+_}
 use native.Mathlib.Omega.{arith}
 use lib.ListN.{getD, drop}
+use Rattle.laws.proofs.Bare.{fields-keep}
 use Rattle.laws.proofs.Lists.{clash}
 use Rattle.laws.proofs.Results.{some-then}
 use Rattle.definition.specs.Basics.{bad, unless, only}
-use Rattle.definition.specs.Bytes.{return, andThen, one, two, many}
-use Rattle.definition.specs.Shapes.{Kind, constant, bootstrap, Field, text, bits, byte, to, toMany, bootstrapShape, Entry, withKids, withLiteral, withByte, readFields, readEntry}
+use Rattle.definition.specs.Bytes.{return, andThen, two}
+use Rattle.definition.specs.Shapes.{Kind, constant, bootstrap, Field, byte, bootstrapShape, Entry, readEntry}
 use Rattle.definition.specs.Job.{Reference, Definition, define, named, placed, ofEntry, ofName, ofRaw, shortName, reference, readBody, readDefinition}
 use Rattle.definition.specs.Form.{Counts, countOf, kindOf, whole, hasRoom, citesEarlier, formDefinition}
 use Rattle.definition.specs.Definitions.{sameKind}
@@ -27,45 +28,20 @@ use Rattle.cpool.proofs.job.Counting.{in-table, one-constant, one-boots
 value-is : {A : Type 0} {a b : A} {l m : List ℕ} → _≡_ {A = Option (A × List ℕ)} (some (a, l)) (some (b, m)) → b ≡ a
 value-is {A} {a} {b} {l} {m} h = let p : _≡_ {A = A × List ℕ} (b, m) (a, l) = cc in ap (λ r. r .0) p
 
--- reading fields keeps the tag
-pub keeps-tag :
-    (fields : List Field) (e : Entry (List ℕ) Reference) (l : List ℕ) (f : Entry (List ℕ) Reference) (rest : List ℕ) →
-    readFields reference fields e l ≡ some (f, rest) →
-    f .tag ≡ e .tag
-unfolding readFields withLiteral withByte withKids
-keeps-tag [] e l f rest h = ap (λ x. x .tag) (value-is h)
-keeps-tag (text ∷ fields) e l f rest h =
-    some-then (two l) (λ size bytes. andThen (many size one bytes) (λ s. readFields reference fields (withLiteral s e))) (f, rest) h
-    (λ size l₁ _ h₁.
-    some-then (many size one l₁) (λ s. readFields reference fields (withLiteral s e)) (f, rest) h₁ (λ s l₂ _ h₂. keeps-tag fields (withLiteral s e) l₂ f rest h₂))
-keeps-tag (bits size ∷ fields) e l f rest h =
-    some-then (many size one l) (λ s. readFields reference fields (withLiteral s e)) (f, rest) h (λ s l₁ _ h₁. keeps-tag fields (withLiteral s e) l₁ f rest h₁)
-keeps-tag (byte ∷ fields) e l f rest h =
-    some-then (one l) (λ b. readFields reference fields (withByte b e)) (f, rest) h (λ b l₁ _ h₁. keeps-tag fields (withByte b e) l₁ f rest h₁)
-keeps-tag (to kind ∷ fields) e l f rest h =
-    some-then (reference kind l) (λ r. readFields reference fields (withKids (e .kids ++ r ∷ []) e)) (f, rest) h
-    (λ r l₁ _ h₁. keeps-tag fields (withKids (e .kids ++ r ∷ []) e) l₁ f rest h₁)
-keeps-tag (toMany ∷ fields) e l f rest h =
-    some-then (two l) (λ size bytes. andThen (many size (reference constant) bytes) (λ rs. readFields reference fields (withKids (e .kids ++ rs) e))) (f, rest) h
-    (λ size l₁ _ h₁.
-    some-then (many size (reference constant) l₁) (λ rs. readFields reference fields (withKids (e .kids ++ rs) e)) (f, rest) h₁
-    (λ rs l₂ _ h₂. keeps-tag fields (withKids (e .kids ++ rs) e) l₂ f rest h₂))
-
 -- what a definition of a shape is: what it counts, and whether there is room for it
 pub record Fits (shape : Shape) (d : Definition (List ℕ)) : Type 0 where
   pub room : (n : Counts) → hasRoom n d ≡ roomFor shape n
   pub counts : oneOf shape (kidsIn d) ≡ countsOf (d ∷ []) 0
 
--- an entry that was read from a tag goes into the tag's table
+-- an entry has the tag that it was read from
 pub entry-read :
     (first : ℕ) (fields : List Field) (l rest : List ℕ) (d : Definition (List ℕ)) →
     readBody first (some (ofEntry fields)) l ≡ some (d, rest) →
-    (e : Entry (List ℕ) Reference) × (d ≡ define e) × (kindOf first ≡ kindOf (e .tag))
+    (e : Entry (List ℕ) Reference) × (d ≡ define e) × (e .tag ≡ first)
 unfolding readBody readEntry
 entry-read first fields l rest d h =
     some-then (readEntry reference first fields l) (λ e. return (define e)) (d, rest) h
-    (λ e l₁ read h₁.
-    (e, value-is h₁, ap kindOf (sym (keeps-tag fields (record { tag = first; literal = []; byte = 0; kids = [] }) l e l₁ read))))
+    (λ e l₁ read h₁. (e, value-is h₁, fields-keep reference fields (record { tag = first; literal = []; byte = 0; kids = [] }) l (e, l₁) read .0))
 
 -- a name, and a raw constant or bootstrap
 pub name-read :
@@ -95,14 +71,14 @@ module _ (first : ℕ) (l rest : List ℕ) (d : Definition (List ℕ)) where
   unfolding hasRoom roomFor oneOf kidsIn countOf sameKind
   fits-constant fields t h =
       let r = entry-read first (fieldsOf fields) l rest d h in
-      let k : kindOf (r .0 .tag) ≡ constant = sym (r .2) ∙ sym t in
+      let k : kindOf (r .0 .tag) ≡ constant = ap kindOf (r .2) ∙ sym t in
       rw (r .1) (record { room = λ n. rw k; counts = sym (one-constant (r .0) (in-table (r .0) constant k)) })
 
   pub fits-bootstrap : bootstrap ≡ kindOf first → readBody first (some (ofEntry bootstrapShape)) l ≡ some (d, rest) → Fits Bootstrap d
   unfolding hasRoom roomFor oneOf kidsIn countOf sameKind
   fits-bootstrap t h =
       let r = entry-read first bootstrapShape l rest d h in
-      let k : kindOf (r .0 .tag) ≡ bootstrap = sym (r .2) ∙ sym t in
+      let k : kindOf (r .0 .tag) ≡ bootstrap = ap kindOf (r .2) ∙ sym t in
       rw (r .1) (record { room = λ n. rw k; counts = sym (one-bootstrap (r .0) (in-table (r .0) bootstrap k)) })
 
   pub fits : (shape : Shape) → tableOf shape ≡ kindOf first → readBody first (bodyOf shape) l ≡ some (d, rest) → Fits shape d

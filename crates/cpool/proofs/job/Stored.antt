@@ -17,7 +17,7 @@ use Rattle.definition.specs.Shapes.{Kind, constant, bootstrap, Entry, bootstrap
 use Rattle.definition.specs.Job.{Reference, name, define, bodies, shortName, reference}
 use Rattle.definition.specs.Form.{kindOf}
 use Rattle.cpool.specs.declared.job.Extent.{Extent}
-use Rattle.cpool.specs.declared.job.Cited.the-variants as cited
+use Rattle.cpool.specs.declared.job.RefType.the-variants as refType
 use Rattle.cpool.specs.declared.job.Fields.{Fields}
 use Rattle.cpool.specs.declared.job.Fields.the-variants.{Text, Bits, One, Two, Handle, Dynamic}
 use Rattle.cpool.specs.declared.job.Shape.{Shape}
@@ -25,7 +25,7 @@ use Rattle.cpool.specs.declared.job.Shape.the-variants.{Constant, Bootst
 use Rattle.cpool.proofs.job.Fields.{the-type as fields-type}
 use Rattle.cpool.proofs.job.Shape.{the-type}
 use Rattle.cpool.specs.Forms.{fieldsOf, bodyOf, tableOf}
-use Rattle.cpool.specs.Stored.{Found, InTurn, Stands, WhatStands, ReferenceStands, WhatReference, EntryStands, WhatEntry, Spans, Cites, anyDefinition, firstKind, kindIn, kidKind, gapAfter, KidAt}
+use Rattle.cpool.specs.Stored.{Found, InTurn, Stands, WhatStands, ReferenceStands, WhatReference, EntryStands, WhatEntry, Spans, Tells, anyDefinition, firstKind, kindIn, kidKind, bytesBetween, KidAt}
 use Rattle.cpool.proofs.job.Laws.{number}
 use Rattle.cpool.proofs.job.Standing.{extent, spans, name-there, Says, reference-says, Refers, FieldsAre, BootstrapIs, EntryIs, tag-there, entry-there}
 
@@ -40,12 +40,12 @@ kidsOf Dynamic = 2
 
 -- the references of an entry stand from the first one on
 kid-first :
-    (s : List ℕ) (e : Entry (List ℕ) Reference) (kind : Kind) (first gap end : ℕ) →
+    (s : List ℕ) (e : Entry (List ℕ) Reference) (kind : Kind) (first between end : ℕ) →
     kidKind (e .tag) 0 ≡ kind →
-    gapAfter (kindOf (e .tag)) 0 ≡ gap →
-    Refers s kind first gap (e .kids) end →
+    bytesBetween (kindOf (e .tag)) 0 ≡ between →
+    Refers s kind first between (e .kids) end →
     KidAt s e 0 first
-kid-first s e kind first gap end k g r =
+kid-first s e kind first between end k g r =
     record {
       kid = r .kid;
       later = r .others;
@@ -56,25 +56,25 @@ kid-first s e kind first gap end k g r =
       rest = rw g (r .rest);
     }
 
-gap-later : (kind : Kind) (i : ℕ) → gapAfter kind (i + 1) ≡ 0
-unfolding gapAfter
-gap-later constant i = rw (add-one i)
-gap-later bootstrap i = rw (add-one i)
+between-later : (kind : Kind) (i : ℕ) → bytesBetween kind (i + 1) ≡ 0
+unfolding bytesBetween
+between-later constant i = rw (add-one i)
+between-later bootstrap i = rw (add-one i)
 
 -- the next one stands behind it, or behind the count
 kid-next :
     (s : List ℕ) (e : Entry (List ℕ) Reference) (i place : ℕ) (k : KidAt s e i place) →
     i + 1 < length (e .kids) →
-    KidAt s e (i + 1) (k .behind + gapAfter (kindOf (e .tag)) i)
-unfolding kidKind gapAfter
+    KidAt s e (i + 1) (k .behind + bytesBetween (kindOf (e .tag)) i)
+unfolding kidKind bytesBetween
 kid-next s e i place k h = ways (k .later) refl (k .rest)
   where
     size : suc (length (k .later)) ≡ length (e .kids) - i
     size = sym (ap length (k .kids)) ∙ length-drop i (e .kids)
 
     ways :
-        (l : List Reference) → k .later ≡ l → InTurn (reference constant) s (k .behind + gapAfter (kindOf (e .tag)) i) l (k .end) →
-        KidAt s e (i + 1) (k .behind + gapAfter (kindOf (e .tag)) i)
+        (l : List Reference) → k .later ≡ l → InTurn (reference constant) s (k .behind + bytesBetween (kindOf (e .tag)) i) l (k .end) →
+        KidAt s e (i + 1) (k .behind + bytesBetween (kindOf (e .tag)) i)
     ways [] same r = absurd (omega (arith, size, ap length same))
     ways (a ∷ l) same r =
         record {
@@ -84,24 +84,24 @@ kid-next s e i place k h = ways (k .later) refl (k .rest)
           behind = r .0;
           found = rw (add-one i) (r .1);
           end = k .end;
-          rest = rw (gap-later (kindOf (e .tag)) i, add-zero (r .0)) (r .2);
+          rest = rw (between-later (kindOf (e .tag)) i, add-zero (r .0)) (r .2);
         }
 
 -- two bytes stand behind the first reference of a bootstrap, nothing behind any other
-abbrev gapIf : Bool → ℕ
-gapIf true = 2
-gapIf false = 0
+abbrev bytesIf : Bool → ℕ
+bytesIf true = 2
+bytesIf false = 0
 
-gap-by : (t : Bool) (i : ℕ) → gapAfter (elim t [ true ↦ bootstrap | false ↦ constant ]) i ≡ gapIf (t && eqb i 0)
-unfolding gapAfter
-gap-by true zero = refl
-gap-by true (suc i) = rw (ne-eqb (suc i) 0 (λ e. absurd (omega arith)))
-gap-by false zero = refl
-gap-by false (suc i) = refl
+between-by : (t : Bool) (i : ℕ) → bytesBetween (elim t [ true ↦ bootstrap | false ↦ constant ]) i ≡ bytesIf (t && eqb i 0)
+unfolding bytesBetween
+between-by true zero = refl
+between-by true (suc i) = rw (ne-eqb (suc i) 0 (λ e. absurd (omega arith)))
+between-by false zero = refl
+between-by false (suc i) = refl
 
-gap-of : (tag i : ℕ) (b : Bool) → (eqb tag 64 && eqb i 0) ≡ b → gapAfter (kindOf tag) i ≡ gapIf b
+between-of : (tag i : ℕ) (b : Bool) → (eqb tag 64 && eqb i 0) ≡ b → bytesBetween (kindOf tag) i ≡ bytesIf b
 unfolding kindOf
-gap-of tag i b e = gap-by (eqb tag 64) i ∙ ap gapIf e
+between-of tag i b e = between-by (eqb tag 64) i ∙ ap bytesIf e
 
 module _ (s : List ℕ) (at : ℕ) where
   -- ---- names
@@ -147,19 +147,19 @@ module _ (s : List ℕ) (at : ℕ) where
     pub name-stands : ReferenceStands s at → Stands shortName s (at + 1)
     name-stands h = let g = named-there (h .0) (h .1 .0) (h .1 .1) (h .1 .2) in (g .0, h .1 .1, g .1)
 
-    pub name-cited : (r : Extent) → WhatStands shortName s (at + 1) (λ l next. Spans s r l × (r .end ≡ next)) → WhatReference s at (λ kind a next. Cites s kind a (cited.Name r))
-    unfolding Cites
+    pub name-cited : (r : Extent) → WhatStands shortName s (at + 1) (λ l next. Spans s r l × (r .end ≡ next)) → WhatReference s at (λ kind a next. Tells s kind a (refType.Sym r))
+    unfolding Tells
     name-cited r w kind a next f = let g = named-there kind a next f in (g .0, w (g .0) next (g .1) .0, g .2)
 
     pub name-behind : (r : Extent) → WhatStands shortName s (at + 1) (λ l next. Spans s r l × (r .end ≡ next)) → WhatReference s at (λ kind a next. r .end ≡ next)
     name-behind r w kind a next f = let g = named-there kind a next f in w (g .0) next (g .1) .1
 
-  pub raw-cited : getD s at 0 ≡ 0 → WhatReference s at (λ kind a next. Cites s kind a (cited.Raw (number s (at + 1))))
-  unfolding Cites
+  pub raw-cited : getD s at 0 ≡ 0 → WhatReference s at (λ kind a next. Tells s kind a (refType.Raw (number s (at + 1))))
+  unfolding Tells
   raw-cited e kind a next f = (rw e at (reference-says s at kind a next f .1)) .1
 
-  pub number-cited : getD s at 0 ≡ 1 → WhatReference s at (λ kind a next. Cites s kind a (cited.Entry (number s (at + 1))))
-  unfolding Cites
+  pub number-cited : getD s at 0 ≡ 1 → WhatReference s at (λ kind a next. Tells s kind a (refType.Index (number s (at + 1))))
+  unfolding Tells
   number-cited e kind a next f = (rw e at (reference-says s at kind a next f .1)) .1
 
   -- ---- entries
@@ -169,11 +169,11 @@ module _ (s : List ℕ) (at : ℕ) where
 
   -- what an entry's tag tells
   module _ (tag : ℕ) (shape : Shape) (is : WhatEntry s at (λ e. tag ≡ e .tag)) (told : bodyOf shape ≡ lookup tag bodies) where
-    pub shaped : (e : Entry (List ℕ) Reference) (next : ℕ) → Found anyDefinition s at (define e) next → EntryIs s at shape e next
+    shaped : (e : Entry (List ℕ) Reference) (next : ℕ) → Found anyDefinition s at (define e) next → EntryIs s at shape e next
     shaped e next f = entry-there s at e next shape f (told ∙ ap (λ k. lookup k bodies) (is e next f))
 
     -- what isn't a constant is a bootstrap
-    pub bootstrap-shaped :
+    bootstrap-shaped :
         OneOf (1 ∷ 2 ∷ 3 ∷ 4 ∷ 5 ∷ 6 ∷ []) (tagOf the-type shape) →
         (e : Entry (List ℕ) Reference) (next : ℕ) →
         Found anyDefinition s at (define e) next →
@@ -270,26 +270,26 @@ module _ (s : List ℕ) (at : ℕ) where
         kind-there e next f =
             ap (λ k. kindIn (lookup k bodies)) (sym (is e next f)) ∙ ap kindIn (sym told) ∙ ap (λ x. kindIn (bodyOf x)) constant-shape
 
-        gap-there : (e : Entry (List ℕ) Reference) (next : ℕ) → Found anyDefinition s at (define e) next → gapAfter (kindOf (e .tag)) 0 ≡ 0
-        unfolding gapAfter tableOf
-        gap-there e next f =
-            ap (λ k. gapAfter (kindOf k) 0) (sym (is e next f))
-            ∙ ap (λ k. gapAfter k 0) (sym table)
-            ∙ ap (λ x. gapAfter (tableOf x) 0) constant-shape
+        between-there : (e : Entry (List ℕ) Reference) (next : ℕ) → Found anyDefinition s at (define e) next → bytesBetween (kindOf (e .tag)) 0 ≡ 0
+        unfolding bytesBetween tableOf
+        between-there e next f =
+            ap (λ k. bytesBetween (kindOf k) 0) (sym (is e next f))
+            ∙ ap (λ k. bytesBetween k 0) (sym table)
+            ∙ ap (λ x. bytesBetween (tableOf x) 0) constant-shape
 
         pub handle-first : fields ≡ Handle → WhatEntry s at (λ e. 0 < length (e .kids) → KidAt s e 0 (at + 2))
         unfolding fieldsOf firstKind
         handle-first t e next f more =
             let g = rw t at (constant-shaped e next f) in
             let place : at + 1 + 1 ≡ at + 2 = omega arith in
-            rw (← place) (kid-first s e constant (at + 1 + 1) 0 next (kind-there e next f ∙ ap (λ x. firstKind (fieldsOf x)) t) (gap-there e next f) (g .1 .refers))
+            rw (← place) (kid-first s e constant (at + 1 + 1) 0 next (kind-there e next f ∙ ap (λ x. firstKind (fieldsOf x)) t) (between-there e next f) (g .1 .refers))
 
         pub constant-first : OneOf (0 ∷ 1 ∷ 2 ∷ 3 ∷ 5 ∷ []) (tagOf fields-type fields) → WhatEntry s at (λ e. 0 < length (e .kids) → KidAt s e 0 (at + 1))
         unfolding fieldsOf firstKind
         constant-first k e next f more = ways fields k (kind-there e next f) (constant-shaped e next f)
           where
             first : (kind : Kind) → kidKind (e .tag) 0 ≡ kind → Refers s kind (at + 1) 0 (e .kids) next → KidAt s e 0 (at + 1)
-            first kind same r = kid-first s e kind (at + 1) 0 next same (gap-there e next f) r
+            first kind same r = kid-first s e kind (at + 1) 0 next same (between-there e next f) r
 
             ways :
                 (x : Fields) → OneOf (0 ∷ 1 ∷ 2 ∷ 3 ∷ 5 ∷ []) (tagOf fields-type x) → kidKind (e .tag) 0 ≡ firstKind (fieldsOf x) →
@@ -311,7 +311,7 @@ module _ (s : List ℕ) (at : ℕ) where
       bootstrap-stands h = let r = bootstrap-shaped k (h .0) (h .1) (h .2) .refers in (constant, (r .kid, r .behind, r .found))
 
       pub bootstrap-first : tableOf shape ≡ kindOf tag → WhatEntry s at (λ e. 0 < length (e .kids) → KidAt s e 0 (at + 1))
-      unfolding kidKind kindIn bodyOf tableOf gapAfter bootstrapShape firstKind
+      unfolding kidKind kindIn bodyOf tableOf bytesBetween bootstrapShape firstKind
       bootstrap-first table e next f more =
           ways shape k (shaped e next f) (told ∙ ap (λ t. lookup t bodies) (is e next f)) (table ∙ ap kindOf (is e next f))
         where
@@ -320,7 +320,7 @@ module _ (s : List ℕ) (at : ℕ) where
               tableOf x ≡ kindOf (e .tag) → KidAt s e 0 (at + 1)
           ways (Constant fields) k h b t = absurd (miss (1 ∷ 2 ∷ 3 ∷ 4 ∷ 5 ∷ 6 ∷ []) 0 tt k)
           ways Bootstrap k h b t =
-              kid-first s e constant (at + 1) 2 next (ap kindIn (sym b)) (ap (λ kind. gapAfter kind 0) (sym t)) (h .refers)
+              kid-first s e constant (at + 1) 2 next (ap kindIn (sym b)) (ap (λ kind. bytesBetween kind 0) (sym t)) (h .refers)
           ways NamedConstant k h b t = absurd h
           ways NamedBootstrap k h b t = absurd h
           ways RawConstant k h b t = absurd h
@@ -344,8 +344,8 @@ module _ (s : List ℕ) (at : ℕ) where
   module _ (tag i place behind : ℕ) (is : WhatEntry s at (λ e. tag ≡ e .tag)) (found : WhatReference s place (λ kind a next. behind ≡ next)) where
     pub next-by :
         (b : Bool) → (eqb tag 64 && eqb i 0) ≡ b →
-        WhatEntry s at (λ e. KidAt s e i place → i + 1 < length (e .kids) → KidAt s e (i + 1) (behind + gapIf b))
+        WhatEntry s at (λ e. KidAt s e i place → i + 1 < length (e .kids) → KidAt s e (i + 1) (behind + bytesIf b))
     next-by b t e next f k h =
-        let gap = ap (λ n. gapAfter (kindOf n) i) (sym (is e next f)) ∙ gap-of tag i b t in
+        let bytes = ap (λ n. bytesBetween (kindOf n) i) (sym (is e next f)) ∙ between-of tag i b t in
         let same = found (kidKind (e .tag) i) (k .kid) (k .behind) (k .found) in
-        rw (same, ← gap) (kid-next s e i place k h)
+        rw (same, ← bytes) (kid-next s e i place k h)

@@ -116,7 +116,7 @@ takes-request = takes-bind 1 one _ takes-one λ first. takes-ask (lookup first a
 -- ---- places
 
 -- what is left tells the place
-pub same-place : (s : List ℕ) (a b : ℕ) → a ≤ length s → b ≤ length s → drop a s ≡ drop b s → a ≡ b
+same-place : (s : List ℕ) (a b : ℕ) → a ≤ length s → b ≤ length s → drop a s ≡ drop b s → a ≡ b
 same-place s a b ha hb e = let sizes : length s - a ≡ length s - b = sym (length-drop a s) ∙ ap length e ∙ length-drop b s in omega arith
 
 module _ (s : List ℕ) (at : ℕ) where

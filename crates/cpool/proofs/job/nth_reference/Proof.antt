@@ -9,10 +9,10 @@ use Rattle.cpool.proofs.job.nth_reference.Statement.{statement}
 use Rattle.cpool.proofs.job.nth_reference.Tie as tie
 
 abbrev Inv-loop : tie.InvT-loop
-Inv-loop job at n place₀ i₀ place i = (i ≤ n) × WhatEntry job at (λ e. n < length (e .kids) → KidAt job e i place)
+Inv-loop job at n from₀ i₀ from i = (i ≤ n) × WhatEntry job at (λ e. n < length (e .kids) → KidAt job e i from)
 
 abbrev μ-loop : tie.MeasureT-loop
-μ-loop job at n place₀ i₀ place i = n - i
+μ-loop job at n from₀ i₀ from i = n - i
 
 first-reference-requires : tie.Need-first-reference-requires Inv-loop μ-loop
 first-reference-requires c κs = let h = c .before .pre in (h .0, h .1, h .2)
@@ -41,7 +41,7 @@ returns c = λ e next f h.
     let t = c .loop-test .left in
     let low = l .inv .0 in
     let all : l .i ≡ c .before .before .before .before .args .n = omega arith in
-    subst (λ k. KidAt (c .before .before .before .before .args .job .now) e k (l .place)) all (l .inv .1 e next f h)
+    subst (λ k. KidAt (c .before .before .before .before .args .job .now) e k (l .from)) all (l .inv .1 e next f h)
 
 pub nth-reference-spec : {M : Type 1} → statement M
 nth-reference-spec =
