@@ -8,15 +8,14 @@ use lib.Dec.{ltb}
 use lib.ListN.{length, getD, drop}
 use Rattle.definition.specs.Basics.{Result, good, bad, Refusal, every, only}
 use Rattle.definition.specs.Bytes.{Parser}
-use Rattle.definition.specs.Shapes.{Kind, constant, bootstrap, Field, text, bits, byte, to, bootstrapShape, readEntry}
+use Rattle.definition.specs.Shapes.{Kind, constant, bootstrap, Field, bootstrapShape, readEntry}
 use Rattle.definition.specs.Job.{Definition, define, named, placed, Build, Job, Body, ofEntry, ofName, ofRaw, reference, readBody}
 use Rattle.definition.specs.Form.{Counts, countOf, cites, citesEarlier, tableSize, Definitions, Requests}
 use Rattle.definition.specs.Numbering.{constantsOf, bootstrapsOf}
 use Rattle.definition.specs.Definitions.{sameKind}
-use Rattle.cpool.specs.declared.job.Fields.{Fields}
-use Rattle.cpool.specs.declared.job.Fields.the-variants.{Text, Bits, One, Two, Handle, Dynamic}
-use Rattle.cpool.specs.declared.job.Shape.{Shape}
-use Rattle.cpool.specs.declared.job.Shape.the-variants.{Constant, Bootstrap, NamedConstant, NamedBootstrap, RawConstant, RawBootstrap, Unknown}
+use Rattle.raw_const.specs.Entries.{fieldsOf}
+use Rattle.cpool.specs.declared.job.Opening.{Opening}
+use Rattle.cpool.specs.declared.job.Opening.the-variants.{Constant, Bootstrap, NamedConstant, NamedBootstrap, RawConstant, RawBootstrap}
 use Rattle.cpool.specs.declared.job.JobCounts.{JobCounts}
 use Rattle.cpool.specs.declared.job.Formed.{Formed}
 use Rattle.cpool.specs.declared.job.Formed.the-variants as formed
@@ -27,36 +26,30 @@ use Rattle.cpool.specs.declared.job.Defined.the-variants as defined
 use Rattle.cpool.specs.declared.job.Skipped.{Skipped}
 use Rattle.cpool.specs.declared.job.Skipped.the-variants as skipped
 
--- ---- the shapes of records
+-- ---- what a first byte opens
 
--- what follows a constant's tag
-unfoldable pub fieldsOf : Fields → List Field
-fieldsOf Text = text ∷ []
-fieldsOf (Bits n) = bits n ∷ []
-fieldsOf One = to constant ∷ []
-fieldsOf Two = to constant ∷ to constant ∷ []
-fieldsOf Handle = byte ∷ to constant ∷ []
-fieldsOf Dynamic = to bootstrap ∷ to constant ∷ []
+-- what follows an entry's first byte, if it has these fields
+unfoldable pub entryBody : Option (List Field) → Option Body
+entryBody none = none
+entryBody (some fields) = some (ofEntry fields)
 
 -- what follows a definition's first byte
-unfoldable pub bodyOf : Shape → Option Body
-bodyOf (Constant fields) = some (ofEntry (fieldsOf fields))
+unfoldable pub bodyOf : Opening → Option Body
+bodyOf (Constant shape) = entryBody (fieldsOf shape)
 bodyOf Bootstrap = some (ofEntry bootstrapShape)
 bodyOf NamedConstant = some (ofName constant)
 bodyOf NamedBootstrap = some (ofName bootstrap)
 bodyOf RawConstant = some (ofRaw constant)
 bodyOf RawBootstrap = some (ofRaw bootstrap)
-bodyOf Unknown = none
 
 -- the table that an entry goes into, as kindOf has it
-unfoldable pub tableOf : Shape → Kind
-tableOf (Constant fields) = constant
+unfoldable pub tableOf : Opening → Kind
+tableOf (Constant shape) = constant
 tableOf Bootstrap = bootstrap
 tableOf NamedConstant = constant
 tableOf NamedBootstrap = constant
 tableOf RawConstant = constant
 tableOf RawBootstrap = constant
-tableOf Unknown = constant
 
 -- ---- skipping
 
@@ -158,15 +151,14 @@ single constants bootstraps references names raws indexes =
       requests = 0;
     }
 
--- what one definition of a shape with so many references counts
-unfoldable pub oneOf : Shape → ℕ → JobCounts
-oneOf (Constant fields) k = single 1 0 k 0 0 0
+-- what one definition so opened, with so many references, counts
+unfoldable pub oneOf : Opening → ℕ → JobCounts
+oneOf (Constant shape) k = single 1 0 k 0 0 0
 oneOf Bootstrap k = single 0 1 k 0 0 0
 oneOf NamedConstant k = single 0 0 k 1 0 0
 oneOf NamedBootstrap k = single 0 0 k 1 0 0
 oneOf RawConstant k = single 0 0 k 0 1 0
 oneOf RawBootstrap k = single 0 0 k 0 0 1
-oneOf Unknown k = single 0 0 k 0 0 0
 
 -- no count is above m, nor are definitions and requests together
 pub record Bounded (m : ℕ) (c : JobCounts) : Type 0 where
@@ -185,14 +177,13 @@ pub record Room (c : JobCounts) (references : ℕ) : Type 0 where
   pub small : most + references + 1 < 2 ^ 64
 
 -- the table that a definition goes into isn't full
-unfoldable pub roomFor : Shape → Counts → Bool
-roomFor (Constant fields) n = ltb (n .constants) tableSize
+unfoldable pub roomFor : Opening → Counts → Bool
+roomFor (Constant shape) n = ltb (n .constants) tableSize
 roomFor Bootstrap n = ltb (n .bootstraps) tableSize
 roomFor NamedConstant n = true
 roomFor NamedBootstrap n = true
 roomFor RawConstant n = true
 roomFor RawBootstrap n = true
-roomFor Unknown n = true
 
 -- ---- a record, and all of them
 

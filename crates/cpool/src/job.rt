@@ -1,5 +1,6 @@
 // The form pass (document 01, "A job"): goes over a job's records once, keeps nothing of them, and counts them. Behind it, readers of
 // entries, references and names at stored places.
+use raw_const::Shape;
 ghost use mathlib.Core.Path.{_≡_};
 ghost use mathlib.Core.Bool.{true};
 ghost use mathlib.Core.List.{List, [], _∷_};
@@ -12,7 +13,8 @@ ghost use Rattle.definition.specs.Bytes.{one, two, many};
 ghost use Rattle.definition.specs.Shapes.{Kind, Entry, constant, text, byte, to, bootstrapShape};
 ghost use Rattle.definition.specs.Job.{Reference, define, shortName, referenceForm, reference, bodies, ofName, ofRaw, asks, readRequest, readBuild};
 ghost use Rattle.definition.specs.Form.{Counts, countOf, cites, kindOf, citesRequest, formDefinition, formDefinitions, formRequest, formBuild, formRequests, form};
-ghost use Rattle.cpool.specs.Forms.{Skips, SkipsReference, SkipsEntry, SkipsDefinition, fieldsOf, bodyOf, tableOf, tables, roomFor, Bounded, Room, plus, oneOf, countsOf, tablesIn, Steps, tallied, definedAs, Within, placeOf, formedBuild, formedRequests, formedOf};
+ghost use Rattle.raw_const.specs.Entries.{fieldsOf};
+ghost use Rattle.cpool.specs.Forms.{Skips, SkipsReference, SkipsEntry, SkipsDefinition, entryBody, bodyOf, tableOf, tables, roomFor, Bounded, Room, plus, oneOf, countsOf, tablesIn, Steps, tallied, definedAs, Within, placeOf, formedBuild, formedRequests, formedOf};
 ghost use Rattle.cpool.specs.Stored.{Found, Stands, WhatStands, ReferenceStands, WhatReference, EntryStands, WhatEntry, Spans, Tells, anyDefinition, KidAt};
 
 // How many entries each table takes.
@@ -38,25 +40,15 @@ pub enum Formed {
     Counts(JobCounts),
 }
 
-// What follows a constant's tag.
-enum Fields {
-    Text,
-    Bits(usize),
-    One,
-    Two,
-    Handle,
-    Dynamic,
-}
-
-// What a definition's first byte says.
-enum Shape {
-    Constant(Fields),
+// What a definition's first byte opens.
+enum Opening {
+    // A constant, or nothing that is known if its shape is unknown.
+    Constant(Shape),
     Bootstrap,
     NamedConstant,
     NamedBootstrap,
     RawConstant,
     RawBootstrap,
-    Unknown,
 }
 
 // What skipping a part of a record finds.
@@ -83,23 +75,16 @@ enum Defined {
     Refused { code: u32, place: usize },
 }
 
-fn shape_of(first: u8) -> Shape
+fn opening_of(first: u8) -> Opening
     ensures { λ r. ⌜ (bodyOf r ≡ lookup first bodies) × (tableOf r ≡ kindOf first) ⌝ }
 {
     match first {
-        1 => Shape::Constant(Fields::Text),
-        3 | 4 => Shape::Constant(Fields::Bits(4)),
-        5 | 6 => Shape::Constant(Fields::Bits(8)),
-        7 | 8 | 16 | 19 | 20 => Shape::Constant(Fields::One),
-        9 | 10 | 11 | 12 => Shape::Constant(Fields::Two),
-        15 => Shape::Constant(Fields::Handle),
-        17 | 18 => Shape::Constant(Fields::Dynamic),
-        0x40 => Shape::Bootstrap,
-        0x41 => Shape::NamedConstant,
-        0x42 => Shape::NamedBootstrap,
-        0x43 => Shape::RawConstant,
-        0x44 => Shape::RawBootstrap,
-        _ => Shape::Unknown,
+        0x40 => Opening::Bootstrap,
+        0x41 => Opening::NamedConstant,
+        0x42 => Opening::NamedBootstrap,
+        0x43 => Opening::RawConstant,
+        0x44 => Opening::RawBootstrap,
+        _ => Opening::Constant(raw_const::shape_of(first)),
     }
 }
 
@@ -309,20 +294,21 @@ fn skip_bootstrap(job: &[u8], at: usize, entries: usize) -> Skipped
 fn skip_constant(
     job: &[u8],
     at: usize,
-    fields: Fields,
+    shape: Shape,
     constants: usize,
     bootstraps: usize,
 ) -> Skipped
     requires { ⌜ at ≤ length (now job) ⌝ }
-    ensures { λ r. ⌜ SkipsEntry (tables constants bootstraps) (fieldsOf fields) (now (job .entry)) at r ⌝ }
+    ensures { λ r. ⌜ SkipsDefinition (tables constants bootstraps) (entryBody (fieldsOf shape)) (now (job .entry)) at r ⌝ }
 {
-    match fields {
-        Fields::Text => skip_text(job, at),
-        Fields::Bits(n) => skip_bytes(job, at, n),
-        Fields::One => skip_reference(job, at, constants),
-        Fields::Two => skip_pair(job, at, constants, constants),
-        Fields::Handle => skip_handle(job, at, constants),
-        Fields::Dynamic => skip_pair(job, at, bootstraps, constants),
+    match shape {
+        Shape::Text => skip_text(job, at),
+        Shape::Bits(n) => skip_bytes(job, at, n as usize),
+        Shape::One => skip_reference(job, at, constants),
+        Shape::Two => skip_pair(job, at, constants, constants),
+        Shape::KindOne => skip_handle(job, at, constants),
+        Shape::Dynamic => skip_pair(job, at, bootstraps, constants),
+        Shape::Unknown => Skipped::Cut,
     }
 }
 
@@ -368,73 +354,70 @@ fn skip_placing(job: &[u8], at: usize, entries: usize) -> Skipped
 fn skip_definition(
     job: &[u8],
     at: usize,
-    shape: Shape,
+    opening: Opening,
     constants: usize,
     bootstraps: usize,
 ) -> Skipped
     requires { ⌜ at ≤ length (now job) ⌝ }
-    ensures { λ r. ⌜ SkipsDefinition (tables constants bootstraps) (bodyOf shape) (now (job .entry)) at r ⌝ }
+    ensures { λ r. ⌜ SkipsDefinition (tables constants bootstraps) (bodyOf opening) (now (job .entry)) at r ⌝ }
 {
-    match shape {
-        Shape::Constant(fields) => skip_constant(job, at, fields, constants, bootstraps),
-        Shape::Bootstrap => skip_bootstrap(job, at, constants),
-        Shape::NamedConstant => skip_naming(job, at, constants),
-        Shape::NamedBootstrap => skip_naming(job, at, bootstraps),
-        Shape::RawConstant => skip_placing(job, at, constants),
-        Shape::RawBootstrap => skip_placing(job, at, bootstraps),
-        Shape::Unknown => Skipped::Cut,
+    match opening {
+        Opening::Constant(shape) => skip_constant(job, at, shape, constants, bootstraps),
+        Opening::Bootstrap => skip_bootstrap(job, at, constants),
+        Opening::NamedConstant => skip_naming(job, at, constants),
+        Opening::NamedBootstrap => skip_naming(job, at, bootstraps),
+        Opening::RawConstant => skip_placing(job, at, constants),
+        Opening::RawBootstrap => skip_placing(job, at, bootstraps),
     }
 }
 
-// The table that a definition of this shape goes into isn't full.
-fn has_room(shape: Shape, constants: usize, bootstraps: usize) -> bool
-    ensures { λ r. ⌜ r ≡ roomFor shape (tables constants bootstraps) ⌝ }
+// The table that a definition so opened goes into isn't full.
+fn has_room(opening: Opening, constants: usize, bootstraps: usize) -> bool
+    ensures { λ r. ⌜ r ≡ roomFor opening (tables constants bootstraps) ⌝ }
 {
-    match shape {
-        Shape::Constant(_) => constants < TABLE_SIZE,
-        Shape::Bootstrap => bootstraps < TABLE_SIZE,
-        Shape::NamedConstant => true,
-        Shape::NamedBootstrap => true,
-        Shape::RawConstant => true,
-        Shape::RawBootstrap => true,
-        Shape::Unknown => true,
+    match opening {
+        Opening::Constant(_) => constants < TABLE_SIZE,
+        Opening::Bootstrap => bootstraps < TABLE_SIZE,
+        Opening::NamedConstant => true,
+        Opening::NamedBootstrap => true,
+        Opening::RawConstant => true,
+        Opening::RawBootstrap => true,
     }
 }
 
-// The counts with a definition of this shape, which has so many references.
-fn counted(counts: JobCounts, shape: Shape, references: usize) -> JobCounts
+// The counts with a definition so opened, which has so many references.
+fn counted(counts: JobCounts, opening: Opening, references: usize) -> JobCounts
     requires { ⌜ Room counts references ⌝ }
-    ensures { λ r. ⌜ r ≡ plus counts (oneOf shape references) ⌝ }
+    ensures { λ r. ⌜ r ≡ plus counts (oneOf opening references) ⌝ }
 {
     let mut c = counts;
     c.definitions += 1;
     c.references += references;
-    match shape {
-        Shape::Constant(_) => {
+    match opening {
+        Opening::Constant(_) => {
             c.constants += 1;
             c
         }
-        Shape::Bootstrap => {
+        Opening::Bootstrap => {
             c.bootstraps += 1;
             c
         }
-        Shape::NamedConstant => {
+        Opening::NamedConstant => {
             c.names += 1;
             c
         }
-        Shape::NamedBootstrap => {
+        Opening::NamedBootstrap => {
             c.names += 1;
             c
         }
-        Shape::RawConstant => {
+        Opening::RawConstant => {
             c.raw_constants += 1;
             c
         }
-        Shape::RawBootstrap => {
+        Opening::RawBootstrap => {
             c.raw_bootstraps += 1;
             c
         }
-        Shape::Unknown => c,
     }
 }
 
@@ -445,14 +428,14 @@ fn form_definition(job: &[u8], at: usize, counts: JobCounts) -> Step
 {
     let constants = counts.constants;
     let bootstraps = counts.bootstraps;
-    let shape = shape_of(writer::get_u8(job, at));
-    match skip_definition(job, at + 1, shape, constants, bootstraps) {
+    let opening = opening_of(writer::get_u8(job, at));
+    match skip_definition(job, at + 1, opening, constants, bootstraps) {
         Skipped::To {
             next,
             cited,
             references,
         } => {
-            if !has_room(shape, constants, bootstraps) {
+            if !has_room(opening, constants, bootstraps) {
                 return Step::Refused(5);
             }
             if !cited {
@@ -460,7 +443,7 @@ fn form_definition(job: &[u8], at: usize, counts: JobCounts) -> Step
             }
             Step::To {
                 next,
-                counts: counted(counts, shape, references),
+                counts: counted(counts, opening, references),
             }
         }
         Skipped::Cut => Step::Refused(3),
@@ -702,11 +685,11 @@ pub(crate) fn literal_at(job: &[u8], at: usize) -> Extent
     requires { ⌜ EntryStands (now job) at ⌝ }
     ensures { λ r. ⌜ WhatEntry (now (job .entry)) at (λ e. Spans (now (job .entry)) r (e .literal)) ⌝ }
 {
-    let Shape::Constant(fields) = shape_of(tag_at(job, at)) else {
+    let Opening::Constant(shape) = opening_of(tag_at(job, at)) else {
         return Extent { start: at, end: at };
     };
-    match fields {
-        Fields::Text => {
+    match shape {
+        Shape::Text => {
             let start = at + 3;
             let n = writer::get_u16(job, at + 1) as usize;
             Extent {
@@ -714,9 +697,9 @@ pub(crate) fn literal_at(job: &[u8], at: usize) -> Extent
                 end: start + n,
             }
         }
-        Fields::Bits(n) => Extent {
+        Shape::Bits(n) => Extent {
             start: at + 1,
-            end: at + 1 + n,
+            end: at + 1 + n as usize,
         },
         _ => Extent { start: at, end: at },
     }
@@ -727,11 +710,11 @@ pub(crate) fn kind_byte(job: &[u8], at: usize) -> u8
     requires { ⌜ EntryStands (now job) at ⌝ }
     ensures { λ r. ⌜ WhatEntry (now (job .entry)) at (λ e. r ≡ e .byte) ⌝ }
 {
-    let Shape::Constant(fields) = shape_of(tag_at(job, at)) else {
+    let Opening::Constant(shape) = opening_of(tag_at(job, at)) else {
         return 0;
     };
-    match fields {
-        Fields::Handle => writer::get_u8(job, at + 1),
+    match shape {
+        Shape::KindOne => writer::get_u8(job, at + 1),
         _ => 0,
     }
 }
@@ -741,17 +724,18 @@ pub(crate) fn reference_count(job: &[u8], at: usize) -> usize
     requires { ⌜ EntryStands (now job) at ⌝ }
     ensures { λ r. ⌜ WhatEntry (now (job .entry)) at (λ e. r ≡ length (e .kids)) ⌝ }
 {
-    let Shape::Constant(fields) = shape_of(tag_at(job, at)) else {
+    let Opening::Constant(shape) = opening_of(tag_at(job, at)) else {
         let behind = after_reference(job, at + 1);
         return writer::get_u16(job, behind) as usize + 1;
     };
-    match fields {
-        Fields::Text => 0,
-        Fields::Bits(_) => 0,
-        Fields::One => 1,
-        Fields::Two => 2,
-        Fields::Handle => 1,
-        Fields::Dynamic => 2,
+    match shape {
+        Shape::Text => 0,
+        Shape::Bits(_) => 0,
+        Shape::One => 1,
+        Shape::Two => 2,
+        Shape::KindOne => 1,
+        Shape::Dynamic => 2,
+        Shape::Unknown => 0,
     }
 }
 
@@ -760,11 +744,11 @@ fn first_reference(job: &[u8], at: usize) -> usize
     requires { ⌜ EntryStands (now job) at ⌝ }
     ensures { λ r. ⌜ WhatEntry (now (job .entry)) at (λ e. 0 < length (e .kids) → KidAt (now (job .entry)) e 0 r) ⌝ }
 {
-    let Shape::Constant(fields) = shape_of(tag_at(job, at)) else {
+    let Opening::Constant(shape) = opening_of(tag_at(job, at)) else {
         return at + 1;
     };
-    match fields {
-        Fields::Handle => at + 2,
+    match shape {
+        Shape::KindOne => at + 2,
         _ => at + 1,
     }
 }

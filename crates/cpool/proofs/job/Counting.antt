@@ -15,8 +15,8 @@ use Rattle.definition.specs.Form.{kindOf}
 use Rattle.definition.specs.Definitions.{sameKind}
 use Rattle.definition.specs.Numbering.{entries, isBootstrap, constantsOf, bootstrapsOf}
 use Rattle.cpool.specs.declared.job.JobCounts.{JobCounts}
-use Rattle.cpool.specs.declared.job.Shape.{Shape}
-use Rattle.cpool.specs.declared.job.Shape.the-variants.{Constant, Bootstrap, NamedConstant, NamedBootstrap, RawConstant, RawBootstrap, Unknown}
+use Rattle.cpool.specs.declared.job.Opening.{Opening}
+use Rattle.cpool.specs.declared.job.Opening.the-variants.{Constant, Bootstrap, NamedConstant, NamedBootstrap, RawConstant, RawBootstrap}
 use Rattle.cpool.specs.Forms.{isNaming, isPlacing, referencesIn, kidsIn, countsOf, plus, single, oneOf, Bounded}
 
 -- ---- adding up
@@ -89,7 +89,7 @@ one-bootstrap e h = rw (only-later (λ e. not (isBootstrap e)) e [] (ap not h), 
 
 -- ---- bounds
 
-pub bounded-one : (shape : Shape) (c : JobCounts) (at k next : ℕ) → Bounded at c → at + 1 + k ≤ next → Bounded next (plus c (oneOf shape k))
+pub bounded-one : (opening : Opening) (c : JobCounts) (at k next : ℕ) → Bounded at c → at + 1 + k ≤ next → Bounded next (plus c (oneOf opening k))
 unfolding plus oneOf
 bounded-one (Constant fields) c at k next b h = omega arith
 bounded-one Bootstrap c at k next b h = omega arith
@@ -97,4 +97,3 @@ bounded-one NamedConstant c at k next b h = omega arith
 bounded-one NamedBootstrap c at k next b h = omega arith
 bounded-one RawConstant c at k next b h = omega arith
 bounded-one RawBootstrap c at k next b h = omega arith
-bounded-one Unknown c at k next b h = omega arith

@@ -13,11 +13,12 @@ use Rattle.definition.specs.Bytes.{return, andThen, _>>=_, one, two, many}
 use Rattle.definition.specs.Shapes.{Kind, constant, bootstrap, Field, text, bits, byte, to, bootstrapShape, Entry, withKids, withLiteral, withByte, readFields, readEntry}
 use Rattle.definition.specs.Job.{Reference, raw, entry, name, Definition, define, named, placed, Request, ClassSlot, slot, request, Build, Body, ofEntry, ofName, ofRaw, bodies, shortName, referenceForm, reference, readBody, readDefinition, asks, readRequest, classForm, nameForm, readBuild}
 use Rattle.cpool.specs.declared.job.Extent.{Extent}
-use Rattle.cpool.specs.declared.job.Fields.{Fields}
-use Rattle.cpool.specs.declared.job.Fields.the-variants.{Text, Bits, One, Two, Handle, Dynamic}
-use Rattle.cpool.specs.declared.job.Shape.{Shape}
-use Rattle.cpool.specs.declared.job.Shape.the-variants.{Constant, Bootstrap, NamedConstant, NamedBootstrap, RawConstant, RawBootstrap, Unknown}
-use Rattle.cpool.specs.Forms.{fieldsOf, bodyOf}
+use Rattle.raw_const.specs.Entries.{fieldsOf}
+use Rattle.raw_const.specs.declared.Shape.{Shape}
+use Rattle.raw_const.specs.declared.Shape.the-variants.{Text, Bits, One, Two, Dynamic, KindOne, Unknown}
+use Rattle.cpool.specs.declared.job.Opening.{Opening}
+use Rattle.cpool.specs.declared.job.Opening.the-variants.{Constant, Bootstrap, NamedConstant, NamedBootstrap, RawConstant, RawBootstrap}
+use Rattle.cpool.specs.Forms.{entryBody, bodyOf}
 use Rattle.cpool.specs.Stored.{Found, InTurn, Spans, anyDefinition, anyRequest}
 use Rattle.cpool.proofs.job.Laws.{number}
 use Rattle.cpool.proofs.job.Stepping.{entry-read, name-read, raw-read}
@@ -149,13 +150,14 @@ module _ (s : List ℕ) (p : ℕ) where
     pub refers : Refers s kind first 0 (e .kids) next
 
   -- a constant's
-  abbrev pub FieldsAre : Fields → Entry (List ℕ) Reference → ℕ → Type 0
+  abbrev pub FieldsAre : Shape → Entry (List ℕ) Reference → ℕ → Type 0
   FieldsAre Text e next = LiteralIs (p + 2) (number s p) e next
   FieldsAre (Bits n) e next = LiteralIs p n e next
   FieldsAre One e next = KidsAre constant p 1 0 e next
   FieldsAre Two e next = KidsAre constant p 2 0 e next
-  FieldsAre Handle e next = (p < length s) × KidsAre constant (p + 1) 1 (getD s p 0) e next
+  FieldsAre KindOne e next = (p < length s) × KidsAre constant (p + 1) 1 (getD s p 0) e next
   FieldsAre Dynamic e next = KidsAre bootstrap p 2 0 e next
+  FieldsAre Unknown e next = ⊥
 
   -- a bootstrap's: the count stands behind the first reference
   pub record BootstrapIs (e : Entry (List ℕ) Reference) (next : ℕ) : Type 0 where
@@ -204,13 +206,13 @@ module _ (s : List ℕ) (p : ℕ) where
         subst (λ x. KidsAre kind p 2 0 x next) (z .0)
         (record { noLiteral = refl; kindByte = refl; count = refl; refers = subst (Refers s kind p 0 (a ∷ b ∷ [])) (z .1) (two-refer s kind p a b mid end f g) })
 
-    handle-is : ReadAs (byte ∷ to constant ∷ []) → FieldsAre Handle e next
+    handle-is : ReadAs (byte ∷ to constant ∷ []) → FieldsAre KindOne e next
     unfolding readEntry readFields withKids withByte
     handle-is h =
         let b = byte-then s p (λ k. reference constant >>= λ a. return (of [] k (a ∷ []))) e (drop next s) h in
         finds-then s (p + 1) (reference constant) (takes-reference constant) _ (omega arith) e (drop next s) (b .1) λ a end f h₁.
         let z = ends s end next (of [] (getD s p 0) (a ∷ [])) e (f .within) high h₁ in
-        subst (λ x. FieldsAre Handle x next) (z .0)
+        subst (λ x. FieldsAre KindOne x next) (z .0)
         (b .0, record { noLiteral = refl; kindByte = refl; count = refl; refers = subst (Refers s constant (p + 1) 0 (a ∷ [])) (z .1) (one-refers s constant (p + 1) a end f) })
 
     bootstrap-is : ReadAs bootstrapShape → BootstrapIs e next
@@ -230,16 +232,7 @@ module _ (s : List ℕ) (p : ℕ) where
           count = ap suc (g .3);
         })
 
-    constant-is : (fields : Fields) → ReadAs (fieldsOf fields) → FieldsAre fields e next
-    unfolding fieldsOf
-    constant-is Text h = text-is h
-    constant-is (Bits n) h = bits-is n h
-    constant-is One h = one-is constant h
-    constant-is Two h = two-is constant h
-    constant-is Handle h = handle-is h
-    constant-is Dynamic h = two-is bootstrap h
-
--- ---- the entry at a place, by the shape that its first byte tells
+-- ---- the entry at a place, by what its first byte opens
 
 -- what was read for an entry is that entry
 same-entry : (x e : Entry (List ℕ) Reference) → define x ≡ define e → x ≡ e
@@ -272,34 +265,43 @@ module _ (first : ℕ) (l : List ℕ) (e : Entry (List ℕ) Reference) (left : L
   body-tag (some (ofRaw kind)) h = no-placing kind h
 
 module _ (s : List ℕ) (at : ℕ) where
-  abbrev pub EntryIs : Shape → Entry (List ℕ) Reference → ℕ → Type 0
-  EntryIs (Constant fields) e next = FieldsAre s (at + 1) fields e next
+  abbrev pub EntryIs : Opening → Entry (List ℕ) Reference → ℕ → Type 0
+  EntryIs (Constant shape) e next = FieldsAre s (at + 1) shape e next
   EntryIs Bootstrap e next = BootstrapIs s (at + 1) e next
   EntryIs NamedConstant e next = ⊥
   EntryIs NamedBootstrap e next = ⊥
   EntryIs RawConstant e next = ⊥
   EntryIs RawBootstrap e next = ⊥
-  EntryIs Unknown e next = ⊥
 
   module _ (e : Entry (List ℕ) Reference) (next : ℕ) where
-    body-is :
-        (shape : Shape) →
-        at + 1 ≤ length s →
-        next ≤ length s →
-        readBody (getD s at 0) (bodyOf shape) (drop (at + 1) s) ≡ some (define e, drop next s) →
-        EntryIs shape e next
-    unfolding readBody bodyOf
-    body-is (Constant fields) low high h =
-        some-then (readEntry reference (getD s at 0) (fieldsOf fields) (drop (at + 1) s)) _ (define e, drop next s) h λ x rest h₁ h₂.
-        constant-is s (at + 1) (getD s at 0) e next low high fields (h₁ ∙ is-entry x e rest (drop next s) h₂)
-    body-is Bootstrap low high h =
-        some-then (readEntry reference (getD s at 0) bootstrapShape (drop (at + 1) s)) _ (define e, drop next s) h λ x rest h₁ h₂.
-        bootstrap-is s (at + 1) (getD s at 0) e next low high (h₁ ∙ is-entry x e rest (drop next s) h₂)
-    body-is NamedConstant low high h = no-naming (getD s at 0) (drop (at + 1) s) e (drop next s) constant h
-    body-is NamedBootstrap low high h = no-naming (getD s at 0) (drop (at + 1) s) e (drop next s) bootstrap h
-    body-is RawConstant low high h = no-placing (getD s at 0) (drop (at + 1) s) e (drop next s) constant h
-    body-is RawBootstrap low high h = no-placing (getD s at 0) (drop (at + 1) s) e (drop next s) bootstrap h
-    body-is Unknown low high h = none≢some h
+    module _ (low : at + 1 ≤ length s) (high : next ≤ length s) where
+      abbrev EntryRead : Option Body → Type 0
+      EntryRead body = readBody (getD s at 0) body (drop (at + 1) s) ≡ some (define e, drop next s)
+
+      read-as : (fields : List Field) → EntryRead (some (ofEntry fields)) → readEntry reference (getD s at 0) fields (drop (at + 1) s) ≡ some (e, drop next s)
+      unfolding readBody
+      read-as fields h =
+          some-then (readEntry reference (getD s at 0) fields (drop (at + 1) s)) _ (define e, drop next s) h λ x rest h₁ h₂.
+          h₁ ∙ is-entry x e rest (drop next s) h₂
+
+      constant-is : (shape : Shape) → EntryRead (entryBody (fieldsOf shape)) → FieldsAre s (at + 1) shape e next
+      unfolding entryBody readBody
+      constant-is Text h = text-is s (at + 1) (getD s at 0) e next low high (read-as (text ∷ []) h)
+      constant-is (Bits n) h = bits-is s (at + 1) (getD s at 0) e next low high n (read-as (bits n ∷ []) h)
+      constant-is One h = one-is s (at + 1) (getD s at 0) e next low high constant (read-as (to constant ∷ []) h)
+      constant-is Two h = two-is s (at + 1) (getD s at 0) e next low high constant (read-as (to constant ∷ to constant ∷ []) h)
+      constant-is Dynamic h = two-is s (at + 1) (getD s at 0) e next low high bootstrap (read-as (to bootstrap ∷ to constant ∷ []) h)
+      constant-is KindOne h = handle-is s (at + 1) (getD s at 0) e next low high (read-as (byte ∷ to constant ∷ []) h)
+      constant-is Unknown h = none≢some h
+
+      body-is : (opening : Opening) → EntryRead (bodyOf opening) → EntryIs opening e next
+      unfolding bodyOf
+      body-is (Constant shape) h = constant-is shape h
+      body-is Bootstrap h = bootstrap-is s (at + 1) (getD s at 0) e next low high (read-as bootstrapShape h)
+      body-is NamedConstant h = no-naming (getD s at 0) (drop (at + 1) s) e (drop next s) constant h
+      body-is NamedBootstrap h = no-naming (getD s at 0) (drop (at + 1) s) e (drop next s) bootstrap h
+      body-is RawConstant h = no-placing (getD s at 0) (drop (at + 1) s) e (drop next s) constant h
+      body-is RawBootstrap h = no-placing (getD s at 0) (drop (at + 1) s) e (drop next s) bootstrap h
 
     -- whatever entry stands at a place, its first byte is its tag
     pub tag-there : Found anyDefinition s at (define e) next → e .tag ≡ getD s at 0
@@ -308,13 +310,13 @@ module _ (s : List ℕ) (at : ℕ) where
         let b = byte-then s at readDefinition (define e) (drop next s) (f .read) in
         body-tag (getD s at 0) (drop (at + 1) s) e (drop next s) (lookup (getD s at 0) bodies) (b .1)
 
-    -- and it has the shape that the tag tells
-    pub entry-there : (shape : Shape) → Found anyDefinition s at (define e) next → bodyOf shape ≡ lookup (e .tag) bodies → EntryIs shape e next
+    -- and it is what the tag opens
+    pub entry-there : (opening : Opening) → Found anyDefinition s at (define e) next → bodyOf opening ≡ lookup (e .tag) bodies → EntryIs opening e next
     unfolding readDefinition
-    entry-there shape f t =
+    entry-there opening f t =
         let b = byte-then s at readDefinition (define e) (drop next s) (f .read) in
-        let told : bodyOf shape ≡ lookup (getD s at 0) bodies = t ∙ ap (λ k. lookup k bodies) (tag-there f) in
-        body-is shape (omega arith) (f .within) (rw told (b .1))
+        let told : bodyOf opening ≡ lookup (getD s at 0) bodies = t ∙ ap (λ k. lookup k bodies) (tag-there f) in
+        body-is (omega arith) (f .within) opening (rw told (b .1))
 
 -- ---- the other records
 
@@ -327,15 +329,14 @@ module _ (s : List ℕ) (at : ℕ) where
   abbrev pub PlacingIs : Kind → Definition (List ℕ) → ℕ → Type 0
   PlacingIs kind d next = (at + 5 ≡ next) × (d ≡ placed kind (number s (at + 1)) (number s (at + 3)))
 
-  -- a definition, by the shape that its first byte tells
-  abbrev pub DefinitionIs : Shape → Definition (List ℕ) → ℕ → Type 0
-  DefinitionIs (Constant fields) d next = (e : Entry (List ℕ) Reference) × (d ≡ define e)
+  -- a definition, by what its first byte opens
+  abbrev pub DefinitionIs : Opening → Definition (List ℕ) → ℕ → Type 0
+  DefinitionIs (Constant shape) d next = (e : Entry (List ℕ) Reference) × (d ≡ define e)
   DefinitionIs Bootstrap d next = (e : Entry (List ℕ) Reference) × (d ≡ define e)
   DefinitionIs NamedConstant d next = NamingIs constant d next
   DefinitionIs NamedBootstrap d next = NamingIs bootstrap d next
   DefinitionIs RawConstant d next = PlacingIs constant d next
   DefinitionIs RawBootstrap d next = PlacingIs bootstrap d next
-  DefinitionIs Unknown d next = ⊥
 
   module _ (d : Definition (List ℕ)) (next : ℕ) (low : at + 1 ≤ length s) (high : next ≤ length s) where
     abbrev BodyRead : ℕ → Option Body → Type 0
@@ -361,22 +362,25 @@ module _ (s : List ℕ) (at : ℕ) where
         let place : at + 1 + 2 ≡ at + 3 = omega arith in
         (omega (arith, z .1), rw place at (sym (z .0)))
 
-    definition-is : (first : ℕ) (shape : Shape) → BodyRead first (bodyOf shape) → DefinitionIs shape d next
-    unfolding bodyOf readBody
-    definition-is first (Constant fields) h = defining first (fieldsOf fields) h
+    definition-is : (first : ℕ) (opening : Opening) → BodyRead first (bodyOf opening) → DefinitionIs opening d next
+    unfolding bodyOf entryBody readBody
+    definition-is first (Constant shape) h = listed (fieldsOf shape) h
+      where
+        listed : (fields : Option (List Field)) → BodyRead first (entryBody fields) → (e : Entry (List ℕ) Reference) × (d ≡ define e)
+        listed none h = none≢some h
+        listed (some fields) h = defining first fields h
     definition-is first Bootstrap h = defining first bootstrapShape h
     definition-is first NamedConstant h = naming first constant h
     definition-is first NamedBootstrap h = naming first bootstrap h
     definition-is first RawConstant h = placing first constant h
     definition-is first RawBootstrap h = placing first bootstrap h
-    definition-is first Unknown h = none≢some h
 
   pub definition-there :
-      (d : Definition (List ℕ)) (next : ℕ) (shape : Shape) → Found anyDefinition s at d next → bodyOf shape ≡ lookup (getD s at 0) bodies → DefinitionIs shape d next
+      (d : Definition (List ℕ)) (next : ℕ) (opening : Opening) → Found anyDefinition s at d next → bodyOf opening ≡ lookup (getD s at 0) bodies → DefinitionIs opening d next
   unfolding readDefinition
-  definition-there d next shape f told =
+  definition-there d next opening f told =
       let b = byte-then s at readDefinition d (drop next s) (f .read) in
-      definition-is d next (omega arith) (f .within) (getD s at 0) shape (rw told (b .1))
+      definition-is d next (omega arith) (f .within) (getD s at 0) opening (rw told (b .1))
 
   -- a request: its first byte tells whether it is ldc, and its reference stands behind
   pub request-there :

@@ -17,10 +17,11 @@ use Rattle.definition.specs.Form.{Counts, countOf, kindOf, whole, hasRoom, cite
 use Rattle.definition.specs.Definitions.{sameKind}
 use Rattle.definition.specs.Numbering.{entries, constantsOf, bootstrapsOf}
 use Rattle.cpool.specs.declared.job.JobCounts.{JobCounts}
-use Rattle.cpool.specs.declared.job.Fields.{Fields}
-use Rattle.cpool.specs.declared.job.Shape.{Shape}
-use Rattle.cpool.specs.declared.job.Shape.the-variants.{Constant, Bootstrap, NamedConstant, NamedBootstrap, RawConstant, RawBootstrap, Unknown}
-use Rattle.cpool.specs.Forms.{Read, fieldsOf, bodyOf, tableOf, isNaming, isPlacing, referencesIn, kidsIn, countsOf, plus, oneOf, Bounded, roomFor, tablesIn, Moved}
+use Rattle.raw_const.specs.Entries.{fieldsOf}
+use Rattle.raw_const.specs.declared.Shape.{Shape}
+use Rattle.cpool.specs.declared.job.Opening.{Opening}
+use Rattle.cpool.specs.declared.job.Opening.the-variants.{Constant, Bootstrap, NamedConstant, NamedBootstrap, RawConstant, RawBootstrap}
+use Rattle.cpool.specs.Forms.{entryBody, Read, bodyOf, tableOf, isNaming, isPlacing, referencesIn, kidsIn, countsOf, plus, oneOf, Bounded, roomFor, tablesIn, Moved}
 use Rattle.cpool.proofs.job.Table.{Right}
 use Rattle.cpool.proofs.job.Counting.{in-table, one-constant, one-bootstrap, bounded-one}
 
@@ -28,10 +29,10 @@ use Rattle.cpool.proofs.job.Counting.{in-table, one-constant, one-boots
 value-is : {A : Type 0} {a b : A} {l m : List ℕ} → _≡_ {A = Option (A × List ℕ)} (some (a, l)) (some (b, m)) → b ≡ a
 value-is {A} {a} {b} {l} {m} h = let p : _≡_ {A = A × List ℕ} (b, m) (a, l) = cc in ap (λ r. r .0) p
 
--- what a definition of a shape is: what it counts, and whether there is room for it
-pub record Fits (shape : Shape) (d : Definition (List ℕ)) : Type 0 where
-  pub room : (n : Counts) → hasRoom n d ≡ roomFor shape n
-  pub counts : oneOf shape (kidsIn d) ≡ countsOf (d ∷ []) 0
+-- what a definition so opened is: what it counts, and whether there is room for it
+pub record Fits (opening : Opening) (d : Definition (List ℕ)) : Type 0 where
+  pub room : (n : Counts) → hasRoom n d ≡ roomFor opening n
+  pub counts : oneOf opening (kidsIn d) ≡ countsOf (d ∷ []) 0
 
 -- an entry has the tag that it was read from
 pub entry-read :
@@ -67,10 +68,11 @@ raw-read first kind l rest d h =
     (λ number l₂ _ h₂. (at, number, value-is h₂)))
 
 module _ (first : ℕ) (l rest : List ℕ) (d : Definition (List ℕ)) where
-  pub fits-constant : (fields : Fields) → constant ≡ kindOf first → readBody first (some (ofEntry (fieldsOf fields))) l ≡ some (d, rest) → Fits (Constant fields) d
-  unfolding hasRoom roomFor oneOf kidsIn countOf sameKind
-  fits-constant fields t h =
-      let r = entry-read first (fieldsOf fields) l rest d h in
+  fits-constant : (shape : Shape) (fields : Option (List Field)) → constant ≡ kindOf first → readBody first (entryBody fields) l ≡ some (d, rest) → Fits (Constant shape) d
+  unfolding entryBody readBody hasRoom roomFor oneOf kidsIn countOf sameKind
+  fits-constant shape none t h = clash (cc)
+  fits-constant shape (some fields) t h =
+      let r = entry-read first fields l rest d h in
       let k : kindOf (r .0 .tag) ≡ constant = ap kindOf (r .2) ∙ sym t in
       rw (r .1) (record { room = λ n. rw k; counts = sym (one-constant (r .0) (in-table (r .0) constant k)) })
 
@@ -81,47 +83,46 @@ module _ (first : ℕ) (l rest : List ℕ) (d : Definition (List ℕ)) where
       let k : kindOf (r .0 .tag) ≡ bootstrap = ap kindOf (r .2) ∙ sym t in
       rw (r .1) (record { room = λ n. rw k; counts = sym (one-bootstrap (r .0) (in-table (r .0) bootstrap k)) })
 
-  pub fits : (shape : Shape) → tableOf shape ≡ kindOf first → readBody first (bodyOf shape) l ≡ some (d, rest) → Fits shape d
+  pub fits : (opening : Opening) → tableOf opening ≡ kindOf first → readBody first (bodyOf opening) l ≡ some (d, rest) → Fits opening d
   unfolding bodyOf tableOf readBody hasRoom roomFor oneOf kidsIn countsOf constantsOf bootstrapsOf entries referencesIn only isNaming isPlacing sameKind
-  fits (Constant fields) t h = fits-constant fields t h
+  fits (Constant shape) t h = fits-constant shape (fieldsOf shape) t h
   fits Bootstrap t h = fits-bootstrap t h
   fits NamedConstant t h = rw (name-read first constant l rest d h .2) (record { room = λ n. refl; counts = refl })
   fits NamedBootstrap t h = rw (name-read first bootstrap l rest d h .2) (record { room = λ n. refl; counts = refl })
   fits RawConstant t h = rw (raw-read first constant l rest d h .2) (record { room = λ n. refl; counts = refl })
   fits RawBootstrap t h = rw (raw-read first bootstrap l rest d h .2) (record { room = λ n. refl; counts = refl })
-  fits Unknown t h = clash (cc)
 
 -- ---- the step
 
-module _ (c : JobCounts) (s : List ℕ) (at : ℕ) (shape : Shape) (right : Right (getD s at 0) shape) where
-  pub step-cut : readBody (getD s at 0) (bodyOf shape) (drop (at + 1) s) ≡ none → formDefinition (tablesIn c) (getD s at 0) (drop (at + 1) s) ≡ bad 3
+module _ (c : JobCounts) (s : List ℕ) (at : ℕ) (opening : Opening) (right : Right (getD s at 0) opening) where
+  pub step-cut : readBody (getD s at 0) (bodyOf opening) (drop (at + 1) s) ≡ none → formDefinition (tablesIn c) (getD s at 0) (drop (at + 1) s) ≡ bad 3
   unfolding formDefinition readDefinition whole
   step-cut h = rw (← right .0, h)
 
-  module _ (next : ℕ) (cited : Bool) (references : ℕ) (v : Read (readBody (getD s at 0) (bodyOf shape)) (citesEarlier (tablesIn c)) kidsIn s (at + 1) next cited references) where
-    of-shape : Fits shape (v .value)
-    of-shape = fits (getD s at 0) (drop (at + 1) s) (drop next s) (v .value) shape (right .1) (v .read)
+  module _ (next : ℕ) (cited : Bool) (references : ℕ) (v : Read (readBody (getD s at 0) (bodyOf opening)) (citesEarlier (tablesIn c)) kidsIn s (at + 1) next cited references) where
+    of-opening : Fits opening (v .value)
+    of-opening = fits (getD s at 0) (drop (at + 1) s) (drop next s) (v .value) opening (right .1) (v .read)
 
-    pub step-full : false ≡ roomFor shape (tablesIn c) → formDefinition (tablesIn c) (getD s at 0) (drop (at + 1) s) ≡ bad 5
+    pub step-full : false ≡ roomFor opening (tablesIn c) → formDefinition (tablesIn c) (getD s at 0) (drop (at + 1) s) ≡ bad 5
     unfolding formDefinition readDefinition whole unless
-    step-full full = rw (← right .0, v .read, of-shape .room (tablesIn c), ← full)
+    step-full full = rw (← right .0, v .read, of-opening .room (tablesIn c), ← full)
 
-    pub step-cites : true ≡ roomFor shape (tablesIn c) → cited ≡ false → formDefinition (tablesIn c) (getD s at 0) (drop (at + 1) s) ≡ bad 4
+    pub step-cites : true ≡ roomFor opening (tablesIn c) → cited ≡ false → formDefinition (tablesIn c) (getD s at 0) (drop (at + 1) s) ≡ bad 4
     unfolding formDefinition readDefinition whole unless
-    step-cites room missing = rw (← right .0, v .read, of-shape .room (tablesIn c), ← room, ← v .cites, missing)
+    step-cites room missing = rw (← right .0, v .read, of-opening .room (tablesIn c), ← room, ← v .cites, missing)
 
     pub step-to :
-        true ≡ roomFor shape (tablesIn c) →
+        true ≡ roomFor opening (tablesIn c) →
         cited ≡ true →
         Bounded at c →
-        Moved (formDefinition (tablesIn c)) (λ d. countsOf (d ∷ []) 0) s at c next (plus c (oneOf shape references))
+        Moved (formDefinition (tablesIn c)) (λ d. countsOf (d ∷ []) 0) s at c next (plus c (oneOf opening references))
     unfolding formDefinition readDefinition whole unless
     step-to room there bounded =
         record {
           value = v .value;
-          read = rw (← right .0, v .read, of-shape .room (tablesIn c), ← room, ← v .cites, there);
-          count = ap (plus c) (rw (v .count) (of-shape .counts));
+          read = rw (← right .0, v .read, of-opening .room (tablesIn c), ← room, ← v .cites, there);
+          count = ap (plus c) (rw (v .count) (of-opening .counts));
           past = omega arith;
           within = v .within;
-          bounded = bounded-one shape c at references next bounded (v .past);
+          bounded = bounded-one opening c at references next bounded (v .past);
         }

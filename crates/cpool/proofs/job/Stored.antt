@@ -18,25 +18,27 @@ use Rattle.definition.specs.Job.{Reference, name, define, bodies, shortName, re
 use Rattle.definition.specs.Form.{kindOf}
 use Rattle.cpool.specs.declared.job.Extent.{Extent}
 use Rattle.cpool.specs.declared.job.RefType.the-variants as refType
-use Rattle.cpool.specs.declared.job.Fields.{Fields}
-use Rattle.cpool.specs.declared.job.Fields.the-variants.{Text, Bits, One, Two, Handle, Dynamic}
-use Rattle.cpool.specs.declared.job.Shape.{Shape}
-use Rattle.cpool.specs.declared.job.Shape.the-variants.{Constant, Bootstrap, NamedConstant, NamedBootstrap, RawConstant, RawBootstrap, Unknown}
-use Rattle.cpool.proofs.job.Fields.{the-type as fields-type}
-use Rattle.cpool.proofs.job.Shape.{the-type}
-use Rattle.cpool.specs.Forms.{fieldsOf, bodyOf, tableOf}
+use Rattle.raw_const.specs.Entries.{fieldsOf}
+use Rattle.raw_const.specs.declared.Shape.{Shape}
+use Rattle.raw_const.specs.declared.Shape.the-variants.{Text, Bits, One, Two, Dynamic, KindOne, Unknown}
+use Rattle.cpool.specs.declared.job.Opening.{Opening}
+use Rattle.cpool.specs.declared.job.Opening.the-variants.{Constant, Bootstrap, NamedConstant, NamedBootstrap, RawConstant, RawBootstrap}
+use Rattle.raw_const.proofs.Shape.{the-type as shape-type}
+use Rattle.cpool.proofs.job.Opening.{the-type}
+use Rattle.cpool.specs.Forms.{entryBody, bodyOf, tableOf}
 use Rattle.cpool.specs.Stored.{Found, InTurn, Stands, WhatStands, ReferenceStands, WhatReference, EntryStands, WhatEntry, Spans, Tells, anyDefinition, firstKind, kindIn, kidKind, bytesBetween, KidAt}
 use Rattle.cpool.proofs.job.Laws.{number}
 use Rattle.cpool.proofs.job.Standing.{extent, spans, name-there, Says, reference-says, Refers, FieldsAre, BootstrapIs, EntryIs, tag-there, entry-there}
 
--- how many references a constant has, by its fields
-abbrev pub kidsOf : Fields → ℕ
+-- how many references a constant has, by its shape
+abbrev pub kidsOf : Shape → ℕ
 kidsOf Text = 0
 kidsOf (Bits n) = 0
 kidsOf One = 1
 kidsOf Two = 2
-kidsOf Handle = 1
 kidsOf Dynamic = 2
+kidsOf KindOne = 1
+kidsOf Unknown = 0
 
 -- the references of an entry stand from the first one on
 kid-first :
@@ -168,26 +170,25 @@ module _ (s : List ℕ) (at : ℕ) where
   tag-found e next f = sym (tag-there s at e next f)
 
   -- what an entry's tag tells
-  module _ (tag : ℕ) (shape : Shape) (is : WhatEntry s at (λ e. tag ≡ e .tag)) (told : bodyOf shape ≡ lookup tag bodies) where
-    shaped : (e : Entry (List ℕ) Reference) (next : ℕ) → Found anyDefinition s at (define e) next → EntryIs s at shape e next
-    shaped e next f = entry-there s at e next shape f (told ∙ ap (λ k. lookup k bodies) (is e next f))
+  module _ (tag : ℕ) (opening : Opening) (is : WhatEntry s at (λ e. tag ≡ e .tag)) (told : bodyOf opening ≡ lookup tag bodies) where
+    opened : (e : Entry (List ℕ) Reference) (next : ℕ) → Found anyDefinition s at (define e) next → EntryIs s at opening e next
+    opened e next f = entry-there s at e next opening f (told ∙ ap (λ k. lookup k bodies) (is e next f))
 
     -- what isn't a constant is a bootstrap
     bootstrap-shaped :
-        OneOf (1 ∷ 2 ∷ 3 ∷ 4 ∷ 5 ∷ 6 ∷ []) (tagOf the-type shape) →
+        OneOf (1 ∷ 2 ∷ 3 ∷ 4 ∷ 5 ∷ []) (tagOf the-type opening) →
         (e : Entry (List ℕ) Reference) (next : ℕ) →
         Found anyDefinition s at (define e) next →
         BootstrapIs s (at + 1) e next
-    bootstrap-shaped k e next f = ways shape k (shaped e next f)
+    bootstrap-shaped k e next f = ways opening k (opened e next f)
       where
-        ways : (x : Shape) → OneOf (1 ∷ 2 ∷ 3 ∷ 4 ∷ 5 ∷ 6 ∷ []) (tagOf the-type x) → EntryIs s at x e next → BootstrapIs s (at + 1) e next
-        ways (Constant fields) k h = absurd (miss (1 ∷ 2 ∷ 3 ∷ 4 ∷ 5 ∷ 6 ∷ []) 0 tt k)
+        ways : (x : Opening) → OneOf (1 ∷ 2 ∷ 3 ∷ 4 ∷ 5 ∷ []) (tagOf the-type x) → EntryIs s at x e next → BootstrapIs s (at + 1) e next
+        ways (Constant shape) k h = absurd (miss (1 ∷ 2 ∷ 3 ∷ 4 ∷ 5 ∷ []) 0 tt k)
         ways Bootstrap k h = h
         ways NamedConstant k h = absurd h
         ways NamedBootstrap k h = absurd h
         ways RawConstant k h = absurd h
         ways RawBootstrap k h = absurd h
-        ways Unknown k h = absurd h
 
     -- ---- literals
 
@@ -196,136 +197,139 @@ module _ (s : List ℕ) (at : ℕ) where
         let size : at - at ≡ 0 = omega arith in
         record { are = rw (size, e); rising = omega arith; within = h }
 
-    pub bootstrap-literal : OneOf (1 ∷ 2 ∷ 3 ∷ 4 ∷ 5 ∷ 6 ∷ []) (tagOf the-type shape) → WhatEntry s at (λ e. Spans s (record { start = at; end = at }) (e .literal))
+    pub bootstrap-literal : OneOf (1 ∷ 2 ∷ 3 ∷ 4 ∷ 5 ∷ []) (tagOf the-type opening) → WhatEntry s at (λ e. Spans s (record { start = at; end = at }) (e .literal))
     bootstrap-literal k e next f = nothing-spans (e .literal) (omega arith) (bootstrap-shaped k e next f .noLiteral)
 
-    module _ (fields : Fields) (constant-shape : shape ≡ Constant fields) where
-      constant-shaped : (e : Entry (List ℕ) Reference) (next : ℕ) → Found anyDefinition s at (define e) next → FieldsAre s (at + 1) fields e next
-      constant-shaped e next f = rw constant-shape at (shaped e next f)
+    module _ (shape : Shape) (constant-opened : opening ≡ Constant shape) where
+      constant-shaped : (e : Entry (List ℕ) Reference) (next : ℕ) → Found anyDefinition s at (define e) next → FieldsAre s (at + 1) shape e next
+      constant-shaped e next f = rw constant-opened at (opened e next f)
 
-      pub text-room : fields ≡ Text → EntryStands s at → at + 3 + number s (at + 1) ≤ length s
+      pub text-room : shape ≡ Text → EntryStands s at → at + 3 + number s (at + 1) ≤ length s
       text-room t h = let g = rw t at (constant-shaped (h .0) (h .1) (h .2)) in omega (arith, g .end, h .2 .within)
 
-      pub text-literal : fields ≡ Text → WhatEntry s at (λ e. Spans s (record { start = at + 3; end = at + 3 + number s (at + 1) }) (e .literal))
+      pub text-literal : shape ≡ Text → WhatEntry s at (λ e. Spans s (record { start = at + 3; end = at + 3 + number s (at + 1) }) (e .literal))
       text-literal t e next f =
           let g = rw t at (constant-shaped e next f) in
           let place : at + 1 + 2 ≡ at + 3 = omega arith in
           rw (← place) (spans s (at + 1 + 2) (number s (at + 1)) (e .literal) (omega (arith, g .end, f .within)) (g .literal))
 
-      pub bits-room : (n : ℕ) → fields ≡ Bits n → EntryStands s at → at + 1 + n ≤ length s
+      pub bits-room : (n : ℕ) → shape ≡ Bits n → EntryStands s at → at + 1 + n ≤ length s
       bits-room n t h = let g = rw t at (constant-shaped (h .0) (h .1) (h .2)) in omega (arith, g .end, h .2 .within)
 
-      pub bits-literal : (n : ℕ) → fields ≡ Bits n → WhatEntry s at (λ e. Spans s (record { start = at + 1; end = at + 1 + n }) (e .literal))
+      pub bits-literal : (n : ℕ) → shape ≡ Bits n → WhatEntry s at (λ e. Spans s (record { start = at + 1; end = at + 1 + n }) (e .literal))
       bits-literal n t e next f =
           let g = rw t at (constant-shaped e next f) in
           spans s (at + 1) n (e .literal) (omega (arith, g .end, f .within)) (g .literal)
 
-      pub no-literal : OneOf (2 ∷ 3 ∷ 4 ∷ 5 ∷ []) (tagOf fields-type fields) → WhatEntry s at (λ e. Spans s (record { start = at; end = at }) (e .literal))
-      no-literal k e next f = nothing-spans (e .literal) (omega arith) (ways fields k (constant-shaped e next f))
+      pub no-literal : OneOf (2 ∷ 3 ∷ 4 ∷ 5 ∷ 6 ∷ []) (tagOf shape-type shape) → WhatEntry s at (λ e. Spans s (record { start = at; end = at }) (e .literal))
+      no-literal k e next f = nothing-spans (e .literal) (omega arith) (ways shape k (constant-shaped e next f))
         where
-          ways : (x : Fields) → OneOf (2 ∷ 3 ∷ 4 ∷ 5 ∷ []) (tagOf fields-type x) → FieldsAre s (at + 1) x e next → e .literal ≡ []
-          ways Text k h = absurd (miss (2 ∷ 3 ∷ 4 ∷ 5 ∷ []) 0 tt k)
-          ways (Bits n) k h = absurd (miss (2 ∷ 3 ∷ 4 ∷ 5 ∷ []) 1 tt k)
+          ways : (x : Shape) → OneOf (2 ∷ 3 ∷ 4 ∷ 5 ∷ 6 ∷ []) (tagOf shape-type x) → FieldsAre s (at + 1) x e next → e .literal ≡ []
+          ways Text k h = absurd (miss (2 ∷ 3 ∷ 4 ∷ 5 ∷ 6 ∷ []) 0 tt k)
+          ways (Bits n) k h = absurd (miss (2 ∷ 3 ∷ 4 ∷ 5 ∷ 6 ∷ []) 1 tt k)
           ways One k h = h .noLiteral
           ways Two k h = h .noLiteral
-          ways Handle k h = h .1 .noLiteral
           ways Dynamic k h = h .noLiteral
+          ways KindOne k h = h .1 .noLiteral
+          ways Unknown k h = absurd h
 
       -- ---- kind bytes
 
-      pub handle-room : fields ≡ Handle → EntryStands s at → at + 1 < length s
+      pub handle-room : shape ≡ KindOne → EntryStands s at → at + 1 < length s
       handle-room t h = (rw t at (constant-shaped (h .0) (h .1) (h .2))) .0
 
-      pub handle-byte : fields ≡ Handle → WhatEntry s at (λ e. getD s (at + 1) 0 ≡ e .byte)
+      pub handle-byte : shape ≡ KindOne → WhatEntry s at (λ e. getD s (at + 1) 0 ≡ e .byte)
       handle-byte t e next f = sym ((rw t at (constant-shaped e next f)) .1 .kindByte)
 
-      pub no-byte : OneOf (0 ∷ 1 ∷ 2 ∷ 3 ∷ 5 ∷ []) (tagOf fields-type fields) → WhatEntry s at (λ e. 0 ≡ e .byte)
-      no-byte k e next f = ways fields k (constant-shaped e next f)
+      pub no-byte : OneOf (0 ∷ 1 ∷ 2 ∷ 3 ∷ 4 ∷ 6 ∷ []) (tagOf shape-type shape) → WhatEntry s at (λ e. 0 ≡ e .byte)
+      no-byte k e next f = ways shape k (constant-shaped e next f)
         where
-          ways : (x : Fields) → OneOf (0 ∷ 1 ∷ 2 ∷ 3 ∷ 5 ∷ []) (tagOf fields-type x) → FieldsAre s (at + 1) x e next → 0 ≡ e .byte
+          ways : (x : Shape) → OneOf (0 ∷ 1 ∷ 2 ∷ 3 ∷ 4 ∷ 6 ∷ []) (tagOf shape-type x) → FieldsAre s (at + 1) x e next → 0 ≡ e .byte
           ways Text k h = sym (h .noByte)
           ways (Bits n) k h = sym (h .noByte)
           ways One k h = sym (h .kindByte)
           ways Two k h = sym (h .kindByte)
-          ways Handle k h = absurd (miss (0 ∷ 1 ∷ 2 ∷ 3 ∷ 5 ∷ []) 4 tt k)
+          ways KindOne k h = absurd (miss (0 ∷ 1 ∷ 2 ∷ 3 ∷ 4 ∷ 6 ∷ []) 5 tt k)
           ways Dynamic k h = sym (h .kindByte)
+          ways Unknown k h = absurd h
 
       -- ---- references
 
-      pub constant-count : (n : ℕ) → kidsOf fields ≡ n → WhatEntry s at (λ e. n ≡ length (e .kids))
-      constant-count n t e next f = ways fields t (constant-shaped e next f)
+      pub constant-count : (n : ℕ) → kidsOf shape ≡ n → WhatEntry s at (λ e. n ≡ length (e .kids))
+      constant-count n t e next f = ways shape t (constant-shaped e next f)
         where
-          ways : (x : Fields) → kidsOf x ≡ n → FieldsAre s (at + 1) x e next → n ≡ length (e .kids)
+          ways : (x : Shape) → kidsOf x ≡ n → FieldsAre s (at + 1) x e next → n ≡ length (e .kids)
           ways Text t h = sym t ∙ sym (ap length (h .noKids))
           ways (Bits m) t h = sym t ∙ sym (ap length (h .noKids))
           ways One t h = sym t ∙ sym (h .count)
           ways Two t h = sym t ∙ sym (h .count)
-          ways Handle t h = sym t ∙ sym (h .1 .count)
           ways Dynamic t h = sym t ∙ sym (h .count)
+          ways KindOne t h = sym t ∙ sym (h .1 .count)
+          ways Unknown t h = absurd h
 
-      module _ (table : tableOf shape ≡ kindOf tag) where
+      module _ (table : tableOf opening ≡ kindOf tag) where
         -- by its shape, what an entry's first reference leads to, and that nothing stands behind it
-        kind-there : (e : Entry (List ℕ) Reference) (next : ℕ) → Found anyDefinition s at (define e) next → kidKind (e .tag) 0 ≡ firstKind (fieldsOf fields)
+        kind-there : (e : Entry (List ℕ) Reference) (next : ℕ) → Found anyDefinition s at (define e) next → kidKind (e .tag) 0 ≡ kindIn (entryBody (fieldsOf shape))
         unfolding kidKind kindIn bodyOf
         kind-there e next f =
-            ap (λ k. kindIn (lookup k bodies)) (sym (is e next f)) ∙ ap kindIn (sym told) ∙ ap (λ x. kindIn (bodyOf x)) constant-shape
+            ap (λ k. kindIn (lookup k bodies)) (sym (is e next f)) ∙ ap kindIn (sym told) ∙ ap (λ x. kindIn (bodyOf x)) constant-opened
 
         between-there : (e : Entry (List ℕ) Reference) (next : ℕ) → Found anyDefinition s at (define e) next → bytesBetween (kindOf (e .tag)) 0 ≡ 0
         unfolding bytesBetween tableOf
         between-there e next f =
             ap (λ k. bytesBetween (kindOf k) 0) (sym (is e next f))
             ∙ ap (λ k. bytesBetween k 0) (sym table)
-            ∙ ap (λ x. bytesBetween (tableOf x) 0) constant-shape
+            ∙ ap (λ x. bytesBetween (tableOf x) 0) constant-opened
 
-        pub handle-first : fields ≡ Handle → WhatEntry s at (λ e. 0 < length (e .kids) → KidAt s e 0 (at + 2))
-        unfolding fieldsOf firstKind
+        pub handle-first : shape ≡ KindOne → WhatEntry s at (λ e. 0 < length (e .kids) → KidAt s e 0 (at + 2))
+        unfolding entryBody kindIn firstKind
         handle-first t e next f more =
             let g = rw t at (constant-shaped e next f) in
             let place : at + 1 + 1 ≡ at + 2 = omega arith in
-            rw (← place) (kid-first s e constant (at + 1 + 1) 0 next (kind-there e next f ∙ ap (λ x. firstKind (fieldsOf x)) t) (between-there e next f) (g .1 .refers))
+            rw (← place) (kid-first s e constant (at + 1 + 1) 0 next (kind-there e next f ∙ ap (λ x. kindIn (entryBody (fieldsOf x))) t) (between-there e next f) (g .1 .refers))
 
-        pub constant-first : OneOf (0 ∷ 1 ∷ 2 ∷ 3 ∷ 5 ∷ []) (tagOf fields-type fields) → WhatEntry s at (λ e. 0 < length (e .kids) → KidAt s e 0 (at + 1))
-        unfolding fieldsOf firstKind
-        constant-first k e next f more = ways fields k (kind-there e next f) (constant-shaped e next f)
+        pub constant-first : OneOf (0 ∷ 1 ∷ 2 ∷ 3 ∷ 4 ∷ 6 ∷ []) (tagOf shape-type shape) → WhatEntry s at (λ e. 0 < length (e .kids) → KidAt s e 0 (at + 1))
+        unfolding entryBody kindIn firstKind
+        constant-first k e next f more = ways shape k (kind-there e next f) (constant-shaped e next f)
           where
             first : (kind : Kind) → kidKind (e .tag) 0 ≡ kind → Refers s kind (at + 1) 0 (e .kids) next → KidAt s e 0 (at + 1)
             first kind same r = kid-first s e kind (at + 1) 0 next same (between-there e next f) r
 
             ways :
-                (x : Fields) → OneOf (0 ∷ 1 ∷ 2 ∷ 3 ∷ 5 ∷ []) (tagOf fields-type x) → kidKind (e .tag) 0 ≡ firstKind (fieldsOf x) →
+                (x : Shape) → OneOf (0 ∷ 1 ∷ 2 ∷ 3 ∷ 4 ∷ 6 ∷ []) (tagOf shape-type x) → kidKind (e .tag) 0 ≡ kindIn (entryBody (fieldsOf x)) →
                 FieldsAre s (at + 1) x e next → KidAt s e 0 (at + 1)
             ways Text k same h = absurd (omega (arith, ap length (h .noKids)))
             ways (Bits n) k same h = absurd (omega (arith, ap length (h .noKids)))
             ways One k same h = first constant same (h .refers)
             ways Two k same h = first constant same (h .refers)
-            ways Handle k same h = absurd (miss (0 ∷ 1 ∷ 2 ∷ 3 ∷ 5 ∷ []) 4 tt k)
+            ways KindOne k same h = absurd (miss (0 ∷ 1 ∷ 2 ∷ 3 ∷ 4 ∷ 6 ∷ []) 5 tt k)
             ways Dynamic k same h = first bootstrap same (h .refers)
+            ways Unknown k same h = absurd h
 
     -- ---- a bootstrap: its first reference, and its count behind it
 
-    module _ (k : OneOf (1 ∷ 2 ∷ 3 ∷ 4 ∷ 5 ∷ 6 ∷ []) (tagOf the-type shape)) where
+    module _ (k : OneOf (1 ∷ 2 ∷ 3 ∷ 4 ∷ 5 ∷ []) (tagOf the-type opening)) where
       pub bootstrap-byte : WhatEntry s at (λ e. 0 ≡ e .byte)
       bootstrap-byte e next f = sym (bootstrap-shaped k e next f .noByte)
 
       pub bootstrap-stands : EntryStands s at → ReferenceStands s (at + 1)
       bootstrap-stands h = let r = bootstrap-shaped k (h .0) (h .1) (h .2) .refers in (constant, (r .kid, r .behind, r .found))
 
-      pub bootstrap-first : tableOf shape ≡ kindOf tag → WhatEntry s at (λ e. 0 < length (e .kids) → KidAt s e 0 (at + 1))
+      pub bootstrap-first : tableOf opening ≡ kindOf tag → WhatEntry s at (λ e. 0 < length (e .kids) → KidAt s e 0 (at + 1))
       unfolding kidKind kindIn bodyOf tableOf bytesBetween bootstrapShape firstKind
       bootstrap-first table e next f more =
-          ways shape k (shaped e next f) (told ∙ ap (λ t. lookup t bodies) (is e next f)) (table ∙ ap kindOf (is e next f))
+          ways opening k (opened e next f) (told ∙ ap (λ t. lookup t bodies) (is e next f)) (table ∙ ap kindOf (is e next f))
         where
           ways :
-              (x : Shape) → OneOf (1 ∷ 2 ∷ 3 ∷ 4 ∷ 5 ∷ 6 ∷ []) (tagOf the-type x) → EntryIs s at x e next → bodyOf x ≡ lookup (e .tag) bodies →
+              (x : Opening) → OneOf (1 ∷ 2 ∷ 3 ∷ 4 ∷ 5 ∷ []) (tagOf the-type x) → EntryIs s at x e next → bodyOf x ≡ lookup (e .tag) bodies →
               tableOf x ≡ kindOf (e .tag) → KidAt s e 0 (at + 1)
-          ways (Constant fields) k h b t = absurd (miss (1 ∷ 2 ∷ 3 ∷ 4 ∷ 5 ∷ 6 ∷ []) 0 tt k)
+          ways (Constant shape) k h b t = absurd (miss (1 ∷ 2 ∷ 3 ∷ 4 ∷ 5 ∷ []) 0 tt k)
           ways Bootstrap k h b t =
               kid-first s e constant (at + 1) 2 next (ap kindIn (sym b)) (ap (λ kind. bytesBetween kind 0) (sym t)) (h .refers)
           ways NamedConstant k h b t = absurd h
           ways NamedBootstrap k h b t = absurd h
           ways RawConstant k h b t = absurd h
           ways RawBootstrap k h b t = absurd h
-          ways Unknown k h b t = absurd h
 
       module _ (p : ℕ) (behind : WhatReference s (at + 1) (λ kind a next. p ≡ next)) where
         pub count-room : EntryStands s at → p + 2 ≤ length s

@@ -1,23 +1,25 @@
--- The table of shapes, by tag. Assumes nothing.
+-- What a first byte opens, by the definition's table. Assumes nothing.
 use mathlib.Core.Bool.{Bool, true, false}
-use mathlib.Core.List.{List, [], _∷_}
+use mathlib.Core.List.{List, [], _∷_, _++_, map}
 use mathlib.Core.Option.{none}
-use mathlib.Core.Path.{_≡_, refl, sym}
+use mathlib.Core.Path.{_≡_, refl, sym, ap, _∙_}
 use Prim.Native.Nat.{ℕ, zero, suc, _+_, _≤_, _<_}
 use native.Mathlib.Omega.{arith}
 use lib.Dec.{eqb}
 use borrow.Author.Tests.{ne-eqb, eqb-true, eqb-false}
 use Rattle.definition.specs.Basics.{lookup}
-use Rattle.definition.specs.Shapes.{shapes}
-use Rattle.definition.specs.Job.{bodies}
+use Rattle.definition.specs.Shapes.{Field, shapes}
+use Rattle.definition.specs.Job.{Body, ofEntry, bodies}
 use Rattle.definition.specs.Form.{kindOf}
-use Rattle.cpool.specs.declared.job.Shape.{Shape}
-use Rattle.cpool.specs.declared.job.Shape.the-variants.{Unknown}
-use Rattle.cpool.specs.Forms.{bodyOf, tableOf}
+use Rattle.raw_const.specs.Entries.{fieldsOf}
+use Rattle.raw_const.specs.declared.Shape.{Shape}
+use Rattle.cpool.specs.declared.job.Opening.{Opening}
+use Rattle.cpool.specs.declared.job.Opening.the-variants.{Constant}
+use Rattle.cpool.specs.Forms.{entryBody, bodyOf, tableOf}
 
--- a first byte has this shape
-abbrev pub Right : ℕ → Shape → Type 0
-Right x shape = (bodyOf shape ≡ lookup x bodies) × (tableOf shape ≡ kindOf x)
+-- a first byte opens this
+abbrev pub Right : ℕ → Opening → Type 0
+Right x opening = (bodyOf opening ≡ lookup x bodies) × (tableOf opening ≡ kindOf x)
 
 -- what holds of k and the next n - 1 numbers holds of each of them
 abbrev pub Each : (ℕ → Type 0) → ℕ → ℕ → Type 0
@@ -42,11 +44,24 @@ unfolding lookup
 lookup-none x [] h = refl
 lookup-none x (r ∷ t) h = rw (ne-eqb x (r .0) (h .0), lookup) (lookup-none x t (h .1))
 
--- above 20 there are only the five kinds from 40 to 44
-pub unknown :
-    (x : ℕ) → 20 < x → (x ≡ 0x40 → ⊥) → (x ≡ 0x41 → ⊥) → (x ≡ 0x42 → ⊥) → (x ≡ 0x43 → ⊥) → (x ≡ 0x44 → ⊥) → Right x Unknown
-unfolding bodyOf tableOf kindOf bodies shapes
-unknown x high h₀ h₁ h₂ h₃ h₄ = (sym (lookup-none x bodies (omega arith)), sym (rw (ne-eqb x 0x40 h₀, kindOf)))
+-- what is no key of the kinds behind the tags is found among the tags, or not at all
+tags-first :
+    (x : ℕ) (t : List (ℕ × List Field)) (kinds : List (ℕ × Body)) →
+    Apart x kinds →
+    entryBody (lookup x t) ≡ lookup x (map (λ s. (s .0, ofEntry (s .1))) t ++ kinds)
+unfolding lookup entryBody
+tags-first x [] kinds h = sym (lookup-none x kinds h)
+tags-first x (r ∷ t) kinds h = ways (eqb x (r .0)) refl (tags-first x t kinds h)
+  where
+    ways :
+        (b : Bool) → eqb x (r .0) ≡ b → entryBody (lookup x t) ≡ lookup x (map (λ s. (s .0, ofEntry (s .1))) t ++ kinds) →
+        entryBody (lookup x (r ∷ t)) ≡ lookup x (map (λ s. (s .0, ofEntry (s .1))) (r ∷ t) ++ kinds)
+    ways true e later = rw (e, lookup)
+    ways false e later = rw (e, lookup) later
 
-pub above : (k x : ℕ) → k ≤ x → (x ≡ k → ⊥) → k < x
-above k x low h = omega arith
+pub tag-right :
+    (x : ℕ) (shape : Shape) → fieldsOf shape ≡ lookup x shapes → (x ≡ 0x40 → ⊥) → (x ≡ 0x41 → ⊥) → (x ≡ 0x42 → ⊥) → (x ≡ 0x43 → ⊥) → (x ≡ 0x44 → ⊥) →
+    Right x (Constant shape)
+unfolding bodyOf tableOf kindOf bodies
+tag-right x shape told h₀ h₁ h₂ h₃ h₄ =
+    (ap entryBody told ∙ tags-first x shapes _ (h₀, (h₁, (h₂, (h₃, (h₄, tt))))), sym (rw (ne-eqb x 0x40 h₀, kindOf)))

@@ -47,9 +47,6 @@ enum-told-6 c = search needs
 add-c-8 : tie.Need-add-c-8
 add-c-8 c = search needs
 
-enum-told-7 : tie.Need-enum-told-7
-enum-told-7 c = search needs
-
 returns : tie.Need-returns
 unfolding plus oneOf
 returns c = rw (c .before .enum-told .given .1) (simp add-zero)
@@ -74,10 +71,6 @@ returns-6 : tie.Need-returns-6
 unfolding plus oneOf
 returns-6 c = rw (c .before .enum-told6 .given .1) (simp add-zero)
 
-returns-7 : tie.Need-returns-7
-unfolding plus oneOf
-returns-7 c = rw (c .enum-told7 .given .1) (simp add-zero)
-
 pub counted-spec : {M : Type 1} → statement M
 counted-spec =
     tie.close
@@ -96,11 +89,9 @@ counted-spec =
     add-c-7
     enum-told-6
     add-c-8
-    enum-told-7
     returns
     returns-2
     returns-3
     returns-4
     returns-5
-    returns-6
-    returns-7)
+    returns-6)

@@ -11,8 +11,8 @@ use Rattle.cpool.proofs.job.form_definition.Tie as tie
 get-u8-requires : tie.Need-get-u8-requires
 get-u8-requires c κs = search needs
 
-shape-of-requires : tie.Need-shape-of-requires
-shape-of-requires c κs = search needs
+opening-of-requires : tie.Need-opening-of-requires
+opening-of-requires c κs = search needs
 
 add-skip-definition : tie.Need-add-skip-definition
 add-skip-definition c = search needs
@@ -30,7 +30,7 @@ returns : tie.Need-returns
 returns c = let a = c .before .before .before .before .before .before .before .before .before .args in
     let g = c .before .before .before .next .given in
     let byte = c .before .before .before .before .before .before .before .get-u8 .ensures in
-    step-full (a .counts) (a .job .now) (a .at) (c .before .before .before .before .before .before .shape-of .result) (rw byte at (c .before .before .before .before .before .before .shape-of .ensures)) (g .0 .0) (g .0 .1 .0) (g .0 .1 .1 .0)
+    step-full (a .counts) (a .job .now) (a .at) (c .before .before .before .before .before .before .opening-of .result) (rw byte at (c .before .before .before .before .before .before .opening-of .ensures)) (g .0 .0) (g .0 .1 .0) (g .0 .1 .1 .0)
     (rw (g .1) at (c .before .before .before .before .before .skip-definition .ensures (getD (a .job .now) (a .at) 0)))
     (sym (not-true (c .before .has-room .result) (c .if1 .taken)) ∙ c .before .has-room .ensures)
 
@@ -38,7 +38,7 @@ returns-2 : tie.Need-returns-2
 returns-2 c = let a = c .before .before .before .before .before .before .before .before .before .before .args in
     let g = c .before .before .before .before .next .given in
     let byte = c .before .before .before .before .before .before .before .before .get-u8 .ensures in
-    step-cites (a .counts) (a .job .now) (a .at) (c .before .before .before .before .before .before .before .shape-of .result) (rw byte at (c .before .before .before .before .before .before .before .shape-of .ensures)) (g .0 .0) (g .0 .1 .0) (g .0 .1 .1 .0)
+    step-cites (a .counts) (a .job .now) (a .at) (c .before .before .before .before .before .before .before .opening-of .result) (rw byte at (c .before .before .before .before .before .before .before .opening-of .ensures)) (g .0 .0) (g .0 .1 .0) (g .0 .1 .1 .0)
     (rw (g .1) at (c .before .before .before .before .before .before .skip-definition .ensures (getD (a .job .now) (a .at) 0)))
     (sym (not-false (c .before .before .has-room .result) (c .before .if1 .left)) ∙ c .before .before .has-room .ensures)
     (not-true (g .0 .1 .0) (c .if2 .taken))
@@ -57,7 +57,7 @@ returns-3 c = let a = c .before .before .before .before .before .before .before 
     let g = c .before .before .before .before .before .next .given in
     let byte = c .before .before .before .before .before .before .before .before .before .get-u8 .ensures in
     rw (c .counted .ensures)
-    (step-to (a .counts) (a .job .now) (a .at) (c .before .before .before .before .before .before .before .before .shape-of .result) (rw byte at (c .before .before .before .before .before .before .before .before .shape-of .ensures)) (g .0 .0) (g .0 .1 .0) (g .0 .1 .1 .0)
+    (step-to (a .counts) (a .job .now) (a .at) (c .before .before .before .before .before .before .before .before .opening-of .result) (rw byte at (c .before .before .before .before .before .before .before .before .opening-of .ensures)) (g .0 .0) (g .0 .1 .0) (g .0 .1 .1 .0)
     (rw (g .1) at (c .before .before .before .before .before .before .before .skip-definition .ensures (getD (a .job .now) (a .at) 0)))
     (sym (not-false (c .before .before .before .has-room .result) (c .before .before .if1 .left)) ∙ c .before .before .before .has-room .ensures)
     (not-false (g .0 .1 .0) (c .before .if2 .left))
@@ -66,7 +66,7 @@ returns-3 c = let a = c .before .before .before .before .before .before .before 
 returns-4 : tie.Need-returns-4
 returns-4 c = let a = c .before .before .before .before .before .before .args in
     let byte = c .before .before .before .before .get-u8 .ensures in
-    step-cut (a .counts) (a .job .now) (a .at) (c .before .before .before .shape-of .result) (rw byte at (c .before .before .before .shape-of .ensures))
+    step-cut (a .counts) (a .job .now) (a .at) (c .before .before .before .opening-of .result) (rw byte at (c .before .before .before .opening-of .ensures))
     (rw (c .enum-told .given .1) at (c .before .before .skip-definition .ensures (getD (a .job .now) (a .at) 0)))
 
 pub form-definition-spec : {M : Type 1} → statement M
@@ -74,7 +74,7 @@ form-definition-spec =
     tie.close
     (tie.spec
     get-u8-requires
-    shape-of-requires
+    opening-of-requires
     add-skip-definition
     skip-definition-requires
     enum-known-next

@@ -22,9 +22,6 @@ enum-told-5 c = search needs
 enum-told-6 : tie.Need-enum-told-6
 enum-told-6 c = search needs
 
-enum-told-7 : tie.Need-enum-told-7
-enum-told-7 c = search needs
-
 returns : tie.Need-returns
 unfolding roomFor
 returns c = rw (c .enum-told .given .1)
@@ -49,10 +46,6 @@ returns-6 : tie.Need-returns-6
 unfolding roomFor
 returns-6 c = rw (c .enum-told6 .given .1)
 
-returns-7 : tie.Need-returns-7
-unfolding roomFor
-returns-7 c = rw (c .enum-told7 .given .1)
-
 pub has-room-spec : {M : Type 1} → statement M
 has-room-spec =
     tie.close
@@ -63,11 +56,9 @@ has-room-spec =
     enum-told-4
     enum-told-5
     enum-told-6
-    enum-told-7
     returns
     returns-2
     returns-3
     returns-4
     returns-5
-    returns-6
-    returns-7)
+    returns-6)

@@ -7,15 +7,15 @@ use Rattle.cpool.proofs.job.kind_byte.Tie as tie
 tag-at-requires : tie.Need-tag-at-requires
 tag-at-requires c κs = search needs
 
-shape-of-requires : tie.Need-shape-of-requires
-shape-of-requires c κs = search needs
+opening-of-requires : tie.Need-opening-of-requires
+opening-of-requires c κs = search needs
 
-enum-known-fields : tie.Need-enum-known-fields
-enum-known-fields c = search needs
+enum-known-shape : tie.Need-enum-known-shape
+enum-known-shape c = search needs
 
 returns : tie.Need-returns
 returns c = let a = c .before .before .before .before .args in
-    bootstrap-byte (a .job .now) (a .at) _ _ (c .before .before .tag-at .ensures) (c .before .shape-of .ensures .0) (c .match .keys2)
+    bootstrap-byte (a .job .now) (a .at) _ _ (c .before .before .tag-at .ensures) (c .before .opening-of .ensures .0) (c .match .keys2)
 
 enum-told : tie.Need-enum-told
 enum-told c = search needs
@@ -25,26 +25,26 @@ add-get-u8 c = search needs
 
 get-u8-requires : tie.Need-get-u8-requires
 get-u8-requires c κs = let a = c .before .before .before .before .before .before .before .before .args in
-    let g = c .before .before .before .fields .given in
-    handle-room (a .job .now) (a .at) _ _ (c .before .before .before .before .before .before .tag-at .ensures) (c .before .before .before .before .before .shape-of .ensures .0) (g .0 .0) (g .1) (c .enum-told .given .1) (c .before .before .before .before .before .before .before .before .pre)
+    let g = c .before .before .before .shape .given in
+    handle-room (a .job .now) (a .at) _ _ (c .before .before .before .before .before .before .tag-at .ensures) (c .before .before .before .before .before .opening-of .ensures .0) (g .0 .0) (g .1) (c .enum-told .given .1) (c .before .before .before .before .before .before .before .before .pre)
 
 returns-2 : tie.Need-returns-2
 returns-2 c = let a = c .before .before .before .before .before .before .before .before .before .args in
-    let g = c .before .before .before .before .fields .given in
-    rw (c .get-u8 .ensures) (handle-byte (a .job .now) (a .at) _ _ (c .before .before .before .before .before .before .before .tag-at .ensures) (c .before .before .before .before .before .before .shape-of .ensures .0) (g .0 .0) (g .1) (c .before .enum-told .given .1))
+    let g = c .before .before .before .before .shape .given in
+    rw (c .get-u8 .ensures) (handle-byte (a .job .now) (a .at) _ _ (c .before .before .before .before .before .before .before .tag-at .ensures) (c .before .before .before .before .before .before .opening-of .ensures .0) (g .0 .0) (g .1) (c .before .enum-told .given .1))
 
 returns-3 : tie.Need-returns-3
 returns-3 c = let a = c .before .before .before .before .before .before .before .args in
-    let g = c .before .before .fields .given in
-    no-byte (a .job .now) (a .at) _ _ (c .before .before .before .before .before .tag-at .ensures) (c .before .before .before .before .shape-of .ensures .0) (g .0 .0) (g .1) (c .match2 .keys2)
+    let g = c .before .before .shape .given in
+    no-byte (a .job .now) (a .at) _ _ (c .before .before .before .before .before .tag-at .ensures) (c .before .before .before .before .opening-of .ensures .0) (g .0 .0) (g .1) (c .match2 .keys2)
 
 pub kind-byte-spec : {M : Type 1} → statement M
 kind-byte-spec =
     tie.close
     (tie.spec
     tag-at-requires
-    shape-of-requires
-    enum-known-fields
+    opening-of-requires
+    enum-known-shape
     returns
     enum-told
     add-get-u8

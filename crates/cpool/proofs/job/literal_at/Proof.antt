@@ -8,15 +8,15 @@ use Rattle.cpool.proofs.job.literal_at.Tie as tie
 tag-at-requires : tie.Need-tag-at-requires
 tag-at-requires c κs = search needs
 
-shape-of-requires : tie.Need-shape-of-requires
-shape-of-requires c κs = search needs
+opening-of-requires : tie.Need-opening-of-requires
+opening-of-requires c κs = search needs
 
-enum-known-fields : tie.Need-enum-known-fields
-enum-known-fields c = search needs
+enum-known-shape : tie.Need-enum-known-shape
+enum-known-shape c = search needs
 
 returns : tie.Need-returns
 returns c = let a = c .before .before .before .before .args in
-    bootstrap-literal (a .job .now) (a .at) _ _ (c .before .before .tag-at .ensures) (c .before .shape-of .ensures .0) (c .match .keys2)
+    bootstrap-literal (a .job .now) (a .at) _ _ (c .before .before .tag-at .ensures) (c .before .opening-of .ensures .0) (c .match .keys2)
 
 enum-told : tie.Need-enum-told
 enum-told c = search needs
@@ -29,19 +29,19 @@ add-get-u16 c = search needs
 
 get-u16-requires : tie.Need-get-u16-requires
 get-u16-requires c κs = let a = c .before .before .before .before .before .before .before .before .args in
-    let g = c .before .before .before .fields .given in
-    omega (arith, text-room (a .job .now) (a .at) _ _ (c .before .before .before .before .before .before .tag-at .ensures) (c .before .before .before .before .before .shape-of .ensures .0) (g .0 .0) (g .1) (c .enum-told .given .1) (c .before .before .before .before .before .before .before .before .pre))
+    let g = c .before .before .before .shape .given in
+    omega (arith, text-room (a .job .now) (a .at) _ _ (c .before .before .before .before .before .before .tag-at .ensures) (c .before .before .before .before .before .opening-of .ensures .0) (g .0 .0) (g .1) (c .enum-told .given .1) (c .before .before .before .before .before .before .before .before .pre))
 
 cast-n : tie.Need-cast-n
 cast-n c = search needs
 
 add-t11 : tie.Need-add-t11
 add-t11 c = let a = c .before .before .before .before .before .before .before .before .before .args in
-    let g = c .before .before .before .before .fields .given in
-    omega (arith, c .get-u16 .ensures, text-room (a .job .now) (a .at) _ _ (c .before .before .before .before .before .before .before .tag-at .ensures) (c .before .before .before .before .before .before .shape-of .ensures .0) (g .0 .0) (g .1) (c .before .enum-told .given .1) (c .before .before .before .before .before .before .before .before .before .pre))
+    let g = c .before .before .before .before .shape .given in
+    omega (arith, c .get-u16 .ensures, text-room (a .job .now) (a .at) _ _ (c .before .before .before .before .before .before .before .tag-at .ensures) (c .before .before .before .before .before .before .opening-of .ensures .0) (g .0 .0) (g .1) (c .before .enum-told .given .1) (c .before .before .before .before .before .before .before .before .before .pre))
 
-enum-known-fields-2 : tie.Need-enum-known-fields-2
-enum-known-fields-2 c = search needs
+enum-known-shape-2 : tie.Need-enum-known-shape-2
+enum-known-shape-2 c = search needs
 
 add-t12 : tie.Need-add-t12
 add-t12 c = search needs
@@ -49,33 +49,38 @@ add-t12 c = search needs
 add-t13 : tie.Need-add-t13
 add-t13 c = search needs
 
-add-t14 : tie.Need-add-t14
-add-t14 c = let a = c .before .before .before .before .before .before .before .before .before .args in
-    let g = c .before .before .before .before .fields .given in
-    omega (arith, bits-room (a .job .now) (a .at) _ _ (c .before .before .before .before .before .before .before .tag-at .ensures) (c .before .before .before .before .before .before .shape-of .ensures .0) (g .0 .0) (g .1) (c .before .fields2 .given .0 .0) (c .before .fields2 .given .1) (c .before .before .before .before .before .before .before .before .before .pre))
+cast-t14 : tie.Need-cast-t14
+cast-t14 c = search needs
+
+add-t15 : tie.Need-add-t15
+add-t15 c = let a = c .before .before .before .before .before .before .before .before .before .args in
+    let g = c .before .before .before .before .shape .given in
+    let n = c .before .shape2 .given in
+    omega (arith, bits-room (a .job .now) (a .at) _ _ (c .before .before .before .before .before .before .before .tag-at .ensures) (c .before .before .before .before .before .before .opening-of .ensures .0) (g .0 .0) (g .1) (n .0 .0) (n .1) (c .before .before .before .before .before .before .before .before .before .pre))
 
 returns-2 : tie.Need-returns-2
 returns-2 c = let a = c .before .before .before .before .before .before .before .before .before .args in
-    let g = c .before .before .before .before .fields .given in
-    rw (c .get-u16 .ensures) (text-literal (a .job .now) (a .at) _ _ (c .before .before .before .before .before .before .before .tag-at .ensures) (c .before .before .before .before .before .before .shape-of .ensures .0) (g .0 .0) (g .1) (c .before .enum-told .given .1))
+    let g = c .before .before .before .before .shape .given in
+    rw (c .get-u16 .ensures) (text-literal (a .job .now) (a .at) _ _ (c .before .before .before .before .before .before .before .tag-at .ensures) (c .before .before .before .before .before .before .opening-of .ensures .0) (g .0 .0) (g .1) (c .before .enum-told .given .1))
 
 returns-3 : tie.Need-returns-3
 returns-3 c = let a = c .before .before .before .before .before .before .before .before .before .args in
-    let g = c .before .before .before .before .fields .given in
-    bits-literal (a .job .now) (a .at) _ _ (c .before .before .before .before .before .before .before .tag-at .ensures) (c .before .before .before .before .before .before .shape-of .ensures .0) (g .0 .0) (g .1) (c .before .fields2 .given .0 .0) (c .before .fields2 .given .1)
+    let g = c .before .before .before .before .shape .given in
+    let n = c .before .shape2 .given in
+    bits-literal (a .job .now) (a .at) _ _ (c .before .before .before .before .before .before .before .tag-at .ensures) (c .before .before .before .before .before .before .opening-of .ensures .0) (g .0 .0) (g .1) (n .0 .0) (n .1)
 
 returns-4 : tie.Need-returns-4
 returns-4 c = let a = c .before .before .before .before .before .before .before .args in
-    let g = c .before .before .fields .given in
-    no-literal (a .job .now) (a .at) _ _ (c .before .before .before .before .before .tag-at .ensures) (c .before .before .before .before .shape-of .ensures .0) (g .0 .0) (g .1) (c .match2 .keys3)
+    let g = c .before .before .shape .given in
+    no-literal (a .job .now) (a .at) _ _ (c .before .before .before .before .before .tag-at .ensures) (c .before .before .before .before .opening-of .ensures .0) (g .0 .0) (g .1) (c .match2 .keys3)
 
 pub literal-at-spec : {M : Type 1} → statement M
 literal-at-spec =
     tie.close
     (tie.spec
     tag-at-requires
-    shape-of-requires
-    enum-known-fields
+    opening-of-requires
+    enum-known-shape
     returns
     enum-told
     add-start
@@ -83,10 +88,11 @@ literal-at-spec =
     get-u16-requires
     cast-n
     add-t11
-    enum-known-fields-2
+    enum-known-shape-2
     add-t12
     add-t13
-    add-t14
+    cast-t14
+    add-t15
     returns-2
     returns-3
     returns-4)

@@ -1,9 +1,11 @@
 -- `cpool::job::skip_constant` meets its contract. Assumes nothing.
-use Rattle.cpool.proofs.job.Entries.{bits-to, one-to}
-use Rattle.cpool.specs.Forms.{fieldsOf, tables}
-use Rattle.definition.specs.Shapes.{constant, bootstrap}
-use Rattle.definition.specs.Form.{countOf}
 use mathlib.Core.Path.{refl}
+use mathlib.Core.List.{[], _∷_}
+use Rattle.definition.specs.Form.{countOf}
+use Rattle.definition.specs.Shapes.{constant, bootstrap, text, bits, byte, to}
+use Rattle.cpool.specs.Forms.{entryBody, tables}
+use Rattle.cpool.proofs.job.Records.{entry-to, unknown-cut}
+use Rattle.cpool.proofs.job.Entries.{bits-to, one-to}
 use borrow.Author.Needs.{needs}
 use Rattle.cpool.proofs.job.skip_constant.Statement.{statement}
 use Rattle.cpool.proofs.job.skip_constant.Tie as tie
@@ -14,8 +16,11 @@ enum-told c = search needs
 skip-text-requires : tie.Need-skip-text-requires
 skip-text-requires c κs = search needs
 
-enum-known-fields : tie.Need-enum-known-fields
-enum-known-fields c = search needs
+enum-known-shape : tie.Need-enum-known-shape
+enum-known-shape c = search needs
+
+cast-skip-bytes : tie.Need-cast-skip-bytes
+cast-skip-bytes c = search needs
 
 skip-bytes-requires : tie.Need-skip-bytes-requires
 skip-bytes-requires c κs = search needs
@@ -44,36 +49,51 @@ enum-told-5 c = search needs
 skip-pair-requires-2 : tie.Need-skip-pair-requires-2
 skip-pair-requires-2 c κs = search needs
 
+enum-told-6 : tie.Need-enum-told-6
+enum-told-6 c = search needs
+
 returns : tie.Need-returns
-unfolding fieldsOf
-returns c = let a = c .before .before .before .before .args in rw (c .before .enum-told .given .1) (c .skip-text .ensures (tables (a .constants) (a .bootstraps)))
+unfolding entryBody
+returns c = let a = c .before .before .before .before .args in
+    let n = tables (a .constants) (a .bootstraps) in
+    rw (c .before .enum-told .given .1) (entry-to n (a .job .now) (a .at) (text ∷ []) (c .skip-text .result) (c .skip-text .ensures n))
 
 returns-2 : tie.Need-returns-2
-unfolding fieldsOf
+unfolding entryBody
 returns-2 c = let a = c .before .before .before .before .before .args in
-    let g = c .before .before .fields .given in
-    rw (g .1) (bits-to (tables (a .constants) (a .bootstraps)) (a .job .now) (a .at) (g .0 .0) (c .skip-bytes .result) (c .skip-bytes .ensures))
+    let n = tables (a .constants) (a .bootstraps) in
+    let g = c .before .before .shape .given in
+    rw (g .1) (entry-to n (a .job .now) (a .at) (bits (g .0 .0) ∷ []) (c .skip-bytes .result) (bits-to n (a .job .now) (a .at) (g .0 .0) (c .skip-bytes .result) (c .skip-bytes .ensures)))
 
 returns-3 : tie.Need-returns-3
-unfolding fieldsOf countOf
+unfolding entryBody countOf
 returns-3 c = let a = c .before .before .before .before .args in
     let n = tables (a .constants) (a .bootstraps) in
-    rw (c .before .enum-told2 .given .1) (one-to n (a .job .now) (a .at) constant (c .skip-reference .result) (c .skip-reference .ensures constant n refl))
+    rw (c .before .enum-told2 .given .1)
+    (entry-to n (a .job .now) (a .at) (to constant ∷ []) (c .skip-reference .result) (one-to n (a .job .now) (a .at) constant (c .skip-reference .result) (c .skip-reference .ensures constant n refl)))
 
 returns-4 : tie.Need-returns-4
-unfolding fieldsOf countOf
+unfolding entryBody countOf
 returns-4 c = let a = c .before .before .before .before .args in
-    rw (c .before .enum-told3 .given .1) (c .skip-pair .ensures constant constant (tables (a .constants) (a .bootstraps)) refl refl)
+    let n = tables (a .constants) (a .bootstraps) in
+    rw (c .before .enum-told3 .given .1) (entry-to n (a .job .now) (a .at) (to constant ∷ to constant ∷ []) (c .skip-pair .result) (c .skip-pair .ensures constant constant n refl refl))
 
 returns-5 : tie.Need-returns-5
-unfolding fieldsOf
+unfolding entryBody
 returns-5 c = let a = c .before .before .before .before .args in
-    rw (c .before .enum-told4 .given .1) (c .skip-handle .ensures (tables (a .constants) (a .bootstraps)) refl)
+    let n = tables (a .constants) (a .bootstraps) in
+    rw (c .before .enum-told4 .given .1) (entry-to n (a .job .now) (a .at) (byte ∷ to constant ∷ []) (c .skip-handle .result) (c .skip-handle .ensures n refl))
 
 returns-6 : tie.Need-returns-6
-unfolding fieldsOf countOf
+unfolding entryBody countOf
 returns-6 c = let a = c .before .before .before .before .args in
-    rw (c .before .enum-told5 .given .1) (c .skip-pair2 .ensures bootstrap constant (tables (a .constants) (a .bootstraps)) refl refl)
+    let n = tables (a .constants) (a .bootstraps) in
+    rw (c .before .enum-told5 .given .1) (entry-to n (a .job .now) (a .at) (to bootstrap ∷ to constant ∷ []) (c .skip-pair2 .result) (c .skip-pair2 .ensures bootstrap constant n refl refl))
+
+returns-7 : tie.Need-returns-7
+unfolding entryBody
+returns-7 c = let a = c .before .before .before .args in
+    rw (c .enum-told6 .given .1) (unknown-cut (tables (a .constants) (a .bootstraps)) (a .job .now) (a .at))
 
 pub skip-constant-spec : {M : Type 1} → statement M
 skip-constant-spec =
@@ -81,7 +101,8 @@ skip-constant-spec =
     (tie.spec
     enum-told
     skip-text-requires
-    enum-known-fields
+    enum-known-shape
+    cast-skip-bytes
     skip-bytes-requires
     enum-told-2
     skip-reference-requires
@@ -91,9 +112,11 @@ skip-constant-spec =
     skip-handle-requires
     enum-told-5
     skip-pair-requires-2
+    enum-told-6
     returns
     returns-2
     returns-3
     returns-4
     returns-5
-    returns-6)
+    returns-6
+    returns-7)

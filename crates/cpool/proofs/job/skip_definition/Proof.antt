@@ -1,6 +1,6 @@
 -- `cpool::job::skip_definition` meets its contract. Assumes nothing.
-use Rattle.cpool.proofs.job.Records.{entry-to, unknown-cut}
-use Rattle.cpool.specs.Forms.{bodyOf, fieldsOf, tables}
+use Rattle.cpool.proofs.job.Records.{entry-to}
+use Rattle.cpool.specs.Forms.{bodyOf, tables}
 use Rattle.definition.specs.Shapes.{constant, bootstrap, bootstrapShape}
 use Rattle.definition.specs.Form.{countOf}
 use mathlib.Core.Path.{refl}
@@ -8,8 +8,8 @@ use borrow.Author.Needs.{needs}
 use Rattle.cpool.proofs.job.skip_definition.Statement.{statement}
 use Rattle.cpool.proofs.job.skip_definition.Tie as tie
 
-enum-known-shape : tie.Need-enum-known-shape
-enum-known-shape c = search needs
+enum-known-opening : tie.Need-enum-known-opening
+enum-known-opening c = search needs
 
 skip-constant-requires : tie.Need-skip-constant-requires
 skip-constant-requires c κs = search needs
@@ -44,15 +44,10 @@ enum-told-5 c = search needs
 skip-placing-requires-2 : tie.Need-skip-placing-requires-2
 skip-placing-requires-2 c κs = search needs
 
-enum-told-6 : tie.Need-enum-told-6
-enum-told-6 c = search needs
-
 returns : tie.Need-returns
 unfolding bodyOf
-returns c = let a = c .before .before .before .before .before .args in
-    let g = c .before .before .shape .given in
-    rw (g .1)
-    (entry-to (tables (a .constants) (a .bootstraps)) (a .job .now) (a .at) (fieldsOf (g .0 .0)) (c .skip-constant .result) (c .skip-constant .ensures))
+returns c = let g = c .before .before .opening .given in
+    rw (g .1) (c .skip-constant .ensures)
 
 returns-2 : tie.Need-returns-2
 unfolding bodyOf
@@ -80,16 +75,11 @@ unfolding bodyOf countOf
 returns-6 c = let a = c .before .before .before .before .args in
     rw (c .before .enum-told5 .given .1) (c .skip-placing2 .ensures bootstrap (tables (a .constants) (a .bootstraps)) refl)
 
-returns-7 : tie.Need-returns-7
-unfolding bodyOf
-returns-7 c = let a = c .before .before .before .args in
-    rw (c .enum-told6 .given .1) (unknown-cut (tables (a .constants) (a .bootstraps)) (a .job .now) (a .at))
-
 pub skip-definition-spec : {M : Type 1} → statement M
 skip-definition-spec =
     tie.close
     (tie.spec
-    enum-known-shape
+    enum-known-opening
     skip-constant-requires
     enum-told
     skip-bootstrap-requires
@@ -101,11 +91,9 @@ skip-definition-spec =
     skip-placing-requires
     enum-told-5
     skip-placing-requires-2
-    enum-told-6
     returns
     returns-2
     returns-3
     returns-4
     returns-5
-    returns-6
-    returns-7)
+    returns-6)
