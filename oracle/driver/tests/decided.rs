@@ -219,7 +219,7 @@ fn point_4_numbers_of_constants() {
 
 /// Every request counts, by ldc or not: request 1 is there behind two, request 2 is not.
 #[test]
-fn point_4_requests_are_counted_from_0() {
+fn point_14_requests_are_counted_from_0() {
     let requests = "50 51 00 0001 52 00 0002";
     assert_eq!(
         line(&format!("{requests} 60 02 01 0001")),
