@@ -184,6 +184,18 @@ pub further-trans : (w w′ w″ : Ready) → Further w w′ → Further w′ w�
 further-trans w w′ w″ f g =
     record { grows = grows-trans (w .resolved) (w′ .resolved) (w″ .resolved) (f .grows) (g .grows); kept = slots-twice (f .kept) (g .kept) }
 
+-- there are as many answers as requests
+pub answers-many :
+    (names : List Naming) (constants place : ℕ) (requests : List Request) (w : Ready) (r : List ℕ × Ready) →
+    answerAll names constants place requests w ≡ good r →
+    length (r .0) ≡ length requests
+unfolding answerAll
+answers-many names constants place [] w r e = ap (λ (x : List ℕ × Ready). length (x .0)) (sym (good-inj e))
+answers-many names constants place (q ∷ requests) w r e =
+    good-then (atRecord place (answer (q .ldc) (goalOf names constants (q .what)) w)) _ r e λ a here e₁.
+    good-then (answerAll names constants (suc place) requests (a .1)) _ r e₁ λ rest there e₂.
+    ap (λ (x : List ℕ × Ready). length (x .0)) (sym (good-inj e₂)) ∙ ap suc (answers-many names constants (suc place) requests (a .1) rest there)
+
 module _ (table : List (Entry ℕ Goal)) (cited : Cited table) (top : ℕ) (held : List (ℕ × Held)) (raws : List (ℕ × ℕ)) (names : List Naming) (constants : ℕ) where
   -- a request whose goal is in the table and leads to no bootstrap
   abbrev pub Asks : Request → Type 0

@@ -1,7 +1,8 @@
--- A block file is accepted exactly if it is the blocks of parts as described, and reading what writing wrote gives the job back. Assumes nothing.
+-- A block file is accepted exactly if it is the blocks of parts as described; reading what writing wrote gives the job back; and writing is
+-- refused with 1 and 18 exactly if the job is too long or has no room. Assumes nothing.
 use mathlib.Core.Bool.{Bool, true, false, _&&_, _||_}
 use mathlib.Core.List.{List, [], _∷_, _++_}
-use mathlib.Core.Logic.{_≢_}
+use mathlib.Core.Logic.{_⊎_, _≢_, inl, inr}
 use mathlib.Core.Path.{_≡_, refl, sym, ap, _∙_}
 use Prim.Native.Nat.{ℕ, zero, suc, _+_, _*_, _-_, _/_, _%_, _≤_, _<_, min}
 use native.Mathlib.Nat.{zero-add}
@@ -9,14 +10,14 @@ use native.Mathlib.Omega.{arith}
 use lib.Dec.{eqb, leb}
 use lib.ListN.{length, take, drop, getD, replicate, length-append, length-take, length-drop, length-replicate, take-append-drop}
 use lib.Seq.{take-at, drop-at, take-append-seam, take-append-le, take-take, take-all, length-take-le, getD-drop, getD-take}
-use borrow.Author.Tests.{leb-true, eqb-true, eqb-false, le-leb, eq-eqb}
-use Rattle.definition.specs.Basics.{good, concat, from, same}
+use borrow.Author.Tests.{leb-true, leb-false, eqb-true, eqb-false, le-leb, lt-leb, eq-eqb}
+use Rattle.definition.specs.Basics.{Result, good, bad, Refusal, concat, from, same}
 use Rattle.definition.specs.Bytes.{be2, be4}
 use Rattle.definition.specs.Run.{longestJob}
 use Rattle.definition.specs.Blocks.{weighted, block, blockCount, blockAt, usedIn, rightUse, rightBlock, blockData, mostBlocks, readBlocks, blocksFor, writtenBlock, writeBlocks}
-use Rattle.laws.specs.Statements.{IsBytes, BlocksRead, BlocksBack}
+use Rattle.laws.specs.Statements.{IsBytes, BlocksRead, BlocksBack, BlocksWritten}
 use Rattle.laws.proofs.Lists.{both-true, same-true, same-refl}
-use Rattle.laws.proofs.Results.{good-inj, guarded, passed}
+use Rattle.laws.proofs.Results.{bad≢good, good-inj, guarded, passes, refuses, passed, refusedBy}
 use Rattle.laws.proofs.Chunks.{from-same, length-joined, cut-out, cut-join}
 use Rattle.laws.proofs.Reading.{jobIn, Accepted, isRead, wasRead}
 
@@ -369,3 +370,72 @@ blocksBack room room′ job file e fits =
     let is = written-job job in
     rw (w .1, is) at
     (parts-read n (writtenPart job) (written-described job) room′ (blocks-some (length job)) (blocks-few (length job) (w .0)) (rw is (w .0)) (rw is fits))
+
+-- ---- what writing is refused for, and how long its file is
+
+module _ (room : ℕ) (job : List ℕ) where
+  abbrev new : List ℕ
+  new = theirFile (blocksFor (length job)) (writtenPart job)
+
+  -- the test for 18, and the test for 1 in front of it
+  abbrev fit-test : Result Refusal (List ℕ)
+  fit-test = guarded (leb (512 * blocksFor (length job)) room) 0 18 (good new)
+
+  writing : writeBlocks room job ≡ guarded (leb (length job) longestJob) 0 1 fit-test
+  unfolding writeBlocks writtenBlock
+  writing = refl
+
+  to-fit : length job ≤ longestJob → writeBlocks room job ≡ fit-test
+  to-fit short = writing ∙ passes 0 1 fit-test (leb (length job) longestJob) (le-leb (length job) longestJob short)
+
+  -- a refusal is one of the two
+  abbrev Why : ℕ → Type 0
+  Why code = ((longestJob < length job) × (1 ≡ code)) ⊎ (((length job ≤ longestJob) × (room < 512 * blocksFor (length job))) × (18 ≡ code))
+
+  why-written : (r : Refusal) → writeBlocks room job ≡ bad r → Why (r .code)
+  why-written r e = long (refusedBy 0 1 fit-test (leb (length job) longestJob) r (sym writing ∙ e))
+    where
+      code-of : {s : Refusal} → s ≡ r → s .code ≡ r .code
+      code-of q = ap (λ (r : Refusal). r .code) q
+
+      full :
+          length job ≤ longestJob →
+          ((leb (512 * blocksFor (length job)) room ≡ false) × (record { code = 18; place = 0 } ≡ r)) ⊎ ((leb (512 * blocksFor (length job)) room ≡ true) × (good new ≡ bad r)) →
+          Why (r .code)
+      full short (inl x) = inr ((short, leb-false (512 * blocksFor (length job)) room (x .0)), code-of (x .1))
+      full short (inr x) = bad≢good (sym (x .1))
+
+      long :
+          ((leb (length job) longestJob ≡ false) × (record { code = 1; place = 0 } ≡ r)) ⊎ ((leb (length job) longestJob ≡ true) × (fit-test ≡ bad r)) →
+          Why (r .code)
+      long (inl x) = inl (leb-false (length job) longestJob (x .0), code-of (x .1))
+      long (inr x) = full (leb-true (length job) longestJob (x .0)) (refusedBy 0 18 (good new) (leb (512 * blocksFor (length job)) room) r (x .1))
+
+-- BLOCKS WRITTEN: 1 exactly if the job is too long, 18 exactly if it isn't and has no room, and otherwise a file of so many blocks
+pub blocksWritten : BlocksWritten
+blocksWritten room job = (
+  (
+    λ e. one (why-written room job (record { code = 1; place = 0 }) e),
+    λ long. writing room job ∙ refuses 0 1 (fit-test room job) (leb (length job) longestJob) (lt-leb (length job) longestJob long),
+  ),
+  (
+    λ e. eighteen (why-written room job (record { code = 18; place = 0 }) e),
+    λ h. to-fit room job (h .0) ∙ refuses 0 18 (good (new room job)) (leb size room) (lt-leb size room (h .1)),
+  ),
+  λ short fits. (
+    new room job,
+    to-fit room job short ∙ passes 0 18 (good (new room job)) (leb size room) (le-leb size room fits),
+    file-length (blocksFor (length job)) (writtenPart job) (written-described job),
+  ),
+)
+  where
+    size : ℕ
+    size = 512 * blocksFor (length job)
+
+    one : Why room job 1 → longestJob < length job
+    one (inl h) = h .0
+    one (inr h) = absurd (omega (arith, h .1))
+
+    eighteen : Why room job 18 → (length job ≤ longestJob) × (room < size)
+    eighteen (inl h) = absurd (omega (arith, h .1))
+    eighteen (inr h) = h .0

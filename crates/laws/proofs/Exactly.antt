@@ -13,12 +13,16 @@ use Rattle.definition.specs.Definitions.{Held, tagAt}
 use Rattle.definition.specs.Resolving.{Node}
 use Rattle.definition.specs.Slots.{Gap, size, Slots, wideSlot, narrowSlot, slotFor}
 use Rattle.definition.specs.Building.{Pool, noSlot, give, allocate}
-use Rattle.laws.specs.Statements.{Free, Exactly}
+use Rattle.laws.specs.Statements.{Among, freeSlots, Exactly}
 use Rattle.laws.proofs.Lists.{true≢false}
 use Rattle.laws.proofs.Results.{bad≢good}
 use Rattle.laws.proofs.Gaps.{neighbours, free-within, within-free}
 use Rattle.laws.proofs.Requests.{wide-taken, wide-refused, narrow-taken, narrow-refused, allocate-new}
 use Rattle.laws.proofs.Sound.{Sound, sound}
+
+-- a slot is free
+abbrev Free : Pool → ℕ → Type 0
+Free p s = Among s (freeSlots (p .slots .gaps))
 
 -- a request that has to find a slot is refused just if it finds none
 give-refused : (ldc : Bool) (k code : ℕ) (p : Pool) (o : Option (ℕ × Slots)) → give ldc k p o ≡ bad code → o ≡ none
@@ -126,6 +130,12 @@ exactly top held nodes p k o new =
     let i = sound o in (
       λ thin. let (a, b) = narrow-exactly top held nodes p k true i new thin in (λ h s free low. a h s free (λ t. low), λ h. b (λ s free low. h s free (low refl))),
       λ thin. let (a, b) = narrow-exactly top held nodes p k false i new thin in (λ h s free. a h s free (λ t. true≢false (sym t)), λ h. b (λ s free low. h s free)),
-      λ thick. wide-exactly top held nodes p k false i new thick,
-      λ thick. wide-exactly top held nodes p k true i new thick,
+      λ ldc thick. wide ldc (wide-exactly top held nodes p k ldc i new thick),
     )
+  where
+    wide :
+        (ldc : Bool) →
+        (allocate nodes ldc k p ≡ bad (noSlot ldc)) ↔ ((s : ℕ) → Free p s → Free p (suc s) → ⊥) →
+        (allocate nodes ldc k p ≡ bad (elim ldc [ true ↦ 15 | false ↦ 14 ])) ↔ ((s : ℕ) → Free p s → Free p (suc s) → ⊥)
+    wide true h = h
+    wide false h = h

@@ -19,15 +19,13 @@ use Rattle.definition.specs.Slots.{highestSlot}
 use Rattle.definition.specs.Definitions.{starts, tagAt}
 use Rattle.definition.specs.Building.{kidsOf, Content, nothing, emptyText, holds, behind, contentOf, textIn, className, attributeText, nameWanted}
 use Rattle.definition.specs.Layout.{starters, nodeAt, classSlotOf, Layout, layoutOf, indexNodes, layout}
-use Rattle.definition.specs.Run.{shown, classBytes, Built, render, build, Lent, run}
-use Rattle.definition.specs.Jvms.{readPool, readBootstraps}
+use Rattle.definition.specs.Run.{shown, classBytes, render}
 use Rattle.laws.specs.Statements.{IsBytes, Among, Finished, leadsTo, slotShows, Shows, textOf, textAt, classOf, HeldBy, Holds}
-use Rattle.laws.proofs.Lists.{some-inj, order, found-inside, found-read, read-found, among-right, among-forth, map-at}
-use Rattle.laws.proofs.Results.{bad≢good, good-inj, good-first, decided}
+use Rattle.laws.proofs.Lists.{true≢false, some-inj, order, found-inside, found-read, read-found, among-right, among-forth, map-at}
+use Rattle.laws.proofs.Results.{decided}
 use Rattle.laws.proofs.Each.{each-at, Both}
 use Rattle.laws.proofs.Tables.{rising-lookup}
 use Rattle.laws.proofs.PoolRead.{rowShown}
-use Rattle.laws.proofs.Shape.{room-run, build-layout}
 use Rattle.laws.proofs.Sound.{tag-append}
 use Rattle.laws.proofs.Ending.{kids-append}
 use Rattle.laws.proofs.Occupied.{wide-in, count-range}
@@ -36,7 +34,7 @@ use Rattle.laws.proofs.Citing.{jobConstants}
 use Rattle.laws.proofs.JobTable.{asks-good, numbered-cited, definitions-low, requests-low}
 use Rattle.laws.proofs.Contents.{content-holds, content-behind}
 use Rattle.laws.proofs.Faithful.{Settled}
-use Rattle.laws.proofs.Asked.{ConstantGoal, Answered}
+use Rattle.laws.proofs.Asked.{ConstantGoal, Answered, answers-many}
 use Rattle.laws.proofs.Numbers.{SlotFor, SlotsKept, slots-twice, slot-kept, slots-kept, slotsStay, rawRowsThere}
 use Rattle.laws.proofs.Whole.{facts, rising, table, asked, nodes, marks, node-at, raw-node, index-node, indexes, indexes-are, rows, starts-here}
 use Rattle.laws.proofs.ReadBack.{stg, end, allNodes, raw, pool, owned, soundly, raw-keys, raw-wide, count, starts-at, index-rises, owner-tag, reads}
@@ -249,11 +247,18 @@ module _ (bytes : List ℕ) (job : Job (List ℕ)) (l : Layout) (are : IsBytes b
   placed-shows depth n e constant a = subst (λ g. Shows depth f g n) (sym (entry-goal-is constant e) ∙ same-goal bytes job l are formed laid (entry constant e)) (raw-shows-there depth n e a)
   placed-shows depth n e bootstrap a = subst (λ g. Shows depth f g n) (sym (entry-goal-is bootstrap e) ∙ same-goal bytes job l are formed laid (entry bootstrap e)) (index-shows-there depth n e a)
 
+  -- the name has a slot that holds it, or none is wanted
+  abbrev Ways : Type 0
+  Ways =
+      ((nameWanted (numbered job .build .nameByte) (length (rows bytes job l are formed laid)) ≡ false) × (stg bytes job l are formed laid .named .0 ≡ 0))
+      ⊎ ((nameWanted (numbered job .build .nameByte) (length (rows bytes job l are formed laid)) ≡ true) × (lookup (stg bytes job l are formed laid .named .0) own ≡ some attributeText))
+
   -- all of it
   held-by : HeldBy f (job .requests) (job .build) (render (literals job) (layoutOf highestSlot (stg bytes job l are formed laid .answers) (stg bytes job l are formed laid .asked .resolved .visits) (numbered job .build .class) (rows bytes job l are formed laid) (stg bytes job l are formed laid .named)))
   unfolding render layoutOf numbered
   held-by =
       record {
+        asMany = answers-many (stg bytes job l are formed laid .defined .names) _ _ (job .requests) (stg bytes job l are formed laid .ready) (stg bytes job l are formed laid .answers, stg bytes job l are formed laid .asked) (stg bytes job l are formed laid .isAsked);
         answered =
             λ i q at.
             let (a, there, h) = asked bytes job l are formed laid .2 i q at in
@@ -261,16 +266,17 @@ module _ (bytes : List ℕ) (job : Job (List ℕ)) (l : Layout) (are : IsBytes b
             (a, there, λ depth. subst (λ g. Shows depth f g a) (same-goal bytes job l are formed laid (q .what)) (answer-shows depth (isOf bytes job l are formed laid (q .what)) a (good .1) h));
         placedThere = λ i n e kind at depth. placed-shows depth n e kind (placed-there i n e kind at);
         classThere = class-at (classSlotOf (stg bytes job l are formed laid .answers) (job .build .class));
-        nameThere = named-there (end bytes job l are formed laid .name);
+        nameThere = λ wanted. named-there wanted (end bytes job l are formed laid .name);
+        noName = λ unwanted. no-name unwanted (end bytes job l are formed laid .name);
       }
     where
-      named-there :
-          ((nameWanted (numbered job .build .nameByte) (length (rows bytes job l are formed laid)) ≡ false) × (stg bytes job l are formed laid .named .0 ≡ 0))
-          ⊎ ((nameWanted (numbered job .build .nameByte) (length (rows bytes job l are formed laid)) ≡ true) × (lookup (stg bytes job l are formed laid .named .0) own ≡ some attributeText)) →
-          ((nameWanted (job .build .nameByte) (length (rows bytes job l are formed laid)) ≡ false) × (stg bytes job l are formed laid .named .0 ≡ 0))
-          ⊎ ((nameWanted (job .build .nameByte) (length (rows bytes job l are formed laid)) ≡ true) × (textAt f (stg bytes job l are formed laid .named .0) ≡ some attributeName))
-      named-there (inl h) = inl h
-      named-there (inr h) = inr (h .0, name-shows (stg bytes job l are formed laid .named .0) (h .1))
+      named-there : nameWanted (job .build .nameByte) (length (rows bytes job l are formed laid)) ≡ true → Ways → textAt f (stg bytes job l are formed laid .named .0) ≡ some attributeName
+      named-there wanted (inl h) = true≢false (sym wanted ∙ h .0)
+      named-there wanted (inr h) = name-shows (stg bytes job l are formed laid .named .0) (h .1)
+
+      no-name : nameWanted (job .build .nameByte) (length (rows bytes job l are formed laid)) ≡ false → Ways → stg bytes job l are formed laid .named .0 ≡ 0
+      no-name unwanted (inl h) = h .1
+      no-name unwanted (inr h) = true≢false (sym (h .0) ∙ unwanted)
 
 -- what the reader shows of a layout
 abbrev shownOf : Job (List ℕ) → Layout → Finished
@@ -287,34 +293,13 @@ unfolding layoutOf
 held-laid bytes job l are formed laid =
     subst (λ (x : Layout). HeldBy (shownOf job x) (job .requests) (job .build) (render (literals job) x)) (stg bytes job l are formed laid .isLaid) (held-by bytes job l are formed laid)
 
--- a job that is built is laid out, and what is returned is the layout with its literals' bytes
-pub run-laid :
-    (bytes : List ℕ) (job : Job (List ℕ)) (lent : Lent) (b : Built) →
-    form bytes ≡ good job →
-    run lent bytes ≡ good b →
-    (l : Layout) × (layout highestSlot (numbered job) ≡ good l) × (render (literals job) l ≡ b)
-run-laid bytes job lent b formed e =
-    let p = room-run lent bytes (λ r q. bad≢good (sym q ∙ e)) ∙ build-layout bytes job formed in
-    let (l, laid, is) = good-first (layout highestSlot (numbered job)) _ b (sym p ∙ e) in
-    (l, laid, good-inj is)
-
+-- what was returned is read, and is so
 pub heldSlots : Holds
-heldSlots bytes job lent b shownPool shownBootstraps are formed ran readsPool readsBootstraps =
-    let (l, laid, is) = run-laid bytes job lent b formed ran in
-    let back = reads bytes job l are formed laid in
-    let pool-is : shownPool ≡ map (shown (literals job)) (l .contents) = some-inj (sym readsPool ∙ ap (λ (x : Built). readPool (x .pool)) (sym is) ∙ back .0) in
-    let rows-are : shownBootstraps ≡ map rowShown (l .rows) = some-inj (sym readsBootstraps ∙ ap (λ (x : Built). readBootstraps (x .bootstrapCount) (x .bootstraps)) (sym is) ∙ back .1) in
-    go l laid is pool-is rows-are
-  where
-    go :
-        (l : Layout) →
-        layout highestSlot (numbered job) ≡ good l →
-        render (literals job) l ≡ b →
-        shownPool ≡ map (shown (literals job)) (l .contents) →
-        shownBootstraps ≡ map rowShown (l .rows) →
-        HeldBy (record { definitions = job .definitions; pool = shownPool; bootstraps = shownBootstraps }) (job .requests) (job .build) b
-    go l laid is p r =
-        subst (λ (x : Built). HeldBy (record { definitions = job .definitions; pool = shownPool; bootstraps = shownBootstraps }) (job .requests) (job .build) x) is
-        (subst (λ rows. HeldBy (record { definitions = job .definitions; pool = shownPool; bootstraps = rows }) (job .requests) (job .build) (render (literals job) l)) (sym r)
-        (subst (λ slots. HeldBy (record { definitions = job .definitions; pool = slots; bootstraps = map rowShown (l .rows) }) (job .requests) (job .build) (render (literals job) l)) (sym p)
-        (held-laid bytes job l are formed laid)))
+heldSlots bytes job lent b are formed ran =
+    let (l, laid, is, readsPool, readsRows) = reads bytes job lent b are formed ran in (
+      map (shown (literals job)) (l .contents),
+      map rowShown (l .rows),
+      readsPool,
+      readsRows,
+      subst (HeldBy (shownOf job l) (job .requests) (job .build)) (sym is) (held-laid bytes job l are formed laid),
+    )

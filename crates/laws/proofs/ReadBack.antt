@@ -29,6 +29,7 @@ use Rattle.laws.proofs.Tables.{Rising, keys, keys-map}
 use Rattle.laws.proofs.Sums.{times}
 use Rattle.laws.proofs.Chunks.{length-from}
 use Rattle.laws.proofs.Sound.{Sound, sound, tag-append}
+use Rattle.laws.proofs.Shape.{run-laid}
 use Rattle.laws.proofs.Entries.{Short, IsFor}
 use Rattle.laws.proofs.PoolRead.{rowShown, Fits, LaidBehind, Laid, fits-text, reads-layout}
 use Rattle.laws.proofs.Fitting.{fits-formed, isFor-formed}
@@ -299,4 +300,7 @@ module _ (bytes : List ℕ) (job : Job (List ℕ)) (l : Layout) (are : IsBytes b
       (each-from (λ row. IsFor bootstrapShape (rowShown row)) (rows bytes job l are formed laid) row-fits))
 
 pub reads : Reads
-reads bytes job l are formed laid = read-back bytes job l are formed laid
+reads bytes job lent b are formed ran =
+    let (l, laid, is) = run-laid bytes job lent b formed ran in
+    let (pool, rows) = read-back bytes job l are formed laid in
+    (l, laid, sym is, rw is at pool, rw is at rows)

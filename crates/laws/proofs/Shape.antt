@@ -2,7 +2,7 @@
 -- Assumes nothing.
 use mathlib.Core.Bool.{Bool, true, false}
 use mathlib.Core.List.{List, [], _∷_, map}
-use mathlib.Core.Logic.{_↔_, _⊎_, inl, inr}
+use mathlib.Core.Logic.{_↔_, _⊎_, _≢_, inl, inr}
 use mathlib.Core.Option.{some}
 use mathlib.Core.Path.{_≡_, refl, sym, ap, _∙_}
 use Prim.Native.Nat.{ℕ, zero, suc, _+_}
@@ -16,9 +16,9 @@ use Rattle.definition.specs.Numbering.{Literal, sameLiteral, attributeName, ent
 use Rattle.definition.specs.Slots.{highestSlot}
 use Rattle.definition.specs.Layout.{Layout, layout}
 use Rattle.definition.specs.Run.{Built, render, Placed, build, Lent, longestJob, enough, fits, run}
-use Rattle.laws.specs.Statements.{skeleton, Alike, RoomEnough, Shape}
-use Rattle.laws.proofs.Lists.{tests-agree, equal, position-agree, map-some, map-agree}
-use Rattle.laws.proofs.Results.{past-unless}
+use Rattle.laws.specs.Statements.{skeleton, Alike, Shape}
+use Rattle.laws.proofs.Lists.{tests-agree, position-agree, map-some, map-at, map-agree}
+use Rattle.laws.proofs.Results.{bad≢good, good-inj, good-first, past-unless}
 use Rattle.laws.proofs.Numbering.{sameLiteral-iff}
 use Rattle.laws.proofs.Bare.{stands-among, hasLiteral, litOf, Bare, entries-bare}
 
@@ -144,7 +144,9 @@ module _
       rw (← s₁, ← s₂)
       (carry-both (litOf x₁) (1, attributeName) (litOf x₂) (1, attributeName) (tags i x₁ x₂ p₁ p₂) refl
       (entries-bare bytes₁ j₁ formed₁ i x₁ p₁) text (entries-bare bytes₂ j₂ formed₂ i x₂ p₂) text
-      (λ s _. alike .sameAttribute i x₁ x₂ p₁ p₂ s))
+      (λ s h.
+      alike .sameEqualities (suc i) 0 (litOf x₁) (1, attributeName) (litOf x₂) (1, attributeName) (map-at litOf es₁ i x₁ p₁) refl (map-at litOf es₂ i x₂ p₂) refl s
+      (stands-among (x₁ .tag) (1 ∷ 3 ∷ 4 ∷ 5 ∷ 6 ∷ []) h)))
   same-test i (suc k) x₁ x₂ b₁ b₂ p₁ p₂ q₁ q₂ =
       let h₁ = map-some litOf es₁ k b₁ q₁ in
       let h₂ = map-some litOf es₂ k b₂ q₂ in
@@ -154,7 +156,9 @@ module _
       (carry-both (litOf x₁) (litOf y₁) (litOf x₂) (litOf y₂) (tags i x₁ x₂ p₁ p₂) (tags k y₁ y₂ (h₁ .1) (h₂ .1))
       (entries-bare bytes₁ j₁ formed₁ i x₁ p₁) (entries-bare bytes₁ j₁ formed₁ k y₁ (h₁ .1))
       (entries-bare bytes₂ j₂ formed₂ i x₂ p₂) (entries-bare bytes₂ j₂ formed₂ k y₂ (h₂ .1))
-      (λ s h. alike .sameEqualities i k x₁ y₁ x₂ y₂ p₁ (h₁ .1) p₂ (h₂ .1) s (stands-among (x₁ .tag) (1 ∷ 3 ∷ 4 ∷ 5 ∷ 6 ∷ []) h)))
+      (λ s h.
+      alike .sameEqualities (suc i) (suc k) (litOf x₁) (litOf y₁) (litOf x₂) (litOf y₂) (map-at litOf es₁ i x₁ p₁) (map-at litOf es₁ k y₁ (h₁ .1)) (map-at litOf es₂ i x₂ p₂) (map-at litOf es₂ k y₂ (h₂ .1)) s
+      (stands-among (x₁ .tag) (1 ∷ 3 ∷ 4 ∷ 5 ∷ 6 ∷ []) h)))
 
   -- so a literal has one number in both
   same-number :
@@ -176,8 +180,12 @@ module _
       let p = numbered-alike (literals j₁) (literals j₂) (j₁ .definitions) (j₂ .definitions) (alike .sameDefinitions) same-number in
       λ i. record { definitions = p i; requests = alike .sameRequests i; build = alike .sameBuild i }
 
+-- not refused for length, work or room
+abbrev RoomEnough : Result Refusal Built → Type 0
+RoomEnough outcome = (r : Refusal) → outcome ≡ bad r → (r .code ≢ 1) × (r .code ≢ 2) × (r .code ≢ 18)
+
 -- with room enough a run is what was built: 1, 2 and 18 are out
-pub room-run : (lent : Lent) (bytes : List ℕ) → RoomEnough (run lent bytes) → run lent bytes ≡ (build bytes >>= λ b. good (b .1))
+room-run : (lent : Lent) (bytes : List ℕ) → RoomEnough (run lent bytes) → run lent bytes ≡ (build bytes >>= λ b. good (b .1))
 unfolding run
 room-run lent bytes room =
     let p : run lent bytes ≡ second = past-unless (leb (length bytes) longestJob) 0 1 (λ _. second) (λ r e. room r e .0) in
@@ -195,7 +203,7 @@ room-run lent bytes room =
     last (bad r) h = refl
 
 -- and what was built is the layout, in which the job shows its literals
-pub build-layout :
+build-layout :
     (bytes : List ℕ) (j : Job (List ℕ)) →
     form bytes ≡ good j →
     (build bytes >>= λ b. good (b .1)) ≡ (layout highestSlot (numbered j) >>= λ l. good (render (literals j) l))
@@ -208,6 +216,17 @@ build-layout bytes j formed = rw (formed, build) (ways (layout highestSlot (numb
     ways : (o : Result Refusal Layout) → (o >>= laid >>= λ b. good (b .1)) ≡ (o >>= λ l. good (render (literals j) l))
     ways (good l) = refl
     ways (bad r) = refl
+
+-- so a job that is built is laid out, and what is returned is the layout with its literals' bytes
+pub run-laid :
+    (bytes : List ℕ) (job : Job (List ℕ)) (lent : Lent) (b : Built) →
+    form bytes ≡ good job →
+    run lent bytes ≡ good b →
+    (l : Layout) × (layout highestSlot (numbered job) ≡ good l) × (render (literals job) l ≡ b)
+run-laid bytes job lent b formed e =
+    let p = room-run lent bytes (λ r q. bad≢good (sym q ∙ e)) ∙ build-layout bytes job formed in
+    let (l, laid, is) = good-first (layout highestSlot (numbered job)) _ b (sym p ∙ e) in
+    (l, laid, good-inj is)
 
 pub shape : Shape
 shape bytes₁ bytes₂ j₁ j₂ lent₁ lent₂ formed₁ formed₂ alike room₁ room₂ =

@@ -1,10 +1,12 @@
 -- In the finished pool, as the reader shows it, every slot that is to hold a node shows the entry that became it, to any depth. Assumes nothing.
+use mathlib.Core.Bool.{true, false}
 use mathlib.Core.List.{List, [], _∷_, map}
 use mathlib.Core.Logic.{inl, inr}
 use mathlib.Core.Option.{none, some}
 use mathlib.Core.Path.{_≡_, refl, sym, ap, subst, _∙_}
 use Prim.Native.Nat.{ℕ, zero, suc, _+_, _-_, _≤_, _<_}
 use native.Mathlib.Omega.{arith}
+use lib.Dec.{eqb}
 use lib.ListN.{length, getD, getElem?, length-map}
 use borrow.Author.Tests.{eq-eqb, ne-eqb}
 use Rattle.definition.specs.Basics.{good, lookup, from}
@@ -18,7 +20,8 @@ use Rattle.definition.specs.Slots.{highestSlot}
 use Rattle.definition.specs.Building.{Row, contentOf, kidsOf}
 use Rattle.definition.specs.Layout.{Layout, layout}
 use Rattle.definition.specs.Run.{shown}
-use Rattle.laws.specs.Statements.{IsBytes, Among, Finished, namings, leadsTo, slotShows, numberShows, Shows}
+use Rattle.definition.specs.Jvms.{Shown}
+use Rattle.laws.specs.Statements.{IsBytes, Among, Finished, namings, leadsTo, slotShows, Shows}
 use Rattle.laws.proofs.Lists.{clash, some-inj, found-read, found-append, map-at}
 use Rattle.laws.proofs.Each.{Both, both-length, both-at}
 use Rattle.laws.proofs.Tables.{some-key, some-row}
@@ -49,6 +52,10 @@ once-same (r ∷ l) n k k′ few (zero, h) (suc j, h′) =
 once-same (r ∷ l) n k k′ few (suc i, h) (zero, h′) =
     absurd (omega (arith, few, times-cons n (r .0) (map (λ r. r .0) l), once-here n (r .0) (some-key r (n, k′) h′), counted-row l n k (i, h)))
 once-same (r ∷ l) n k k′ few (suc i, h) (suc j, h′) = once-same l n k k′ (omega (arith, few, times-cons n (r .0) (map (λ r. r .0) l))) (i, h) (j, h′)
+
+-- what an index of the bootstraps shows, and what a slot does
+unfoldable numberShows : Finished → ℕ → ℕ → Shown
+numberShows f tag n = elim (eqb tag bootstrapTag) [ true ↦ getElem? (f .bootstraps) n | false ↦ slotShows f n ]
 
 -- a number that doesn't name a bootstrap is a slot; one that does is an index
 number-slot : (f : Finished) (tag n : ℕ) → (tag ≡ bootstrapTag → ⊥) → numberShows f tag n ≡ slotShows f n
@@ -229,7 +236,7 @@ module _ (bytes : List ℕ) (job : Job (List ℕ)) (l : Layout) (are : IsBytes b
       }
 
   held-step : (depth : ℕ) → HeldShow depth → RowShow depth → HeldShow (suc depth)
-  unfolding Shows withKids withLiteral
+  unfolding Shows withKids withLiteral numberShows
   held-step depth heldShow rowShow e k n mark a =
       let b = became e k mark in
       let z = b .from-job .entry in
@@ -258,7 +265,7 @@ module _ (bytes : List ℕ) (job : Job (List ℕ)) (l : Layout) (are : IsBytes b
       )
 
   row-step : (depth : ℕ) → HeldShow depth → RowShow depth → RowShow (suc depth)
-  unfolding Shows withKids
+  unfolding Shows withKids numberShows
   row-step depth heldShow rowShow e k n row mark t at slots =
       let b = became e k mark in
       let z = b .from-job .entry in

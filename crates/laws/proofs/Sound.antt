@@ -1,7 +1,7 @@
 -- What holds of every pool that occurs: `sound`. Assumes nothing.
 use mathlib.Core.Bool.{Bool, true, false}
 use mathlib.Core.List.{List, [], _∷_, _++_, map}
-use mathlib.Core.Path.{_≡_, refl, sym, _∙_, ap}
+use mathlib.Core.Path.{_≡_, refl, sym, _∙_, ap, subst}
 use Prim.Native.Nat.{ℕ, suc, _+_, _-_, _<_}
 use native.Mathlib.Omega.{arith}
 use lib.ListN.{length, length-append}
@@ -156,12 +156,13 @@ sound-more top held nodes more p i =
 
 pub sound : {top : ℕ} {held : List (ℕ × Held)} {nodes : List Node} {p : Pool} → Occurs top held nodes p → Sound top held nodes p
 unfolding allSlots
-sound {top} (afterDefinitions definitions constants table n d w h e) =
+sound {top} {held} (afterDefinitions definitions constants table n d w h e same) =
     let (slots, given) = ended top table n d w e in
-    sound-start top (d .held) (w .resolved .nodes) (w .pool) (rises top constants definitions d h .0) slots given
-sound {top} (afterRequest {held} {nodes} {p} ldc k s p′ o h e) = sound-met top held nodes p ldc k s p′ (sound o) h (met nodes ldc k s p p′ e)
-sound {top} (moreResolved {held} {nodes} {p} more o) = sound-more top held nodes more p (sound o)
-sound {top} (stackTaken pending o) =
+    subst (λ held. Sound top held (w .resolved .nodes) (w .pool)) same
+    (sound-start top (d .held) (w .resolved .nodes) (w .pool) (rises top constants definitions d h .0) slots given)
+sound {top} {held} (afterRequest {nodes} {p} ldc k s p′ o h e) = sound-met top held nodes p ldc k s p′ (sound o) h (met nodes ldc k s p p′ e)
+sound {top} {held} (moreResolved {nodes} {p} more o) = sound-more top held nodes more p (sound o)
+sound {top} {held} (stackTaken pending o) =
     let i = sound o in
     record {
       rising = i .rising;

@@ -33,7 +33,7 @@ unfolding endDefinitions
 ready-going top definitions constants table n d w cited cites defined ended =
     good-then (resolveAll table (rawGoals n d) (nothingResolved table)) _ w ended λ s resolved e.
     let now = resolveAll-faithful table (rawGoals n d) (nothingResolved table) s cited cites (nothing-faithful table cited) resolved in
-    let occurs : Occurs top (d .held) (w .resolved .nodes) (w .pool) = afterDefinitions definitions constants table n d w defined ended in
+    let occurs : Occurs top (d .held) (w .resolved .nodes) (w .pool) = afterDefinitions definitions constants table n d w defined ended refl in
     subst
     (λ (x : Ready).
     Occurs top (d .held) (x .resolved .nodes) (x .pool) →

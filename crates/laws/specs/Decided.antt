@@ -45,7 +45,7 @@ pub whollyZero :
 unfolding opened leftovers
 whollyZero = refl
 
--- 2: one word short, the same job is refused 2, and nothing is touched
+-- refusal 2: one word short, the same job is refused 2, and nothing is touched
 pub untouchedWhenShort : memoryAfter (run (lentOf (leftovers 1023 9 2)) []) (leftovers 1023 9 2) ≡ leftovers 1023 9 2
 unfolding opened leftovers
 untouchedWhenShort = refl

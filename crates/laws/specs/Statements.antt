@@ -1,15 +1,17 @@
 -- What is promised of every job and of the block file, as statements about the definition: the proofs stand in proofs/. Assumes nothing.
--- To read: (x : A) → P is "for every x", (x : A) × P "there is an x", P → ⊥ "not P", × "and", ⊎ "or", ↔ "exactly if", ∷ and ++ join lists,
--- r .f is a part of r and elim goes by cases; getElem? l i ≡ some a: a stands at place i of l; getD l i d: what stands there, else d
+-- To read: (x : A) → P is "for every x", (x : A) × P "there is an x", P → Q "if P, Q", P → ⊥ "not P", × "and", ⊎ "or", ↔ "exactly if",
+-- ≡ / ≢ "is / isn't the same"; Unit is always true, ⊥ never; λ x. e is x ↦ e; let names; elim goes by cases; zero, suc n: 0, n + 1; ∷, ++
+-- join lists; r .f: a part of r; .0, .1: first, second of a pair; some, none: a value or none; good, bad: a result or a refusal; getElem?
+-- l i ≡ some a: a is at place i of l; getD l i d: what is there, else d. Other names: crates/definition/specs, in the module that `use` names
 use mathlib.Core.Bool.{Bool, true, false}
 use mathlib.Core.List.{List, [], _∷_, _++_, map, reverse}
 use mathlib.Core.Logic.{_↔_, _⊎_, _≢_}
 use mathlib.Core.Option.{Option, none, some}
 use mathlib.Core.Path.{_≡_}
-use Prim.Native.Nat.{ℕ, zero, suc, _+_, _%_, _≤_, _<_}
+use Prim.Native.Nat.{ℕ, zero, suc, _+_, _*_, _%_, _≤_, _<_}
 use lib.Dec.{eqb}
 use lib.ListN.{length, take, getD, getElem?}
-use Rattle.definition.specs.Basics.{Result, good, bad, Refusal, only, concat, lookup, from}
+use Rattle.definition.specs.Basics.{good, bad, Refusal, only, concat, lookup, from}
 use Rattle.definition.specs.Shapes.{Kind, bootstrapTag, Entry, withLiteral, isWide}
 use Rattle.definition.specs.Job.{Reference, entry, Definition, define, named, placed, Request, Build, Job}
 use Rattle.definition.specs.Form.{form}
@@ -21,7 +23,8 @@ use Rattle.definition.specs.Building.{Pool, allocate, Row, Rows, indexOf, rowIn
 use Rattle.definition.specs.Layout.{Ready, endDefinitions, classSlotOf, Layout, indexNodes, layout}
 use Rattle.definition.specs.Run.{shown, Built, render, Lent, Memory, lentOf, longestJob, memoryAfter, run}
 use Rattle.definition.specs.Jvms.{Shown, readPool, readBootstraps}
-use Rattle.definition.specs.Blocks.{block, blockCount, blockAt, blockData, rightUse, rightBlock, mostBlocks, readBlocks, writeBlocks, blocksAfter}
+use Rattle.definition.specs.Blocks.{block, blockCount, blockAt, blockData, rightUse, rightBlock, mostBlocks}
+use Rattle.definition.specs.Blocks.{readBlocks, blocksFor, writeBlocks, blocksAfter}
 
 -- a byte string
 abbrev pub IsBytes : List ℕ → Type 0
@@ -37,15 +40,11 @@ Numbering =
     (job : Job (List ℕ)) (a b : Literal) → Among a (literals job) → Among b (literals job) →
     ((numberOf (literals job) a ≡ numberOf (literals job) b) ↔ (a ≡ b)) × (literalOf (literals job) (numberOf (literals job) a) ≡ a .1)
 
--- an outcome, and what is afterwards of what was lent, are those that the definition states
-abbrev pub Meets : {O M : Type 0} → O → (O → M → M) → M → O → M → Type 0
-Meets stated afterwards before outcome after = (outcome ≡ stated) × (after ≡ afterwards outcome before)
-
--- two outcomes, and two contents, that are so are equal
+-- two outcomes, and what is afterwards of what was lent, are equal if both are those that the definition states
 abbrev pub OnlyOne : {O M : Type 0} → O → (O → M → M) → M → Type 0
 OnlyOne {O} {M} stated afterwards before =
-    (o₁ o₂ : O) (after₁ after₂ : M) → Meets stated afterwards before o₁ after₁ → Meets stated afterwards before o₂ after₂ →
-    (o₁ ≡ o₂) × (after₁ ≡ after₂)
+    let meets : O → M → Type 0 = λ outcome after. (outcome ≡ stated) × (after ≡ afterwards outcome before) in
+    (o₁ o₂ : O) (after₁ after₂ : M) → meets o₁ after₁ → meets o₂ after₂ → (o₁ ≡ o₂) × (after₁ ≡ after₂)
 
 -- ONE OUTCOME: no second outcome, and no second contents of a buffer, meets the statement of a run, of reading and of writing a block file
 abbrev pub OneOutcome : Type 0
@@ -61,29 +60,23 @@ skeleton (named kind s r) = named kind s r
 skeleton (placed kind at number) = placed kind at number
 
 -- two jobs alike but for their literals: two literals of a kind (text, or one of the four kinds of number) are equal in one exactly when
--- they are in the other, and a text is "BootstrapMethods" in both or neither
+-- they are in the other; the list of literals begins with "BootstrapMethods", so a text is this name in both or neither
 pub record Alike (j₁ j₂ : Job (List ℕ)) : Type 0 where
   pub sameDefinitions : map skeleton (j₁ .definitions) ≡ map skeleton (j₂ .definitions)
   pub sameRequests : j₁ .requests ≡ j₂ .requests
   pub sameBuild : j₁ .build ≡ j₂ .build
   pub sameEqualities :
-      (i k : ℕ) (x₁ y₁ x₂ y₂ : Entry (List ℕ) Reference) → getElem? (entries (j₁ .definitions)) i ≡ some x₁ →
-      getElem? (entries (j₁ .definitions)) k ≡ some y₁ → getElem? (entries (j₂ .definitions)) i ≡ some x₂ →
-      getElem? (entries (j₂ .definitions)) k ≡ some y₂ → x₁ .tag ≡ y₁ .tag → Among (x₁ .tag) (1 ∷ 3 ∷ 4 ∷ 5 ∷ 6 ∷ []) →
-      (x₁ .literal ≡ y₁ .literal) ↔ (x₂ .literal ≡ y₂ .literal)
-  pub sameAttribute :
-      (i : ℕ) (x₁ x₂ : Entry (List ℕ) Reference) → getElem? (entries (j₁ .definitions)) i ≡ some x₁ →
-      getElem? (entries (j₂ .definitions)) i ≡ some x₂ → x₁ .tag ≡ 1 → (x₁ .literal ≡ attributeName) ↔ (x₂ .literal ≡ attributeName)
+      let at : Job (List ℕ) → ℕ → Literal → Type 0 = λ j i a. getElem? (literals j) i ≡ some a in
+      (i k : ℕ) (a₁ b₁ a₂ b₂ : Literal) → at j₁ i a₁ → at j₁ k b₁ → at j₂ i a₂ → at j₂ k b₂ → a₁ .0 ≡ b₁ .0 →
+      Among (a₁ .0) (1 ∷ 3 ∷ 4 ∷ 5 ∷ 6 ∷ []) → (a₁ .1 ≡ b₁ .1) ↔ (a₂ .1 ≡ b₂ .1)
 
--- not refused for length, work or room
-abbrev pub RoomEnough : Result Refusal Built → Type 0
-RoomEnough outcome = (r : Refusal) → outcome ≡ bad r → (r .code ≡ 1 → ⊥) × (r .code ≡ 2 → ⊥) × (r .code ≡ 18 → ⊥)
-
--- SHAPE: two such jobs are refused alike, or get one layout, in which each shows its own literals
+-- SHAPE: two such jobs, not refused for length, work or room, are refused alike, or get one layout, in which each shows its own literals:
+-- `render` uses them only in the pool's entries and the class name, so answers, counts, bootstrap bytes, name slot and visits are the same
 abbrev pub Shape : Type 0
 Shape =
     (bytes₁ bytes₂ : List ℕ) (j₁ j₂ : Job (List ℕ)) (lent₁ lent₂ : Lent) → form bytes₁ ≡ good j₁ → form bytes₂ ≡ good j₂ → Alike j₁ j₂ →
-    RoomEnough (run lent₁ bytes₁) → RoomEnough (run lent₂ bytes₂) →
+    let enough : Lent → List ℕ → Type 0 = λ n job. (r : Refusal) → run n job ≡ bad r → (r .code ≢ 1) × (r .code ≢ 2) × (r .code ≢ 18) in
+    enough lent₁ bytes₁ → enough lent₂ bytes₂ →
     ((r : Refusal) × (run lent₁ bytes₁ ≡ bad r) × (run lent₂ bytes₂ ≡ bad r))
     ⊎ ((l : Layout) × (run lent₁ bytes₁ ≡ good (render (literals j₁) l)) × (run lent₂ bytes₂ ≡ good (render (literals j₂) l)))
 
@@ -100,11 +93,11 @@ Visits =
     let all = entries (job .definitions) in
     b .visits ≤ length all + length (concat (map (λ e. e .kids) all)) + length (only isRaw (job .definitions)) + length (job .requests)
 
--- FUEL: it never runs out, in the form pass, in resolving and in building: no refusal has number 0
+-- FUEL: for a job of bytes it never runs out, in the form pass, in resolving and in building: no refusal has number 0
 abbrev pub FuelLasts : Type 0
 FuelLasts = (bytes : List ℕ) (lent : Lent) (r : Refusal) → IsBytes bytes → run lent bytes ≡ bad r → r .code ≡ 0 → ⊥
 
--- FOLLOWED: a name is given up as circular only if it leads nowhere in any number of steps
+-- FOLLOWED: more steps than goalOf takes change nothing, so a name that it gives up as circular (13) leads nowhere in any number of steps
 abbrev pub Followed : Type 0
 Followed =
     (names : List Naming) (constants steps : ℕ) (r : Reference) →
@@ -122,25 +115,24 @@ givenSlots nodes given = concat (map (λ r. elim (isWide (tagAt nodes (r .0))) [
 unfoldable pub allSlots : List (ℕ × Held) → List Node → Pool → List ℕ
 allSlots held nodes p = map (λ h. h .0) held ++ (givenSlots nodes (p .given) ++ freeSlots (p .slots .gaps))
 
--- the pools that occur over a highest slot: after record 50, after each slot request, while more is resolved and the building stack
--- is taken from
-pub data Occurs (top : ℕ) : List (ℕ × Held) → List Node → Pool → Type 0 where
+-- the pools that occur over a highest slot: after record 50, after each slot request, while more is resolved and the building stack is
+-- taken from. Every pool of a run is one: `allocate` is called only for a request, for a child while building and for the name. Others are
+-- too (any node may be asked for), which only makes the laws about them stronger
+pub data Occurs (top : ℕ) (held : List (ℕ × Held)) : List Node → Pool → Type 0 where
   afterDefinitions :
       (definitions : List (Definition ℕ)) (constants : List (Entry ℕ Reference)) (table : List (Entry ℕ Goal)) (n : ℕ) (d : Defined)
       (w : Ready) → defineAll top constants 0 definitions nothingDefined ≡ good d → endDefinitions top table n d ≡ good w →
-      Occurs top (d .held) (w .resolved .nodes) (w .pool)
+      d .held ≡ held → Occurs top held (w .resolved .nodes) (w .pool)
   afterRequest :
-      {held : List (ℕ × Held)} {nodes : List Node} {p : Pool} (ldc : Bool) (k s : ℕ) (p′ : Pool) → Occurs top held nodes p →
-      k < length nodes → allocate nodes ldc k p ≡ good (s, p′) → Occurs top held nodes p′
-  moreResolved :
-      {held : List (ℕ × Held)} {nodes : List Node} {p : Pool} (more : List Node) →
-      Occurs top held nodes p → Occurs top held (nodes ++ more) p
+      {nodes : List Node} {p : Pool} (ldc : Bool) (k s : ℕ) (p′ : Pool) → Occurs top held nodes p → k < length nodes →
+      allocate nodes ldc k p ≡ good (s, p′) → Occurs top held nodes p′
+  moreResolved : {nodes : List Node} {p : Pool} (more : List Node) → Occurs top held nodes p → Occurs top held (nodes ++ more) p
   stackTaken :
-      {held : List (ℕ × Held)} {nodes : List Node} {p : Pool} (pending : List (ℕ × ℕ)) →
+      {nodes : List Node} {p : Pool} (pending : List (ℕ × ℕ)) →
       Occurs top held nodes p → Occurs top held nodes (record { slots = p .slots; given = p .given; pending = pending })
 
--- KEPT: raw-held, given-out and free slots come to the highest slot, and each slot from 1 to it stands once among them: none is given
--- twice, and none that is raw-held is given
+-- KEPT: raw-held, given-out and free slots are as many as the highest slot, and each slot from 1 to it stands once among them: none is
+-- given twice, and none that is raw-held is given
 abbrev pub Kept : Type 0
 Kept =
     (top : ℕ) (held : List (ℕ × Held)) (nodes : List Node) (p : Pool) → Occurs top held nodes p → (length (allSlots held nodes p) ≡ top)
@@ -152,19 +144,17 @@ Keeps =
     (nodes : List Node) (ldc : Bool) (k s : ℕ) (p p′ : Pool) → allocate nodes ldc k p ≡ good (s, p′) → (lookup k (p′ .given) ≡ some s)
     × ((k′ s′ : ℕ) → lookup k′ (p .given) ≡ some s′ → lookup k′ (p′ .given) ≡ some s′)
 
--- a slot is free
-abbrev pub Free : Pool → ℕ → Type 0
-Free p s = Among s (freeSlots (p .slots .gaps))
-
--- EXACTLY: of the requests for a constant that has no slot yet, 15 meets a narrow ldc one exactly if no free slot is at most 255, 14 an
--- ordinary narrow one exactly if none is free, and 14 or 15 a wide one exactly if no two neighbours are
+-- EXACTLY: of the steps of a run that ask for a slot (`allocate`: a request or, as ordinary ones, a child while building and the name) for
+-- a constant that has none yet, 15 meets a narrow ldc one exactly if no free slot is at most 255, 14 an ordinary narrow one exactly if none
+-- is free, and 15 (ldc) or 14 a wide one exactly if no two neighbours are
 abbrev pub Exactly : Type 0
 Exactly =
     (top : ℕ) (held : List (ℕ × Held)) (nodes : List Node) (p : Pool) (k : ℕ) → Occurs top held nodes p → lookup k (p .given) ≡ none →
-    (isWide (tagAt nodes k) ≡ false → (allocate nodes true k p ≡ bad 15) ↔ ((s : ℕ) → Free p s → s ≤ 255 → ⊥))
-    × (isWide (tagAt nodes k) ≡ false → (allocate nodes false k p ≡ bad 14) ↔ ((s : ℕ) → Free p s → ⊥))
-    × (isWide (tagAt nodes k) ≡ true → (allocate nodes false k p ≡ bad 14) ↔ ((s : ℕ) → Free p s → Free p (suc s) → ⊥))
-    × (isWide (tagAt nodes k) ≡ true → (allocate nodes true k p ≡ bad 15) ↔ ((s : ℕ) → Free p s → Free p (suc s) → ⊥))
+    let free : ℕ → Type 0 = λ s. Among s (freeSlots (p .slots .gaps)) in
+    (isWide (tagAt nodes k) ≡ false → (allocate nodes true k p ≡ bad 15) ↔ ((s : ℕ) → free s → s ≤ 255 → ⊥))
+    × (isWide (tagAt nodes k) ≡ false → (allocate nodes false k p ≡ bad 14) ↔ ((s : ℕ) → free s → ⊥))
+    × ((ldc : Bool) → isWide (tagAt nodes k) ≡ true →
+    (allocate nodes ldc k p ≡ bad (elim ldc [ true ↦ 15 | false ↦ 14 ])) ↔ ((s : ℕ) → free s → free (suc s) → ⊥))
 
 -- the bootstrap rows that occur: those of the raw definitions, and then after each inline row
 pub data RowsOccur : Rows → Type 0 where
@@ -176,21 +166,23 @@ pub data RowsOccur : Rows → Type 0 where
       RowsOccur (record { written = []; waiting = waiting; inline = [] })
   afterRow : (row : Row) (i : ℕ) (rows rows′ : Rows) → RowsOccur rows → rowIndex row rows ≡ good (i, rows′) → RowsOccur rows′
 
--- EXACTLY 17: an inline row that shares no index, with all 65,535 indexes used (written, or kept by a raw bootstrap)
+-- EXACTLY 17: where building asks for the index (`rowIndex`) of a bootstrap that an entry cites, its row is refused exactly if it shares no
+-- index with an earlier such row and all 65,535 indexes are used (written, or kept by a raw bootstrap)
 abbrev pub ExactlySeventeen : Type 0
 ExactlySeventeen =
     (rows : Rows) (row : Row) → RowsOccur rows → (rowIndex row rows ≡ bad 17)
     ↔ ((indexOf row (rows .inline) ≡ none)
     × ((i : ℕ) → i < 65535 → (i < length (rows .written)) ⊎ ((r : Row) × (lookup i (rows .waiting) ≡ some r))))
 
--- READS: the pool's bytes read, under JVMS 4.4, as exactly what the layout assigns to each slot, with nothing left over, and the
--- bootstraps' bytes, under 4.7.23 and with the count returned, as exactly the rows assigned
+-- READS: what is returned for a job of bytes is its layout with its literals; the pool's bytes read, under JVMS 4.4, as exactly what the
+-- layout assigns to each slot, with nothing left over, and the bootstraps' bytes, under 4.7.23 and with the count returned, as exactly the
+-- rows assigned. What a slot is assigned (an owned slot its constant with its children's slots, the second half of a wide one nothing,
+-- every other slot below the count the empty text) is `contentOf` of the definition's Building and `shown` of Run
 abbrev pub Reads : Type 0
 Reads =
-    (bytes : List ℕ) (job : Job (List ℕ)) (l : Layout) → IsBytes bytes → form bytes ≡ good job →
-    layout highestSlot (numbered job) ≡ good l →
-    let b = render (literals job) l in
-    (readPool (b .pool) ≡ some (map (shown (literals job)) (l .contents)))
+    (bytes : List ℕ) (job : Job (List ℕ)) (lent : Lent) (b : Built) → IsBytes bytes → form bytes ≡ good job → run lent bytes ≡ good b →
+    (l : Layout) × (layout highestSlot (numbered job) ≡ good l) × (b ≡ render (literals job) l)
+    × (readPool (b .pool) ≡ some (map (shown (literals job)) (l .contents)))
     × (readBootstraps (b .bootstrapCount) (b .bootstraps)
     ≡ some (map (λ row. record { tag = bootstrapTag; literal = []; byte = 0; kids = row }) (l .rows)))
 
@@ -211,21 +203,19 @@ pub record Finished : Type 0 where
 abbrev pub leadsTo : Finished → Reference → Goal
 leadsTo f r = goalOf (namings (f .definitions)) (length (constantsOf (f .definitions))) r
 
--- what a slot of the finished pool shows, and what an index of the bootstraps does
+-- what a slot of the finished pool shows
 unfoldable pub slotShows : Finished → ℕ → Shown
 slotShows f s = getD (none ∷ f .pool) s none
 
-unfoldable pub numberShows : Finished → ℕ → ℕ → Shown
-numberShows f tag n = elim (eqb tag bootstrapTag) [ true ↦ getElem? (f .bootstraps) n | false ↦ slotShows f n ]
-
 -- a number shows, to a depth, what a reference leads to. A raw number shows itself. An entry of the job is shown by an entry of the same
--- tag, literal and kind byte whose references in turn show its children; a bootstrap by its row
+-- tag, literal and kind byte whose references in turn show its children: a constant by its slot, a bootstrap by its index
 unfoldable pub Shows : ℕ → Finished → Goal → ℕ → Type 0
 Shows zero f goal n = Unit {0}
 Shows (suc depth) f (rawNumber m) n = n ≡ m
 Shows (suc depth) f (tableEntry e) n =
     (x : Entry (List ℕ) Reference) × (y : Entry (List ℕ) ℕ)
-    × (getElem? (constantsOf (f .definitions) ++ bootstrapsOf (f .definitions)) e ≡ some x) × (numberShows f (x .tag) n ≡ some y)
+    × (getElem? (constantsOf (f .definitions) ++ bootstrapsOf (f .definitions)) e ≡ some x)
+    × (elim (eqb (x .tag) bootstrapTag) [ true ↦ getElem? (f .bootstraps) n | false ↦ slotShows f n ] ≡ some y)
     × (y .tag ≡ x .tag) × (y .literal ≡ x .literal) × (y .byte ≡ x .byte) × (length (y .kids) ≡ length (x .kids))
     × ((i : ℕ) (r : Reference) (m : ℕ) → getElem? (x .kids) i ≡ some r → getElem? (y .kids) i ≡ some m → Shows depth f (leadsTo f r) m)
 Shows (suc depth) f (refusal code) n = ⊥
@@ -246,6 +236,7 @@ classOf f (some e) = elim (eqb (e .tag) 7) [ true ↦ textAt f (getD (e .kids) 0
 
 -- what is held: by requests, raw constants, raw bootstraps, class name and name slot
 pub record HeldBy (f : Finished) (requests : List Request) (build : Build) (b : Built) : Type 0 where
+  pub asMany : length (b .answers) ≡ length requests
   pub answered :
       (i : ℕ) (q : Request) → getElem? requests i ≡ some q → (a : ℕ) × (getElem? (b .answers) i ≡ some a)
       × ((depth : ℕ) → Shows depth f (leadsTo f (q .what)) a)
@@ -253,21 +244,21 @@ pub record HeldBy (f : Finished) (requests : List Request) (build : Build) (b : 
       (i n e : ℕ) (kind : Kind) → getElem? (f .definitions) i ≡ some (placed kind n e) → (depth : ℕ) →
       Shows depth f (leadsTo f (entry kind e)) n
   pub classThere : b .class ≡ classOf f (slotShows f (classSlotOf (b .answers) (build .class)))
-  pub nameThere :
-      ((nameWanted (build .nameByte) (b .bootstrapCount) ≡ false) × (b .name ≡ 0))
-      ⊎ ((nameWanted (build .nameByte) (b .bootstrapCount) ≡ true) × (textAt f (b .name) ≡ some attributeName))
+  pub nameThere : nameWanted (build .nameByte) (b .bootstrapCount) ≡ true → textAt f (b .name) ≡ some attributeName
+  pub noName : nameWanted (build .nameByte) (b .bootstrapCount) ≡ false → b .name ≡ 0
 
--- HOLDS: in the finished pool as JVMS reads it, every answer shows, to any depth, the constant that was asked for; so does every raw
--- definition at its slot or index; the class name is the one at the class slot; and the name slot, if there is one, shows the name
+-- HOLDS: of a job of bytes, the finished pool and bootstraps read under JVMS, and in them every answer shows, to any depth, the constant
+-- that was asked for; so does every raw definition at its slot or index; the class name is the one at the class slot; and the name slot,
+-- if there is one, shows the name
 abbrev pub Holds : Type 0
 Holds =
-    (bytes : List ℕ) (job : Job (List ℕ)) (lent : Lent) (b : Built) (pool : List Shown) (bootstraps : List (Entry (List ℕ) ℕ)) →
-    IsBytes bytes → form bytes ≡ good job → run lent bytes ≡ good b → readPool (b .pool) ≡ some pool →
-    readBootstraps (b .bootstrapCount) (b .bootstraps) ≡ some bootstraps →
-    HeldBy (record { definitions = job .definitions; pool = pool; bootstraps = bootstraps }) (job .requests) (job .build) b
+    (bytes : List ℕ) (job : Job (List ℕ)) (lent : Lent) (b : Built) → IsBytes bytes → form bytes ≡ good job → run lent bytes ≡ good b →
+    (pool : List Shown) × (bootstraps : List (Entry (List ℕ) ℕ)) × (readPool (b .pool) ≡ some pool)
+    × (readBootstraps (b .bootstrapCount) (b .bootstraps) ≡ some bootstraps)
+    × HeldBy (record { definitions = job .definitions; pool = pool; bootstraps = bootstraps }) (job .requests) (job .build) b
 
--- BLOCKS READ: a file is accepted exactly if it is the blocks of n parts, at most 2,081, and the job is their used bytes, joined, isn't too
--- long and has room. A part has 504 bytes; all but the last use 504, the last at least 1, and 0 only if it is the only one
+-- BLOCKS READ: a file of bytes is accepted exactly if it is the blocks of n parts, at most 2,081, and the job is their used bytes, joined,
+-- isn't too long and has room. A part has 504 bytes; all but the last use 504, the last at least 1, and 0 only if it is the only one
 abbrev pub BlocksRead : Type 0
 BlocksRead =
     (room : ℕ) (file job : List ℕ) → IsBytes file → (readBlocks room file ≡ good job)
@@ -280,6 +271,16 @@ BlocksRead =
 abbrev pub BlocksBack : Type 0
 BlocksBack =
     (room room′ : ℕ) (job file : List ℕ) → writeBlocks room job ≡ good file → length job ≤ room′ → readBlocks room′ file ≡ good job
+
+-- BLOCKS WRITTEN: refused with 1 exactly if the job is too long; with 18 exactly if it isn't and its blocks (one for each 504 bytes begun,
+-- and one for the empty job) have no room; otherwise there is a file, of so many blocks
+abbrev pub BlocksWritten : Type 0
+BlocksWritten =
+    (room : ℕ) (job : List ℕ) →
+    let size = 512 * blocksFor (length job) in
+    let refused : ℕ → Type 0 = λ code. writeBlocks room job ≡ bad (record { code = code; place = 0 }) in
+    (refused 1 ↔ (longestJob < length job)) × (refused 18 ↔ ((length job ≤ longestJob) × (room < size)))
+    × (length job ≤ longestJob → size ≤ room → (file : List ℕ) × (writeBlocks room job ≡ good file) × (length file ≡ size))
 
 -- BLOCKS REFUSED, each exactly if it is the first that applies: 20 if the file is empty or no multiple of 512 bytes; 1 if it has more than
 -- 2,081 blocks; 19, at place k, if block k is the first that isn't right; 1 if their job is too long; 18 if it has no room

@@ -1,1 +1,1 @@
-// Theorems about the definition, with no code: they stand in specs/.
+// Theorems about the definition, with no code: statements in specs/, proofs in proofs/.
