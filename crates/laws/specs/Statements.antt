@@ -2,7 +2,7 @@
 -- To read: (x : A) → P is "for every x", (x : A) × P "there is an x", P → Q "if P, Q", P → ⊥ "not P", × "and", ⊎ "or", ↔ "exactly if",
 -- ≡ / ≢ "is / isn't the same"; Unit is always true, ⊥ never; λ x. e is x ↦ e; let names; elim goes by cases; zero, suc n: 0, n + 1; ∷, ++
 -- join lists; r .f: a part of r; .0, .1: first, second of a pair; some, none: a value or none; good, bad: a result or a refusal; getElem?
--- l i ≡ some a: a is at place i of l; getD l i d: what is there, else d. Other names: crates/definition/specs, in the module that `use` names
+-- l i ≡ some a: a is at place i; getD l i d: what is there, else d. Other names: crates/definition/specs, in the module that `use` names
 use mathlib.Core.Bool.{Bool, true, false}
 use mathlib.Core.List.{List, [], _∷_, _++_, map, reverse}
 use mathlib.Core.Logic.{_↔_, _⊎_, _≢_}
