@@ -1,6 +1,6 @@
 -- What is promised of every job and of the block file, as statements about the definition: the proofs stand in proofs/. Assumes nothing.
 -- To read: (x : A) → P is "for every x", (x : A) × P "there is an x", P → Q "if P, Q", P → ⊥ "not P", × "and", ⊎ "or", ↔ "exactly if",
--- ≡ / ≢ "is / isn't the same"; Unit is always true, ⊥ never; λ x. e is x ↦ e; let names; elim goes by cases; zero, suc n: 0, n + 1; ∷, ++
+-- ≡ / ≢ "is / isn't the same"; Unit: always true, ⊥: never; λ x. e is x ↦ e; let names a part; elim: by cases; zero, suc n: 0, n + 1; ∷, ++
 -- join lists; r .f: a part of r; .0, .1: first, second of a pair; some, none: a value or none; good, bad: a result or a refusal; getElem?
 -- l i ≡ some a: a is at place i; getD l i d: what is there, else d. Other names: crates/definition/specs, in the module that `use` names
 use mathlib.Core.Bool.{Bool, true, false}
@@ -234,7 +234,7 @@ unfoldable pub classOf : Finished → Shown → Option (List ℕ)
 classOf f none = none
 classOf f (some e) = elim (eqb (e .tag) 7) [ true ↦ textAt f (getD (e .kids) 0 0) | false ↦ none ]
 
--- what is held: by requests, raw constants, raw bootstraps, class name and name slot
+-- what is held: by answers, raw constants, raw bootstraps, class name and name slot
 pub record HeldBy (f : Finished) (requests : List Request) (build : Build) (b : Built) : Type 0 where
   pub asMany : length (b .answers) ≡ length requests
   pub answered :
@@ -247,9 +247,9 @@ pub record HeldBy (f : Finished) (requests : List Request) (build : Build) (b : 
   pub nameThere : nameWanted (build .nameByte) (b .bootstrapCount) ≡ true → textAt f (b .name) ≡ some attributeName
   pub noName : nameWanted (build .nameByte) (b .bootstrapCount) ≡ false → b .name ≡ 0
 
--- HOLDS: of a job of bytes, the finished pool and bootstraps read under JVMS, and in them every answer shows, to any depth, the constant
--- that was asked for; so does every raw definition at its slot or index; the class name is the one at the class slot; and the name slot,
--- if there is one, shows the name
+-- HOLDS: of a job of bytes, the finished pool and bootstraps read under JVMS; there are as many answers as requests, and each shows, to any
+-- depth, the constant that was asked for; so does every raw definition at its slot or index; the class name is the one at the class slot;
+-- and the name slot shows the name if it is wanted, and else is 0
 abbrev pub Holds : Type 0
 Holds =
     (bytes : List ℕ) (job : Job (List ℕ)) (lent : Lent) (b : Built) → IsBytes bytes → form bytes ≡ good job → run lent bytes ≡ good b →
