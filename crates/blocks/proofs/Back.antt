@@ -12,6 +12,7 @@ use Rattle.laws.proofs.Blocks.{blocksBack}
 use Rattle.blocks.specs.Answers.{readAnswer, writtenAnswer, lengthOf}
 use Rattle.blocks.specs.declared.BlocksRead.{BlocksRead}
 use Rattle.blocks.specs.declared.BlocksWritten.{BlocksWritten}
+use Rattle.blocks.proofs.Single.{read-inj}
 
 -- a length answered is that of a file, with which the output begins
 file-written :
@@ -23,14 +24,6 @@ file-written (good file) out n e =
     (file, refl, ap (λ k. take k (overwrite file out)) (good-inj e) ∙ take-append-seam file (drop (length file) out))
 file-written (bad r) out n e = bad≢good (sym e)
 
-only-read : (r : BlocksRead) (n : ℕ) → readAnswer r ≡ good n → r ≡ BlocksRead.Read n
-unfolding readAnswer
-only-read (BlocksRead.Read m) n e = ap BlocksRead.Read (good-inj e)
-only-read BlocksRead.NotBlocks n e = bad≢good e
-only-read BlocksRead.TooLong n e = bad≢good e
-only-read (BlocksRead.BadBlock k) n e = bad≢good e
-only-read BlocksRead.NoRoom n e = bad≢good e
-
 -- `write_blocks` answers n and leaves `file`; `read_blocks` on its first n bytes, with room for the job, then answers the
 -- job's length and leaves the job
 pub readBack :
@@ -41,11 +34,11 @@ pub readBack :
     after ≡ blocksAfter (readBlocks (length room) (take n file)) room →
     length job ≤ length room →
     (r ≡ BlocksRead.Read (length job)) × (after ≡ overwrite job room)
-unfolding writtenAnswer lengthOf blocksAfter
+unfolding writtenAnswer readAnswer lengthOf blocksAfter
 readBack job out file room after n r wrote left answered leaves fits =
     let (bytes, written, begins) = file-written (writeBlocks (length out) job) out n wrote in
     let read : readBlocks (length room) (take n file) ≡ good job =
     ap (λ f. readBlocks (length room) (take n f)) left
     ∙ ap (readBlocks (length room)) begins
     ∙ blocksBack (length out) (length room) job bytes written fits in
-    (only-read r (length job) (answered ∙ ap lengthOf read), leaves ∙ ap (λ x. blocksAfter x room) read)
+    (read-inj r (BlocksRead.Read (length job)) (answered ∙ ap lengthOf read), leaves ∙ ap (λ x. blocksAfter x room) read)

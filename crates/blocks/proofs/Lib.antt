@@ -6,4 +6,5 @@ pub mod Writing
 pub mod Right
 pub mod Joined
 pub mod Reading
+pub mod Single
 pub mod Back

@@ -6,3 +6,4 @@ pub mod Writing
 pub mod Counting
 pub mod Given
 pub mod Checks
+pub mod Single
