@@ -50,3 +50,4 @@ pub mod Origins
 pub mod ReadBack
 pub mod Showing
 pub mod Holding
+pub mod Covered

@@ -42,6 +42,11 @@ whenGood {Q} {P} h e = ofGood (subst (λ r. Ends Q P r) e h)
 pub whenBad : {E A : Type 0} {Q : E → Type 0} {P : A → Type 0} {r : Result E A} {e : E} → Ends Q P r → r ≡ bad e → Q e
 whenBad {Q} {P} h e = ofBad (subst (λ r. Ends Q P r) e h)
 
+-- what a result is tells how it ends
+pub ended : {E A : Type 0} {Q : E → Type 0} {P : A → Type 0} (r : Result E A) → ((a : A) → r ≡ good a → P a) → ((e : E) → r ≡ bad e → Q e) → Ends Q P r
+ended (good a) p q = well (p a refl)
+ended (bad e) p q = refused (q e refl)
+
 -- what is known of it if it is good
 pub known : {E A : Type 0} {Q : E → Type 0} {P P′ : A → Type 0} (r : Result E A) → Ends Q P r → ((a : A) → r ≡ good a → P′ a) → Ends Q P′ r
 known (good a) (well h) k = well (k a refl)

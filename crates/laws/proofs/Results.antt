@@ -21,6 +21,10 @@ bad≢good h = clash (cc)
 pub good-inj : {E A : Type 0} {a b : A} → _≡_ {A = Result E A} (good a) (good b) → a ≡ b
 good-inj e = cc
 
+-- and one refusal one number
+pub bad-inj : {E A : Type 0} {a b : E} → _≡_ {A = Result E A} (bad a) (bad b) → a ≡ b
+bad-inj e = cc
+
 -- a chain that ends well went well at its first stage
 pub good-first : {E A B : Type 0} (r : Result E A) (f : A → Result E B) (b : B) → (r >>= f) ≡ good b → (a : A) × (r ≡ good a) × (f a ≡ good b)
 good-first (good a) f b e = (a, refl, e)
