@@ -22,7 +22,7 @@ use Rattle.laws.specs.Statements.{Occurs, RowsOccur, rawOnly, afterRow}
 use Rattle.laws.proofs.Lists.{order}
 use Rattle.laws.proofs.Results.{bad≢good, bad-inj}
 use Rattle.laws.proofs.Each.{Each, each-from}
-use Rattle.laws.proofs.Outcomes.{Ends, well, refused, next, ended, whenGood, whenBad, known, Anything}
+use Rattle.laws.proofs.Outcomes.{Ends, well, refused, next, ended, whenGood, whenBad, known-good, Anything}
 use Rattle.laws.proofs.Requests.{allocate-new, allocate-old}
 use Rattle.laws.proofs.Seventeen.{row-old, row-new, take-some, take-none}
 use Rattle.laws.proofs.Asked.{kids-found}
@@ -63,6 +63,19 @@ rowIndex-refused row code rows h = go (indexOf row (rows .inline)) refl
     go none e = taken e (order (length (r .0)) 65535)
     go (some i) e = bad≢good (sym h ∙ row-old row rows i e)
 
+-- a child's slot: a raw number's is itself
+slotOf-by :
+    {Z : ℕ → Type 0} {P : ℕ × Pool → Type 0} (nodes : List Node) (ldc : Bool) (child : ℕ) (p : Pool) →
+    P (child, p) →
+    (firstNode ≤ child → Ends Z P (allocate nodes ldc (child - firstNode) p)) →
+    Ends Z P (slotOf nodes ldc child p)
+unfolding slotOf
+slotOf-by {Z} {P} nodes ldc child p o step = go (ltb child firstNode) refl
+  where
+    go : (b : Bool) → ltb child firstNode ≡ b → Ends Z P (slotOf nodes ldc child p)
+    go true e = rw (e, slotOf) (well o)
+    go false e = rw (e, slotOf) (step (ltb-false child firstNode e))
+
 -- ---- building: what its two steps keep, all of it keeps, and it is refused as they are, or for want of fuel
 
 module _
@@ -76,19 +89,11 @@ module _
     (rowed : (row : Row) (rows : Rows) → R rows → Ends Z (λ r. R (r .1)) (rowIndex row rows))
     (taken : (pending : List (ℕ × ℕ)) (p : Pool) → P p → P (record { slots = p .slots; given = p .given; pending = pending }))
     (empty : Z 0) where
-  slotOf-keeps : (child : ℕ) (p : Pool) → Kid child → P p → Ends Z (λ r. P (r .1)) (slotOf nodes false child p)
-  unfolding slotOf
-  slotOf-keeps child p h o = go (ltb child firstNode) refl
-    where
-      go : (b : Bool) → ltb child firstNode ≡ b → Ends Z (λ r. P (r .1)) (slotOf nodes false child p)
-      go true e = rw (e, slotOf) (well {a = (child, p)} o)
-      go false e = rw (e, slotOf) (slotted child p h (ltb-false child firstNode e) o)
-
   slotsOf-keeps : (children : List ℕ) (p : Pool) → Each Kid children → P p → Ends Z (λ r. P (r .1)) (slotsOf nodes children p)
   unfolding slotsOf
   slotsOf-keeps [] p h o = well {a = ([], p)} o
   slotsOf-keeps (child ∷ children) p h o =
-      next _ (slotOf-keeps child p (h .0) o) λ r o₁.
+      next _ (slotOf-by nodes false child p o (λ high. slotted child p (h .0) high o)) λ r o₁.
       next _ (slotsOf-keeps children (r .1) (h .1) o₁) λ rest o₂.
       well {a = (r .0 ∷ rest .0, rest .1)} o₂
 
@@ -171,11 +176,8 @@ module _
       Ends Z (λ m. P (m .pool) × R (m .rows)) (buildAll nodes indexes p)
   unfolding buildAll
   buildAll-keeps indexes p start o =
-      let raws = rawRows-keep (reverse indexes) p [] o in
-      let both : Ends Z (λ r. P (r .1) × R (record { written = []; waiting = r .0; inline = [] })) (rawRows nodes (reverse indexes) p []) =
-      known (rawRows nodes (reverse indexes) p []) raws (λ r e. (whenGood raws e, start (r .0) (r .1) e)) in
-      next _ both λ r k.
-      drain-keeps (length (r .1 .pending) + length nodes) (r .1 .pending) _ (k .0) (k .1)
+      next _ (known-good (rawRows nodes (reverse indexes) p []) (rawRows-keep (reverse indexes) p [] o)) λ r k.
+      drain-keeps (length (r .1 .pending) + length nodes) (r .1 .pending) _ (k .0) (start (r .0) (r .1) (k .1))
 
 -- ---- 17
 

@@ -45,9 +45,11 @@ pub mod Ending
 pub mod Nodes
 pub mod Citing
 pub mod JobTable
+pub mod Begun
 pub mod Whole
 pub mod Origins
 pub mod ReadBack
 pub mod Showing
 pub mod Holding
+pub mod Early
 pub mod Covered

@@ -14,7 +14,7 @@ use Rattle.definition.specs.Form.{Counts, counted, whole, formDefinition, formD
 use Rattle.laws.specs.Statements.{IsBytes}
 use Rattle.laws.proofs.Results.{atRecord-good}
 use Rattle.laws.proofs.Each.{Each, each-weaker}
-use Rattle.laws.proofs.Outcomes.{Ends, well, refused, next, known, NonZero, nonZero, Coded, Anything, atRecord-ends, unless-ends}
+use Rattle.laws.proofs.Outcomes.{Ends, well, refused, next, known, nonZero, Early, early-nonZero, Coded, Anything, atRecord-ends, unless-ends}
 use Rattle.laws.proofs.Ready.{RefLow, DefLow}
 use Rattle.laws.proofs.Yields.{Byte, each-byte}
 use Rattle.laws.proofs.FormedEntry.{OfKind, ofKinds-each, FormedDefinition}
@@ -29,18 +29,18 @@ roomier : (n m : ℕ) (bytes : List ℕ) → n ≤ m → Within n bytes → With
 roomier n m bytes h w = (omega (arith, w .0), w .1)
 
 -- what was read, or 3
-whole-ends : {A : Type 0} (o : Option A) → Ends NonZero Anything (whole o)
+whole-ends : {A : Type 0} {Z : ℕ → Type 0} → Early Z → (o : Option A) → Ends Z Anything (whole o)
 unfolding whole
-whole-ends none = refused (nonZero 3 tt)
-whole-ends (some a) = well tt
+whole-ends z none = refused (z 3 tt tt)
+whole-ends z (some a) = well tt
 
 -- 3, 5 or 4
-formDefinition-ends : (c : Counts) (first : ℕ) (bytes : List ℕ) → Ends NonZero Anything (formDefinition c first bytes)
+pub formDefinition-ends : {Z : ℕ → Type 0} → Early Z → (c : Counts) (first : ℕ) (bytes : List ℕ) → Ends Z Anything (formDefinition c first bytes)
 unfolding formDefinition
-formDefinition-ends c first bytes =
-    next _ (whole-ends (readDefinition first bytes)) λ r _.
-    next _ (unless-ends _ 5 (nonZero 5 tt)) λ _ _.
-    next _ (unless-ends _ 4 (nonZero 4 tt)) λ _ _.
+formDefinition-ends z c first bytes =
+    next _ (whole-ends z (readDefinition first bytes)) λ r _.
+    next _ (unless-ends _ 5 (z 5 tt tt)) λ _ _.
+    next _ (unless-ends _ 4 (z 4 tt tt)) λ _ _.
     well tt
 
 formDefinitions-ends :
@@ -63,23 +63,23 @@ formDefinitions-ends (suc fuel) c place (first ∷ bytes) w = go (eqb first 0x50
         rw
         (e, formDefinitions)
         (next _
-        (known (atRecord place (formDefinition c first bytes)) (atRecord-ends place (formDefinition-ends c first bytes))
+        (known (atRecord place (formDefinition c first bytes)) (atRecord-ends place (formDefinition-ends early-nonZero c first bytes))
         (λ r g. formed-definition c first bytes r (w .1 .1) (atRecord-good place (formDefinition c first bytes) r g))) λ r h.
         next _ (ih (counted (r .0) c) (suc place) (r .1) (omega (arith, w .0, h .2), h .1)) λ d k. well (roomier fuel (suc fuel) (d .rest) (omega arith) k))
 
 -- 3 or 4
-formRequest-ends : (c : Counts) (first : ℕ) (bytes : List ℕ) → Ends NonZero Anything (formRequest c first bytes)
+pub formRequest-ends : {Z : ℕ → Type 0} → Early Z → (c : Counts) (first : ℕ) (bytes : List ℕ) → Ends Z Anything (formRequest c first bytes)
 unfolding formRequest
-formRequest-ends c first bytes =
-    next _ (whole-ends (readRequest (lookup first asks) bytes)) λ r _. next _ (unless-ends _ 4 (nonZero 4 tt)) λ _ _. well tt
+formRequest-ends z c first bytes =
+    next _ (whole-ends z (readRequest (lookup first asks) bytes)) λ r _. next _ (unless-ends _ 4 (z 4 tt tt)) λ _ _. well tt
 
 -- 3, 4 or 3
-formBuild-ends : (requests place : ℕ) (bytes : List ℕ) → Ends Coded Anything (formBuild requests place bytes)
+pub formBuild-ends : {Z : ℕ → Type 0} → Early Z → (requests place : ℕ) (bytes : List ℕ) → Ends (λ e. Z (e .code)) Anything (formBuild requests place bytes)
 unfolding formBuild
-formBuild-ends requests place bytes =
-    next _ (atRecord-ends place (whole-ends (readBuild bytes))) λ r _.
-    next _ (atRecord-ends place (unless-ends _ 4 (nonZero 4 tt))) λ _ _.
-    next _ (atRecord-ends (suc place) (unless-ends _ 3 (nonZero 3 tt))) λ _ _.
+formBuild-ends z requests place bytes =
+    next _ (atRecord-ends place (whole-ends z (readBuild bytes))) λ r _.
+    next _ (atRecord-ends place (unless-ends _ 4 (z 4 tt tt))) λ _ _.
+    next _ (atRecord-ends (suc place) (unless-ends _ 3 (z 3 tt tt))) λ _ _.
     well tt
 
 formRequests-ends :
@@ -95,12 +95,12 @@ formRequests-ends (suc fuel) c requests place (first ∷ bytes) w = go (eqb firs
         eqb first 0x60 ≡ b →
         ((c′ : Counts) (requests′ place′ : ℕ) (bytes′ : List ℕ) → Within fuel bytes′ → Ends Coded Anything (formRequests fuel c′ requests′ place′ bytes′)) →
         Ends Coded Anything (formRequests (suc fuel) c requests place (first ∷ bytes))
-    go true e ih = rw (e, formRequests) (next _ (formBuild-ends requests place bytes) λ b _. well tt)
+    go true e ih = rw (e, formRequests) (next _ (formBuild-ends early-nonZero requests place bytes) λ b _. well tt)
     go false e ih =
         rw
         (e, formRequests)
         (next _
-        (known (atRecord place (formRequest c first bytes)) (atRecord-ends place (formRequest-ends c first bytes))
+        (known (atRecord place (formRequest c first bytes)) (atRecord-ends place (formRequest-ends early-nonZero c first bytes))
         (λ r g. formed-request c first bytes r (w .1 .1) (atRecord-good place (formRequest c first bytes) r g))) λ r h.
         next _ (ih c (suc requests) (suc place) (r .1) (omega (arith, w .0, h .2), h .1)) λ rest k. well tt)
 

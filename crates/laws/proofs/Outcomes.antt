@@ -52,12 +52,24 @@ pub known : {E A : Type 0} {Q : E → Type 0} {P P′ : A → Type 0} (r : Resul
 known (good a) (well h) k = well (k a refl)
 known (bad e) (refused h) k = refused h
 
+-- and that it is that result
+pub known-good : {E A : Type 0} {Q : E → Type 0} {P : A → Type 0} (r : Result E A) → Ends Q P r → Ends Q (λ a. P a × (r ≡ good a)) r
+known-good (good a) (well h) = well (h, refl)
+known-good (bad e) (refused h) = refused h
+
 -- a refusal number other than 0, and a refusal with one
 abbrev pub NonZero : ℕ → Type 0
 NonZero code = code ≡ 0 → ⊥
 
 pub nonZero : (code : ℕ) → T (ltb 0 code) → NonZero code
 nonZero code t e = let h = ltb→lt 0 code t in omega arith
+
+-- what the numbers from 1 to 13 have: those of refusals before a slot is asked for
+abbrev pub Early : (ℕ → Type 0) → Type 0
+Early Z = (code : ℕ) → T (ltb 0 code) → T (ltb code 14) → Z code
+
+pub early-nonZero : Early NonZero
+early-nonZero code t u = nonZero code t
 
 abbrev pub Coded : Refusal → Type 0
 Coded r = NonZero (r .code)
@@ -72,7 +84,7 @@ unfolding atRecord
 atRecord-ends place (well h) = well h
 atRecord-ends place (refused h) = refused h
 
-pub unless-ends : (b : Bool) (code : ℕ) → NonZero code → Ends NonZero Anything (unless b code)
+pub unless-ends : {Z : ℕ → Type 0} (b : Bool) (code : ℕ) → Z code → Ends Z Anything (unless b code)
 unfolding unless
 unless-ends true code h = well tt
 unless-ends false code h = refused h

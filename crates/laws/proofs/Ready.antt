@@ -18,7 +18,7 @@ use Rattle.definition.specs.Building.{Pool, give, noSlot, allocate, slotOf}
 use Rattle.definition.specs.Layout.{starters, Ready, endDefinitions, answer, answerAll, Layout, buildLayout, layout}
 use Rattle.laws.specs.Statements.{isRaw}
 use Rattle.laws.proofs.Each.{Each, each-at, each-append, each-only, each-map, each-image, each-under}
-use Rattle.laws.proofs.Outcomes.{Ends, well, refused, next, weaker, NonZero, nonZero, Coded, Anything, atRecord-ends, unless-ends}
+use Rattle.laws.proofs.Outcomes.{Ends, well, refused, next, weaker, NonZero, nonZero, Early, early-nonZero, Coded, Anything, atRecord-ends, unless-ends}
 use Rattle.laws.proofs.Citing.{target-at}
 use Rattle.laws.proofs.Resolver.{owing, owing-start, Fit, GoalOk, TableOk, resolve-works, resolveAll-works}
 
@@ -140,28 +140,28 @@ unfolding hold starter
 hold-starters true n e held = omega (arith, starters-insert n (starts e) (insert (suc n) half held), starters-insert (suc n) half held)
 hold-starters false n e held = omega (arith, starters-insert n (starts e) held)
 
-startFree-ends : (o : Option Held) → Ends NonZero Anything (startFree o)
+startFree-ends : {Z : ℕ → Type 0} → Early Z → (o : Option Held) → Ends Z Anything (startFree o)
 unfolding startFree
-startFree-ends none = well tt
-startFree-ends (some (starts e)) = refused (nonZero 8 tt)
-startFree-ends (some half) = refused (nonZero 7 tt)
+startFree-ends z none = well tt
+startFree-ends z (some (starts e)) = refused (z 8 tt tt)
+startFree-ends z (some half) = refused (z 7 tt tt)
 
 placeConstant-ends :
-    (top : ℕ) (wide : Bool) (n e : ℕ) (held : List (ℕ × Held)) →
-    Ends NonZero (λ after. length (starters after) ≡ suc (length (starters held))) (placeConstant top wide n e held)
+    {Z : ℕ → Type 0} → Early Z → (top : ℕ) (wide : Bool) (n e : ℕ) (held : List (ℕ × Held)) →
+    Ends Z (λ after. length (starters after) ≡ suc (length (starters held))) (placeConstant top wide n e held)
 unfolding placeConstant
-placeConstant-ends top wide n e held =
-    next _ (unless-ends _ 6 (nonZero 6 tt)) λ _ _.
-    next _ (unless-ends _ 7 (nonZero 7 tt)) λ _ _.
-    next _ (startFree-ends (lookup n held)) λ _ _.
+placeConstant-ends z top wide n e held =
+    next _ (unless-ends _ 6 (z 6 tt tt)) λ _ _.
+    next _ (unless-ends _ 7 (z 7 tt tt)) λ _ _.
+    next _ (startFree-ends z (lookup n held)) λ _ _.
     well (hold-starters wide n e held)
 
 placeBootstrap-ends :
-    (index e : ℕ) (indexes : List (ℕ × ℕ)) → Ends NonZero (λ after. length after ≡ suc (length indexes)) (placeBootstrap index e indexes)
+    {Z : ℕ → Type 0} → Early Z → (index e : ℕ) (indexes : List (ℕ × ℕ)) → Ends Z (λ after. length after ≡ suc (length indexes)) (placeBootstrap index e indexes)
 unfolding placeBootstrap
-placeBootstrap-ends index e indexes =
-    next _ (unless-ends _ 9 (nonZero 9 tt)) λ _ _.
-    next _ (unless-ends _ 10 (nonZero 10 tt)) λ _ _.
+placeBootstrap-ends z index e indexes =
+    next _ (unless-ends _ 9 (z 9 tt tt)) λ _ _.
+    next _ (unless-ends _ 10 (z 10 tt tt)) λ _ _.
     well (insert-length index e indexes)
 
 -- what a definition in turn comes to: at most n raw ones more, and names that are low
@@ -180,40 +180,40 @@ raws [] = 0
 raws (x ∷ rest) = rawOne x + raws rest
 
 defineOne-ends :
-    (H : Type 0) {R : Type 0} (top : ℕ) (constants : List (Entry ℕ R)) (x : Definition ℕ) (d : Defined) →
+    {Z : ℕ → Type 0} → Early Z → (H : Type 0) {R : Type 0} (top : ℕ) (constants : List (Entry ℕ R)) (x : Definition ℕ) (d : Defined) →
     (H → DefLow x) →
     (H → Each NameLow (d .names)) →
-    Ends NonZero (Defines H (rawOne x) d) (defineOne top constants x d)
+    Ends Z (Defines H (rawOne x) d) (defineOne top constants x d)
 unfolding defineOne rawOne
-defineOne-ends H top constants (define e) d low names = well {a = d} (record { more = omega arith; names = names })
-defineOne-ends H top constants (named kind s r) d low names =
-    next _ (unless-ends _ 11 (nonZero 11 tt)) λ _ _.
+defineOne-ends z H top constants (define e) d low names = well {a = d} (record { more = omega arith; names = names })
+defineOne-ends z H top constants (named kind s r) d low names =
+    next _ (unless-ends _ 11 (z 11 tt tt)) λ _ _.
     let more = record { kind = kind; label = s; target = r } ∷ [] in
     well {a = record { held = d .held; indexes = d .indexes; names = d .names ++ more }}
     (record { more = omega arith; names = λ h. each-append NameLow (d .names) more (names h) (low h, tt) })
-defineOne-ends H top constants (placed constant n e) d low names =
-    next _ (placeConstant-ends top _ n e (d .held)) λ held same.
+defineOne-ends z H top constants (placed constant n e) d low names =
+    next _ (placeConstant-ends z top _ n e (d .held)) λ held same.
     well {a = record { held = held; indexes = d .indexes; names = d .names }} (record { more = omega arith; names = names })
-defineOne-ends H top constants (placed bootstrap index e) d low names =
-    next _ (placeBootstrap-ends index e (d .indexes)) λ indexes same.
+defineOne-ends z H top constants (placed bootstrap index e) d low names =
+    next _ (placeBootstrap-ends z index e (d .indexes)) λ indexes same.
     well {a = record { held = d .held; indexes = indexes; names = d .names }} (record { more = omega arith; names = names })
 
 pub defineAll-ends :
-    (H : Type 0) {R : Type 0} (top : ℕ) (constants : List (Entry ℕ R)) (place : ℕ) (l : List (Definition ℕ)) (d : Defined) →
+    {Z : ℕ → Type 0} → Early Z → (H : Type 0) {R : Type 0} (top : ℕ) (constants : List (Entry ℕ R)) (place : ℕ) (l : List (Definition ℕ)) (d : Defined) →
     (H → Each DefLow l) →
     (H → Each NameLow (d .names)) →
-    Ends Coded (Defines H (raws l) d) (defineAll top constants place l d)
+    Ends (λ e. Z (e .code)) (Defines H (raws l) d) (defineAll top constants place l d)
 unfolding defineAll raws
-defineAll-ends H top constants place [] d low names = well {a = d} (record { more = omega arith; names = names })
-defineAll-ends H top constants place (x ∷ rest) d low names =
-    next _ (atRecord-ends place (defineOne-ends H top constants x d (λ h. low h .0) names)) λ d₁ one.
+defineAll-ends z H top constants place [] d low names = well {a = d} (record { more = omega arith; names = names })
+defineAll-ends z H top constants place (x ∷ rest) d low names =
+    next _ (atRecord-ends place (defineOne-ends z H top constants x d (λ h. low h .0) names)) λ d₁ one.
     let m₁ = one .more in
     weaker
-    (λ e z. z)
+    (λ e k. k)
     (λ d₂ two.
     let m₂ = two .more in
     record { more = omega arith; names = two .names })
-    (defineAll-ends H top constants (suc place) rest d₁ (λ h. low h .1) (one .names))
+    (defineAll-ends z H top constants (suc place) rest d₁ (λ h. low h .1) (one .names))
 
 replicate-either : {A : Type 0} (P : A → Type 0) (n j : ℕ) (a d : A) → P a → P d → P (getD (replicate n a) j d)
 replicate-either P zero j a d h k = k
@@ -419,7 +419,7 @@ pub layout-ends :
 unfolding layout nothingDefined starters
 layout-ends H Z P top n job z low asked h last =
     let l = job .definitions in
-    next _ (weaker (λ e. z (e .code)) (λ d k. k) (defineAll-ends H top (constantsOf l) 0 l nothingDefined low (λ x. tt))) λ d k.
+    next _ (defineAll-ends (λ code t u. z code (early-nonZero code t u)) H top (constantsOf l) 0 l nothingDefined low (λ x. tt)) λ d k.
     let more = k .more in
     let fuel = fuelFor-linked (d .names) (length (constantsOf l)) (constantsOf l ++ bootstrapsOf l) in
     let same = table-priced l in

@@ -88,11 +88,11 @@ childOf-fits H s (rawNumber n) ok h f = let low = ok h in omega arith
 childOf-fits H s (tableEntry e) ok h f = f .marksFit e
 childOf-fits H s (refusal code) ok h f = omega arith
 
-kidsAt-ok : (H : Type 0) (table : List (Entry ℕ Goal)) (e : ℕ) → TableOk H table → Each (GoalOk H) (kidsAt table e)
+pub kidsAt-each : (P : Goal → Type 0) (table : List (Entry ℕ Goal)) (e : ℕ) → Each (λ x. Each P (x .kids)) table → Each P (kidsAt table e)
 unfolding kidsAt
-kidsAt-ok H [] e ok = tt
-kidsAt-ok H (x ∷ table) zero ok = ok .0
-kidsAt-ok H (x ∷ table) (suc e) ok = kidsAt-ok H table e (ok .1)
+kidsAt-each P [] e ok = tt
+kidsAt-each P (x ∷ table) zero ok = ok .0
+kidsAt-each P (x ∷ table) (suc e) ok = kidsAt-each P table e (ok .1)
 
 -- what is so of a node and of the old ones is so of all after it is interned
 intern-each : (n : Node) (nodes : List Node) (P : Node → Type 0) → P n → Each P nodes → Each P (intern n nodes)
@@ -208,7 +208,7 @@ entered-steps H table e s ok p =
           (ItemOk H)
           (map enter (kidsAt table e))
           (leave e ∷ [])
-          (each-map (GoalOk H) (ItemOk H) enter (λ g o. o) (kidsAt table e) (kidsAt-ok H table e ok))
+          (each-map (GoalOk H) (ItemOk H) enter (λ g o. o) (kidsAt table e) (kidsAt-each (GoalOk H) table e ok))
           (tt, tt);
       fits = λ h f. entered-fits e s f;
     }

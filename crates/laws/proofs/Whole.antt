@@ -1,5 +1,5 @@
 -- A built job as a whole: what each stage left, from the bytes to the layout. Assumes nothing.
-use mathlib.Core.List.{List, _++_, map}
+use mathlib.Core.List.{List, map}
 use mathlib.Core.Logic.{_⊎_, inl, inr}
 use mathlib.Core.Option.{some}
 use mathlib.Core.Path.{_≡_, sym, ap, subst, _∙_}
@@ -7,30 +7,30 @@ use Prim.Native.Nat.{ℕ, suc, _+_, _<_}
 use native.Mathlib.Omega.{arith}
 use lib.ListN.{length, getElem?}
 use Rattle.definition.specs.Basics.{good}
-use Rattle.definition.specs.Shapes.{Kind, constant, bootstrap, bootstrapTag, Entry, withKids}
-use Rattle.definition.specs.Job.{placed, Request, Job}
+use Rattle.definition.specs.Shapes.{bootstrapTag, Entry, withKids}
+use Rattle.definition.specs.Job.{Request, Job}
 use Rattle.definition.specs.Form.{form}
-use Rattle.definition.specs.Numbering.{constantsOf, bootstrapsOf, numbered}
+use Rattle.definition.specs.Numbering.{constantsOf, numbered}
 use Rattle.definition.specs.Definitions.{tagAt}
-use Rattle.definition.specs.Resolving.{Goal, tableEntry, placeOf, goalOf, Mark, done, Node, linked}
+use Rattle.definition.specs.Resolving.{Goal, tableEntry, goalOf, Mark, done, Node}
 use Rattle.definition.specs.Slots.{highestSlot}
 use Rattle.definition.specs.Building.{Row, nameWanted}
-use Rattle.definition.specs.Layout.{starters, nodeAt, endDefinitions, answerAll, Layout, indexNodes, layout}
+use Rattle.definition.specs.Layout.{starters, nodeAt, answerAll, Layout, indexNodes, layout}
 use Rattle.laws.specs.Statements.{IsBytes, Among}
-use Rattle.laws.proofs.Lists.{found-inside, among-left, among-right, among-either, among-back, map-at, unmap}
+use Rattle.laws.proofs.Lists.{found-inside, among-left, among-right, among-back, map-at, unmap}
 use Rattle.laws.proofs.Each.{Each, each-at, each-from}
 use Rattle.laws.proofs.Occupied.{toHold-among}
 use Rattle.laws.proofs.Defining.{Rises, rises}
-use Rattle.laws.proofs.DefinedFacts.{DefinedFacts, wideAt, defined-facts, starters-start}
+use Rattle.laws.proofs.DefinedFacts.{DefinedFacts, wideAt, defined-facts}
 use Rattle.laws.proofs.Citing.{jobNames, jobConstants, jobTable, table-bootstrap}
-use Rattle.laws.proofs.Faithful.{Settled, InTable, settled-grows}
-use Rattle.laws.proofs.Asked.{Going, Answered, Further, Asks, answerAll-going, child-done, tag-found}
-use Rattle.laws.proofs.Started.{rawGoals, rawsOf, ready-going}
-use Rattle.laws.proofs.Stages.{Stages, stages, tableIn}
+use Rattle.laws.proofs.Faithful.{Settled, settled-grows}
+use Rattle.laws.proofs.Asked.{Going, Answered, Further, answerAll-going, child-done, tag-found}
+use Rattle.laws.proofs.Started.{rawGoals, rawsOf}
+use Rattle.laws.proofs.Begun.{formed-table, begun, begun-asks}
+use Rattle.laws.proofs.Stages.{Stages, stages}
 use Rattle.laws.proofs.Nodes.{GoodTable, kids-in, bootstrap-kids}
 use Rattle.laws.proofs.Numbers.{rowsOf, StackIn, Starts}
 use Rattle.laws.proofs.Ending.{Named, named, built-ended}
-use Rattle.laws.proofs.JobTable.{good-table, asks-good, placed-good, numbered-cited, definitions-low, requests-low}
 
 module _ (bytes : List ℕ) (job : Job (List ℕ)) (l : Layout) (are : IsBytes bytes) (formed : form bytes ≡ good job) (laid : layout highestSlot (numbered job) ≡ good l) where
   pub st : Stages highestSlot (numbered job) l
@@ -46,37 +46,7 @@ module _ (bytes : List ℕ) (job : Job (List ℕ)) (l : Layout) (are : IsBytes b
   rising = rises highestSlot (constantsOf (numbered job .definitions)) (numbered job .definitions) (st .defined) (st .isDefined)
 
   pub good-job-table : GoodTable table
-  good-job-table =
-      good-table (numbered job) (numbered-cited bytes job are formed) (definitions-low bytes job are formed) (requests-low bytes job are formed)
-
-  -- the table of the stages is the job's
-  same-table : tableIn (numbered job) (st .defined) ≡ table
-  same-table = ap (λ names. linked names (jobConstants (numbered job)) (constantsOf (numbered job .definitions) ++ bootstrapsOf (numbered job .definitions))) (facts .allNames)
-
-  -- what record 50 resolves lies in the table
-  raw-in : (g : Goal) → Among g (rawGoals (jobConstants (numbered job)) (st .defined)) → InTable (length table) g
-  unfolding placeOf
-  raw-in g a =
-      go
-      (among-either g
-      (map (λ r. tableEntry (r .1)) (starters (st .defined .held)))
-      (map (λ r. tableEntry (jobConstants (numbered job) + r .1)) (st .defined .indexes))
-      a)
-    where
-      there : (kind : Kind) (n e : ℕ) → Among (placed kind n e) (numbered job .definitions) → InTable (length table) (tableEntry (placeOf (jobConstants (numbered job)) kind e))
-      there = placed-good (numbered job) (numbered-cited bytes job are formed) (definitions-low bytes job are formed) (requests-low bytes job are formed)
-
-      go :
-          Among g (map (λ r. tableEntry (r .1)) (starters (st .defined .held)))
-          ⊎ Among g (map (λ r. tableEntry (jobConstants (numbered job) + r .1)) (st .defined .indexes)) →
-          InTable (length table) g
-      go (inl h) =
-          let u = unmap (λ (r : ℕ × ℕ). tableEntry (r .1)) (starters (st .defined .held)) g h in
-          subst (InTable (length table)) (u .2)
-          (there constant (u .0 .0) (u .0 .1) (facts .allHeld .startPlaced (u .0 .0) (u .0 .1) (starters-start (st .defined .held) (u .0 .0) (u .0 .1) (u .1))))
-      go (inr h) =
-          let u = unmap (λ (r : ℕ × ℕ). tableEntry (jobConstants (numbered job) + r .1)) (st .defined .indexes) g h in
-          subst (InTable (length table)) (u .2) (there bootstrap (u .0 .0) (u .0 .1) (facts .allIndexes .indexPlaced (u .0 .0) (u .0 .1) (u .1)))
+  good-job-table = formed-table bytes job are formed
 
   -- the raw constants, as the building stack has them
   abbrev pub raws : List (ℕ × ℕ)
@@ -85,15 +55,7 @@ module _ (bytes : List ℕ) (job : Job (List ℕ)) (l : Layout) (are : IsBytes b
   started :
       Going table highestSlot (st .defined .held) raws (st .ready)
       × ((g : Goal) → Among g (rawGoals (jobConstants (numbered job)) (st .defined)) → Settled (st .ready .resolved .marks) g)
-  started =
-      ready-going highestSlot (numbered job .definitions) (constantsOf (numbered job .definitions)) table (jobConstants (numbered job)) (st .defined) (st .ready)
-      (good-job-table .cited)
-      raw-in
-      (st .isDefined)
-      (subst (λ t. endDefinitions highestSlot t (jobConstants (numbered job)) (st .defined) ≡ good (st .ready)) same-table (st .isReady))
-
-  asks : Each (Asks table (good-job-table .cited) highestSlot (st .defined .held) raws (jobNames (numbered job)) (jobConstants (numbered job))) (numbered job .requests)
-  asks = each-from _ (numbered job .requests) (asks-good (numbered job) (numbered-cited bytes job are formed) (definitions-low bytes job are formed) (requests-low bytes job are formed))
+  started = begun bytes job are formed (st .defined) (st .isDefined) (st .ready) (st .isReady)
 
   pub asked :
       Going table highestSlot (st .defined .held) raws (st .asked)
@@ -107,7 +69,7 @@ module _ (bytes : List ℕ) (job : Job (List ℕ)) (l : Layout) (are : IsBytes b
       (numbered job .requests)
       (st .ready)
       (st .answers, st .asked)
-      asks
+      (begun-asks bytes job are formed (st .defined) (st .isDefined) (st .ready) (st .isReady))
       (subst
       (λ names. answerAll names (jobConstants (numbered job)) (suc (length (numbered job .definitions))) (numbered job .requests) (st .ready) ≡ good (st .answers, st .asked))
       (facts .allNames)
