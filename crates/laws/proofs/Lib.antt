@@ -52,4 +52,5 @@ pub mod ReadBack
 pub mod Showing
 pub mod Holding
 pub mod Early
+pub mod Steps
 pub mod Covered
