@@ -33,24 +33,24 @@ use Rattle.laws.proofs.Numbers as Numbers
 use Rattle.laws.proofs.Numbers.{KidsIn}
 use Rattle.laws.proofs.Citing.{jobConstants, jobTable}
 use Rattle.laws.proofs.Asked.{ConstantGoal, Going, settled-child, answer-going}
-use Rattle.laws.proofs.Stages.{constantsIn, rowsIn}
+use Rattle.laws.proofs.Stages.{constantsIn}
 use Rattle.laws.proofs.Steps.{PoolIn, atStart, afterChild, afterTaken, RowsIn, rawOnes, afterInline, goalFor, Reaches, afterFifty, afterAnswer, rawsAt, AsksSlot, forRequest, forChild, forName, AsksIndex, LayoutRefused, early, sixteen, atSlot, atRow, buildAll-steps, RunRefused, outside, inLayout, runRefused}
 use Rattle.laws.proofs.Begun.{formed-table, begun-names, begunRaws, begun, begun-asks}
 
 -- ---- which step is refused with which number
 
 -- no slot is found for a node that has none: 14 or 15
-give-refused : (ldc : Bool) (k code : ℕ) (p : Pool) (o : Option (ℕ × Slots)) → give ldc k p o ≡ bad code → code ≡ noSlot ldc
+give-number : (ldc : Bool) (k code : ℕ) (p : Pool) (o : Option (ℕ × Slots)) → give ldc k p o ≡ bad code → code ≡ noSlot ldc
 unfolding give
-give-refused ldc k code p none h = bad-inj (sym h)
-give-refused ldc k code p (some r) h = bad≢good (sym h)
+give-number ldc k code p none h = bad-inj (sym h)
+give-number ldc k code p (some r) h = bad≢good (sym h)
 
 allocate-refused :
     (nodes : List Node) (ldc : Bool) (k code : ℕ) (p : Pool) → allocate nodes ldc k p ≡ bad code → (lookup k (p .given) ≡ none) × (code ≡ noSlot ldc)
 allocate-refused nodes ldc k code p h = go (lookup k (p .given)) refl
   where
     go : (o : Option ℕ) → lookup k (p .given) ≡ o → (lookup k (p .given) ≡ none) × (code ≡ noSlot ldc)
-    go none e = (e, give-refused ldc k code p (slotFor (isWide (tagAt nodes k)) ldc (p .slots)) (sym (allocate-new nodes ldc k p e) ∙ h))
+    go none e = (e, give-number ldc k code p (slotFor (isWide (tagAt nodes k)) ldc (p .slots)) (sym (allocate-new nodes ldc k p e) ∙ h))
     go (some s) e = bad≢good (sym h ∙ allocate-old nodes ldc k s p e)
 
 noSlot-low : (ldc : Bool) → noSlot ldc ≤ 15
@@ -119,8 +119,9 @@ reaches-defined :
 reaches-defined top job d (afterFifty w defined ready) = defined
 reaches-defined top job d (afterAnswer q left w w′ a h e) = reaches-defined top job d h
 
-index-occurs : (top : ℕ) (job : Job ℕ) (row : Row) (rows : Rows) → AsksIndex top job row rows → RowsOccur rows
-index-occurs top job row rows a =
+-- INDEX OCCURS: all rows that a run asks an index of occur
+pub indexOccurs : (top : ℕ) (job : Job ℕ) (row : Row) (rows : Rows) → AsksIndex top job row rows → RowsOccur rows
+indexOccurs top job row rows a =
     let w = a .state in
     rows-occur top (constantsIn job) (job .definitions) (a .defined) (reaches-defined top job (a .defined) (a .reached))
     (w .resolved .nodes)
@@ -138,13 +139,13 @@ module _ (bytes : List ℕ) (job : Job (List ℕ)) (are : IsBytes bytes) (formed
   fine = formed-table bytes job are formed
 
   -- what is kept up to each request, and what the requests that are left ask for
-  abbrev Kept : Defined → List Request → Ready → Type 0
-  Kept d left w =
+  abbrev Upto : Defined → List Request → Ready → Type 0
+  Upto d left w =
       (raws : List (ℕ × ℕ))
       × Going table highestSlot (d .held) raws w
       × Each (λ q. InTable (length table) (goalFor (numbered job) d q) × ConstantGoal table (goalFor (numbered job) d q)) left
 
-  reaches-kept : (d : Defined) {left : List Request} {w : Ready} → Reaches highestSlot (numbered job) d left w → Kept d left w
+  reaches-kept : (d : Defined) {left : List Request} {w : Ready} → Reaches highestSlot (numbered job) d left w → Upto d left w
   reaches-kept d (afterFifty w defined ready) = (
     begunRaws bytes job are formed d defined w ready,
     begun bytes job are formed d defined w ready .0,
@@ -164,14 +165,15 @@ module _ (bytes : List ℕ) (job : Job (List ℕ)) (are : IsBytes bytes) (formed
         k .2 .1,
       )
 
-  kids-kept : (d : Defined) (left : List Request) (w : Ready) → Kept d left w → KidsIn (w .resolved .nodes)
+  kids-kept : (d : Defined) (left : List Request) (w : Ready) → Upto d left w → KidsIn (w .resolved .nodes)
   kids-kept d left w k = kids-in table fine (w .resolved) (k .1 .faithful)
 
-  slot-occurs :
+  -- SLOT OCCURS: every pool that a run asks a slot of occurs, and the node is one of the list
+  pub slotOccurs :
       {nodes : List Node} {ldc : Bool} {k : ℕ} {p : Pool} →
       AsksSlot highestSlot (numbered job) nodes ldc k p →
       (held : List (ℕ × Held)) × Occurs highestSlot held nodes p × (k < length nodes)
-  slot-occurs (forRequest d q left w s at e high) =
+  slotOccurs (forRequest d q left w s at e high) =
       let (raws, h, asks) = reaches-kept d at in
       let goal = goalFor (numbered job) d q in
       let now = resolve-faithful table goal (w .resolved) s (fine .cited) (asks .0 .0) (h .faithful) (subst (λ t. resolve t goal (w .resolved) ≡ good s) (h .sameTable) e) in
@@ -180,14 +182,14 @@ module _ (bytes : List ℕ) (job : Job (List ℕ)) (are : IsBytes bytes) (formed
         subst (λ n. Occurs highestSlot (d .held) n (w .pool)) (sym (more .1)) (moreResolved (more .0) (h .pooled .occurs)),
         settled-child table s goal (now .0) (now .1) (asks .0 .1) high .0,
       )
-  slot-occurs (forChild d w k c p at o a high) =
+  slotOccurs (forChild d w k c p at o a high) =
       let kept = reaches-kept d at in
       let kids = kids-kept d [] w kept in (
         d .held,
         pool-occurs highestSlot (d .held) (w .resolved .nodes) (w .pool) kids (kept .1 .pooled .occurs) o,
         omega (arith, Numbers.kids-in (w .resolved .nodes) kids k c a high, high),
       )
-  slot-occurs (forName d w m at e) =
+  slotOccurs (forName d w m at e) =
       let kept = reaches-kept d at in
       let nodes = w .resolved .nodes in
       let i = interned attributeText nodes in
@@ -224,7 +226,7 @@ seventeenMet lent bytes r ran is = go (runRefused lent bytes r ran)
           rows = rows;
           row = row;
           asks = a;
-          occurs = index-occurs highestSlot (numbered job) row rows a;
+          occurs = indexOccurs highestSlot (numbered job) row rows a;
           refusal = subst (λ c. rowIndex row rows ≡ bad c) is e;
         }
 
@@ -261,7 +263,7 @@ slotMet lent bytes r are ran is = go (runRefused lent bytes r ran)
     laid job formed (early h) = absurd (omega (arith, h, low is .0))
     laid job formed (sixteen h) = absurd (omega (arith, h, low is .1))
     laid job formed (atSlot nodes ldc k p a e) =
-        let o = slot-occurs bytes job are formed a in
+        let o = slotOccurs bytes job are formed a in
         record {
           job = job;
           formed = formed;
