@@ -42,7 +42,7 @@ bodyOf NamedBootstrap = some (ofName bootstrap)
 bodyOf RawConstant = some (ofRaw constant)
 bodyOf RawBootstrap = some (ofRaw bootstrap)
 
--- the table that an entry goes into, as kindOf has it
+-- the table that an entry goes into: as kindOf has it, the first for all but 40 hex
 unfoldable pub tableOf : Opening → Kind
 tableOf (Constant shape) = constant
 tableOf Bootstrap = bootstrap

@@ -9,7 +9,7 @@ use Rattle.definition.specs.Bytes.{Parser, _>>=_, one}
 use Rattle.definition.specs.Shapes.{Kind, constant, bootstrap, Field, text, bits, byte, to, toMany, Entry}
 use Rattle.definition.specs.Job.{Reference, raw, entry, name, Definition, define, Request, Job, Body, ofEntry, ofName, ofRaw, bodies, reference, readDefinition, asks, readRequest, readBuild}
 use Rattle.definition.specs.Form.{kindOf}
-use Rattle.cpool.specs.declared.job.Extent.{Extent}
+use Rattle.cpool.specs.declared.job.Stretch.{Stretch}
 use Rattle.cpool.specs.declared.job.RefType.{RefType}
 use Rattle.cpool.specs.declared.job.RefType.the-variants as refType
 
@@ -32,10 +32,10 @@ abbrev pub anyRequest : Parser Request
 anyRequest = one >>= λ first. readRequest (lookup first asks)
 
 -- these bytes stand from start to end
-pub record Spans (s : List ℕ) (extent : Extent) (bytes : List ℕ) : Type 0 where
-  pub are : take (extent .end - extent .start) (drop (extent .start) s) ≡ bytes
-  pub rising : extent .start ≤ extent .end
-  pub within : extent .end ≤ length s
+pub record Spans (s : List ℕ) (stretch : Stretch) (bytes : List ℕ) : Type 0 where
+  pub are : take (stretch .end - stretch .start) (drop (stretch .start) s) ≡ bytes
+  pub rising : stretch .start ≤ stretch .end
+  pub within : stretch .end ≤ length s
 
 -- a value that p reads stands at a place; and what holds of it and of the place behind it
 abbrev pub Stands : {A : Type 0} → Parser A → List ℕ → ℕ → Type 0
@@ -62,7 +62,7 @@ WhatEntry s at P = (e : Entry (List ℕ) Reference) (next : ℕ) → Found anyDe
 unfoldable pub Tells : List ℕ → Kind → Reference → RefType → Type 0
 Tells s kind r (refType.Raw number) = r ≡ raw number
 Tells s kind r (refType.Index number) = r ≡ entry kind number
-Tells s kind r (refType.Sym extent) = (l : List ℕ) × Spans s extent l × (r ≡ name kind l)
+Tells s kind r (refType.Sym stretch) = (l : List ℕ) × Spans s stretch l × (r ≡ name kind l)
 
 -- the table that an entry's first reference leads to, by the entry's fields: a Dynamic's cites a bootstrap
 unfoldable pub firstKind : List Field → Kind

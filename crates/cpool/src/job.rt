@@ -53,7 +53,7 @@ enum Opening {
 
 // What skipping a part of a record finds.
 enum Skipped {
-    // The place behind it, whether what it cites by number stands earlier, and how many references of an entry are in it.
+    // The place behind it, whether what it cites by number stands earlier, and how many references it adds to an entry.
     To {
         next: usize,
         cited: bool,
@@ -129,7 +129,7 @@ fn skip_raw_slot(job: &[u8], at: usize) -> Skipped
     }
 }
 
-// A number of an entry, of which there are so many yet.
+// A number of an entry or a request, of which there are so many yet.
 fn skip_number(job: &[u8], at: usize, entries: usize) -> Skipped
     requires { ⌜ at ≤ length (now job) ⌝ }
     ensures { λ r. ⌜ Skips two (λ number. ltb number entries) (λ _. 0) (now (job .entry)) at r ⌝ }
@@ -622,7 +622,7 @@ pub fn form(job: &[u8]) -> Formed
 }
 
 // From one place of the job to another.
-pub(crate) struct Extent {
+pub(crate) struct Stretch {
     pub(crate) start: usize,
     pub(crate) end: usize,
 }
@@ -631,19 +631,19 @@ pub(crate) struct Extent {
 pub(crate) enum RefType {
     Raw(u16),
     Index(u16),
-    Sym(Extent),
+    Sym(Stretch),
 }
 
 // What follows reads at stored places, where the form pass has found a record or a part of one: it tests nothing again.
 
 // The name at a place.
-pub(crate) fn name_at(job: &[u8], at: usize) -> Extent
+pub(crate) fn name_at(job: &[u8], at: usize) -> Stretch
     requires { ⌜ Stands shortName (now job) at ⌝ }
     ensures { λ r. ⌜ WhatStands shortName (now (job .entry)) at (λ l next. Spans (now (job .entry)) r l × (r .end ≡ next)) ⌝ }
 {
     let start = at + 1;
     let n = writer::get_u8(job, at) as usize;
-    Extent {
+    Stretch {
         start,
         end: start + n,
     }
@@ -681,27 +681,27 @@ pub(crate) fn tag_at(job: &[u8], at: usize) -> u8
 }
 
 // The literal of the entry at a place: no bytes if it has none.
-pub(crate) fn literal_at(job: &[u8], at: usize) -> Extent
+pub(crate) fn literal_at(job: &[u8], at: usize) -> Stretch
     requires { ⌜ EntryStands (now job) at ⌝ }
     ensures { λ r. ⌜ WhatEntry (now (job .entry)) at (λ e. Spans (now (job .entry)) r (e .literal)) ⌝ }
 {
     let Opening::Constant(shape) = opening_of(tag_at(job, at)) else {
-        return Extent { start: at, end: at };
+        return Stretch { start: at, end: at };
     };
     match shape {
         Shape::Text => {
             let start = at + 3;
             let n = writer::get_u16(job, at + 1) as usize;
-            Extent {
+            Stretch {
                 start,
                 end: start + n,
             }
         }
-        Shape::Bits(n) => Extent {
+        Shape::Bits(n) => Stretch {
             start: at + 1,
             end: at + 1 + n as usize,
         },
-        _ => Extent { start: at, end: at },
+        _ => Stretch { start: at, end: at },
     }
 }
 

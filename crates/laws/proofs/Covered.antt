@@ -1,4 +1,5 @@
--- A run that is refused with 14, 15 or 17 is refused at a step that Exactly speaks of: on a pool, or on bootstrap rows, that occur.
+-- If a run is refused with 14 or 15 (of a job of bytes) or 17, a step of those in Steps is refused with it, on a pool, or on bootstrap rows,
+-- that occur: so that Exactly and ExactlySeventeen say why.
 -- Assumes nothing.
 use mathlib.Core.Bool.{Bool, true, false}
 use mathlib.Core.List.{List, []}
@@ -189,7 +190,7 @@ module _ (bytes : List ℕ) (job : Job (List ℕ)) (are : IsBytes bytes) (formed
         pool-occurs highestSlot (d .held) (w .resolved .nodes) (w .pool) kids (kept .1 .pooled .occurs) o,
         omega (arith, Numbers.kids-in (w .resolved .nodes) kids k c a high, high),
       )
-  slotOccurs (forName d w m at e) =
+  slotOccurs (forName d w m at e wanted) =
       let kept = reaches-kept d at in
       let nodes = w .resolved .nodes in
       let i = interned attributeText nodes in
@@ -211,7 +212,7 @@ pub record RowMet (bytes : List ℕ) : Type 0 where
   pub occurs : RowsOccur rows
   pub refusal : rowIndex row rows ≡ bad 17
 
--- SEVENTEEN MET: a run that is refused with 17 is refused there
+-- SEVENTEEN MET: if a run is refused with 17, there is such a step
 pub seventeenMet : (lent : Lent) (bytes : List ℕ) (r : Refusal) → run lent bytes ≡ bad r → r .code ≡ 17 → RowMet bytes
 seventeenMet lent bytes r ran is = go (runRefused lent bytes r ran)
   where
@@ -250,7 +251,7 @@ pub record SlotMet (bytes : List ℕ) (code : ℕ) : Type 0 where
   pub new : lookup node (pool .given) ≡ none
   pub refusal : allocate nodes ldc node pool ≡ bad code
 
--- SLOT MET: a run over bytes that is refused with 14 or 15 is refused there
+-- SLOT MET: if a run over bytes is refused with 14 or 15, there is such a step
 pub slotMet :
     (lent : Lent) (bytes : List ℕ) (r : Refusal) → IsBytes bytes → run lent bytes ≡ bad r → (r .code ≡ 14) ⊎ (r .code ≡ 15) → SlotMet bytes (r .code)
 slotMet lent bytes r are ran is = go (runRefused lent bytes r ran)

@@ -1,4 +1,4 @@
--- What is refused before a slot is asked for has a number up to 13: that of the form, of a definition, or of resolving. Assumes nothing.
+-- What the form pass and resolving refuse has a number up to 13; the definitions' own numbers, 6 to 11, are Ready's. Assumes nothing.
 use mathlib.Core.Bool.{Bool, true, false}
 use mathlib.Core.List.{List, [], _∷_, _++_, map}
 use mathlib.Core.Option.{Option, none, some}

@@ -64,7 +64,7 @@ NonZero code = code ≡ 0 → ⊥
 pub nonZero : (code : ℕ) → T (ltb 0 code) → NonZero code
 nonZero code t e = let h = ltb→lt 0 code t in omega arith
 
--- what the numbers from 1 to 13 have: those of refusals before a slot is asked for
+-- what the numbers from 1 to 13 have: those of the form pass, the definitions and resolving
 abbrev pub Early : (ℕ → Type 0) → Type 0
 Early Z = (code : ℕ) → T (ltb 0 code) → T (ltb code 14) → Z code
 

@@ -1,5 +1,5 @@
--- The steps of a run that ask for a slot or for a bootstrap index, and that every refusal of a run is met at one of them or has another
--- number. Assumes nothing.
+-- Steps that ask for a slot or for a bootstrap index, from what a run comes to on: all that it takes are among them. A refusal of a run is
+-- that of one of them, or has another number. Assumes nothing.
 use mathlib.Core.Bool.{Bool, true, false}
 use mathlib.Core.List.{List, [], _∷_, _++_, reverse}
 use mathlib.Core.Logic.{_⊎_, inl, inr}
@@ -89,7 +89,7 @@ pub data Reaches (top : ℕ) (job : Job ℕ) (d : Defined) : List Request → Re
 abbrev pub rawsAt : Job ℕ → Defined → Ready → List (ℕ × ℕ)
 rawsAt job d w = indexNodes (length (constantsIn job)) (w .resolved .marks) (d .indexes)
 
--- the slots that a run asks for: over these nodes, ldc or not, for this node, from this pool
+-- the slots that a run asks for, over these nodes, ldc or not, for this node, from this pool; while building, any child of any node
 pub data AsksSlot (top : ℕ) (job : Job ℕ) : List Node → Bool → ℕ → Pool → Type 0 where
   forRequest :
       (d : Defined) (q : Request) (left : List Request) (w : Ready) (s : Resolved) →
@@ -108,9 +108,10 @@ pub data AsksSlot (top : ℕ) (job : Job ℕ) : List Node → Bool → ℕ → P
       (d : Defined) (w : Ready) (m : Made) →
       Reaches top job d [] w →
       buildAll (w .resolved .nodes) (rawsAt job d w) (w .pool) ≡ good m →
+      nameWanted (job .build .nameByte) (length (rowsIn m)) ≡ true →
       AsksSlot top job (intern attributeText (w .resolved .nodes)) false (position (sameNode attributeText) (w .resolved .nodes)) (m .pool)
 
--- the indexes that a run asks for: for this row, from these rows
+-- the indexes that a run asks for, for this row, from these rows; any bootstrap, from any pool of building
 pub record AsksIndex (top : ℕ) (job : Job ℕ) (row : Row) (rows : Rows) : Type 0 where
   pub defined : Defined
   pub state : Ready
@@ -118,7 +119,7 @@ pub record AsksIndex (top : ℕ) (job : Job ℕ) (row : Row) (rows : Rows) : Typ
   pub rowsIn : RowsIn (state .resolved .nodes) (rawsAt job defined state) (state .pool) rows
   pub rowOf : RowOf (state .resolved .nodes) (state .pool) row
 
--- where a layout is refused: before a slot is asked for, as an ldc answer above 255, or at one of these steps
+-- where a layout is refused: by the form, the definitions or resolving, as an ldc answer above 255, or at one of these steps
 pub data LayoutRefused (top : ℕ) (job : Job ℕ) (code : ℕ) : Type 0 where
   early : code < 14 → LayoutRefused top job code
   sixteen : code ≡ 16 → LayoutRefused top job code
@@ -319,15 +320,16 @@ module _ (top : ℕ) (job : Job ℕ) where
         (wanted : Bool) (w : Ready) (m : Made) →
         Reaches top job d [] w →
         buildAll (w .resolved .nodes) (rawsAt job d w) (w .pool) ≡ good m →
+        nameWanted (job .build .nameByte) (length (rowsIn m)) ≡ wanted →
         Ends Z Anything (nameSlot wanted (w .resolved .nodes) m)
     unfolding nameSlot
-    nameSlot-steps false w m at made = well tt
-    nameSlot-steps true w m at made =
+    nameSlot-steps false w m at made is = well tt
+    nameSlot-steps true w m at made is =
         let nodes = w .resolved .nodes in
         let k = position (sameNode attributeText) nodes in
         next {P = Anything} _
         (ended (allocate (intern attributeText nodes) false k (m .pool)) (λ r e. tt) λ code e.
-        atSlot (intern attributeText nodes) false k (m .pool) (forName d w m at made) e) λ r _. well tt
+        atSlot (intern attributeText nodes) false k (m .pool) (forName d w m at made is) e) λ r _. well tt
 
     buildLayout-steps : (answers : List ℕ) (w : Ready) → Reaches top job d [] w → Ends Z Anything (buildLayout top (rawsAt job d w) (job .build) answers w)
     unfolding buildLayout
@@ -338,7 +340,7 @@ module _ (top : ℕ) (job : Job ℕ) where
         (buildAll-steps nodes (rawsAt job d w) (w .pool) Z Z-empty
         (λ k c code p o a high e. atSlot nodes false (c - firstNode) p (forChild d w k c p at o a high) e)
         (λ row code rows q is e. atRow row rows (record { defined = d; state = w; reached = at; rowsIn = q; rowOf = is }) e))) λ m k.
-        next _ (nameSlot-steps (nameWanted (job .build .nameByte) (length (rowsIn m))) w m at (k .1)) λ s _. well tt
+        next _ (nameSlot-steps (nameWanted (job .build .nameByte) (length (rowsIn m))) w m at (k .1) refl) λ s _. well tt
 
   layout-steps : Ends (λ e. Z (e .code)) Anything (layout top job)
   unfolding layout

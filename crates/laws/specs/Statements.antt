@@ -97,7 +97,7 @@ Visits =
 abbrev pub FuelLasts : Type 0
 FuelLasts = (bytes : List ℕ) (lent : Lent) (r : Refusal) → IsBytes bytes → run lent bytes ≡ bad r → r .code ≡ 0 → ⊥
 
--- FOLLOWED: more steps than goalOf takes change nothing, so a name that it gives up as circular (13) leads nowhere in any number of steps
+-- FOLLOWED: more steps than goalOf takes change nothing, so a name that it gives up as circular (13) leads nowhere in more steps either
 abbrev pub Followed : Type 0
 Followed =
     (names : List Naming) (constants steps : ℕ) (r : Reference) →
@@ -116,8 +116,8 @@ unfoldable pub allSlots : List (ℕ × Held) → List Node → Pool → List ℕ
 allSlots held nodes p = map (λ h. h .0) held ++ (givenSlots nodes (p .given) ++ freeSlots (p .slots .gaps))
 
 -- the pools that occur over a highest slot: after record 50, after each slot request, while more is resolved and the building stack is
--- taken from. Every pool of a run is one: `allocate` is called only for a request, for a child while building and for the name. Others are
--- too (any node may be asked for), which only makes the laws about them stronger
+-- taken from. Every pool of which a run asks a slot is one (slotOccurs, proofs/Covered.antt): for a request, for a child while building and
+-- for the name. Others are too (any node may be asked for), which only makes the laws about them stronger
 pub data Occurs (top : ℕ) (held : List (ℕ × Held)) : List Node → Pool → Type 0 where
   afterDefinitions :
       (definitions : List (Definition ℕ)) (constants : List (Entry ℕ Reference)) (table : List (Entry ℕ Goal)) (n : ℕ) (d : Defined)

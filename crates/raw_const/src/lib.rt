@@ -1,5 +1,5 @@
 // Entries of a constant pool and rows of a bootstrap table as bytes: Krakatau's raw_const.rs (document 01, "Building"; JVMS 4.4, 4.7.23).
-// That JVMS's reader finds again what is written here is the law Reads of the crate laws.
+// That JVMS's reader finds again what is written here is `cpInfo-entryBytes` of the crate laws.
 ghost use mathlib.Core.Path.{_≡_};
 ghost use mathlib.Core.List.{[], _∷_, _++_, map};
 ghost use Prim.Native.Nat.{ℕ, _+_, _*_, _≤_, _<_};

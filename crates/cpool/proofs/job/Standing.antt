@@ -12,7 +12,7 @@ use Rattle.definition.specs.Basics.{lookup}
 use Rattle.definition.specs.Bytes.{return, andThen, _>>=_, one, two, many}
 use Rattle.definition.specs.Shapes.{Kind, constant, bootstrap, Field, text, bits, byte, to, bootstrapShape, Entry, withKids, withLiteral, withByte, readFields, readEntry}
 use Rattle.definition.specs.Job.{Reference, raw, entry, name, Definition, define, named, placed, Request, ClassSlot, slot, request, Build, Body, ofEntry, ofName, ofRaw, bodies, shortName, referenceForm, reference, readBody, readDefinition, asks, readRequest, classForm, nameForm, readBuild}
-use Rattle.cpool.specs.declared.job.Extent.{Extent}
+use Rattle.cpool.specs.declared.job.Stretch.{Stretch}
 use Rattle.raw_const.specs.Entries.{fieldsOf}
 use Rattle.raw_const.specs.declared.Shape.{Shape}
 use Rattle.raw_const.specs.declared.Shape.the-variants.{Text, Bits, One, Two, Dynamic, KindOne, Unknown}
@@ -25,10 +25,10 @@ use Rattle.cpool.proofs.job.Stepping.{entry-read, name-read, raw-read}
 use Rattle.cpool.proofs.job.Taking.{takes-name, takes-reference, finds-then, byte-then, two-then, bytes-then, ends}
 
 -- from a place on, so many bytes
-abbrev pub extent : ℕ → ℕ → Extent
-extent start n = record { start = start; end = start + n }
+abbrev pub stretch : ℕ → ℕ → Stretch
+stretch start n = record { start = start; end = start + n }
 
-pub spans : (s : List ℕ) (start n : ℕ) (l : List ℕ) → start + n ≤ length s → take n (drop start s) ≡ l → Spans s (extent start n) l
+pub spans : (s : List ℕ) (start n : ℕ) (l : List ℕ) → start + n ≤ length s → take n (drop start s) ≡ l → Spans s (stretch start n) l
 spans s start n l h e =
     let size : start + n - start ≡ n = omega arith in
     record { are = rw size e; rising = omega arith; within = h }
@@ -37,7 +37,7 @@ module _ (s : List ℕ) (at : ℕ) where
   -- ---- a name
 
   pub name-there :
-      (l : List ℕ) (next : ℕ) → Found shortName s at l next → (at < length s) × Spans s (extent (at + 1) (getD s at 0)) l × (at + 1 + getD s at 0 ≡ next)
+      (l : List ℕ) (next : ℕ) → Found shortName s at l next → (at < length s) × Spans s (stretch (at + 1) (getD s at 0)) l × (at + 1 + getD s at 0 ≡ next)
   unfolding shortName
   name-there l next f =
       let b = byte-then s at (λ size. many size one) l (drop next s) (f .read) in

@@ -1,4 +1,4 @@
--- One record of the form pass: what was skipped by its shape is what the definition reads, and counts as the shape says. Assumes nothing.
+-- One record of the form pass: what was skipped by its first byte is what the definition reads, and counts as the byte says. Assumes nothing.
 use mathlib.Core.Bool.{Bool, true, false}
 use mathlib.Core.List.{List, [], _∷_}
 use mathlib.Core.Option.{Option, none, some}

@@ -16,7 +16,7 @@ use Rattle.definition.specs.Basics.{lookup}
 use Rattle.definition.specs.Shapes.{Kind, constant, bootstrap, Entry, bootstrapShape}
 use Rattle.definition.specs.Job.{Reference, name, define, bodies, shortName, reference}
 use Rattle.definition.specs.Form.{kindOf}
-use Rattle.cpool.specs.declared.job.Extent.{Extent}
+use Rattle.cpool.specs.declared.job.Stretch.{Stretch}
 use Rattle.cpool.specs.declared.job.RefType.the-variants as refType
 use Rattle.raw_const.specs.Entries.{fieldsOf}
 use Rattle.raw_const.specs.declared.Shape.{Shape}
@@ -28,7 +28,7 @@ use Rattle.cpool.proofs.job.Opening.{the-type}
 use Rattle.cpool.specs.Forms.{entryBody, bodyOf, tableOf}
 use Rattle.cpool.specs.Stored.{Found, InTurn, Stands, WhatStands, ReferenceStands, WhatReference, EntryStands, WhatEntry, Spans, Tells, anyDefinition, firstKind, kindIn, kidKind, bytesBetween, KidAt}
 use Rattle.cpool.proofs.job.Laws.{number}
-use Rattle.cpool.proofs.job.Standing.{extent, spans, name-there, Says, reference-says, Refers, FieldsAre, BootstrapIs, EntryIs, tag-there, entry-there}
+use Rattle.cpool.proofs.job.Standing.{stretch, spans, name-there, Says, reference-says, Refers, FieldsAre, BootstrapIs, EntryIs, tag-there, entry-there}
 
 -- how many references a constant has, by its shape
 abbrev pub kidsOf : Shape → ℕ
@@ -111,7 +111,7 @@ module _ (s : List ℕ) (at : ℕ) where
   pub name-room : Stands shortName s at → at + 1 + getD s at 0 ≤ length s
   name-room h = let n = name-there s at (h .0) (h .1) (h .2) in omega (arith, n .2, h .2 .within)
 
-  pub name-spans : WhatStands shortName s at (λ l next. Spans s (extent (at + 1) (getD s at 0)) l × (at + 1 + getD s at 0 ≡ next))
+  pub name-spans : WhatStands shortName s at (λ l next. Spans s (stretch (at + 1) (getD s at 0)) l × (at + 1 + getD s at 0 ≡ next))
   name-spans l next f = let n = name-there s at l next f in (n .1, n .2)
 
   -- ---- references
@@ -149,11 +149,11 @@ module _ (s : List ℕ) (at : ℕ) where
     pub name-stands : ReferenceStands s at → Stands shortName s (at + 1)
     name-stands h = let g = named-there (h .0) (h .1 .0) (h .1 .1) (h .1 .2) in (g .0, h .1 .1, g .1)
 
-    pub name-cited : (r : Extent) → WhatStands shortName s (at + 1) (λ l next. Spans s r l × (r .end ≡ next)) → WhatReference s at (λ kind a next. Tells s kind a (refType.Sym r))
+    pub name-cited : (r : Stretch) → WhatStands shortName s (at + 1) (λ l next. Spans s r l × (r .end ≡ next)) → WhatReference s at (λ kind a next. Tells s kind a (refType.Sym r))
     unfolding Tells
     name-cited r w kind a next f = let g = named-there kind a next f in (g .0, w (g .0) next (g .1) .0, g .2)
 
-    pub name-behind : (r : Extent) → WhatStands shortName s (at + 1) (λ l next. Spans s r l × (r .end ≡ next)) → WhatReference s at (λ kind a next. r .end ≡ next)
+    pub name-behind : (r : Stretch) → WhatStands shortName s (at + 1) (λ l next. Spans s r l × (r .end ≡ next)) → WhatReference s at (λ kind a next. r .end ≡ next)
     name-behind r w kind a next f = let g = named-there kind a next f in w (g .0) next (g .1) .1
 
   pub raw-cited : getD s at 0 ≡ 0 → WhatReference s at (λ kind a next. Tells s kind a (refType.Raw (number s (at + 1))))
