@@ -1,5 +1,5 @@
 -- What requests keep, and what each answer is: the slot of what its reference became. Assumes nothing.
-use mathlib.Core.Bool.{Bool, not, _||_}
+use mathlib.Core.Bool.{Bool, true, not, _||_}
 use mathlib.Core.List.{List, [], _∷_, _++_}
 use mathlib.Core.Logic.{inl, inr}
 use mathlib.Core.Option.{some}
@@ -8,7 +8,7 @@ use Prim.Native.Nat.{ℕ, zero, suc, _+_, _-_, _≤_, _<_}
 use native.Mathlib.Omega.{arith}
 use lib.Dec.{leb, ltb}
 use lib.ListN.{length, getElem?, length-append}
-use borrow.Author.Tests.{ltb-true, ltb-false}
+use borrow.Author.Tests.{ltb-true, ltb-false, leb-true}
 use Rattle.definition.specs.Basics.{good, atRecord, unless}
 use Rattle.definition.specs.Shapes.{Entry, bootstrapTag, withKids}
 use Rattle.definition.specs.Job.{Request}
@@ -18,8 +18,8 @@ use Rattle.definition.specs.Slots.{highestLdc}
 use Rattle.definition.specs.Building.{Pool, allocate, slotOf, kidsOf}
 use Rattle.definition.specs.Layout.{Ready, answer, answerAll}
 use Rattle.laws.specs.Statements.{Occurs, afterRequest, moreResolved}
-use Rattle.laws.proofs.Lists.{clash, found-inside, found-read}
-use Rattle.laws.proofs.Results.{good-inj, good-then, atRecord-good, decided}
+use Rattle.laws.proofs.Lists.{clash, none≢some, some-inj, found-inside, found-read}
+use Rattle.laws.proofs.Results.{good-inj, good-then, atRecord-good, unless-good, decided}
 use Rattle.laws.proofs.Each.{Each, each-weaker}
 use Rattle.laws.proofs.Requests.{Met, old, new, met}
 use Rattle.laws.proofs.Kept.{keeps}
@@ -195,6 +195,44 @@ answers-many names constants place (q ∷ requests) w r e =
     good-then (atRecord place (answer (q .ldc) (goalOf names constants (q .what)) w)) _ r e λ a here e₁.
     good-then (answerAll names constants (suc place) requests (a .1)) _ r e₁ λ rest there e₂.
     ap (λ (x : List ℕ × Ready). length (x .0)) (sym (good-inj e₂)) ∙ ap suc (answers-many names constants (suc place) requests (a .1) rest there)
+
+-- an ldc answer is at most 255
+answer-low : (goal : Goal) (w : Ready) (r : ℕ × Ready) → answer true goal w ≡ good r → r .0 ≤ 255
+unfolding answer
+answer-low goal w r e =
+    good-then (resolve (w .table) goal (w .resolved)) _ r e λ s _ e₁.
+    good-then (slotOf (s .nodes) true (childOf (s .marks) goal) (w .pool)) _ r e₁ λ a _ e₂.
+    good-then (unless (leb (a .0) 255) 16) _ r e₂ λ u low e₃.
+    subst (λ n. n ≤ 255) (ap (λ x. x .0) (good-inj e₃)) (leb-true (a .0) 255 (unless-good (leb (a .0) 255) 16 u low))
+
+pub answers-low :
+    (names : List Naming) (constants place : ℕ) (requests : List Request) (w : Ready) (r : List ℕ × Ready) →
+    answerAll names constants place requests w ≡ good r →
+    (i : ℕ) (q : Request) (a : ℕ) →
+    getElem? requests i ≡ some q →
+    getElem? (r .0) i ≡ some a →
+    q .ldc ≡ true →
+    a ≤ 255
+unfolding answerAll
+answers-low names constants place [] w r e i q a at there ldc = none≢some at
+answers-low names constants place (p ∷ requests) w r e i q a at there ldc =
+    good-then (atRecord place (answer (p .ldc) (goalOf names constants (p .what)) w)) _ r e λ x here e₁.
+    good-then (answerAll names constants (suc place) requests (x .1)) _ r e₁ λ rest later e₂.
+    let is : x .0 ∷ rest .0 ≡ r .0 = ap (λ y. y .0) (good-inj e₂) in
+    ways x (rest .0) i at (subst (λ l. getElem? l i ≡ some a) (sym is) there) (atRecord-good place (answer (p .ldc) (goalOf names constants (p .what)) w) x here)
+    (answers-low names constants (suc place) requests (x .1) rest later)
+  where
+    ways :
+        (x : ℕ × Ready) (rest : List ℕ) (i : ℕ) →
+        getElem? (p ∷ requests) i ≡ some q →
+        getElem? (x .0 ∷ rest) i ≡ some a →
+        answer (p .ldc) (goalOf names constants (p .what)) w ≡ good x →
+        ((i : ℕ) (q : Request) (a : ℕ) → getElem? requests i ≡ some q → getElem? rest i ≡ some a → q .ldc ≡ true → a ≤ 255) →
+        a ≤ 255
+    ways x rest zero at there here later =
+        let asked : p .ldc ≡ true = ap (λ y. y .ldc) (some-inj at) ∙ ldc in
+        subst (λ n. n ≤ 255) (some-inj there) (answer-low (goalOf names constants (p .what)) w x (rw asked at here))
+    ways x rest (suc i) at there here later = later i q a at there ldc
 
 module _ (table : List (Entry ℕ Goal)) (cited : Cited table) (top : ℕ) (held : List (ℕ × Held)) (raws : List (ℕ × ℕ)) (names : List Naming) (constants : ℕ) where
   -- a request whose goal is in the table and leads to no bootstrap

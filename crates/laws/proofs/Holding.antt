@@ -34,7 +34,7 @@ use Rattle.laws.proofs.Citing.{jobConstants}
 use Rattle.laws.proofs.JobTable.{asks-good, numbered-cited, definitions-low, requests-low}
 use Rattle.laws.proofs.Contents.{content-holds, content-behind}
 use Rattle.laws.proofs.Faithful.{Settled}
-use Rattle.laws.proofs.Asked.{ConstantGoal, Answered, answers-many}
+use Rattle.laws.proofs.Asked.{ConstantGoal, Answered, answers-many, answers-low}
 use Rattle.laws.proofs.Numbers.{SlotFor, SlotsKept, slots-twice, slot-kept, slots-kept, slotsStay, rawRowsThere}
 use Rattle.laws.proofs.Whole.{facts, rising, table, asked, nodes, marks, node-at, raw-node, index-node, indexes, indexes-are, rows, starts-here}
 use Rattle.laws.proofs.ReadBack.{stg, end, allNodes, raw, pool, owned, soundly, raw-keys, raw-wide, count, starts-at, index-rises, owner-tag, reads}
@@ -263,7 +263,8 @@ module _ (bytes : List ℕ) (job : Job (List ℕ)) (l : Layout) (are : IsBytes b
             λ i q at.
             let (a, there, h) = asked bytes job l are formed laid .2 i q at in
             let good = asks-good (numbered job) (numbered-cited bytes job are formed) (definitions-low bytes job are formed) (requests-low bytes job are formed) i q at in
-            (a, there, λ depth. subst (λ g. Shows depth f g a) (same-goal bytes job l are formed laid (q .what)) (answer-shows depth (isOf bytes job l are formed laid (q .what)) a (good .1) h));
+            let low = answers-low (stg bytes job l are formed laid .defined .names) _ _ (job .requests) (stg bytes job l are formed laid .ready) (stg bytes job l are formed laid .answers, stg bytes job l are formed laid .asked) (stg bytes job l are formed laid .isAsked) in
+            (a, there, low i q a at there, λ depth. subst (λ g. Shows depth f g a) (same-goal bytes job l are formed laid (q .what)) (answer-shows depth (isOf bytes job l are formed laid (q .what)) a (good .1) h));
         placedThere = λ i n e kind at depth. placed-shows depth n e kind (placed-there i n e kind at);
         classThere = class-at (classSlotOf (stg bytes job l are formed laid .answers) (job .build .class));
         nameThere = λ wanted. named-there wanted (end bytes job l are formed laid .name);

@@ -7,8 +7,9 @@ use mathlib.Core.Option.{some}
 use mathlib.Core.Path.{_≡_, refl, sym, ap, _∙_}
 use Prim.Native.Nat.{ℕ, zero, suc, _+_}
 use lib.Dec.{leb}
-use lib.ListN.{length, getElem?, length-map}
+use lib.ListN.{length, take, getElem?, length-map}
 use Rattle.definition.specs.Basics.{Result, good, bad, _>>=_, Refusal, atRecord, unless}
+use Rattle.definition.specs.Bytes.{be2}
 use Rattle.definition.specs.Shapes.{Entry, withLiteral}
 use Rattle.definition.specs.Job.{Reference, Definition, define, named, placed, Job}
 use Rattle.definition.specs.Form.{form}
@@ -228,6 +229,17 @@ run-laid bytes job lent b formed e =
     let (l, laid, is) = good-first (layout highestSlot (numbered job)) _ b (sym p ∙ e) in
     (l, laid, good-inj is)
 
+-- one layout, in which each shows its own literals, and what is the same for both
+abbrev OneLayout : List Literal → List Literal → Result Refusal Built → Result Refusal Built → Type 0
+OneLayout s₁ s₂ o₁ o₂ =
+    (l : Layout) × (b₁ : Built) × (b₂ : Built) × (o₁ ≡ good b₁) × (o₂ ≡ good b₂) × (b₁ ≡ render s₁ l) × (b₂ ≡ render s₂ l)
+    × (b₁ .answers ≡ b₂ .answers) × (take 2 (b₁ .pool) ≡ take 2 (b₂ .pool)) × (b₁ .bootstrapCount ≡ b₂ .bootstrapCount)
+    × (b₁ .bootstraps ≡ b₂ .bootstraps) × (b₁ .name ≡ b₂ .name) × (b₁ .visits ≡ b₂ .visits)
+
+one-layout : (s₁ s₂ : List Literal) (o₁ o₂ : Result Refusal Built) (l : Layout) → o₁ ≡ good (render s₁ l) → o₂ ≡ good (render s₂ l) → OneLayout s₁ s₂ o₁ o₂
+unfolding render be2
+one-layout s₁ s₂ o₁ o₂ l p₁ p₂ = (l, render s₁ l, render s₂ l, p₁, p₂, refl, refl, refl, refl, refl, refl, refl, refl)
+
 pub shape : Shape
 shape bytes₁ bytes₂ j₁ j₂ lent₁ lent₂ formed₁ formed₂ alike room₁ room₂ =
     let p₁ = room-run lent₁ bytes₁ room₁ ∙ build-layout bytes₁ j₁ formed₁ in
@@ -240,6 +252,6 @@ shape bytes₁ bytes₂ j₁ j₂ lent₁ lent₂ formed₁ formed₂ alike room
         run lent₁ bytes₁ ≡ (o >>= λ l. good (render (literals j₁) l)) →
         run lent₂ bytes₂ ≡ (o >>= λ l. good (render (literals j₂) l)) →
         ((r : Refusal) × (run lent₁ bytes₁ ≡ bad r) × (run lent₂ bytes₂ ≡ bad r))
-        ⊎ ((l : Layout) × (run lent₁ bytes₁ ≡ good (render (literals j₁) l)) × (run lent₂ bytes₂ ≡ good (render (literals j₂) l)))
-    ways (good l) p₁ p₂ = inr (l, p₁, p₂)
+        ⊎ OneLayout (literals j₁) (literals j₂) (run lent₁ bytes₁) (run lent₂ bytes₂)
+    ways (good l) p₁ p₂ = inr (one-layout (literals j₁) (literals j₂) (run lent₁ bytes₁) (run lent₂ bytes₂) l p₁ p₂)
     ways (bad r) p₁ p₂ = inl (r, p₁, p₂)

@@ -70,15 +70,17 @@ pub record Alike (j₁ j₂ : Job (List ℕ)) : Type 0 where
       (i k : ℕ) (a₁ b₁ a₂ b₂ : Literal) → at j₁ i a₁ → at j₁ k b₁ → at j₂ i a₂ → at j₂ k b₂ → a₁ .0 ≡ b₁ .0 →
       Among (a₁ .0) (1 ∷ 3 ∷ 4 ∷ 5 ∷ 6 ∷ []) → (a₁ .1 ≡ b₁ .1) ↔ (a₂ .1 ≡ b₂ .1)
 
--- SHAPE: two such jobs, not refused for length, work or room, are refused alike, or get one layout, in which each shows its own literals:
--- `render` uses them only in the pool's entries and the class name, so answers, counts, bootstrap bytes, name slot and visits are the same
+-- SHAPE: two such jobs, not refused for length, work or room, are refused alike, or get one layout, in which each shows its own literals
+-- (`render`, which uses them only in the pool's entries and the class name), and the same answers, counts, bootstrap bytes, name and visits
 abbrev pub Shape : Type 0
 Shape =
     (bytes₁ bytes₂ : List ℕ) (j₁ j₂ : Job (List ℕ)) (lent₁ lent₂ : Lent) → form bytes₁ ≡ good j₁ → form bytes₂ ≡ good j₂ → Alike j₁ j₂ →
     let enough : Lent → List ℕ → Type 0 = λ n job. (r : Refusal) → run n job ≡ bad r → (r .code ≢ 1) × (r .code ≢ 2) × (r .code ≢ 18) in
     enough lent₁ bytes₁ → enough lent₂ bytes₂ →
     ((r : Refusal) × (run lent₁ bytes₁ ≡ bad r) × (run lent₂ bytes₂ ≡ bad r))
-    ⊎ ((l : Layout) × (run lent₁ bytes₁ ≡ good (render (literals j₁) l)) × (run lent₂ bytes₂ ≡ good (render (literals j₂) l)))
+    ⊎ ((l : Layout) × (b₁ : Built) × (b₂ : Built) × (run lent₁ bytes₁ ≡ good b₁) × (run lent₂ bytes₂ ≡ good b₂)
+    × (b₁ ≡ render (literals j₁) l) × (b₂ ≡ render (literals j₂) l) × (b₁ .answers ≡ b₂ .answers) × (take 2 (b₁ .pool) ≡ take 2 (b₂ .pool))
+    × (b₁ .bootstrapCount ≡ b₂ .bootstrapCount) × (b₁ .bootstraps ≡ b₂ .bootstraps) × (b₁ .name ≡ b₂ .name) × (b₁ .visits ≡ b₂ .visits))
 
 -- a raw constant or a raw bootstrap
 unfoldable pub isRaw : Definition (List ℕ) → Bool
@@ -115,9 +117,8 @@ givenSlots nodes given = concat (map (λ r. elim (isWide (tagAt nodes (r .0))) [
 unfoldable pub allSlots : List (ℕ × Held) → List Node → Pool → List ℕ
 allSlots held nodes p = map (λ h. h .0) held ++ (givenSlots nodes (p .given) ++ freeSlots (p .slots .gaps))
 
--- the pools that occur over a highest slot: after record 50, after each slot request, while more is resolved and the building stack is
--- taken from. Every pool of which a run asks a slot is one (slotOccurs, proofs/Covered.antt): for a request, for a child while building and
--- for the name. Others are too (any node may be asked for), which only makes the laws about them stronger
+-- the pools that occur over a highest slot: after record 50, after each slot request, while more is resolved and the stack is taken from.
+-- Every pool of which a run asks a slot is one (slotOccurs, proofs/Covered.antt); others are too, which only makes the laws stronger
 pub data Occurs (top : ℕ) (held : List (ℕ × Held)) : List Node → Pool → Type 0 where
   afterDefinitions :
       (definitions : List (Definition ℕ)) (constants : List (Entry ℕ Reference)) (table : List (Entry ℕ Goal)) (n : ℕ) (d : Defined)
@@ -239,7 +240,7 @@ pub record HeldBy (f : Finished) (requests : List Request) (build : Build) (b : 
   pub asMany : length (b .answers) ≡ length requests
   pub answered :
       (i : ℕ) (q : Request) → getElem? requests i ≡ some q → (a : ℕ) × (getElem? (b .answers) i ≡ some a)
-      × ((depth : ℕ) → Shows depth f (leadsTo f (q .what)) a)
+      × (q .ldc ≡ true → a ≤ 255) × ((depth : ℕ) → Shows depth f (leadsTo f (q .what)) a)
   pub placedThere :
       (i n e : ℕ) (kind : Kind) → getElem? (f .definitions) i ≡ some (placed kind n e) → (depth : ℕ) →
       Shows depth f (leadsTo f (entry kind e)) n
@@ -247,8 +248,8 @@ pub record HeldBy (f : Finished) (requests : List Request) (build : Build) (b : 
   pub nameThere : nameWanted (build .nameByte) (b .bootstrapCount) ≡ true → textAt f (b .name) ≡ some attributeName
   pub noName : nameWanted (build .nameByte) (b .bootstrapCount) ≡ false → b .name ≡ 0
 
--- HOLDS: of a job of bytes, the finished pool and bootstraps read under JVMS; there are as many answers as requests, and each shows, to any
--- depth, the constant that was asked for; so does every raw definition at its slot or index; the class name is the one at the class slot;
+-- HOLDS: of a job of bytes, the finished pool and bootstraps read under JVMS; there are as many answers as requests, an ldc one at most 255,
+-- and each shows, to any depth, the constant that was asked for; so does every raw definition at its slot or index; the class name is the one at the class slot;
 -- and the name slot shows the name if it is wanted, and else is 0
 abbrev pub Holds : Type 0
 Holds =
