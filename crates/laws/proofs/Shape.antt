@@ -7,7 +7,7 @@ use mathlib.Core.Option.{some}
 use mathlib.Core.Path.{_≡_, refl, sym, ap, _∙_}
 use Prim.Native.Nat.{ℕ, zero, suc, _+_}
 use lib.Dec.{leb}
-use lib.ListN.{length, take, getElem?, length-map}
+use lib.ListN.{length, getElem?, length-map}
 use Rattle.definition.specs.Basics.{Result, good, bad, _>>=_, Refusal, atRecord, unless}
 use Rattle.definition.specs.Bytes.{be2}
 use Rattle.definition.specs.Shapes.{Entry, withLiteral}
@@ -229,29 +229,36 @@ run-laid bytes job lent b formed e =
     let (l, laid, is) = good-first (layout highestSlot (numbered job)) _ b (sym p ∙ e) in
     (l, laid, good-inj is)
 
--- one layout, in which each shows its own literals, and what is the same for both
-abbrev OneLayout : List Literal → List Literal → Result Refusal Built → Result Refusal Built → Type 0
-OneLayout s₁ s₂ o₁ o₂ =
-    (l : Layout) × (b₁ : Built) × (b₂ : Built) × (o₁ ≡ good b₁) × (o₂ ≡ good b₂) × (b₁ ≡ render s₁ l) × (b₂ ≡ render s₂ l)
-    × (b₁ .answers ≡ b₂ .answers) × (take 2 (b₁ .pool) ≡ take 2 (b₂ .pool)) × (b₁ .bootstrapCount ≡ b₂ .bootstrapCount)
-    × (b₁ .bootstraps ≡ b₂ .bootstraps) × (b₁ .name ≡ b₂ .name) × (b₁ .visits ≡ b₂ .visits)
-
-one-layout : (s₁ s₂ : List Literal) (o₁ o₂ : Result Refusal Built) (l : Layout) → o₁ ≡ good (render s₁ l) → o₂ ≡ good (render s₂ l) → OneLayout s₁ s₂ o₁ o₂
-unfolding render be2
-one-layout s₁ s₂ o₁ o₂ l p₁ p₂ = (l, render s₁ l, render s₂ l, p₁, p₂, refl, refl, refl, refl, refl, refl, refl, refl)
+-- a layout is refused or not
+laid-or-refused :
+    {C : Type 0} (o : Result Refusal Layout) → ((l : Layout) → o ≡ good l → C) → ((r : Refusal) → o ≡ bad r → C) → C
+laid-or-refused (good l) f g = f l refl
+laid-or-refused (bad r) f g = g r refl
 
 pub shape : Shape
+unfolding render be2
 shape bytes₁ bytes₂ j₁ j₂ lent₁ lent₂ formed₁ formed₂ alike room₁ room₂ =
     let p₁ = room-run lent₁ bytes₁ room₁ ∙ build-layout bytes₁ j₁ formed₁ in
     let p₂ = room-run lent₂ bytes₂ room₂ ∙ build-layout bytes₂ j₂ formed₂ in
     let q = ap (layout highestSlot) (same-numbered bytes₁ bytes₂ j₁ j₂ formed₁ formed₂ alike) in
-    ways (layout highestSlot (numbered j₁)) p₁ (p₂ ∙ ap (λ o. o >>= λ l. good (render (literals j₂) l)) (sym q))
-  where
-    ways :
-        (o : Result Refusal Layout) →
-        run lent₁ bytes₁ ≡ (o >>= λ l. good (render (literals j₁) l)) →
-        run lent₂ bytes₂ ≡ (o >>= λ l. good (render (literals j₂) l)) →
-        ((r : Refusal) × (run lent₁ bytes₁ ≡ bad r) × (run lent₂ bytes₂ ≡ bad r))
-        ⊎ OneLayout (literals j₁) (literals j₂) (run lent₁ bytes₁) (run lent₂ bytes₂)
-    ways (good l) p₁ p₂ = inr (one-layout (literals j₁) (literals j₂) (run lent₁ bytes₁) (run lent₂ bytes₂) l p₁ p₂)
-    ways (bad r) p₁ p₂ = inl (r, p₁, p₂)
+    let shown₁ : Result Refusal Layout → Result Refusal Built = λ o. o >>= λ l. good (render (literals j₁) l) in
+    let shown₂ : Result Refusal Layout → Result Refusal Built = λ o. o >>= λ l. good (render (literals j₂) l) in
+    laid-or-refused
+    (layout highestSlot (numbered j₁))
+    (λ l e.
+    inr (
+      l,
+      render (literals j₁) l,
+      render (literals j₂) l,
+      p₁ ∙ ap shown₁ e,
+      p₂ ∙ ap shown₂ (sym q ∙ e),
+      refl,
+      refl,
+      refl,
+      refl,
+      refl,
+      refl,
+      refl,
+      refl,
+    ))
+    (λ r e. inl (r, p₁ ∙ ap shown₁ e, p₂ ∙ ap shown₂ (sym q ∙ e)))
