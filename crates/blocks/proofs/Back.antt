@@ -7,8 +7,8 @@ use lib.Seq.{take-append-seam}
 use Rattle.definition.specs.Basics.{Result, good, bad, Refusal}
 use Rattle.definition.specs.Run.{overwrite}
 use Rattle.definition.specs.Blocks.{readBlocks, writeBlocks, blocksAfter}
-use Rattle.laws.proofs.Results.{good-inj, bad≢good}
-use Rattle.laws.proofs.Blocks.{blocksBack}
+use Rattle.facts.proofs.Results.{good-inj, bad≢good}
+use Rattle.laws.proofs.blocks.BlocksBack.{blocksBack}
 use Rattle.blocks.specs.Answers.{readAnswer, writtenAnswer, lengthOf}
 use Rattle.blocks.specs.declared.BlocksRead.{BlocksRead}
 use Rattle.blocks.specs.declared.BlocksWritten.{BlocksWritten}

@@ -25,14 +25,11 @@ use Rattle.definition.specs.Run.{shown, Built, render, Lent, Memory, lentOf, lo
 use Rattle.definition.specs.Jvms.{Shown, readPool, readBootstraps}
 use Rattle.definition.specs.Blocks.{block, blockCount, blockAt, blockData, rightUse, rightBlock, mostBlocks}
 use Rattle.definition.specs.Blocks.{readBlocks, blocksFor, writeBlocks, blocksAfter}
+use Rattle.facts.specs.Lists.{Among}
 
 -- a byte string
 abbrev pub IsBytes : List ℕ → Type 0
 IsBytes l = (i : ℕ) → getD l i 0 < 256
-
--- stands in a list
-abbrev pub Among : {A : Type 0} → A → List A → Type 0
-Among a l = (i : ℕ) × (getElem? l i ≡ some a)
 
 -- NUMBERING: two literals of a job have one number exactly when they are equal, kind included, and the number stands for its bytes
 abbrev pub Numbering : Type 0

@@ -1,0 +1,80 @@
+-- General facts about lists made of parts: `from` and `concat`, and a list cut into parts of one length. Assumes nothing.
+use mathlib.Core.List.{List, _∷_}
+use mathlib.Core.Option.{some}
+use mathlib.Core.Path.{_≡_, refl, sym, ap, subst, _∙_}
+use Prim.Native.Nat.{ℕ, zero, suc, _+_, _*_, _≤_, _<_}
+use native.Mathlib.Nat.{mul-zero, mul-suc, add-zero}
+use native.Mathlib.Omega.{arith}
+use lib.ListN.{length, take, drop, getElem?, length-append}
+use lib.Seq.{take-at, drop-append-add, drop-drop, take-add}
+use Rattle.definition.specs.Basics.{concat, from}
+use Rattle.facts.proofs.Lists.{none≢some, inside-found}
+
+-- ---- the list f k, f (k + 1), .. of n
+
+module _ {A : Type 0} where
+  -- it has n elements
+  pub length-from : (f : ℕ → A) (k n : ℕ) → length (from f k n) ≡ n
+  unfolding from
+  length-from f k zero = refl
+  length-from f k (suc n) = ap suc (length-from f (suc k) n)
+
+  -- two functions that agree on its numbers give the same list
+  pub from-same : (f g : ℕ → A) (k n : ℕ) → ((i : ℕ) → k ≤ i → i < k + n → f i ≡ g i) → from f k n ≡ from g k n
+  unfolding from
+  from-same f g k zero e = refl
+  from-same f g k (suc n) e =
+      λ i. e k (omega arith) (omega arith) i ∷ from-same f g (suc k) n (λ j low high. e j (omega arith) (omega arith)) i
+
+  -- what stands at place i of it
+  pub from-at : (f : ℕ → A) (k n i : ℕ) (a : A) → getElem? (from f k n) i ≡ some a → (i < n) × (f (k + i) ≡ a)
+  unfolding from
+  from-at f k zero i a e = none≢some e
+  from-at f k (suc n) zero a e = (omega arith, ap f (add-zero k) ∙ (cc))
+  from-at f k (suc n) (suc i) a e =
+      let there = from-at f (suc k) n i a e in
+      let number : k + suc i ≡ suc k + i = omega arith in
+      (omega arith, ap f number ∙ there .1)
+
+  pub from-place : (f : ℕ → A) (k n i : ℕ) → i < n → getElem? (from f k n) i ≡ some (f (k + i))
+  from-place f k n i h =
+      let there = inside-found (from f k n) i (subst (λ (m : ℕ). i < m) (sym (length-from f k n)) h) in
+      there .1 ∙ ap some (sym (from-at f k n i (there .0) (there .1) .1))
+
+-- ---- parts of one length m
+
+module _ {A : Type 0} (m : ℕ) where
+  -- n of them come to m * n
+  pub length-joined : (f : ℕ → List A) (k n : ℕ) → ((i : ℕ) → k ≤ i → i < k + n → length (f i) ≡ m) → length (concat (from f k n)) ≡ m * n
+  unfolding from concat
+  length-joined f k zero e = sym (mul-zero m)
+  length-joined f k (suc n) e =
+      let here : length (f k) ≡ m = e k (omega arith) (omega arith) in
+      let rest = length-joined f (suc k) n (λ i low high. e i (omega arith) (omega arith)) in
+      length-append (f k) (concat (from f (suc k) n)) ∙ omega (arith, mul-suc m n)
+
+  -- the part cut out at m * i is part i
+  pub cut-out :
+      (f : ℕ → List A) (k n : ℕ) →
+      ((i : ℕ) → k ≤ i → i < k + n → length (f i) ≡ m) →
+      (i : ℕ) →
+      i < n →
+      take m (drop (m * i) (concat (from f k n))) ≡ f (k + i)
+  unfolding from concat
+  cut-out f k zero e i h = absurd (omega arith)
+  cut-out f k (suc n) e zero h =
+      rw (mul-zero, add-zero) (take-at (f k) (concat (from f (suc k) n)) m (e k (omega arith) (omega arith)))
+  cut-out f k (suc n) e (suc i) h =
+      let here : length (f k) ≡ m = e k (omega arith) (omega arith) in
+      let far : m * suc i ≡ length (f k) + m * i = omega (arith, mul-suc m i) in
+      let number : k + suc i ≡ suc k + i = omega arith in
+      rw (far, drop-append-add, number) (cut-out f (suc k) n (λ j low high. e j (omega arith) (omega arith)) i (omega arith))
+
+  -- n parts cut from a list one after the other are its stretch of m * n
+  pub cut-join : (l : List A) (k n : ℕ) → concat (from (λ i. take m (drop (m * i) l)) k n) ≡ take (m * n) (drop (m * k) l)
+  unfolding from concat
+  cut-join l k zero = rw mul-zero
+  cut-join l k (suc n) =
+      let long : m * suc n ≡ m + m * n = omega (arith, mul-suc m n) in
+      let far : m * suc k ≡ m * k + m = omega (arith, mul-suc m k) in
+      rw (cut-join l (suc k) n, far, long, take-add, drop-drop)

@@ -1,0 +1,7 @@
+pub mod Lists
+pub mod Tables
+pub mod Each
+pub mod Chunks
+pub mod Sums
+pub mod Results
+pub mod Outcomes

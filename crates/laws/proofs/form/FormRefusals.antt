@@ -1,0 +1,90 @@
+-- What the form pass refuses has a number up to 13. Assumes nothing.
+use mathlib.Core.Bool.{Bool, true, false}
+use mathlib.Core.List.{List, [], _∷_}
+use mathlib.Core.Option.{some, Option, none}
+use mathlib.Core.Path.{_≡_, refl}
+use Prim.Native.Nat.{ℕ, zero, suc}
+use lib.Dec.{eqb}
+use lib.ListN.{length}
+use Rattle.definition.specs.Basics.{lookup}
+use Rattle.definition.specs.Job.{readDefinition, asks, readRequest, readBuild}
+use Rattle.definition.specs.Form.{Counts, counted, whole, formDefinition, formDefinitions, formRequests, form, formRequest, formBuild}
+use Rattle.facts.proofs.Outcomes.{Ends, well, refused, next, Anything, atRecord-ends, unless-ends}
+use Rattle.laws.proofs.form.RefusalNumbers.{Early}
+
+-- what was read, or 3
+whole-ends : {A : Type 0} {Z : ℕ → Type 0} → Early Z → (o : Option A) → Ends Z Anything (whole o)
+unfolding whole
+whole-ends z none = refused (z 3 tt tt)
+whole-ends z (some a) = well tt
+
+-- 3, 5 or 4
+pub formDefinition-ends : {Z : ℕ → Type 0} → Early Z → (c : Counts) (first : ℕ) (bytes : List ℕ) → Ends Z Anything (formDefinition c first bytes)
+unfolding formDefinition
+formDefinition-ends z c first bytes =
+    next _ (whole-ends z (readDefinition first bytes)) λ r _.
+    next _ (unless-ends _ 5 (z 5 tt tt)) λ _ _.
+    next _ (unless-ends _ 4 (z 4 tt tt)) λ _ _.
+    well tt
+
+-- 3 or 4
+pub formRequest-ends : {Z : ℕ → Type 0} → Early Z → (c : Counts) (first : ℕ) (bytes : List ℕ) → Ends Z Anything (formRequest c first bytes)
+unfolding formRequest
+formRequest-ends z c first bytes =
+    next _ (whole-ends z (readRequest (lookup first asks) bytes)) λ r _. next _ (unless-ends _ 4 (z 4 tt tt)) λ _ _. well tt
+
+-- 3, 4 or 3
+pub formBuild-ends : {Z : ℕ → Type 0} → Early Z → (requests place : ℕ) (bytes : List ℕ) → Ends (λ e. Z (e .code)) Anything (formBuild requests place bytes)
+unfolding formBuild
+formBuild-ends z requests place bytes =
+    next _ (atRecord-ends place (whole-ends z (readBuild bytes))) λ r _.
+    next _ (atRecord-ends place (unless-ends _ 4 (z 4 tt tt))) λ _ _.
+    next _ (atRecord-ends (suc place) (unless-ends _ 3 (z 3 tt tt))) λ _ _.
+    well tt
+
+-- Z is what is known of a refusal's number; 0 would tell that fuel ran out
+module _ {Z : ℕ → Type 0} (z : Early Z) (empty : Z 0) where
+  formDefinitions-early : (fuel : ℕ) (c : Counts) (place : ℕ) (bytes : List ℕ) → Ends (λ e. Z (e .code)) Anything (formDefinitions fuel c place bytes)
+  unfolding formDefinitions
+  formDefinitions-early zero c place [] = refused (z 3 tt tt)
+  formDefinitions-early zero c place (first ∷ bytes) = refused empty
+  formDefinitions-early (suc fuel) c place [] = refused (z 3 tt tt)
+  formDefinitions-early (suc fuel) c place (first ∷ bytes) = go (eqb first 0x50) refl (formDefinitions-early fuel)
+    where
+      go :
+          (b : Bool) →
+          eqb first 0x50 ≡ b →
+          ((c′ : Counts) (place′ : ℕ) (bytes′ : List ℕ) → Ends (λ e. Z (e .code)) Anything (formDefinitions fuel c′ place′ bytes′)) →
+          Ends (λ e. Z (e .code)) Anything (formDefinitions (suc fuel) c place (first ∷ bytes))
+      go true e ih = rw (e, formDefinitions) (well tt)
+      go false e ih =
+          rw
+          (e, formDefinitions)
+          (next _ (atRecord-ends place (formDefinition-ends z c first bytes)) λ r _.
+          next _ (ih (counted (r .0) c) (suc place) (r .1)) λ d _. well tt)
+
+  formRequests-early :
+      (fuel : ℕ) (c : Counts) (requests place : ℕ) (bytes : List ℕ) → Ends (λ e. Z (e .code)) Anything (formRequests fuel c requests place bytes)
+  unfolding formRequests
+  formRequests-early zero c requests place [] = refused (z 3 tt tt)
+  formRequests-early zero c requests place (first ∷ bytes) = refused empty
+  formRequests-early (suc fuel) c requests place [] = refused (z 3 tt tt)
+  formRequests-early (suc fuel) c requests place (first ∷ bytes) = go (eqb first 0x60) refl (formRequests-early fuel)
+    where
+      go :
+          (b : Bool) →
+          eqb first 0x60 ≡ b →
+          ((c′ : Counts) (requests′ place′ : ℕ) (bytes′ : List ℕ) → Ends (λ e. Z (e .code)) Anything (formRequests fuel c′ requests′ place′ bytes′)) →
+          Ends (λ e. Z (e .code)) Anything (formRequests (suc fuel) c requests place (first ∷ bytes))
+      go true e ih = rw (e, formRequests) (next _ (formBuild-ends z requests place bytes) λ b _. well tt)
+      go false e ih =
+          rw
+          (e, formRequests)
+          (next _ (atRecord-ends place (formRequest-ends z c first bytes)) λ r _.
+          next _ (ih c (suc requests) (suc place) (r .1)) λ rest _. well tt)
+
+  pub form-early : (bytes : List ℕ) → Ends (λ e. Z (e .code)) Anything (form bytes)
+  unfolding form
+  form-early bytes =
+      next _ (formDefinitions-early (length bytes) _ 0 bytes) λ d _.
+      next _ (formRequests-early (length bytes) (d .counts) 0 (suc (length (d .list))) (d .rest)) λ r _. well tt

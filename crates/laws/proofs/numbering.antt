@@ -1,0 +1,7 @@
+-- Literals as numbers
+pub mod Numbering
+pub mod AlikeJobs
+pub mod RunsLaidOut
+pub mod Shape
+pub mod NumberedCited
+pub mod NumberedLow

@@ -1,0 +1,10 @@
+-- The finished pool and bootstraps, read under the JVM Specification
+pub mod EntriesReadBack
+pub mod PoolReadBack
+pub mod BuiltEntriesFit
+pub mod PoolContents
+pub mod BuiltPoolReadBack
+pub mod Reads
+pub mod SlotsShow
+pub mod JobHeld
+pub mod Holds

@@ -1,0 +1,43 @@
+-- HOLDS: every answer, every raw definition, the class name and the name slot of a built job show, in the finished pool as JVMS reads it,
+-- what the job's own records say. Assumes nothing.
+use mathlib.Core.List.{List, map}
+use mathlib.Core.Path.{_≡_, sym, subst}
+use Prim.Native.Nat.{ℕ}
+use Rattle.definition.specs.Basics.{good}
+use Rattle.definition.specs.Job.{Job}
+use Rattle.definition.specs.Form.{form}
+use Rattle.definition.specs.Numbering.{numbered, literals}
+use Rattle.definition.specs.Slots.{highestSlot}
+use Rattle.definition.specs.Layout.{layout, Layout, layoutOf}
+use Rattle.definition.specs.Run.{shown, render}
+use Rattle.laws.specs.Statements.{IsBytes, Finished, HeldBy, Holds}
+use Rattle.laws.proofs.reading.PoolReadBack.{rowShown}
+use Rattle.laws.proofs.reading.BuiltPoolReadBack.{stg, pool}
+use Rattle.laws.proofs.reading.Reads.{reads}
+use Rattle.laws.proofs.reading.JobHeld.{held-by}
+
+-- what the reader shows of a layout
+abbrev shownOf : Job (List ℕ) → Layout → Finished
+shownOf job x = record { definitions = job .definitions; pool = map (shown (literals job)) (x .contents); bootstraps = map rowShown (x .rows) }
+
+-- all of it, of the layout that was returned
+held-laid :
+    (bytes : List ℕ) (job : Job (List ℕ)) (l : Layout) →
+    IsBytes bytes →
+    form bytes ≡ good job →
+    layout highestSlot (numbered job) ≡ good l →
+    HeldBy (shownOf job l) (job .requests) (job .build) (render (literals job) l)
+unfolding layoutOf
+held-laid bytes job l are formed laid =
+    subst (λ (x : Layout). HeldBy (shownOf job x) (job .requests) (job .build) (render (literals job) x)) (stg bytes job l are formed laid .isLaid) (held-by bytes job l are formed laid)
+
+-- what was returned is read, and is so
+pub heldSlots : Holds
+heldSlots bytes job lent b are formed ran =
+    let (l, laid, is, readsPool, readsRows) = reads bytes job lent b are formed ran in (
+      map (shown (literals job)) (l .contents),
+      map rowShown (l .rows),
+      readsPool,
+      readsRows,
+      subst (HeldBy (shownOf job l) (job .requests) (job .build)) (sym is) (held-laid bytes job l are formed laid),
+    )

@@ -1,0 +1,283 @@
+-- In the finished pool, as the reader shows it, every slot that is to hold a node shows the entry that became it, to any depth. Assumes nothing.
+use mathlib.Core.Bool.{true, false}
+use mathlib.Core.List.{List, [], _∷_, map}
+use mathlib.Core.Logic.{inl, inr}
+use mathlib.Core.Option.{some, none}
+use mathlib.Core.Path.{_≡_, refl, sym, ap, subst, _∙_}
+use Prim.Native.Nat.{ℕ, zero, suc, _+_, _-_, _≤_, _<_}
+use native.Mathlib.Omega.{arith}
+use lib.Dec.{eqb}
+use lib.ListN.{length, getElem?, getD, length-map}
+use borrow.Author.Tests.{ne-eqb, eq-eqb}
+use Rattle.definition.specs.Basics.{good, lookup, from}
+use Rattle.definition.specs.Shapes.{Entry, bootstrapTag, withKids, constant, withLiteral}
+use Rattle.definition.specs.Job.{Reference, Job}
+use Rattle.definition.specs.Form.{form}
+use Rattle.definition.specs.Numbering.{numbered, literals, literalOf}
+use Rattle.definition.specs.Definitions.{tagAt}
+use Rattle.definition.specs.Resolving.{Goal, rawNumber, tableEntry, refusal, done, Node, firstNode, childOf, goalOf}
+use Rattle.definition.specs.Slots.{highestSlot}
+use Rattle.definition.specs.Building.{kidsOf, contentOf, Row}
+use Rattle.definition.specs.Layout.{layout, Layout}
+use Rattle.definition.specs.Run.{shown}
+use Rattle.definition.specs.Jvms.{Shown}
+use Rattle.facts.specs.Lists.{Among}
+use Rattle.facts.proofs.Lists.{some-inj, found-read, found-append, map-at}
+use Rattle.facts.proofs.Each.{Both, both-length, both-at}
+use Rattle.facts.proofs.Chunks.{length-from, from-place}
+use Rattle.facts.proofs.Sums.{once-same}
+use Rattle.laws.specs.Statements.{IsBytes, namings, Finished, leadsTo, slotShows, Shows}
+use Rattle.laws.proofs.form.CitedEntries.{countIn}
+use Rattle.laws.proofs.numbering.NumberedCited.{count-numbered}
+use Rattle.laws.proofs.definitions.DefinedAsPlaced.{namings-numbered}
+use Rattle.laws.proofs.resolving.JobGoals.{jobNames, jobConstants}
+use Rattle.laws.proofs.resolving.FaithfulToEntries.{Settled}
+use Rattle.laws.proofs.resolving.NodesAndChildren.{tag-found, kids-found}
+use Rattle.laws.proofs.resolving.ResolvedNodes.{child-done, Low}
+use Rattle.laws.proofs.resolving.EntryOrigins.{Origin, origin}
+use Rattle.laws.proofs.slots.SlotsToHold.{toHold, starts-once}
+use Rattle.laws.proofs.building.ChildNumbers.{SlotFor, NumberFor, given-held}
+use Rattle.laws.proofs.building.BuiltJob.{good-job-table, asked, nodes, marks, rows}
+use Rattle.laws.proofs.reading.PoolReadBack.{rowShown}
+use Rattle.laws.proofs.reading.BuiltEntriesFit.{row-plain}
+use Rattle.laws.proofs.reading.PoolContents.{spelled, content-holds}
+use Rattle.laws.proofs.reading.BuiltPoolReadBack.{stg, end, allNodes, raw, pool, owned, soundly, raw-keys, raw-wide, count, starts-at, held-constant}
+
+-- what an index of the bootstraps shows, and what a slot does
+unfoldable numberShows : Finished → ℕ → ℕ → Shown
+numberShows f tag n = elim (eqb tag bootstrapTag) [ true ↦ getElem? (f .bootstraps) n | false ↦ slotShows f n ]
+
+-- a number that doesn't name a bootstrap is a slot; one that does is an index
+number-slot : (f : Finished) (tag n : ℕ) → (tag ≡ bootstrapTag → ⊥) → numberShows f tag n ≡ slotShows f n
+unfolding numberShows
+number-slot f tag n h = rw (ne-eqb tag bootstrapTag h, numberShows)
+
+number-index : (f : Finished) (tag n : ℕ) → tag ≡ bootstrapTag → numberShows f tag n ≡ getElem? (f .bootstraps) n
+unfolding numberShows
+number-index f tag n h = rw (eq-eqb tag bootstrapTag h, numberShows)
+
+module _ (bytes : List ℕ) (job : Job (List ℕ)) (l : Layout) (are : IsBytes bytes) (formed : form bytes ≡ good job) (laid : layout highestSlot (numbered job) ≡ good l) where
+  -- the finished pool and bootstraps, as the reader shows them
+  abbrev pub finished : Finished
+  finished =
+      record {
+        definitions = job .definitions;
+        pool = map (shown (literals job)) (from (contentOf (owned bytes job l are formed laid)) 1 (count bytes job l are formed laid - 1));
+        bootstraps = map rowShown (rows bytes job l are formed laid);
+      }
+
+  abbrev pub isOf : Reference → Goal
+  isOf r = goalOf (jobNames (numbered job)) (jobConstants (numbered job)) r
+
+  -- where a reference of the job leads is where it leads once literals are numbered
+  pub same-goal : (r : Reference) → isOf r ≡ leadsTo finished r
+  unfolding countIn
+  same-goal r =
+      ap (λ names. goalOf names (jobConstants (numbered job)) r) (namings-numbered job)
+      ∙ ap (λ n. goalOf (namings (job .definitions)) n r) (count-numbered job constant)
+
+  pub pool-length : length (finished .pool) ≡ count bytes job l are formed laid - 1
+  pool-length =
+      length-map (from (contentOf (owned bytes job l are formed laid)) 1 (count bytes job l are formed laid - 1)) (shown (literals job))
+      ∙ length-from (contentOf (owned bytes job l are formed laid)) 1 (count bytes job l are formed laid - 1)
+
+  -- a slot below the count shows what it holds
+  pub slot-shown : (n : ℕ) → suc n < count bytes job l are formed laid → getD (finished .pool) n none ≡ shown (literals job) (contentOf (owned bytes job l are formed laid) (suc n))
+  slot-shown n h =
+      let low : n < count bytes job l are formed laid - 1 = omega (arith, h) in
+      let one : 1 + n ≡ suc n = omega arith in
+      found-read (finished .pool) n _ none
+      (map-at (shown (literals job)) (from (contentOf (owned bytes job l are formed laid)) 1 (count bytes job l are formed laid - 1)) n _
+      (from-place (contentOf (owned bytes job l are formed laid)) 1 (count bytes job l are formed laid - 1) n low))
+      ∙ ap (λ m. shown (literals job) (contentOf (owned bytes job l are formed laid) m)) one
+
+  -- a slot that is owned shows its entry
+  pub owner-shown : (n : ℕ) (e : Entry ℕ ℕ) → 1 ≤ n → n < count bytes job l are formed laid → lookup n (owned bytes job l are formed laid) ≡ some e → slotShows finished n ≡ some (spelled (literals job) e)
+  unfolding slotShows shown
+  owner-shown zero e low high h = absurd (omega (arith, low))
+  owner-shown (suc n) e low high h = slot-shown n high ∙ ap (shown (literals job)) (content-holds (owned bytes job l are formed laid) n e h)
+
+  -- ---- to any depth
+
+  -- a raw number shows itself
+  raw-shows : (depth v n : ℕ) → n ≡ v → Shows depth finished (rawNumber v) n
+  unfolding Shows
+  raw-shows zero v n h = tt
+  raw-shows (suc depth) v n h = h
+
+  -- a slot that is to hold the node that an entry became shows the entry
+  abbrev pub HeldShow : ℕ → Type 0
+  HeldShow depth =
+      (e k n : ℕ) →
+      getElem? (marks bytes job l are formed laid) e ≡ some (done k) →
+      Among (n, k) (toHold (pool bytes job l are formed laid .given) (raw bytes job l are formed laid)) →
+      Shows depth finished (tableEntry e) n
+
+  -- an index whose row has the slots of a bootstrap's children shows the bootstrap
+  abbrev pub RowShow : ℕ → Type 0
+  RowShow depth =
+      (e k n : ℕ) (row : Row) →
+      getElem? (marks bytes job l are formed laid) e ≡ some (done k) →
+      tagAt (allNodes bytes job l are formed laid) k ≡ bootstrapTag →
+      getElem? (rows bytes job l are formed laid) n ≡ some row →
+      Both (SlotFor (pool bytes job l are formed laid .given)) (kidsOf (allNodes bytes job l are formed laid) k) row →
+      Shows depth finished (tableEntry e) n
+
+  raw-high : (v : ℕ) → v < firstNode → firstNode ≤ childOf (marks bytes job l are formed laid) (rawNumber v) → ⊥
+  unfolding childOf
+  raw-high v low high = omega (arith, low, high)
+
+  -- what a goal's number is to be
+  abbrev pub Fine : Goal → Type 0
+  Fine g = Low g × Settled (marks bytes job l are formed laid) g
+
+  module _ (depth : ℕ) (heldShow : HeldShow depth) (rowShow : RowShow depth) where
+    -- a slot shows what its goal leads to
+    pub slot-shows : (g : Goal) (n : ℕ) → Fine g → SlotFor (pool bytes job l are formed laid .given) (childOf (marks bytes job l are formed laid) g) n → Shows depth finished g n
+    unfolding childOf
+    slot-shows (rawNumber v) n h (inl s) = raw-shows depth v n (s .1)
+    slot-shows (rawNumber v) n h (inr s) = absurd (omega (arith, h .0, s .0))
+    slot-shows (tableEntry e) n h (inl s) = absurd (omega (arith, s .0, child-done (marks bytes job l are formed laid) e (h .1 .0) (h .1 .1)))
+    slot-shows (tableEntry e) n h (inr s) =
+        let k = h .1 .0 in
+        let same : childOf (marks bytes job l are formed laid) (tableEntry e) - firstNode ≡ k = omega (arith, child-done (marks bytes job l are formed laid) e k (h .1 .1)) in
+        heldShow e k n (h .1 .1)
+        (given-held k n (pool bytes job l are formed laid .given) (raw bytes job l are formed laid) (subst (λ c. lookup c (pool bytes job l are formed laid .given) ≡ some n) same (s .1)))
+    slot-shows (refusal code) n h s = absurd (h .1)
+
+    -- so does a number
+    number-shows : (g : Goal) (n : ℕ) → Fine g → NumberFor (allNodes bytes job l are formed laid) (pool bytes job l are formed laid .given) (rows bytes job l are formed laid) (childOf (marks bytes job l are formed laid) g) n → Shows depth finished g n
+    number-shows g n h (inl s) = slot-shows g n h (inl s)
+    number-shows g n h (inr (inl s)) = slot-shows g n h (inr (s .0, s .2))
+    number-shows g n h (inr (inr s)) = go g h s
+      where
+        go :
+            (g : Goal) →
+            Fine g →
+            (firstNode ≤ childOf (marks bytes job l are formed laid) g)
+            × (tagAt (allNodes bytes job l are formed laid) (childOf (marks bytes job l are formed laid) g - firstNode) ≡ bootstrapTag)
+            × (row : Row)
+            × (getElem? (rows bytes job l are formed laid) n ≡ some row)
+            × Both (SlotFor (pool bytes job l are formed laid .given)) (kidsOf (allNodes bytes job l are formed laid) (childOf (marks bytes job l are formed laid) g - firstNode)) row →
+            Shows depth finished g n
+        go (rawNumber v) h s = absurd (raw-high v (h .0) (s .0))
+        go (tableEntry e) h s =
+            let k = h .1 .0 in
+            let same : childOf (marks bytes job l are formed laid) (tableEntry e) - firstNode ≡ k = omega (arith, child-done (marks bytes job l are formed laid) e k (h .1 .1)) in
+            rowShow e k n (s .2) (h .1 .1)
+            (subst (λ c. tagAt (allNodes bytes job l are formed laid) c ≡ bootstrapTag) same (s .1))
+            (s .3)
+            (subst (λ c. Both (SlotFor (pool bytes job l are formed laid .given)) (kidsOf (allNodes bytes job l are formed laid) c) (s .2)) same (s .4))
+        go (refusal code) h s = absurd (h .1)
+
+    -- a number shows what a reference leads to
+    abbrev KidShows : Reference → ℕ → Type 0
+    KidShows r m = Shows depth finished (leadsTo finished r) m
+
+    -- all of an entry's do
+    kids-show :
+        (R : ℕ → ℕ → Type 0) →
+        ((g : Goal) (n : ℕ) → Fine g → R (childOf (marks bytes job l are formed laid) g) n → Shows depth finished g n) →
+        (rs : List Reference) (ns : List ℕ) →
+        ((g : Goal) → Among g (map isOf rs) → Fine g) →
+        Both R (map (childOf (marks bytes job l are formed laid)) (map isOf rs)) ns →
+        Both KidShows rs ns
+    kids-show R f [] [] fine h = tt
+    kids-show R f [] (n ∷ ns) fine h = h
+    kids-show R f (r ∷ rs) [] fine h = h
+    kids-show R f (r ∷ rs) (n ∷ ns) fine h = (
+      subst (λ g. Shows depth finished g n) (same-goal r) (f (isOf r) n (fine (isOf r) (0, refl)) (h .0)),
+      kids-show R f rs ns (λ g a. fine g (suc (a .0), a .1)) (h .1),
+    )
+
+    -- which is what is asked of them: as many, and each at its place
+    kids-there :
+        (rs : List Reference) (ns : List ℕ) →
+        Both KidShows rs ns →
+        (length ns ≡ length rs)
+        × ((i : ℕ) (r : Reference) (m : ℕ) → getElem? rs i ≡ some r → getElem? ns i ≡ some m → KidShows r m)
+    kids-there rs ns h = (both-length KidShows rs ns h, λ i r m p q. both-at KidShows rs ns h i r m p q)
+
+  -- what an entry became, where it comes from, and that its children's goals are fine
+  record Became (e k : ℕ) : Type 0 where
+    x : Entry ℕ Goal
+    from-job : Origin job e x
+    node : getElem? (allNodes bytes job l are formed laid) k ≡ some (withKids (map (childOf (marks bytes job l are formed laid)) (x .kids)) x)
+    fine : (g : Goal) → Among g (map isOf (from-job .entry .kids)) → Fine g
+    kids : map (childOf (marks bytes job l are formed laid)) (x .kids) ≡ map (childOf (marks bytes job l are formed laid)) (map isOf (from-job .entry .kids))
+    tag : tagAt (allNodes bytes job l are formed laid) k ≡ from-job .entry .tag
+
+  became : (e k : ℕ) → getElem? (marks bytes job l are formed laid) e ≡ some (done k) → Became e k
+  unfolding withKids
+  became e k mark =
+      let n = asked bytes job l are formed laid .0 .faithful .nodeOf e k mark in
+      let o = origin bytes job are formed e (n .0) (n .1) in
+      let at = found-append (nodes bytes job l are formed laid) (end bytes job l are formed laid .more) k _ (n .2) in
+      record {
+        x = n .0;
+        from-job = o;
+        node = at;
+        fine =
+            λ g a.
+            let b = subst (Among g) (sym (o .kidsAre)) a in
+            (good-job-table bytes job l are formed laid .low e (n .0) g (n .1) b, n .3 g b);
+        kids = ap (map (childOf (marks bytes job l are formed laid))) (o .kidsAre);
+        tag = tag-found (allNodes bytes job l are formed laid) k _ at ∙ o .sameTag;
+      }
+
+  held-step : (depth : ℕ) → HeldShow depth → RowShow depth → HeldShow (suc depth)
+  unfolding Shows withKids withLiteral numberShows
+  held-step depth heldShow rowShow e k n mark a =
+      let b = became e k mark in
+      let z = b .from-job .entry in
+      let own = end bytes job l are formed laid .ended .isOwned n k a in
+      let (k′, nd, ns, same, at, a′, nums) = end bytes job l are formed laid .ended .owner n (own .0) (own .1) in
+      let one : k′ ≡ k =
+      once-same (toHold (pool bytes job l are formed laid .given) (raw bytes job l are formed laid)) n k′ k
+      (starts-once highestSlot (stg bytes job l are formed laid .defined .held) (allNodes bytes job l are formed laid) (pool bytes job l are formed laid) (raw bytes job l are formed laid) (soundly bytes job l are formed laid) (raw-keys bytes job l are formed laid) (raw-wide bytes job l are formed laid) n)
+      a′
+      a in
+      let is : nd ≡ withKids (map (childOf (marks bytes job l are formed laid)) (b .x .kids)) (b .x) =
+      some-inj (sym (subst (λ i. getElem? (allNodes bytes job l are formed laid) i ≡ some nd) one at) ∙ b .node) in
+      let range = starts-at bytes job l are formed laid n k a in
+      let shows = owner-shown n (withKids ns nd) (range .0) (range .2) (own .1 ∙ ap some same) in
+      let kids = subst (λ cs. Both (NumberFor (allNodes bytes job l are formed laid) (pool bytes job l are formed laid .given) (rows bytes job l are formed laid)) cs ns) (ap (λ (y : Node). y .kids) is ∙ b .kids) nums in
+      let there = kids-there depth heldShow rowShow (z .kids) ns (kids-show depth heldShow rowShow (NumberFor (allNodes bytes job l are formed laid) (pool bytes job l are formed laid .given) (rows bytes job l are formed laid)) (number-shows depth heldShow rowShow) (z .kids) ns (b .fine) kids) in (
+        z,
+        spelled (literals job) (withKids ns nd),
+        b .from-job .there,
+        number-slot finished (z .tag) n (λ t. held-constant bytes job l are formed laid n k a (b .tag ∙ t)) ∙ shows,
+        ap (λ (y : Node). y .tag) is ∙ b .from-job .sameTag,
+        ap (λ (y : Node). literalOf (literals job) (y .literal)) is ∙ b .from-job .literalIs,
+        ap (λ (y : Node). y .byte) is ∙ b .from-job .sameByte,
+        there .0,
+        there .1,
+      )
+
+  row-step : (depth : ℕ) → HeldShow depth → RowShow depth → RowShow (suc depth)
+  unfolding Shows withKids numberShows
+  row-step depth heldShow rowShow e k n row mark t at slots =
+      let b = became e k mark in
+      let z = b .from-job .entry in
+      let tag : z .tag ≡ bootstrapTag = sym (b .tag) ∙ t in
+      let plain = row-plain z (b .from-job .formed) tag in
+      let kids = subst (λ cs. Both (SlotFor (pool bytes job l are formed laid .given)) cs row) (kids-found (allNodes bytes job l are formed laid) k _ (b .node) ∙ b .kids) slots in
+      let there = kids-there depth heldShow rowShow (z .kids) row (kids-show depth heldShow rowShow (SlotFor (pool bytes job l are formed laid .given)) (slot-shows depth heldShow rowShow) (z .kids) row (b .fine) kids) in (
+        z,
+        rowShown row,
+        b .from-job .there,
+        number-index finished (z .tag) n tag ∙ map-at rowShown (rows bytes job l are formed laid) n row at,
+        sym tag,
+        sym (plain .0),
+        sym (plain .1),
+        there .0,
+        there .1,
+      )
+
+  -- so to any depth
+  pub all-show : (depth : ℕ) → HeldShow depth × RowShow depth
+  unfolding Shows
+  all-show zero = (λ e k n mark a. tt, λ e k n row mark t at slots. tt)
+  all-show (suc depth) =
+      let before = all-show depth in
+      (held-step depth (before .0) (before .1), row-step depth (before .0) (before .1))

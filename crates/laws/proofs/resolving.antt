@@ -1,0 +1,13 @@
+-- Where references lead, and the nodes that entries become
+pub mod NameTargets
+pub mod Followed
+pub mod JobGoals
+pub mod Interning
+pub mod FaithfulToEntries
+pub mod OwedVisits
+pub mod GoalsLow
+pub mod ResolvingRefusals
+pub mod NodesAndChildren
+pub mod ResolvedNodes
+pub mod JobTableGood
+pub mod EntryOrigins
