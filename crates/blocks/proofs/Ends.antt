@@ -1,24 +1,13 @@
 -- What a call answers and leaves behind, once the definition's result is known. Assumes nothing.
 use mathlib.Core.Path.{_≡_, ap, _∙_}
-use mathlib.Core.Bool.{Bool, true, false}
 use mathlib.Core.List.{List}
 use Prim.Native.Nat.{ℕ}
 use lib.ListN.{length}
-use Rattle.definition.specs.Basics.{Result, good, bad, Refusal, _>>=_, atRecord, unless}
+use Rattle.definition.specs.Basics.{Result, good, bad, Refusal}
 use Rattle.definition.specs.Run.{overwrite}
 use Rattle.definition.specs.Blocks.{blocksAfter}
 use Rattle.blocks.specs.Answers.{lengthOf, numbersOf, Told}
 use Rattle.blocks.specs.declared.Numbers.{Numbers}
-
--- a test of the definition, passed or refused
-module _ {A : Type 0} (test : Bool) (code place : ℕ) (next : Result Refusal A) where
-  pub passed : test ≡ true → (atRecord place (unless test code) >>= λ _. next) ≡ next
-  unfolding atRecord unless
-  passed e = rw e
-
-  pub refused : test ≡ false → (atRecord place (unless test code) >>= λ _. next) ≡ bad (record { code = code; place = place })
-  unfolding atRecord unless
-  refused e = rw e
 
 module _ (result : Result Refusal (List ℕ)) (before : List ℕ) where
   pub ends-bad : (r : Refusal) → result ≡ bad r → (bad r ≡ lengthOf result) × (before ≡ blocksAfter result before)

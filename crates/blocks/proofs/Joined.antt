@@ -1,29 +1,26 @@
 -- The job in a file whose blocks are right: its length, and the loop that copies it. Assumes nothing.
 use mathlib.Core.Path.{_≡_, sym, ap, _∙_}
-use mathlib.Core.Bool.{Bool, true, false, _&&_, _||_}
+use mathlib.Core.Bool.{Bool, true, false, _&&_}
 use mathlib.Core.List.{List}
 use mathlib.Core.Logic.{⊎-elim}
 use Prim.Native.Nat.{ℕ, suc, _+_, _*_, _-_, _<_, _≤_}
 use native.Mathlib.Nat.{eq-or-lt-of-le}
 use native.Mathlib.Omega.{arith}
-use borrow.Author.Tests.{ne-eqb, eqb-true, leb-true}
-use lib.Dec.{eqb, leb}
+use borrow.Author.Tests.{ne-eqb, eqb-true}
+use lib.Dec.{eqb}
 use lib.ListN.{length, take, drop, length-append, length-drop}
 use lib.Seq.{paste, take-take, take-add, drop-at, drop-drop, length-take-le}
 use Rattle.definition.specs.Basics.{same}
 use Rattle.definition.specs.Bytes.{be2, be4}
 use Rattle.definition.specs.Run.{overwrite}
 use Rattle.definition.specs.Blocks.{weighted, blockAt, usedIn, rightUse, rightBlock, blockData}
+use Rattle.facts.proofs.Lists.{both-true}
+use Rattle.facts.proofs.Chunks.{joined, joined-more, length-joined}
+use Rattle.facts.proofs.Copies.{paste-front, part-more}
+use Rattle.laws.proofs.blocks.OneBlock.{used-most}
 use Rattle.blocks.specs.File.{dataOf, RightBelow}
-use Rattle.blocks.proofs.Parts.{joined, joined-more, length-joined, part-more, paste-front}
-use Rattle.blocks.proofs.Right.{and-true}
 
--- what a right use is
-use-small : (only last : Bool) (used : ℕ) → rightUse only last used ≡ true → used ≤ 504
-unfolding rightUse
-use-small only false used e = omega (arith, eqb-true used 504 e)
-use-small only true used e = leb-true used 504 (and-true (leb used 504) (only || leb 1 used) e .0)
-
+-- the use of a block that isn't the last
 use-504 : (only last : Bool) (used : ℕ) → last ≡ false → rightUse only last used ≡ true → used ≡ 504
 unfolding rightUse
 use-504 only last used l e = eqb-true used 504 (rw l at e)
@@ -36,10 +33,10 @@ module _ (n : ℕ) (file : List ℕ) (size : 512 * n ≤ length file) (rights : 
       let check = same (drop 508 b) (be4 (weighted 0 (take 508 b))) in
       let number = same (take 2 b) (be2 j) in
       let uses = rightUse (eqb n 1) (eqb (suc j) n) (usedIn b) in
-      and-true number uses (and-true check (number && uses) (rights j inside) .1) .1
+      both-true number uses (both-true check (number && uses) (rights j inside) .1) .1
 
   pub used-small : (j : ℕ) → j < n → usedIn (blockAt file j) ≤ 504
-  used-small j inside = use-small (eqb n 1) (eqb (suc j) n) (usedIn (blockAt file j)) (right-use j inside)
+  used-small j inside = used-most (eqb n 1) (eqb (suc j) n) (usedIn (blockAt file j)) (right-use j inside)
 
   used-504 : (j : ℕ) → suc j < n → usedIn (blockAt file j) ≡ 504
   used-504 j more =
@@ -68,7 +65,7 @@ module _ (n : ℕ) (file : List ℕ) (size : 512 * n ≤ length file) (rights : 
   -- the length of what the blocks before one of them hold, and of the whole job
   front-length : (k : ℕ) → k < n → length (joined (dataOf file) k) ≡ 504 * k
   front-length k inside =
-      length-joined (dataOf file) 504 k (λ j h. data-length j (omega arith) ∙ used-504 j (omega arith))
+      length-joined 504 (dataOf file) 0 k (λ j _ h. data-length j (omega arith) ∙ used-504 j (omega arith))
 
   pub job-length : (m : ℕ) → suc m ≡ n → length (joined (dataOf file) n) ≡ 504 * m + usedIn (blockAt file m)
   job-length m e =

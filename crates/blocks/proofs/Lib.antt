@@ -1,6 +1,5 @@
 pub mod Ends
 pub mod Sums
-pub mod Parts
 pub mod Written
 pub mod Writing
 pub mod Right

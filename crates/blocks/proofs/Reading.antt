@@ -1,6 +1,6 @@
 -- The six ends of reading a file. Assumes nothing.
-use mathlib.Core.Path.{_≡_, refl, sym, ap, _∙_}
-use mathlib.Core.Bool.{Bool, true, false, _&&_}
+use mathlib.Core.Path.{_≡_, sym, ap, _∙_}
+use mathlib.Core.Bool.{true, false, _&&_}
 use mathlib.Core.List.{List}
 use Prim.Native.Nat.{ℕ, zero, suc, _-_, _/_, _%_, _<_, _≤_}
 use native.Mathlib.Nat.{sub-zero, sub-self, le-refl, pos-of-ne-zero}
@@ -11,13 +11,10 @@ use lib.ListN.{length}
 use Rattle.definition.specs.Basics.{Result, good, bad, Refusal, _>>=_, atRecord, unless}
 use Rattle.definition.specs.Run.{longestJob}
 use Rattle.definition.specs.Blocks.{blockCount, rightBlock, blocksRight, mostBlocks, readBlocks}
+use Rattle.facts.proofs.Lists.{and-false}
+use Rattle.facts.proofs.Chunks.{joined}
+use Rattle.facts.proofs.Results.{passes, refuses}
 use Rattle.blocks.specs.File.{dataOf, RightBelow}
-use Rattle.blocks.proofs.Ends.{passed, refused}
-use Rattle.blocks.proofs.Parts.{joined}
-
-and-false : (a : Bool) → (a && false) ≡ false
-and-false true = refl
-and-false false = refl
 
 -- the definition's walk over the blocks: past those that are right, to its end or to one that isn't
 module _ (n : ℕ) (file : List ℕ) where
@@ -34,7 +31,7 @@ module _ (n : ℕ) (file : List ℕ) where
   skipped (suc k) inside rights =
       skipped k (omega arith) (λ j h. rights j (omega arith))
       ∙ walk k inside
-      ∙ passed (rightBlock n file k) 19 k (blocksRight n file (n - suc k) (suc k)) (rights k (omega arith))
+      ∙ passes k 19 (blocksRight n file (n - suc k) (suc k)) (rightBlock n file k) (rights k (omega arith))
 
   pub all-right : RightBelow n file n → blocksRight n file n 0 ≡ good tt
   unfolding blocksRight
@@ -46,19 +43,19 @@ module _ (n : ℕ) (file : List ℕ) where
   one-wrong k inside rights wrong =
       skipped k (omega arith) rights
       ∙ walk k inside
-      ∙ refused (rightBlock n file k) 19 k (blocksRight n file (n - suc k) (suc k)) wrong
+      ∙ refuses k 19 (blocksRight n file (n - suc k) (suc k)) (rightBlock n file k) wrong
 
 module _ (room : ℕ) (file : List ℕ) where
   pub read-empty : length file ≡ 0 → readBlocks room file ≡ bad (record { code = 20; place = 0 })
   unfolding readBlocks
   read-empty empty =
-      refused (ltb 0 (length file) && eqb (length file % 512) 0) 20 0 _
+      refuses 0 20 _ (ltb 0 (length file) && eqb (length file % 512) 0)
       (ap (λ t. t && eqb (length file % 512) 0) (le-ltb 0 (length file) (omega arith)))
 
   pub read-odd : (length file % 512 ≡ 0 → ⊥) → readBlocks room file ≡ bad (record { code = 20; place = 0 })
   unfolding readBlocks
   read-odd odd =
-      refused (ltb 0 (length file) && eqb (length file % 512) 0) 20 0 _
+      refuses 0 20 _ (ltb 0 (length file) && eqb (length file % 512) 0)
       (ap (λ t. ltb 0 (length file) && t) (ne-eqb (length file % 512) 0 odd) ∙ and-false (ltb 0 (length file)))
 
   -- a file of blocks
@@ -69,8 +66,8 @@ module _ (room : ℕ) (file : List ℕ) where
     pub read-many : mostBlocks < length file / 512 → readBlocks room file ≡ bad (record { code = 1; place = 0 })
     unfolding readBlocks blockCount
     read-many many =
-        passed (ltb 0 (length file) && eqb (length file % 512) 0) 20 0 _ is-blocks
-        ∙ refused (leb (length file / 512) mostBlocks) 1 0 _ (lt-leb (length file / 512) mostBlocks many)
+        passes 0 20 _ (ltb 0 (length file) && eqb (length file % 512) 0) is-blocks
+        ∙ refuses 0 1 _ (leb (length file / 512) mostBlocks) (lt-leb (length file / 512) mostBlocks many)
 
     -- not too many blocks
     module _ (few : length file / 512 ≤ mostBlocks) where
@@ -86,8 +83,8 @@ module _ (room : ℕ) (file : List ℕ) where
       opened : readBlocks room file ≡ (blocksRight (length file / 512) file (length file / 512) 0 >>= λ _. sized)
       unfolding readBlocks blockCount sized job
       opened =
-          passed (ltb 0 (length file) && eqb (length file % 512) 0) 20 0 _ is-blocks
-          ∙ passed (leb (length file / 512) mostBlocks) 1 0 _ (le-leb (length file / 512) mostBlocks few)
+          passes 0 20 _ (ltb 0 (length file) && eqb (length file % 512) 0) is-blocks
+          ∙ passes 0 1 _ (leb (length file / 512) mostBlocks) (le-leb (length file / 512) mostBlocks few)
 
       pub read-wrong :
           (k : ℕ) → k < length file / 512 → RightBelow (length file / 512) file k →
@@ -103,18 +100,18 @@ module _ (room : ℕ) (file : List ℕ) where
 
         pub read-long : longestJob < size → readBlocks room file ≡ bad (record { code = 1; place = 0 })
         unfolding sized job
-        read-long long = right ∙ refused (leb (length job) longestJob) 1 0 _ (lt-leb (length job) longestJob (omega arith))
+        read-long long = right ∙ refuses 0 1 _ (leb (length job) longestJob) (lt-leb (length job) longestJob (omega arith))
 
         pub read-narrow : size ≤ longestJob → room < size → readBlocks room file ≡ bad (record { code = 18; place = 0 })
         unfolding sized job
         read-narrow short narrow =
             right
-            ∙ passed (leb (length job) longestJob) 1 0 _ (le-leb (length job) longestJob (omega arith))
-            ∙ refused (leb (length job) room) 18 0 _ (lt-leb (length job) room (omega arith))
+            ∙ passes 0 1 _ (leb (length job) longestJob) (le-leb (length job) longestJob (omega arith))
+            ∙ refuses 0 18 _ (leb (length job) room) (lt-leb (length job) room (omega arith))
 
         pub read-good : size ≤ longestJob → size ≤ room → readBlocks room file ≡ good (joined (dataOf file) (length file / 512))
         unfolding sized job
         read-good short fits =
             right
-            ∙ passed (leb (length job) longestJob) 1 0 _ (le-leb (length job) longestJob (omega arith))
-            ∙ passed (leb (length job) room) 18 0 _ (le-leb (length job) room (omega arith))
+            ∙ passes 0 1 _ (leb (length job) longestJob) (le-leb (length job) longestJob (omega arith))
+            ∙ passes 0 18 _ (leb (length job) room) (le-leb (length job) room (omega arith))

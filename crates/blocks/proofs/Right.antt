@@ -1,50 +1,19 @@
 -- The tests on a block, by the numbers that are read from it. Assumes nothing.
 use mathlib.Core.Path.{_≡_, refl, sym, ap, _∙_}
-use mathlib.Core.Bool.{Bool, true, false, _&&_, _||_}
-use mathlib.Core.List.{List, [], _∷_}
+use mathlib.Core.Bool.{true, false, _&&_, _||_}
+use mathlib.Core.List.{List}
 use Prim.Native.Nat.{ℕ, suc, _+_, _*_, _-_, _/_, _%_, _<_, _≤_}
 use native.Mathlib.Omega.{arith}
-use borrow.Author.Tests.{eq-eqb, ne-eqb, le-leb, lt-leb, eqb-true, eqb-false}
+use borrow.Author.Tests.{eq-eqb, ne-eqb, le-leb, lt-leb}
 use lib.Dec.{eqb, leb, ltb}
 use lib.ListN.{length, getD, take, drop, length-drop}
 use lib.Seq.{take-take, take-add, drop-at, drop-drop, getD-take, getD-drop, length-take-le}
 use Rattle.definition.specs.Basics.{same}
 use Rattle.definition.specs.Bytes.{be2, be4}
 use Rattle.definition.specs.Blocks.{weighted, blockAt, usedIn, rightUse, rightBlock}
+use Rattle.facts.proofs.Lists.{same-coded}
 use Rattle.writer.specs.Numbers.{number2, number4}
 use Rattle.writer.proofs.Laws.{be4-halves, be2-number, be4-number}
-
--- equal lists
-same-refl : (l : List ℕ) → same l l ≡ true
-unfolding same
-same-refl [] = refl
-same-refl (x ∷ l) = rw (eq-eqb x x refl, same-refl l)
-
-pub and-true : (a b : Bool) → (a && b) ≡ true → (a ≡ true) × (b ≡ true)
-and-true true true e = (refl, refl)
-and-true true false e = (refl, e)
-and-true false true e = (e, refl)
-and-true false false e = (e, e)
-
-same-eq : (l m : List ℕ) → same l m ≡ true → l ≡ m
-unfolding same
-same-eq [] [] e = refl
-same-eq [] (y ∷ m) e = let z : _≡_ {A = ℕ} 0 1 = cc in absurd (omega arith)
-same-eq (x ∷ l) [] e = let z : _≡_ {A = ℕ} 0 1 = cc in absurd (omega arith)
-same-eq (x ∷ l) (y ∷ m) e =
-    let both = and-true (eqb x y) (same l m) e in
-    λ i. eqb-true x y (both .0) i ∷ same-eq l m (both .1) i
-
--- two codes are the same exactly if the numbers are, where a number can be read back
-module _ (code : ℕ → List ℕ) (value : List ℕ → ℕ) (a b : ℕ) (backA : value (code a) ≡ a) (backB : value (code b) ≡ b) where
-  same-coded : same (code a) (code b) ≡ eqb a b
-  same-coded = ways (eqb a b) refl (same (code a) (code b)) refl
-    where
-      ways : (t : Bool) → eqb a b ≡ t → (u : Bool) → same (code a) (code b) ≡ u → same (code a) (code b) ≡ eqb a b
-      ways true e true f = f ∙ sym e
-      ways true e false f = ap (λ x. same (code a) (code x)) (sym (eqb-true a b e)) ∙ same-refl (code a) ∙ sym e
-      ways false e true f = absurd (eqb-false a b e (sym backA ∙ ap value (same-eq (code a) (code b) f) ∙ backB))
-      ways false e false f = f ∙ sym e
 
 back2 : (a : ℕ) → a < 65536 → number2 (be2 a) 0 ≡ a
 unfolding be2

@@ -3,13 +3,14 @@ use mathlib.Core.Path.{_≡_, refl, sym, ap, _∙_}
 use mathlib.Core.List.{List, _++_, append-assoc}
 use Prim.Native.Nat.{ℕ, _+_, _*_, _-_, _≤_, min}
 use native.Mathlib.Omega.{arith}
-use lib.ListN.{length, take, drop, replicate, length-append, length-take, length-drop, length-replicate, take-append-drop}
-use lib.Seq.{paste, take-length, take-append-seam, take-at, drop-at, length-take-le}
+use lib.ListN.{length, take, drop, replicate, length-append, length-take, length-drop, length-replicate}
+use lib.Seq.{paste, take-length}
 use Rattle.definition.specs.Bytes.{be2, be4}
 use Rattle.definition.specs.Run.{overwrite}
 use Rattle.definition.specs.Blocks.{weighted, block, writtenBlock}
+use Rattle.facts.proofs.Chunks.{joined, length-joined}
+use Rattle.facts.proofs.Copies.{take-short, paste-front, paste-there, part-more}
 use Rattle.writer.proofs.Laws.{paste-paste}
-use Rattle.blocks.proofs.Parts.{paste-front, joined, length-joined, part-more}
 
 -- a copy of a whole list a to a place, and of b behind it
 grown :
@@ -17,17 +18,6 @@ grown :
     at ≡ base + length a → n ≡ length b → base + length a ≤ length d → o′ ≡ paste d base (a ++ b) (length (a ++ b))
 grown d o o′ a b base at n copied more ea en room =
     rw (more, copied, ea, en) (paste-paste d a b base (length b) room ∙ ap (paste d base (a ++ b)) (sym (length-append a b)))
-
--- what was copied is read there
-paste-there : (d s : List ℕ) (at n : ℕ) → at ≤ length d → n ≤ length s → take n (drop at (paste d at s n)) ≡ take n s
-paste-there d s at n inside whole =
-    ap (λ l. take n (drop at l)) (append-assoc (take at d) (take n s) (drop (at + n) d))
-    ∙ ap (take n) (drop-at (take at d) (take n s ++ drop (at + n) d) at (length-take-le at d inside))
-    ∙ take-at (take n s) (drop (at + n) d) n (length-take-le n s whole)
-
--- the first n, of a list that may be shorter
-take-short : (n : ℕ) (l : List ℕ) → take (length (take n l)) l ≡ take n l
-take-short n l = ap (take (length (take n l))) (sym (take-append-drop n l)) ∙ take-append-seam (take n l) (drop n l)
 
 -- the fields of a block of a job, in their order
 module _ (job : List ℕ) (k : ℕ) where
@@ -101,7 +91,7 @@ length-written job k =
     ∙ ap (λ n. n + 4) (length-front job k used refl small)
 
 pub length-file : (job : List ℕ) (n : ℕ) → length (joined (writtenBlock job) n) ≡ 512 * n
-length-file job n = length-joined (writtenBlock job) 512 n (λ j _. length-written job j)
+length-file job n = length-joined 512 (writtenBlock job) 0 n (λ j _ _. length-written job j)
 
 -- a turn of the loop over the blocks
 pub blocks-more :

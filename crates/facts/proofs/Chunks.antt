@@ -1,9 +1,9 @@
 -- General facts about lists made of parts: `from` and `concat`, and a list cut into parts of one length. Assumes nothing.
-use mathlib.Core.List.{List, _∷_}
+use mathlib.Core.List.{List, _∷_, _++_, append-assoc, append-nil}
 use mathlib.Core.Option.{some}
 use mathlib.Core.Path.{_≡_, refl, sym, ap, subst, _∙_}
 use Prim.Native.Nat.{ℕ, zero, suc, _+_, _*_, _≤_, _<_}
-use native.Mathlib.Nat.{mul-zero, mul-suc, add-zero}
+use native.Mathlib.Nat.{mul-zero, mul-suc, add-zero, zero-add}
 use native.Mathlib.Omega.{arith}
 use lib.ListN.{length, take, drop, getElem?, length-append}
 use lib.Seq.{take-at, drop-append-add, drop-drop, take-add}
@@ -40,6 +40,24 @@ module _ {A : Type 0} where
   from-place f k n i h =
       let there = inside-found (from f k n) i (subst (λ (m : ℕ). i < m) (sym (length-from f k n)) h) in
       there .1 ∙ ap some (sym (from-at f k n i (there .0) (there .1) .1))
+
+-- ---- lists f 0, f 1, .. joined
+
+-- the first k of them
+abbrev pub joined : {A : Type 0} → (ℕ → List A) → ℕ → List A
+joined f k = concat (from f 0 k)
+
+joined-from : {A : Type 0} (f : ℕ → List A) (i k : ℕ) → concat (from f i (suc k)) ≡ concat (from f i k) ++ f (i + k)
+unfolding concat from
+joined-from f i zero = rw (add-zero i) (append-nil (f i))
+joined-from f i (suc k) =
+    let place : suc i + k ≡ i + suc k = omega arith in
+    ap (λ l. f i ++ l) (joined-from f (suc i) k)
+    ∙ sym (append-assoc (f i) (concat (from f (suc i) k)) (f (suc i + k)))
+    ∙ ap (λ j. f i ++ concat (from f (suc i) k) ++ f j) place
+
+pub joined-more : {A : Type 0} (f : ℕ → List A) (k : ℕ) → joined f (suc k) ≡ joined f k ++ f k
+joined-more f k = joined-from f 0 k ∙ ap (λ j. joined f k ++ f j) (zero-add k)
 
 -- ---- parts of one length m
 

@@ -5,7 +5,7 @@ use mathlib.Core.Option.{some}
 use mathlib.Core.Path.{_≡_, refl, sym, ap, subst, _∙_}
 use Prim.Native.Nat.{ℕ, zero, suc}
 use lib.ListN.{length, getElem?}
-use Rattle.definition.specs.Basics.{lookup, only}
+use Rattle.definition.specs.Basics.{only, lookup}
 use Rattle.facts.specs.Lists.{Among}
 use Rattle.facts.proofs.Lists.{clash, none≢some, some-inj, among-later, map-some, only-here, only-later}
 use Rattle.facts.proofs.Tables.{lookup-at}

@@ -1,16 +1,16 @@
 -- Facts about lists: tests, what stands at a place and in a list, first places, images, and those that pass a test. Assumes nothing.
-use mathlib.Core.Bool.{Bool, true, _||_, false, _&&_}
-use mathlib.Core.List.{List, [], _∷_, _++_, map, reverseAux, reverse, reverse-reverse}
-use mathlib.Core.Logic.{inl, inr, _⊎_}
-use mathlib.Core.Option.{some, Option, none}
-use mathlib.Core.Path.{_≡_, refl, sym, ap, subst, _∙_, ap₂}
+use mathlib.Core.Bool.{Bool, true, false, _&&_, _||_}
+use mathlib.Core.List.{List, [], _∷_, _++_, map, reverse, reverseAux, reverse-reverse}
+use mathlib.Core.Logic.{_⊎_, inl, inr}
+use mathlib.Core.Option.{Option, none, some}
+use mathlib.Core.Path.{_≡_, refl, sym, ap, ap₂, subst, _∙_}
 use Prim.Native.Nat.{ℕ, zero, suc, _+_, _-_, _≤_, _<_}
 use native.Mathlib.Nat.{zero-add, suc-add, not-suc-le-zero, le-of-suc-le-suc, sub-zero, suc-sub-suc}
 use native.Mathlib.Omega.{arith}
-use lib.Dec.{ltb, eqb}
-use lib.ListN.{length, getElem?, length-append, drop, getD, replicate, length-replicate, set, length-set}
-use borrow.Author.Tests.{ltb-true, ltb-false, eqb-true, eqb-false, eq-eqb}
-use Rattle.definition.specs.Basics.{every, same, only, position}
+use lib.Dec.{eqb, ltb}
+use lib.ListN.{length, drop, getD, getElem?, set, replicate, length-append, length-replicate, length-set}
+use borrow.Author.Tests.{eqb-true, eqb-false, eq-eqb, ltb-true, ltb-false}
+use Rattle.definition.specs.Basics.{same, position, every, only}
 use Rattle.facts.specs.Lists.{Among}
 
 -- ---- tests
@@ -39,6 +39,10 @@ tests-agree false false f g = refl
 pub both-true : (a b : Bool) → (a && b) ≡ true → (a ≡ true) × (b ≡ true)
 both-true true b e = (refl, e)
 both-true false b e = (e, cc)
+
+pub and-false : (a : Bool) → (a && false) ≡ false
+and-false true = refl
+and-false false = refl
 
 -- below, or not; the same number, or not
 pub order : (m n : ℕ) → (m < n) ⊎ (n ≤ m)
@@ -69,6 +73,17 @@ pub same-refl : (xs : List ℕ) → same xs xs ≡ true
 unfolding same
 same-refl [] = refl
 same-refl (x ∷ xs) = rw (eq-eqb x x refl, same-refl xs)
+
+-- two codes are the same exactly if the numbers are, where a number can be read back
+module _ (code : ℕ → List ℕ) (value : List ℕ → ℕ) (a b : ℕ) (backA : value (code a) ≡ a) (backB : value (code b) ≡ b) where
+  pub same-coded : same (code a) (code b) ≡ eqb a b
+  same-coded = ways (eqb a b) refl (same (code a) (code b)) refl
+    where
+      ways : (t : Bool) → eqb a b ≡ t → (u : Bool) → same (code a) (code b) ≡ u → same (code a) (code b) ≡ eqb a b
+      ways true e true f = f ∙ sym e
+      ways true e false f = ap (λ x. same (code a) (code x)) (sym (eqb-true a b e)) ∙ same-refl (code a) ∙ sym e
+      ways false e true f = absurd (eqb-false a b e (sym backA ∙ ap value (same-true (code a) (code b) f) ∙ backB))
+      ways false e false f = f ∙ sym e
 
 -- ---- places
 

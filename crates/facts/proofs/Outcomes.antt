@@ -2,7 +2,7 @@
 use mathlib.Core.Bool.{Bool, true, false}
 use mathlib.Core.Path.{_≡_, refl, subst}
 use Prim.Native.Nat.{ℕ}
-use Rattle.definition.specs.Basics.{good, atRecord, unless, bad, _>>=_, Result}
+use Rattle.definition.specs.Basics.{Result, good, bad, atRecord, unless, _>>=_}
 
 -- a good result has P, a refusal Q
 pub data Ends {E A : Type 0} (Q : E → Type 0) (P : A → Type 0) : Result E A → Type 0 where

@@ -2,11 +2,11 @@
 -- front of what comes next passes, or it is refused. Assumes nothing.
 use mathlib.Core.Bool.{Bool, true, false}
 use mathlib.Core.List.{List}
-use mathlib.Core.Logic.{inl, inr, _⊎_}
-use mathlib.Core.Option.{some, Option, none}
+use mathlib.Core.Logic.{_⊎_, inl, inr}
+use mathlib.Core.Option.{Option, none, some}
 use mathlib.Core.Path.{_≡_, refl, ap}
 use Prim.Native.Nat.{ℕ}
-use Rattle.definition.specs.Basics.{good, atRecord, unless, bad, _>>=_, Refusal, Result}
+use Rattle.definition.specs.Basics.{Result, good, bad, Refusal, atRecord, unless, _>>=_}
 use Rattle.definition.specs.Bytes.{Parser, andThen}
 use Rattle.definition.specs.Form.{whole}
 use Rattle.facts.proofs.Lists.{clash}

@@ -1,14 +1,14 @@
--- Tables with numbers for keys: what is found at a key, what an insertion adds, and keys that rise. Assumes nothing.
+-- Tables with numbers for keys: what is found at a key, what an insertion adds, keys that rise, and what holds of every row. Assumes nothing.
 use mathlib.Core.Bool.{Bool, true, false}
 use mathlib.Core.List.{List, [], _∷_, map, reverseAux}
-use mathlib.Core.Logic.{inl, inr, _⊎_}
-use mathlib.Core.Option.{some, none}
+use mathlib.Core.Logic.{_⊎_, inl, inr}
+use mathlib.Core.Option.{Option, none, some}
 use mathlib.Core.Path.{_≡_, refl, sym, ap, _∙_}
 use Prim.Native.Nat.{ℕ, zero, suc, _≤_, _<_}
 use native.Mathlib.Omega.{arith}
-use lib.Dec.{ltb}
+use lib.Dec.{eqb, ltb}
 use lib.ListN.{length}
-use borrow.Author.Tests.{lt-ltb, ne-eqb, eq-eqb, le-ltb}
+use borrow.Author.Tests.{eq-eqb, ne-eqb, lt-ltb, le-ltb}
 use Rattle.definition.specs.Basics.{every, lookup, insert}
 use Rattle.facts.specs.Lists.{Among, Rising}
 use Rattle.facts.proofs.Lists.{none≢some, some-inj, order, equal, among-nil, among-cons, among-later, every-at}
@@ -201,3 +201,32 @@ insert-length k a (r ∷ l) = go (ltb k (r .0)) refl (insert-length k a l)
     go : (b : Bool) → ltb k (r .0) ≡ b → length (insert k a l) ≡ suc (length l) → length (insert k a (r ∷ l)) ≡ suc (suc (length l))
     go true e ih = rw (e, insert)
     go false e ih = rw (e, insert) (omega arith)
+
+-- ---- every row of a table
+
+-- P, and k is the key of no row, in the form in which the last arm of a `match` says it
+abbrev pub Passed : {A : Type 0} → ℕ → Type 0 → List (ℕ × A) → Type 0
+Passed k P [] = P
+Passed k P (r ∷ rows) = Passed k (P × (k ≡ r .0 → ⊥)) rows
+
+pub passed : {A : Type 0} (k : ℕ) (P : Type 0) (rows : List (ℕ × A)) → Passed k P rows → P × (lookup k rows ≡ none)
+unfolding lookup
+passed k P [] h = (h, refl)
+passed k P (r ∷ rows) h =
+    let rest = passed k (P × (k ≡ r .0 → ⊥)) rows h in
+    (rest .0 .0, rw (ne-eqb k (r .0) (rest .0 .1), lookup) (rest .1))
+
+-- what holds of each row's value and of none holds of whatever is looked up
+module _ {A : Type 0} (P : Option A → Type 0) where
+  abbrev pub InRows : List (ℕ × A) → Type 0
+  InRows [] = P none
+  InRows (r ∷ rows) = P (some (r .1)) × InRows rows
+
+  pub looked-up : (k : ℕ) (rows : List (ℕ × A)) → InRows rows → P (lookup k rows)
+  unfolding lookup
+  looked-up k [] h = h
+  looked-up k (r ∷ rows) h = ways (eqb k (r .0)) refl (looked-up k rows (h .1))
+    where
+      ways : (b : Bool) → eqb k (r .0) ≡ b → P (lookup k rows) → P (lookup k (r ∷ rows))
+      ways true e rest = rw (e, lookup) (h .0)
+      ways false e rest = rw (e, lookup) rest

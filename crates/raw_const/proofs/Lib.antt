@@ -1,4 +1,3 @@
-pub mod Tables
 pub mod Shaped
 pub mod Writes
 pub mod Rows

@@ -10,8 +10,9 @@ use Rattle.definition.specs.Basics.{concat}
 use Rattle.definition.specs.Bytes.{be2}
 use Rattle.definition.specs.Shapes.{bootstrapShape, writeFields}
 use Rattle.definition.specs.Run.{rowBytes}
+use Rattle.facts.proofs.Copies.{part-length}
 use Rattle.raw_const.specs.Entries.{Wrote}
-use Rattle.raw_const.proofs.Writes.{wrote-then, part-length}
+use Rattle.raw_const.proofs.Writes.{wrote-then}
 
 -- numbers, two bytes each
 abbrev pub shorts : List ℕ → List ℕ

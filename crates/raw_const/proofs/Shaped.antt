@@ -11,7 +11,7 @@ use Rattle.definition.specs.Run.{entryBytes}
 use Rattle.raw_const.specs.Entries.{fieldsOf, listed, references, entryOf, LiteralFits, Wrote, lengthOf}
 use Rattle.raw_const.specs.declared.Shape.{Shape}
 use Rattle.raw_const.specs.declared.Shape.the-variants.{Text, Bits, One, Two, Dynamic, KindOne, Unknown}
-use Rattle.raw_const.proofs.Tables.{looked-up}
+use Rattle.facts.proofs.Tables.{looked-up}
 
 -- the bytes of an entry of a shape
 abbrev pub shapeBytes : Shape → ℕ → ℕ → List ℕ → ℕ → ℕ → List ℕ

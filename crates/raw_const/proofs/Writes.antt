@@ -4,9 +4,10 @@ use mathlib.Core.List.{List, [], _∷_, _++_}
 use Prim.Native.Nat.{ℕ, _+_, _<_, _≤_}
 use native.Mathlib.Nat.{le-refl, add-assoc, add-zero}
 use native.Mathlib.Omega.{arith}
-use lib.ListN.{length, set, take, drop, length-append, length-drop}
-use lib.Seq.{paste, paste-zero, sets-eq, length-take-le, take-take}
+use lib.ListN.{length, set, take, drop, length-append}
+use lib.Seq.{paste, paste-zero, sets-eq, take-take}
 use Rattle.definition.specs.Bytes.{be2}
+use Rattle.facts.proofs.Copies.{part-length}
 use Rattle.writer.proofs.Laws.{paste-paste}
 use Rattle.raw_const.specs.Entries.{Wrote}
 
@@ -32,12 +33,6 @@ wrote-byte d at x room e = record { out = e ∙ sets-eq (x ∷ []) d at (omega a
 pub wrote-short : (d : List ℕ) (at x : ℕ) {d₁ : List ℕ} → d₁ ≡ paste d at (be2 x) 2 → Wrote d at (be2 x) d₁ (at + 2)
 unfolding be2
 wrote-short d at x e = record { out = e; next = refl }
-
--- how long a part of a list is
-pub part-length : (s : List ℕ) (from n : ℕ) → from + n ≤ length s → length (take n (drop from s)) ≡ n
-part-length s from n room =
-    let inside : n ≤ length (drop from s) = simp length-drop (omega arith) in
-    length-take-le n (drop from s) inside
 
 -- a copied part
 pub wrote-part :

@@ -5,7 +5,7 @@ use native.Mathlib.Omega.{arith}
 use borrow.Author.Needs.{needs}
 use lib.ListN.{length, replicate}
 use lib.Seq.{paste, paste-zero}
-use Rattle.blocks.proofs.Parts.{pad-more}
+use Rattle.facts.proofs.Copies.{pad-more}
 use Rattle.blocks.proofs.pad.Statement.{statement}
 use Rattle.blocks.proofs.pad.Tie as tie
 

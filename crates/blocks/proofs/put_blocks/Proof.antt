@@ -6,7 +6,8 @@ use borrow.Author.Needs.{needs}
 use lib.ListN.{length}
 use Rattle.definition.specs.Blocks.{writtenBlock}
 use Rattle.definition.specs.Run.{overwrite}
-use Rattle.blocks.proofs.Parts.{joined-none, joined}
+use Rattle.facts.proofs.Chunks.{joined}
+use Rattle.facts.proofs.Copies.{joined-none}
 use Rattle.blocks.proofs.Written.{blocks-more}
 use Rattle.blocks.proofs.put_blocks.Statement.{statement}
 use Rattle.blocks.proofs.put_blocks.Tie as tie

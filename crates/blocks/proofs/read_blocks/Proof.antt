@@ -8,7 +8,7 @@ use Rattle.definition.specs.Blocks.{readBlocks}
 use Rattle.blocks.specs.Answers.{readAnswer}
 use Rattle.blocks.specs.File.{dataOf}
 use Rattle.blocks.proofs.Ends.{ends-bad, ends-good}
-use Rattle.blocks.proofs.Parts.{joined}
+use Rattle.facts.proofs.Chunks.{joined}
 use Rattle.blocks.proofs.Reading.{read-empty, read-odd, read-many, read-wrong, read-long, read-narrow, read-good}
 use Rattle.blocks.proofs.read_blocks.Statement.{statement}
 use Rattle.blocks.proofs.read_blocks.Tie as tie

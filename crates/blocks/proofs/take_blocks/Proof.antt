@@ -7,7 +7,8 @@ use lib.ListN.{length}
 use Rattle.definition.specs.Run.{overwrite}
 use Rattle.blocks.specs.File.{dataOf}
 use Rattle.blocks.proofs.Joined.{used-small, inside-job, take-more}
-use Rattle.blocks.proofs.Parts.{joined, joined-none}
+use Rattle.facts.proofs.Chunks.{joined}
+use Rattle.facts.proofs.Copies.{joined-none}
 use Rattle.blocks.proofs.take_blocks.Statement.{statement}
 use Rattle.blocks.proofs.take_blocks.Tie as tie
 

@@ -5,9 +5,10 @@ use borrow.Author.Needs.{needs}
 use lib.ListN.{length}
 use Rattle.definition.specs.Blocks.{writtenBlock, writeBlocks}
 use Rattle.blocks.specs.Answers.{writtenAnswer}
+use Rattle.laws.proofs.blocks.PartsOfJob.{blocks-few}
 use Rattle.blocks.proofs.Ends.{ends-bad, ends-good}
-use Rattle.blocks.proofs.Parts.{joined}
-use Rattle.blocks.proofs.Writing.{write-long, write-narrow, write-good, blocks-for-begun, blocks-for-most}
+use Rattle.facts.proofs.Chunks.{joined}
+use Rattle.blocks.proofs.Writing.{write-long, write-narrow, write-good, blocks-for-begun}
 use Rattle.blocks.proofs.Written.{length-file}
 use Rattle.blocks.proofs.write_blocks.Statement.{statement}
 use Rattle.blocks.proofs.write_blocks.Tie as tie
@@ -41,7 +42,7 @@ returns-2 c =
 put-blocks-requires : tie.Need-put-blocks-requires
 put-blocks-requires c κs =
     let size = length (c .before .before .before .before .before .before .args .job .now) in
-    omega (arith, blocks-for-begun size, blocks-for-most size (omega arith))
+    omega (arith, blocks-for-begun size, blocks-few size (omega arith))
 
 same-length : tie.Need-same-length
 same-length c = search needs

@@ -2,19 +2,17 @@
 use mathlib.Core.Bool.{true}
 use mathlib.Core.List.{List}
 use mathlib.Core.Path.{_≡_, ap, _∙_}
-use Prim.Native.Nat.{ℕ, suc, _+_, _≤_, _<_, _*_}
+use Prim.Native.Nat.{ℕ, suc, _+_, _*_, _≤_, _<_}
 use native.Mathlib.Nat.{zero-add}
 use native.Mathlib.Omega.{arith}
 use lib.Dec.{eqb}
 use lib.ListN.{length, take}
 use Rattle.definition.specs.Basics.{good, concat, from}
 use Rattle.definition.specs.Run.{longestJob}
-use Rattle.definition.specs.Blocks.{blockCount, rightBlock, mostBlocks, readBlocks, block, blockAt, rightUse, blockData}
+use Rattle.definition.specs.Blocks.{block, blockCount, blockAt, rightUse, rightBlock, blockData, mostBlocks, readBlocks}
 use Rattle.facts.proofs.Chunks.{from-same, length-joined, cut-out}
 use Rattle.laws.proofs.blocks.ReadingTests.{jobIn, isRead}
 use Rattle.laws.proofs.blocks.OneBlock.{length-block, block-data, used-most, block-right}
-
--- ---- the blocks of parts p 0, p 1, .. of n
 
 -- a part: how much of its 504 bytes is used, and the bytes
 abbrev pub Part : Type 0

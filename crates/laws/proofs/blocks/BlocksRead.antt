@@ -7,8 +7,6 @@ use Rattle.laws.proofs.blocks.ReadingTests.{wasRead}
 use Rattle.laws.proofs.blocks.BlocksOfParts.{parts-read}
 use Rattle.laws.proofs.blocks.PartsOfFile.{some-block, partIn, own-described, own-file, own-job}
 
--- ---- the statement
-
 -- BLOCKS READ: a file is accepted exactly if it is the blocks of parts as described, few enough, and their job isn't too long and has room
 pub blocksRead : BlocksRead
 blocksRead room file job bytes = (

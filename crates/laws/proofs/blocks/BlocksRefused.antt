@@ -8,8 +8,8 @@ use native.Mathlib.Nat.{zero-add}
 use native.Mathlib.Omega.{arith}
 use lib.Dec.{eqb, leb, ltb}
 use lib.ListN.{length}
-use borrow.Author.Tests.{leb-true, leb-false, eqb-false, lt-ltb, le-leb, lt-leb, ne-eqb}
-use Rattle.definition.specs.Basics.{good, bad, _>>=_, Refusal}
+use borrow.Author.Tests.{eqb-false, ne-eqb, lt-ltb, leb-true, leb-false, le-leb, lt-leb}
+use Rattle.definition.specs.Basics.{good, bad, Refusal, _>>=_}
 use Rattle.definition.specs.Run.{longestJob}
 use Rattle.definition.specs.Blocks.{blockCount, rightBlock, blocksRight, mostBlocks, readBlocks}
 use Rattle.facts.proofs.Lists.{clash}

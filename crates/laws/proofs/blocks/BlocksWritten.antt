@@ -2,22 +2,20 @@
 -- Assumes nothing.
 use mathlib.Core.Bool.{true, false}
 use mathlib.Core.List.{List}
-use mathlib.Core.Logic.{inl, inr, _⊎_}
+use mathlib.Core.Logic.{_⊎_, inl, inr}
 use mathlib.Core.Path.{_≡_, refl, sym, ap, _∙_}
-use Prim.Native.Nat.{ℕ, _≤_, _<_, _*_}
+use Prim.Native.Nat.{ℕ, _*_, _≤_, _<_}
 use native.Mathlib.Omega.{arith}
 use lib.Dec.{leb}
 use lib.ListN.{length}
 use borrow.Author.Tests.{leb-true, leb-false, le-leb, lt-leb}
-use Rattle.definition.specs.Basics.{good, bad, Refusal, Result}
+use Rattle.definition.specs.Basics.{Result, good, bad, Refusal}
 use Rattle.definition.specs.Run.{longestJob}
 use Rattle.definition.specs.Blocks.{blocksFor, writtenBlock, writeBlocks}
 use Rattle.facts.proofs.Results.{bad≢good, guarded, passes, refuses, refusedBy}
 use Rattle.laws.specs.Statements.{BlocksWritten}
 use Rattle.laws.proofs.blocks.BlocksOfParts.{theirFile, file-length}
 use Rattle.laws.proofs.blocks.PartsOfJob.{writtenPart, written-described}
-
--- ---- what writing is refused for, and how long its file is
 
 module _ (room : ℕ) (job : List ℕ) where
   abbrev new : List ℕ

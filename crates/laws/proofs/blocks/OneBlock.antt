@@ -1,18 +1,16 @@
 -- One block of a block file: its number, use, data and check, and bytes that are a block. Assumes nothing.
-use mathlib.Core.Bool.{Bool, true, _||_, false}
+use mathlib.Core.Bool.{Bool, true, false, _||_}
 use mathlib.Core.List.{List, [], _∷_, _++_}
 use mathlib.Core.Path.{_≡_, refl, sym, ap, _∙_}
-use Prim.Native.Nat.{ℕ, suc, _+_, _≤_, _<_, _%_, _*_, _/_}
+use Prim.Native.Nat.{ℕ, suc, _+_, _*_, _/_, _%_, _≤_, _<_}
 use native.Mathlib.Omega.{arith}
-use lib.Dec.{leb, eqb}
-use lib.ListN.{length, length-append, take, drop, getD, take-append-drop}
+use lib.Dec.{eqb, leb}
+use lib.ListN.{length, take, drop, getD, length-append, take-append-drop}
 use lib.Seq.{take-at, drop-at, take-append-le}
-use borrow.Author.Tests.{leb-true, eqb-true}
+use borrow.Author.Tests.{eqb-true, leb-true}
 use Rattle.definition.specs.Bytes.{be2, be4}
-use Rattle.definition.specs.Blocks.{rightBlock, weighted, block, blockAt, usedIn, rightUse, blockData}
+use Rattle.definition.specs.Blocks.{weighted, block, blockAt, usedIn, rightUse, rightBlock, blockData}
 use Rattle.facts.proofs.Lists.{both-true, same-refl}
-
--- ---- one block
 
 -- what stands in front of a block's check
 unfoldable pub frontOf : ℕ → ℕ → List ℕ → List ℕ

@@ -2,23 +2,21 @@
 use mathlib.Core.Bool.{true, _&&_}
 use mathlib.Core.List.{List}
 use mathlib.Core.Path.{_≡_, ap, _∙_}
-use Prim.Native.Nat.{ℕ, suc, _+_, _≤_, _<_, _*_}
+use Prim.Native.Nat.{ℕ, suc, _+_, _*_, _≤_, _<_}
 use native.Mathlib.Nat.{zero-add}
 use native.Mathlib.Omega.{arith}
 use lib.Dec.{eqb}
 use lib.ListN.{length, take, drop, getD, length-drop}
 use lib.Seq.{take-take, take-all, length-take-le, getD-drop, getD-take}
-use Rattle.definition.specs.Basics.{concat, same}
+use Rattle.definition.specs.Basics.{same, concat}
 use Rattle.definition.specs.Bytes.{be2, be4}
-use Rattle.definition.specs.Blocks.{blockCount, rightBlock, weighted, block, blockAt, usedIn, rightUse, blockData}
+use Rattle.definition.specs.Blocks.{weighted, block, blockCount, blockAt, usedIn, rightUse, rightBlock, blockData}
 use Rattle.facts.proofs.Lists.{both-true, same-true}
 use Rattle.facts.proofs.Chunks.{from-same, cut-join}
 use Rattle.laws.specs.Statements.{IsBytes}
 use Rattle.laws.proofs.blocks.ReadingTests.{jobIn, Accepted}
 use Rattle.laws.proofs.blocks.OneBlock.{used-most, block-is}
 use Rattle.laws.proofs.blocks.BlocksOfParts.{Part, theirFile, theirJob, Described}
-
--- ---- a file's own parts
 
 -- an accepted file has a block
 pub some-block : (room : ℕ) (file job : List ℕ) → Accepted room file job → 1 ≤ blockCount file

@@ -3,20 +3,18 @@ use mathlib.Core.Bool.{Bool, true, false}
 use mathlib.Core.List.{List, _++_}
 use mathlib.Core.Logic.{_≢_}
 use mathlib.Core.Path.{_≡_, refl, sym, ap, _∙_}
-use Prim.Native.Nat.{ℕ, zero, suc, _+_, _-_, _≤_, _<_, _*_, min}
+use Prim.Native.Nat.{ℕ, zero, suc, _+_, _*_, _-_, _≤_, _<_, min}
 use native.Mathlib.Omega.{arith}
-use lib.Dec.{leb, eqb}
-use lib.ListN.{length, length-append, take, drop, replicate, length-take, length-drop, length-replicate}
+use lib.Dec.{eqb, leb}
+use lib.ListN.{length, take, drop, replicate, length-append, length-take, length-drop, length-replicate}
 use lib.Seq.{take-append-seam, take-all}
-use borrow.Author.Tests.{leb-true, eqb-true, eqb-false, le-leb, eq-eqb}
+use borrow.Author.Tests.{eqb-true, eqb-false, eq-eqb, leb-true, le-leb}
 use Rattle.definition.specs.Basics.{good, concat, from}
 use Rattle.definition.specs.Run.{longestJob}
-use Rattle.definition.specs.Blocks.{mostBlocks, rightUse, blocksFor, writtenBlock, writeBlocks}
+use Rattle.definition.specs.Blocks.{rightUse, mostBlocks, blocksFor, writtenBlock, writeBlocks}
 use Rattle.facts.proofs.Chunks.{from-same, cut-join}
 use Rattle.facts.proofs.Results.{good-inj, guarded, passed}
 use Rattle.laws.proofs.blocks.BlocksOfParts.{Part, theirFile, theirJob, Described}
-
--- ---- writing
 
 -- the parts of a job: up to 504 bytes of it, padded with zeros
 abbrev pub writtenPart : List ℕ → ℕ → Part

@@ -8,8 +8,8 @@ use native.Mathlib.Nat.{add-zero}
 use native.Mathlib.Omega.{arith}
 use lib.Dec.{eqb, leb, ltb}
 use lib.ListN.{length}
-use borrow.Author.Tests.{ltb-true, leb-true, eqb-true, lt-ltb, le-leb, eq-eqb}
-use Rattle.definition.specs.Basics.{Result, good, bad, _>>=_, Refusal, concat, from}
+use borrow.Author.Tests.{eqb-true, eq-eqb, ltb-true, lt-ltb, leb-true, le-leb}
+use Rattle.definition.specs.Basics.{Result, good, bad, Refusal, concat, from, _>>=_}
 use Rattle.definition.specs.Run.{longestJob}
 use Rattle.definition.specs.Blocks.{blockCount, blockAt, rightBlock, blocksRight, blockData, mostBlocks, readBlocks}
 use Rattle.facts.proofs.Lists.{clash, both-true}

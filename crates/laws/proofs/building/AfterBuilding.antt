@@ -5,7 +5,7 @@ use mathlib.Core.Path.{_≡_}
 use Prim.Native.Nat.{ℕ, _<_}
 use lib.ListN.{length}
 use Rattle.definition.specs.Basics.{good, lookup}
-use Rattle.definition.specs.Shapes.{Entry, bootstrapTag, withKids}
+use Rattle.definition.specs.Shapes.{bootstrapTag, Entry, withKids}
 use Rattle.definition.specs.Definitions.{Held, tagAt}
 use Rattle.definition.specs.Resolving.{Node}
 use Rattle.definition.specs.Building.{Pool, Row, Made, buildAll}
@@ -30,8 +30,6 @@ pub record Ended (top : ℕ) (held : List (ℕ × Held)) (raws : List (ℕ × �
   pub isOwned : (s k : ℕ) → Among (s, k) (toHold (m .pool .given) raws) → (e : Entry ℕ ℕ) × (lookup s (m .owned) ≡ some e)
   -- constants only were given slots
   pub constants : Each (λ r. Constant nodes (r .0)) (m .pool .given)
-
--- ---- after the building stack
 
 pub built-ended :
     (top : ℕ) (held : List (ℕ × Held)) (raws : List (ℕ × ℕ)) (nodes : List Node) (indexes : List (ℕ × ℕ)) (p : Pool) (m : Made) →

@@ -1,13 +1,13 @@
 -- What is there after the name, if it is wanted (`named`): it has its slot, which holds it, and the rest is as it was built. Assumes nothing.
 use mathlib.Core.Bool.{Bool, true, false}
 use mathlib.Core.List.{List, [], _∷_, _++_, append-nil}
-use mathlib.Core.Logic.{inl, inr, _⊎_}
+use mathlib.Core.Logic.{_⊎_, inl, inr}
 use mathlib.Core.Option.{some}
 use mathlib.Core.Path.{_≡_, refl, sym, ap, subst, _∙_}
 use Prim.Native.Nat.{ℕ, zero, suc, _+_, _-_, _≤_, _<_}
 use native.Mathlib.Omega.{arith}
 use lib.ListN.{length, getElem?}
-use Rattle.definition.specs.Basics.{good, lookup, position}
+use Rattle.definition.specs.Basics.{good, position, lookup}
 use Rattle.definition.specs.Shapes.{Entry, withKids}
 use Rattle.definition.specs.Definitions.{Held, tagAt}
 use Rattle.definition.specs.Resolving.{Node, firstNode, sameNode, intern}

@@ -8,7 +8,7 @@ use Rattle.definition.specs.Shapes.{Entry}
 use Rattle.definition.specs.Job.{Reference, Definition}
 use Rattle.definition.specs.Definitions.{Held, Defined, defineAll, nothingDefined}
 use Rattle.definition.specs.Resolving.{Goal, tableEntry, Mark, resolveAll, nothingResolved}
-use Rattle.definition.specs.Layout.{starters, nodeAt, Ready, endDefinitions}
+use Rattle.definition.specs.Layout.{starters, Ready, nodeAt, endDefinitions}
 use Rattle.facts.specs.Lists.{Among}
 use Rattle.facts.proofs.Results.{good-inj, good-then}
 use Rattle.laws.specs.Statements.{Occurs, afterDefinitions}

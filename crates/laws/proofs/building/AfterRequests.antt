@@ -1,5 +1,5 @@
 -- What requests keep, and what each answer is: the slot of what its reference became. Assumes nothing.
-use mathlib.Core.Bool.{Bool, true, not, _||_}
+use mathlib.Core.Bool.{Bool, true, _||_, not}
 use mathlib.Core.List.{List, [], _∷_, _++_}
 use mathlib.Core.Logic.{inl, inr}
 use mathlib.Core.Option.{some}
@@ -13,7 +13,7 @@ use Rattle.definition.specs.Basics.{good, atRecord, unless}
 use Rattle.definition.specs.Shapes.{Entry}
 use Rattle.definition.specs.Job.{Request}
 use Rattle.definition.specs.Definitions.{Held, Naming}
-use Rattle.definition.specs.Resolving.{Goal, Node, firstNode, childOf, goalOf, resolve}
+use Rattle.definition.specs.Resolving.{Goal, goalOf, Node, firstNode, childOf, resolve}
 use Rattle.definition.specs.Slots.{highestLdc}
 use Rattle.definition.specs.Building.{Pool, allocate, slotOf}
 use Rattle.definition.specs.Layout.{Ready, answer, answerAll}

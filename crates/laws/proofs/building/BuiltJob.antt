@@ -12,7 +12,7 @@ use Rattle.definition.specs.Job.{Request, Job}
 use Rattle.definition.specs.Form.{form}
 use Rattle.definition.specs.Numbering.{constantsOf, numbered}
 use Rattle.definition.specs.Definitions.{tagAt}
-use Rattle.definition.specs.Resolving.{Goal, tableEntry, goalOf, Mark, done, Node}
+use Rattle.definition.specs.Resolving.{Goal, tableEntry, goalOf, Node, Mark, done}
 use Rattle.definition.specs.Slots.{highestSlot}
 use Rattle.definition.specs.Building.{Row, nameWanted}
 use Rattle.definition.specs.Layout.{starters, nodeAt, answerAll, Layout, indexNodes, layout}

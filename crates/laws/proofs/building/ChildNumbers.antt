@@ -2,18 +2,18 @@
 -- Assumes nothing.
 use mathlib.Core.Bool.{Bool, true, false}
 use mathlib.Core.List.{List, [], _∷_, _++_}
-use mathlib.Core.Logic.{inl, inr, _⊎_}
+use mathlib.Core.Logic.{_⊎_, inl, inr}
 use mathlib.Core.Option.{some}
 use mathlib.Core.Path.{_≡_, refl, sym}
 use Prim.Native.Nat.{ℕ, _-_, _≤_, _<_}
-use lib.Dec.{ltb, eqb}
+use lib.Dec.{eqb, ltb}
 use lib.ListN.{length, getElem?}
 use borrow.Author.Tests.{eqb-true}
-use Rattle.definition.specs.Basics.{good, lookup, _>>=_, same}
-use Rattle.definition.specs.Shapes.{Entry, bootstrapTag, withKids}
+use Rattle.definition.specs.Basics.{good, same, lookup, _>>=_}
+use Rattle.definition.specs.Shapes.{bootstrapTag, Entry, withKids}
 use Rattle.definition.specs.Definitions.{tagAt}
 use Rattle.definition.specs.Resolving.{Node, firstNode}
-use Rattle.definition.specs.Building.{Pool, allocate, slotOf, kidsOf, Row, Rows, indexOf, rowIndex, Made, slotsOf, fillHoles, nodeNumber, childNumber, childNumbers, finish, withPending}
+use Rattle.definition.specs.Building.{Pool, allocate, slotOf, slotsOf, Row, Rows, indexOf, rowIndex, fillHoles, Made, kidsOf, nodeNumber, childNumber, childNumbers, finish, withPending}
 use Rattle.facts.specs.Lists.{Among}
 use Rattle.facts.proofs.Lists.{clash, same-true, found-append, among-later}
 use Rattle.facts.proofs.Each.{Both, both-map}
@@ -99,10 +99,6 @@ slots-same = record { slotStays = λ k s e. e }
 
 pub slots-twice : {a b c : List (ℕ × ℕ)} → SlotsKept a b → SlotsKept b c → SlotsKept a c
 slots-twice ab bc = record { slotStays = λ k s e. bc .slotStays k s (ab .slotStays k s e) }
-
--- ---- results that are good
-
--- ---- tables with numbers for keys
 
 -- a slot that is given is to hold its node
 pub given-held : (k s : ℕ) (given raws : List (ℕ × ℕ)) → lookup k given ≡ some s → Among (s, k) (toHold given raws)

@@ -1,17 +1,17 @@
 -- Building gives slots to constants only: what is so of every node that may be given a slot stays so. Assumes nothing.
 use mathlib.Core.Bool.{Bool, false}
 use mathlib.Core.List.{List, [], _∷_, reverse}
-use mathlib.Core.Option.{some, Option, none}
+use mathlib.Core.Option.{Option, none, some}
 use mathlib.Core.Path.{_≡_, sym, subst}
 use Prim.Native.Nat.{ℕ, zero, suc, _-_}
-use lib.Dec.{ltb, eqb}
+use lib.Dec.{eqb, ltb}
 use lib.ListN.{getElem?}
-use borrow.Author.Tests.{ltb-false, eqb-true, eqb-false}
+use borrow.Author.Tests.{eqb-true, eqb-false, ltb-false}
 use Rattle.definition.specs.Basics.{good}
 use Rattle.definition.specs.Shapes.{bootstrapTag}
 use Rattle.definition.specs.Definitions.{tagAt}
 use Rattle.definition.specs.Resolving.{Node, firstNode}
-use Rattle.definition.specs.Building.{Pool, allocate, slotOf, kidsOf, Row, Rows, rowIndex, Made, buildAll, slotsOf, nodeNumber, childNumber, childNumbers, finish, withPending, drain, rawRows}
+use Rattle.definition.specs.Building.{Pool, allocate, slotOf, slotsOf, Row, Rows, rowIndex, Made, kidsOf, nodeNumber, childNumber, childNumbers, finish, withPending, drain, rawRows, buildAll}
 use Rattle.facts.proofs.Each.{Each, each-reverse}
 use Rattle.facts.proofs.Results.{bad≢good, good-inj, good-then, decided}
 use Rattle.laws.proofs.resolving.NodesAndChildren.{Constant, ConstantChild, BootstrapKids}

@@ -1,12 +1,12 @@
 -- EXACTLY 17: an inline row is refused for want of an index exactly if it shares none and all 65,535 are used. Assumes nothing.
 use mathlib.Core.List.{List}
-use mathlib.Core.Logic.{inl, inr, _⊎_}
-use mathlib.Core.Option.{some, Option, none}
+use mathlib.Core.Logic.{_⊎_, inl, inr}
+use mathlib.Core.Option.{Option, none, some}
 use mathlib.Core.Path.{_≡_, refl, sym, _∙_}
 use Prim.Native.Nat.{ℕ, _≤_, _<_}
 use native.Mathlib.Omega.{arith}
 use lib.ListN.{length}
-use Rattle.definition.specs.Basics.{lookup, bad}
+use Rattle.definition.specs.Basics.{bad, lookup}
 use Rattle.definition.specs.Building.{Row, Rows, writeRaw, indexOf, rowIndex}
 use Rattle.facts.proofs.Lists.{none≢some, order}
 use Rattle.facts.proofs.Results.{bad≢good}

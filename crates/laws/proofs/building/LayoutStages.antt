@@ -5,7 +5,7 @@ use Prim.Native.Nat.{ℕ, suc}
 use lib.ListN.{length}
 use Rattle.definition.specs.Basics.{good}
 use Rattle.definition.specs.Shapes.{Entry}
-use Rattle.definition.specs.Job.{Job, Reference}
+use Rattle.definition.specs.Job.{Reference, Job}
 use Rattle.definition.specs.Numbering.{constantsOf, bootstrapsOf}
 use Rattle.definition.specs.Definitions.{Defined, defineAll, nothingDefined}
 use Rattle.definition.specs.Resolving.{Goal, linked}

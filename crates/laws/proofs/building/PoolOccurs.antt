@@ -1,20 +1,11 @@
 -- POOL OCCURS: the pool that building leaves is one that occurs, if the one that it starts from is. Assumes nothing.
-use mathlib.Core.Bool.{Bool, true, false}
-use mathlib.Core.List.{List, [], _∷_, _++_, map, reverse, reverseAux, append-assoc, reverse-reverse}
-use mathlib.Core.Logic.{_⊎_, inl, inr}
-use mathlib.Core.Option.{Option, none, some}
-use mathlib.Core.Path.{_≡_, refl, sym, _∙_, ap, subst}
-use Prim.Native.Nat.{ℕ, zero, suc, _+_, _-_, _≤_, _<_}
-use native.Mathlib.Omega.{arith}
-use lib.Dec.{eqb, ltb}
-use lib.ListN.{length, getElem?, replicate, length-append}
-use borrow.Author.Tests.{ltb-true, ltb-false, eqb-true, eqb-false}
-use Rattle.definition.specs.Basics.{Result, good, _>>=_, same, lookup}
-use Rattle.definition.specs.Shapes.{bootstrapTag, Entry, withKids}
-use Rattle.definition.specs.Definitions.{Held, tagAt}
-use Rattle.definition.specs.Resolving.{Node, firstNode}
-use Rattle.definition.specs.Building.{Pool, allocate, slotOf, slotsOf, Row, Rows, writeRaw, indexOf, takeIndex, rowIndex, fillHoles}
-use Rattle.definition.specs.Building.{Made, kidsOf, nodeNumber, childNumber, childNumbers, finish, withPending, drain, rawRows, buildAll}
+use mathlib.Core.List.{List}
+use mathlib.Core.Path.{_≡_}
+use Prim.Native.Nat.{ℕ}
+use Rattle.definition.specs.Basics.{good}
+use Rattle.definition.specs.Definitions.{Held}
+use Rattle.definition.specs.Resolving.{Node}
+use Rattle.definition.specs.Building.{Pool, Made, buildAll}
 use Rattle.laws.specs.Statements.{Occurs}
 use Rattle.laws.proofs.building.ChildNumbers.{Starts}
 use Rattle.laws.proofs.building.WhatBuildingLeaves.{built}

@@ -1,16 +1,16 @@
 -- What holds of the bootstrap rows that occur (`rowsSound`): raw ones wait by rising index behind those written. Assumes nothing.
-use mathlib.Core.List.{List, [], _∷_, _++_, reverseAux, reverse, reverse-reverse}
-use mathlib.Core.Logic.{inl, inr, _⊎_}
-use mathlib.Core.Option.{some, Option, none}
+use mathlib.Core.List.{List, [], _∷_, _++_, reverse, reverseAux, reverse-reverse}
+use mathlib.Core.Logic.{_⊎_, inl, inr}
+use mathlib.Core.Option.{Option, none, some}
 use mathlib.Core.Path.{_≡_, refl, sym, ap, subst, _∙_}
 use Prim.Native.Nat.{ℕ, suc, _+_, _≤_, _<_}
 use native.Mathlib.Omega.{arith}
 use lib.ListN.{length, length-append}
-use borrow.Author.Tests.{lt-ltb, ne-eqb, eq-eqb, le-ltb}
-use Rattle.definition.specs.Basics.{good, lookup, bad}
-use Rattle.definition.specs.Resolving.{Mark, Node}
-use Rattle.definition.specs.Building.{Pool, kidsOf, Row, Rows, writeRaw, indexOf, rowIndex, slotsOf, takeIndex, rawRows}
-use Rattle.definition.specs.Layout.{indexNodes, nodeAt}
+use borrow.Author.Tests.{eq-eqb, ne-eqb, lt-ltb, le-ltb}
+use Rattle.definition.specs.Basics.{good, bad, lookup}
+use Rattle.definition.specs.Resolving.{Node, Mark}
+use Rattle.definition.specs.Building.{Pool, slotsOf, Row, Rows, writeRaw, indexOf, takeIndex, rowIndex, kidsOf, rawRows}
+use Rattle.definition.specs.Layout.{nodeAt, indexNodes}
 use Rattle.facts.specs.Lists.{Rising}
 use Rattle.facts.proofs.Lists.{order, equal}
 use Rattle.facts.proofs.Tables.{lookup-hit, lookup-miss, keys, keys-map, keys-reverse, rising-none}

@@ -1,21 +1,15 @@
 -- After building every slot given out, and every raw one, holds its node with numbers that stand for its children; nothing else is held;
 -- raw bootstraps stand at their indexes; and what was given before is still given. Assumes nothing.
-use mathlib.Core.Bool.{Bool, true, false}
-use mathlib.Core.List.{List, [], _∷_, _++_, map, reverse, reverseAux, append-assoc, reverse-reverse}
+use mathlib.Core.List.{List, []}
 use mathlib.Core.Logic.{_⊎_, inl, inr}
-use mathlib.Core.Option.{Option, none, some}
-use mathlib.Core.Path.{_≡_, refl, sym, _∙_, ap, subst}
-use Prim.Native.Nat.{ℕ, zero, suc, _+_, _-_, _≤_, _<_}
-use native.Mathlib.Omega.{arith}
-use lib.Dec.{eqb, ltb}
-use lib.ListN.{length, getElem?, replicate, length-append}
-use borrow.Author.Tests.{ltb-true, ltb-false, eqb-true, eqb-false}
-use Rattle.definition.specs.Basics.{Result, good, _>>=_, same, lookup}
-use Rattle.definition.specs.Shapes.{bootstrapTag, Entry, withKids}
-use Rattle.definition.specs.Definitions.{Held, tagAt}
-use Rattle.definition.specs.Resolving.{Node, firstNode}
-use Rattle.definition.specs.Building.{Pool, allocate, slotOf, slotsOf, Row, Rows, writeRaw, indexOf, takeIndex, rowIndex, fillHoles}
-use Rattle.definition.specs.Building.{Made, kidsOf, nodeNumber, childNumber, childNumbers, finish, withPending, drain, rawRows, buildAll}
+use mathlib.Core.Option.{some}
+use mathlib.Core.Path.{_≡_}
+use Prim.Native.Nat.{ℕ, _≤_}
+use lib.ListN.{length, getElem?}
+use Rattle.definition.specs.Basics.{good, lookup}
+use Rattle.definition.specs.Shapes.{Entry}
+use Rattle.definition.specs.Resolving.{Node}
+use Rattle.definition.specs.Building.{Pool, Row, Made, kidsOf, buildAll}
 use Rattle.facts.specs.Lists.{Among, Rising}
 use Rattle.facts.proofs.Lists.{among-nil}
 use Rattle.facts.proofs.Tables.{keys}

@@ -3,13 +3,13 @@ use mathlib.Core.Bool.{Bool, true, false}
 use mathlib.Core.List.{List, [], _∷_, _++_, map, reverse, reverseAux, append-assoc, reverse-reverse}
 use mathlib.Core.Logic.{_⊎_, inl, inr}
 use mathlib.Core.Option.{Option, none, some}
-use mathlib.Core.Path.{_≡_, refl, sym, _∙_, ap, subst}
+use mathlib.Core.Path.{_≡_, refl, sym, ap, subst, _∙_}
 use Prim.Native.Nat.{ℕ, zero, suc, _+_, _-_, _≤_, _<_}
 use native.Mathlib.Omega.{arith}
 use lib.Dec.{eqb, ltb}
 use lib.ListN.{length, getElem?, replicate, length-append}
-use borrow.Author.Tests.{ltb-true, ltb-false, eqb-true, eqb-false}
-use Rattle.definition.specs.Basics.{Result, good, _>>=_, same, lookup}
+use borrow.Author.Tests.{eqb-true, eqb-false, ltb-true, ltb-false}
+use Rattle.definition.specs.Basics.{Result, good, lookup, _>>=_}
 use Rattle.definition.specs.Shapes.{bootstrapTag, Entry, withKids}
 use Rattle.definition.specs.Definitions.{Held, tagAt}
 use Rattle.definition.specs.Resolving.{Node, firstNode}
@@ -27,8 +27,6 @@ use Rattle.laws.proofs.slots.Keeps.{keeps}
 use Rattle.laws.proofs.slots.SlotsToHold.{toHold}
 use Rattle.laws.proofs.building.RowsThatOccur.{write-next, write-stop, row-old, row-new, take-some, take-none}
 use Rattle.laws.proofs.building.ChildNumbers.{SlotFor, NumberFor, FinishedAt, OwnerOf, RowFrom, rowsOf, StackIn, Starts, SlotsKept, RowsKept, rows-same, rows-twice, rows-append, slots-same, slots-twice, slot-kept, slots-kept, number-kept, slotOf-raw, slotOf-node, nodeNumber-row, nodeNumber-slot, childNumber-raw, childNumber-node, InlineThere, indexOf-there, finished-kept, owner-kept, Building, takenPool, finishedMade, finish-some, startMade}
-
--- ---- pools grow
 
 module _ (nodes : List Node) where
   -- a pool after some requests: the slots given out and the stack have the same new ones in front, and the pool still occurs

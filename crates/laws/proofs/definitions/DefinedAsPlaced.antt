@@ -8,7 +8,7 @@ use mathlib.Core.Path.{_≡_, refl, sym, ap, _∙_}
 use Prim.Native.Nat.{ℕ, zero, suc, _+_}
 use native.Mathlib.Omega.{arith}
 use Rattle.definition.specs.Basics.{good, unless, insert}
-use Rattle.definition.specs.Shapes.{constant, bootstrap, Entry, isWide}
+use Rattle.definition.specs.Shapes.{isWide, Entry, constant, bootstrap}
 use Rattle.definition.specs.Job.{Definition, define, named, placed, Job}
 use Rattle.definition.specs.Numbering.{Literal, literals, numberedDefinition, numbered}
 use Rattle.definition.specs.Definitions.{Held, starts, half, Naming, Defined, nameTarget, isNone, tagAt, hold, placeConstant, placeBootstrap, defineOne, defineAll, nothingDefined}

@@ -1,16 +1,16 @@
--- What the definitions in turn refuse has a number from 6 to 11, and how many raw ones they leave. Assumes nothing.
+-- What the definitions in turn refuse has a number from 6 to 11; and how many raw slots and indexes they leave. Assumes nothing.
 use mathlib.Core.Bool.{Bool, true, false}
 use mathlib.Core.List.{List, [], _∷_, _++_}
-use mathlib.Core.Option.{some, Option, none}
+use mathlib.Core.Option.{Option, none, some}
 use mathlib.Core.Path.{_≡_, refl}
 use Prim.Native.Nat.{ℕ, suc, _+_, _≤_}
 use native.Mathlib.Omega.{arith}
 use lib.Dec.{ltb}
 use lib.ListN.{length}
-use Rattle.definition.specs.Basics.{lookup, same, insert}
+use Rattle.definition.specs.Basics.{same, lookup, insert}
 use Rattle.definition.specs.Shapes.{Entry, constant, bootstrap}
 use Rattle.definition.specs.Job.{Definition, define, named, placed}
-use Rattle.definition.specs.Definitions.{Held, Defined, defineAll, starts, half, hold, placeConstant, placeBootstrap, defineOne, startFree}
+use Rattle.definition.specs.Definitions.{Held, starts, half, Defined, startFree, hold, placeConstant, placeBootstrap, defineOne, defineAll}
 use Rattle.definition.specs.Layout.{starters}
 use Rattle.facts.proofs.Tables.{insert-length}
 use Rattle.facts.proofs.Each.{Each, each-append}

@@ -1,16 +1,16 @@
 -- What the definitions in turn leave: raw slots that rise from 1 to the highest slot, and raw indexes that rise below 65,535. Assumes nothing.
-use mathlib.Core.Bool.{Bool, true, not, _||_, false, _&&_}
+use mathlib.Core.Bool.{Bool, true, false, _&&_, _||_, not}
 use mathlib.Core.List.{List, [], _∷_, _++_, append-nil, append-assoc}
-use mathlib.Core.Option.{some, Option, none}
+use mathlib.Core.Option.{Option, none, some}
 use mathlib.Core.Path.{_≡_, refl, sym, _∙_}
 use Prim.Native.Nat.{ℕ, suc, _≤_, _<_}
 use native.Mathlib.Omega.{arith}
-use lib.Dec.{leb, ltb, eqb}
-use borrow.Author.Tests.{ltb-true, leb-true, not-true, eqb-false}
-use Rattle.definition.specs.Basics.{good, atRecord, lookup, _>>=_, Result, insert}
-use Rattle.definition.specs.Shapes.{Entry, constant, bootstrap, isWide}
+use lib.Dec.{eqb, leb, ltb}
+use borrow.Author.Tests.{eqb-false, ltb-true, leb-true, not-true}
+use Rattle.definition.specs.Basics.{Result, good, atRecord, lookup, insert, _>>=_}
+use Rattle.definition.specs.Shapes.{isWide, Entry, constant, bootstrap}
 use Rattle.definition.specs.Job.{Definition, define, named, placed}
-use Rattle.definition.specs.Definitions.{Held, tagAt, Defined, defineAll, nothingDefined, nameTarget, starts, half, isNone, hold, placeConstant, placeBootstrap, defineOne, startFree, lastSlot}
+use Rattle.definition.specs.Definitions.{Held, starts, half, Defined, nameTarget, isNone, tagAt, startFree, lastSlot, hold, placeConstant, placeBootstrap, defineOne, defineAll, nothingDefined}
 use Rattle.facts.specs.Lists.{Rising}
 use Rattle.facts.proofs.Lists.{true≢false, both-true}
 use Rattle.facts.proofs.Tables.{lookup-insert-other, keys, rising-insert}

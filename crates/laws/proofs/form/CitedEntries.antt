@@ -1,8 +1,8 @@
 -- What a formed job cites is there, and of the kind that its place wants. Assumes nothing.
-use mathlib.Core.Bool.{Bool, true, not, _||_, false, _&&_}
+use mathlib.Core.Bool.{Bool, true, false, _&&_, _||_, not}
 use mathlib.Core.List.{List, [], _∷_}
 use mathlib.Core.Logic.{inl, inr}
-use mathlib.Core.Option.{some, none}
+use mathlib.Core.Option.{none, some}
 use mathlib.Core.Path.{_≡_, refl, ap, subst, _∙_}
 use Prim.Native.Nat.{ℕ, zero, suc, _+_, _≤_, _<_}
 use native.Mathlib.Nat.{zero-add}
@@ -10,11 +10,11 @@ use native.Mathlib.Omega.{arith}
 use lib.Dec.{eqb}
 use lib.ListN.{length, getElem?}
 use borrow.Author.Tests.{ltb-true}
-use Rattle.definition.specs.Basics.{every, same, only}
-use Rattle.definition.specs.Shapes.{Entry, Kind, constant, Field, text, bits, byte, to, toMany, shapes, bootstrapShape, bootstrap}
-use Rattle.definition.specs.Job.{Request, Reference, Definition, define, named, placed, Job, raw, entry, name}
-use Rattle.definition.specs.Form.{Counts, counted, citesEarlier, countOf, kindOf, oneMore, cites}
-use Rattle.definition.specs.Numbering.{entries, bootstrapsOf, isBootstrap, constantsOf}
+use Rattle.definition.specs.Basics.{same, every, only}
+use Rattle.definition.specs.Shapes.{Kind, Field, text, bits, byte, to, toMany, shapes, bootstrapShape, Entry, constant, bootstrap}
+use Rattle.definition.specs.Job.{Reference, raw, entry, name, Definition, define, named, placed, Request, Job}
+use Rattle.definition.specs.Form.{Counts, countOf, kindOf, oneMore, counted, cites, citesEarlier}
+use Rattle.definition.specs.Numbering.{entries, isBootstrap, constantsOf, bootstrapsOf}
 use Rattle.definition.specs.Definitions.{sameKind}
 use Rattle.facts.specs.Lists.{Among}
 use Rattle.facts.proofs.Lists.{clash, none≢some, some-inj, both-true, every-at, only-here, only-later}

@@ -1,4 +1,4 @@
--- Each definition of a formed job was read by its first byte, and its entries are those of its definitions. Assumes nothing.
+-- Each definition of a formed job was read by its first byte; and each of its entries is one of its definitions. Assumes nothing.
 use mathlib.Core.Bool.{Bool, true, false}
 use mathlib.Core.List.{List, [], _∷_}
 use mathlib.Core.Option.{some}

@@ -1,15 +1,15 @@
 -- An entry of a formed job whose tag has no literal has the empty one. Assumes nothing.
-use mathlib.Core.Bool.{Bool, true, not, _||_, false}
+use mathlib.Core.Bool.{Bool, true, false, _||_, not}
 use mathlib.Core.List.{List, [], _∷_, _++_}
-use mathlib.Core.Option.{some, Option, none}
+use mathlib.Core.Option.{Option, none, some}
 use mathlib.Core.Path.{_≡_, refl}
 use Prim.Native.Nat.{ℕ}
 use lib.ListN.{getElem?}
 use borrow.Author.Tests.{not-true}
 use Rattle.definition.specs.Basics.{good, every, lookup}
 use Rattle.definition.specs.Bytes.{Parser, one, two, many}
-use Rattle.definition.specs.Shapes.{Entry, withKids, Kind, constant, Field, text, bits, byte, to, toMany, shapes, bootstrapShape, withLiteral, withByte, readFields, readEntry}
-use Rattle.definition.specs.Job.{Reference, Definition, define, Job, shortName, reference, Body, ofEntry, ofName, ofRaw, bodies, readBody, readDefinition}
+use Rattle.definition.specs.Shapes.{Kind, Field, text, bits, byte, to, toMany, shapes, bootstrapShape, Entry, withKids, withLiteral, withByte, readFields, readEntry, constant}
+use Rattle.definition.specs.Job.{Reference, Definition, define, Job, shortName, reference, Body, ofEntry, bodies, readBody, readDefinition, ofName, ofRaw}
 use Rattle.definition.specs.Form.{form}
 use Rattle.definition.specs.Numbering.{Literal, entries}
 use Rattle.facts.proofs.Lists.{stands}

@@ -4,7 +4,7 @@ use mathlib.Core.List.{List, [], _∷_}
 use mathlib.Core.Path.{_≡_}
 use Prim.Native.Nat.{ℕ, zero, suc, _<_}
 use lib.ListN.{length}
-use Rattle.definition.specs.Shapes.{Entry, Field, text, bits, byte, to, toMany}
+use Rattle.definition.specs.Shapes.{Field, text, bits, byte, to, toMany, Entry}
 
 -- a number that two bytes hold
 abbrev pub Short : ℕ → Type 0

@@ -7,7 +7,7 @@ use native.Mathlib.Omega.{arith}
 use lib.Dec.{eqb}
 use lib.ListN.{length}
 use Rattle.definition.specs.Basics.{atRecord}
-use Rattle.definition.specs.Form.{Counts, counted, formDefinition, formDefinitions, formRequests, form, formRequest}
+use Rattle.definition.specs.Form.{Counts, counted, formDefinition, formDefinitions, formRequest, formRequests, form}
 use Rattle.facts.proofs.Each.{Each}
 use Rattle.facts.proofs.Results.{atRecord-good}
 use Rattle.facts.proofs.Outcomes.{Ends, well, refused, next, known, Anything, atRecord-ends}

@@ -1,14 +1,14 @@
 -- What the form pass refuses has a number up to 13. Assumes nothing.
 use mathlib.Core.Bool.{Bool, true, false}
 use mathlib.Core.List.{List, [], _∷_}
-use mathlib.Core.Option.{some, Option, none}
+use mathlib.Core.Option.{Option, none, some}
 use mathlib.Core.Path.{_≡_, refl}
 use Prim.Native.Nat.{ℕ, zero, suc}
 use lib.Dec.{eqb}
 use lib.ListN.{length}
 use Rattle.definition.specs.Basics.{lookup}
 use Rattle.definition.specs.Job.{readDefinition, asks, readRequest, readBuild}
-use Rattle.definition.specs.Form.{Counts, counted, whole, formDefinition, formDefinitions, formRequests, form, formRequest, formBuild}
+use Rattle.definition.specs.Form.{Counts, counted, whole, formDefinition, formDefinitions, formRequest, formBuild, formRequests, form}
 use Rattle.facts.proofs.Outcomes.{Ends, well, refused, next, Anything, atRecord-ends, unless-ends}
 use Rattle.laws.proofs.form.RefusalNumbers.{Early}
 

@@ -4,15 +4,15 @@ use mathlib.Core.Bool.{Bool, true, false}
 use mathlib.Core.List.{List, [], _∷_, _++_, map, append-nil, append-assoc}
 use mathlib.Core.Logic.{_⊎_, inl, inr}
 use mathlib.Core.Option.{Option, none, some}
-use mathlib.Core.Path.{_≡_, refl, sym, _∙_, subst}
+use mathlib.Core.Path.{_≡_, refl, sym, subst, _∙_}
 use Prim.Native.Nat.{ℕ, zero, suc, _<_}
 use native.Mathlib.Omega.{arith}
 use lib.Dec.{eqb}
 use lib.ListN.{length}
 use Rattle.definition.specs.Basics.{every, lookup}
 use Rattle.definition.specs.Bytes.{one, two, many}
-use Rattle.definition.specs.Shapes.{Kind, constant, bootstrap, Field, text, bits, byte, to, toMany, shapes, bootstrapShape, bootstrapTag, Entry, withKids, withLiteral, withByte, readFields, readEntry}
-use Rattle.definition.specs.Job.{Reference, raw, entry, name, Definition, define, named, placed, shortName, referenceForm, reference, Body, ofEntry, ofName, ofRaw, bodies, readBody, readDefinition}
+use Rattle.definition.specs.Shapes.{Kind, Field, text, bits, byte, to, toMany, shapes, bootstrapShape, bootstrapTag, Entry, withKids, withLiteral, withByte, readFields, readEntry, constant, bootstrap}
+use Rattle.definition.specs.Job.{Reference, raw, entry, name, Definition, define, named, placed, shortName, referenceForm, reference, Body, ofEntry, bodies, readBody, readDefinition, ofName, ofRaw}
 use Rattle.facts.proofs.Lists.{true≢false}
 use Rattle.facts.proofs.Tables.{lookup-every}
 use Rattle.facts.proofs.Each.{Each, each-weaker, lookup-each}

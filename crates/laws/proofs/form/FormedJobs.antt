@@ -11,7 +11,7 @@ use lib.ListN.{length}
 use Rattle.definition.specs.Basics.{good, atRecord, unless, lookup}
 use Rattle.definition.specs.Bytes.{one, two}
 use Rattle.definition.specs.Shapes.{constant}
-use Rattle.definition.specs.Job.{Definition, Request, ClassSlot, slot, request, Build, Job, reference, readDefinition, asks, readRequest, classForm, nameForm, readBuild}
+use Rattle.definition.specs.Job.{Definition, Request, ClassSlot, Build, Job, reference, readDefinition, asks, readRequest, classForm, nameForm, readBuild, slot, request}
 use Rattle.definition.specs.Form.{Counts, counted, whole, hasRoom, cites, citesEarlier, citesRequest, formDefinition, Definitions, formDefinitions, formRequest, nothingBehind, formBuild, Requests, formRequests, form}
 use Rattle.facts.proofs.Each.{Each}
 use Rattle.facts.proofs.Results.{bad≢good, good-then, atRecord-good, unless-good, whole-good, decided}

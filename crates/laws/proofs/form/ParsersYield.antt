@@ -2,10 +2,10 @@
 use mathlib.Core.List.{List, [], _∷_}
 use mathlib.Core.Option.{Option, none, some}
 use mathlib.Core.Path.{_≡_, refl, ap, subst}
-use Prim.Native.Nat.{ℕ, _≤_, zero, suc, _+_, _*_, _<_}
+use Prim.Native.Nat.{ℕ, zero, suc, _+_, _*_, _≤_, _<_}
 use native.Mathlib.Omega.{arith}
 use lib.ListN.{length}
-use Rattle.definition.specs.Bytes.{Parser, return, fail, andThen, _>>=_, one, two, many}
+use Rattle.definition.specs.Bytes.{Parser, return, fail, andThen, one, two, many, _>>=_}
 use Rattle.facts.proofs.Lists.{none≢some}
 use Rattle.facts.proofs.Each.{Each}
 use Rattle.laws.specs.Statements.{IsBytes}

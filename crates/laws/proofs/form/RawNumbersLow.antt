@@ -1,8 +1,8 @@
 -- Every raw number of a formed job of bytes is below the nodes'. Assumes nothing.
 use mathlib.Core.List.{List}
 use Prim.Native.Nat.{ℕ, _<_}
-use Rattle.definition.specs.Shapes.{Entry, Kind, constant}
-use Rattle.definition.specs.Job.{Reference, Definition, define, named, placed, Job, raw, entry, name}
+use Rattle.definition.specs.Shapes.{Kind, Entry, constant}
+use Rattle.definition.specs.Job.{Reference, raw, entry, name, Definition, define, named, placed, Job}
 use Rattle.definition.specs.Definitions.{Naming}
 use Rattle.definition.specs.Resolving.{firstNode}
 use Rattle.facts.proofs.Each.{Each, each-weaker}

@@ -2,7 +2,7 @@
 use mathlib.Core.Path.{_≡_}
 use Prim.Native.Nat.{ℕ}
 use native.Mathlib.Omega.{arith}
-use lib.Dec.{ltb, T, ltb→lt}
+use lib.Dec.{T, ltb, ltb→lt}
 use Rattle.definition.specs.Basics.{Refusal}
 
 -- a refusal number other than 0, and a refusal with one

@@ -10,7 +10,7 @@ use Rattle.definition.specs.Basics.{good}
 use Rattle.definition.specs.Shapes.{Entry, withLiteral}
 use Rattle.definition.specs.Job.{Reference, Definition, define, named, placed, Job}
 use Rattle.definition.specs.Form.{form}
-use Rattle.definition.specs.Numbering.{Literal, entries, numbered, literals, numberedEntry, numberedDefinition, attributeName, sameLiteral, numberOf}
+use Rattle.definition.specs.Numbering.{Literal, sameLiteral, attributeName, entries, literals, numberOf, numberedEntry, numberedDefinition, numbered}
 use Rattle.definition.specs.Run.{build}
 use Rattle.facts.proofs.Lists.{tests-agree, position-agree, map-at, map-some, map-agree, stands-among}
 use Rattle.laws.specs.Statements.{skeleton, Alike}

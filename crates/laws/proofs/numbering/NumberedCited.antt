@@ -5,9 +5,9 @@ use mathlib.Core.Option.{some}
 use mathlib.Core.Path.{_≡_, refl, ap, _∙_}
 use Prim.Native.Nat.{ℕ}
 use lib.ListN.{length, getElem?, length-map}
-use Rattle.definition.specs.Shapes.{Kind, constant, withLiteral, bootstrap}
-use Rattle.definition.specs.Job.{Reference, Definition, define, named, placed, Job, raw, entry, name}
-use Rattle.definition.specs.Numbering.{Literal, entries, bootstrapsOf, numbered, isBootstrap, constantsOf, literals, numberedEntry, numberedDefinition}
+use Rattle.definition.specs.Shapes.{Kind, withLiteral, constant, bootstrap}
+use Rattle.definition.specs.Job.{Reference, raw, entry, name, Definition, define, named, placed, Job}
+use Rattle.definition.specs.Numbering.{Literal, entries, isBootstrap, constantsOf, bootstrapsOf, literals, numberedEntry, numberedDefinition, numbered}
 use Rattle.facts.proofs.Lists.{map-some, only-map}
 use Rattle.laws.proofs.form.CitedEntries.{countIn, Cites, AllCited, AllOfKind, Cited}
 

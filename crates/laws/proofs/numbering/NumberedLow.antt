@@ -4,7 +4,7 @@ use mathlib.Core.List.{List, [], _∷_, _++_, map}
 use Prim.Native.Nat.{ℕ}
 use Rattle.definition.specs.Shapes.{withLiteral}
 use Rattle.definition.specs.Job.{Definition, define, named, placed}
-use Rattle.definition.specs.Numbering.{Literal, entries, bootstrapsOf, isBootstrap, constantsOf, numberedEntry, numberedDefinition}
+use Rattle.definition.specs.Numbering.{Literal, entries, isBootstrap, constantsOf, bootstrapsOf, numberedEntry, numberedDefinition}
 use Rattle.facts.proofs.Each.{Each, each-append, each-only}
 use Rattle.laws.proofs.form.RawNumbersLow.{KidsLow, DefLow}
 

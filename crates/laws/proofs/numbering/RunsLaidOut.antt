@@ -5,13 +5,13 @@ use mathlib.Core.Path.{_≡_, refl, sym, _∙_}
 use Prim.Native.Nat.{ℕ, suc, _+_}
 use lib.Dec.{leb}
 use lib.ListN.{length}
-use Rattle.definition.specs.Basics.{good, atRecord, unless, bad, _>>=_, Refusal, Result}
+use Rattle.definition.specs.Basics.{Result, good, bad, Refusal, atRecord, unless, _>>=_}
 use Rattle.definition.specs.Job.{Job}
 use Rattle.definition.specs.Form.{form}
-use Rattle.definition.specs.Numbering.{numbered, literals}
+use Rattle.definition.specs.Numbering.{literals, numbered}
 use Rattle.definition.specs.Slots.{highestSlot}
-use Rattle.definition.specs.Layout.{layout, Layout}
-use Rattle.definition.specs.Run.{longestJob, Lent, run, enough, fits, build, render, Built, Placed}
+use Rattle.definition.specs.Layout.{Layout, layout}
+use Rattle.definition.specs.Run.{Built, render, Placed, build, Lent, longestJob, enough, fits, run}
 use Rattle.facts.proofs.Results.{bad≢good, good-inj, good-first, past-unless}
 
 -- not refused for length, work or room

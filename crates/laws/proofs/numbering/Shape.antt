@@ -2,12 +2,12 @@
 -- Assumes nothing.
 use mathlib.Core.Logic.{inl, inr}
 use mathlib.Core.Path.{refl, sym, ap, _∙_}
-use Rattle.definition.specs.Basics.{good, _>>=_, Refusal, Result}
+use Rattle.definition.specs.Basics.{Result, good, Refusal, _>>=_}
 use Rattle.definition.specs.Bytes.{be2}
-use Rattle.definition.specs.Numbering.{numbered, literals}
+use Rattle.definition.specs.Numbering.{literals, numbered}
 use Rattle.definition.specs.Slots.{highestSlot}
-use Rattle.definition.specs.Layout.{layout, Layout}
-use Rattle.definition.specs.Run.{render, Built}
+use Rattle.definition.specs.Layout.{Layout, layout}
+use Rattle.definition.specs.Run.{Built, render}
 use Rattle.laws.specs.Statements.{Shape}
 use Rattle.laws.proofs.numbering.AlikeJobs.{same-numbered}
 use Rattle.laws.proofs.numbering.RunsLaidOut.{room-run, build-layout, laid-or-refused}

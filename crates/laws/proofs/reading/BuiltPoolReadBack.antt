@@ -1,8 +1,8 @@
 -- The pool and the bootstraps of a built job: all that they hold fits its shape, and they are read back as the layout assigns. Assumes nothing.
 use mathlib.Core.Bool.{Bool, true, false}
 use mathlib.Core.List.{List, [], _++_, map}
-use mathlib.Core.Logic.{inl, inr, _⊎_}
-use mathlib.Core.Option.{some, Option, none}
+use mathlib.Core.Logic.{_⊎_, inl, inr}
+use mathlib.Core.Option.{Option, none, some}
 use mathlib.Core.Path.{_≡_, refl, sym, ap, subst, _∙_}
 use Prim.Native.Nat.{ℕ, suc, _+_, _-_, _≤_, _<_}
 use native.Mathlib.Omega.{arith}
@@ -11,15 +11,15 @@ use lib.ListN.{length, getElem?, length-map}
 use borrow.Author.Tests.{eqb-false}
 use Rattle.definition.specs.Basics.{good, lookup, from}
 use Rattle.definition.specs.Ascii.{ascii}
-use Rattle.definition.specs.Shapes.{Entry, bootstrapTag, withKids, constant, bootstrapShape, withLiteral, isWide}
+use Rattle.definition.specs.Shapes.{bootstrapShape, bootstrapTag, isWide, Entry, withKids, withLiteral, constant}
 use Rattle.definition.specs.Job.{Reference, placed, Job}
 use Rattle.definition.specs.Form.{form}
-use Rattle.definition.specs.Numbering.{bootstrapsOf, numbered, constantsOf, literals, literalOf, attributeName}
-use Rattle.definition.specs.Definitions.{tagAt, half}
-use Rattle.definition.specs.Resolving.{Goal, done, Node, firstNode, childOf}
+use Rattle.definition.specs.Numbering.{attributeName, constantsOf, bootstrapsOf, literals, literalOf, numbered}
+use Rattle.definition.specs.Definitions.{half, tagAt}
+use Rattle.definition.specs.Resolving.{Goal, Node, firstNode, done, childOf}
 use Rattle.definition.specs.Slots.{highestSlot, countFrom}
-use Rattle.definition.specs.Building.{Pool, kidsOf, contentOf, Row, attributeText, nameWanted}
-use Rattle.definition.specs.Layout.{starters, indexNodes, layout, nodeAt, Layout, layoutOf}
+use Rattle.definition.specs.Building.{Pool, Row, kidsOf, attributeText, nameWanted, contentOf}
+use Rattle.definition.specs.Layout.{starters, nodeAt, Layout, layoutOf, indexNodes, layout}
 use Rattle.definition.specs.Run.{shown, render}
 use Rattle.definition.specs.Jvms.{readPool, readBootstraps}
 use Rattle.facts.specs.Lists.{Among, Rising}

@@ -4,12 +4,12 @@ use mathlib.Core.Bool.{false}
 use mathlib.Core.List.{List, [], _∷_, _++_, map, append-nil, append-assoc}
 use mathlib.Core.Option.{some}
 use mathlib.Core.Path.{_≡_, refl, ap, _∙_}
-use Prim.Native.Nat.{ℕ, _+_, _%_, _*_, _/_}
+use Prim.Native.Nat.{ℕ, _+_, _*_, _/_, _%_}
 use native.Mathlib.Omega.{arith}
 use lib.ListN.{length}
-use Rattle.definition.specs.Basics.{lookup, concat}
+use Rattle.definition.specs.Basics.{concat, lookup}
 use Rattle.definition.specs.Bytes.{one, two, many, be2}
-use Rattle.definition.specs.Shapes.{Entry, withKids, Kind, constant, Field, text, bits, byte, to, toMany, shapes, withLiteral, withByte, readFields, readEntry, writeFields}
+use Rattle.definition.specs.Shapes.{Kind, Field, text, bits, byte, to, toMany, shapes, Entry, withKids, withLiteral, withByte, readFields, readEntry, writeFields, constant}
 use Rattle.definition.specs.Run.{entryBytes}
 use Rattle.definition.specs.Jvms.{index, ofTag, cpInfo}
 use Rattle.facts.proofs.Each.{Each}

@@ -6,9 +6,9 @@ use Prim.Native.Nat.{ℕ}
 use Rattle.definition.specs.Basics.{good}
 use Rattle.definition.specs.Job.{Job}
 use Rattle.definition.specs.Form.{form}
-use Rattle.definition.specs.Numbering.{numbered, literals}
+use Rattle.definition.specs.Numbering.{literals, numbered}
 use Rattle.definition.specs.Slots.{highestSlot}
-use Rattle.definition.specs.Layout.{layout, Layout, layoutOf}
+use Rattle.definition.specs.Layout.{Layout, layoutOf, layout}
 use Rattle.definition.specs.Run.{shown, render}
 use Rattle.laws.specs.Statements.{IsBytes, Finished, HeldBy, Holds}
 use Rattle.laws.proofs.reading.PoolReadBack.{rowShown}

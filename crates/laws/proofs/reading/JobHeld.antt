@@ -1,23 +1,23 @@
 -- What the finished pool of a built job shows: its answers, raw definitions, class name and name slot, one by one. Assumes nothing.
 use mathlib.Core.Bool.{Bool, true, false}
 use mathlib.Core.List.{List, [], map}
-use mathlib.Core.Logic.{inl, inr, _⊎_}
-use mathlib.Core.Option.{some, Option, none}
+use mathlib.Core.Logic.{_⊎_, inl, inr}
+use mathlib.Core.Option.{Option, none, some}
 use mathlib.Core.Path.{_≡_, refl, sym, ap, subst, _∙_}
 use Prim.Native.Nat.{ℕ, zero, suc, _+_, _≤_, _<_}
 use native.Mathlib.Omega.{arith}
 use lib.Dec.{eqb}
-use lib.ListN.{length, getElem?, getD, length-map, List·getD-eq-default}
+use lib.ListN.{length, getD, getElem?, length-map, List·getD-eq-default}
 use Rattle.definition.specs.Basics.{good, lookup}
-use Rattle.definition.specs.Shapes.{Entry, bootstrapTag, Kind, constant, withLiteral, bootstrap, isWide}
-use Rattle.definition.specs.Job.{placed, Job, entry}
+use Rattle.definition.specs.Shapes.{Kind, bootstrapTag, isWide, Entry, withLiteral, constant, bootstrap}
+use Rattle.definition.specs.Job.{entry, placed, Job}
 use Rattle.definition.specs.Form.{form}
-use Rattle.definition.specs.Numbering.{Literal, numbered, literals, numberedDefinition, literalOf, attributeName}
-use Rattle.definition.specs.Definitions.{tagAt, starts}
-use Rattle.definition.specs.Resolving.{Goal, rawNumber, tableEntry, refusal, done, childOf, goalOf, placeOf, follow}
+use Rattle.definition.specs.Numbering.{Literal, attributeName, literals, literalOf, numberedDefinition, numbered}
+use Rattle.definition.specs.Definitions.{starts, tagAt}
+use Rattle.definition.specs.Resolving.{Goal, rawNumber, tableEntry, refusal, placeOf, follow, goalOf, done, childOf}
 use Rattle.definition.specs.Slots.{highestSlot}
-use Rattle.definition.specs.Building.{kidsOf, holds, behind, contentOf, attributeText, nameWanted, Content, nothing, emptyText, textIn, className}
-use Rattle.definition.specs.Layout.{starters, indexNodes, layout, nodeAt, classSlotOf, Layout, layoutOf}
+use Rattle.definition.specs.Building.{kidsOf, attributeText, nameWanted, Content, nothing, emptyText, holds, behind, contentOf, textIn, className}
+use Rattle.definition.specs.Layout.{starters, nodeAt, classSlotOf, Layout, layoutOf, indexNodes, layout}
 use Rattle.definition.specs.Run.{shown, classBytes, render}
 use Rattle.facts.specs.Lists.{Among}
 use Rattle.facts.proofs.Lists.{true≢false, some-inj, order, found-inside, found-read, read-found, among-right, among-forth, map-at}

@@ -7,7 +7,7 @@ use Prim.Native.Nat.{ℕ, zero, suc, _+_}
 use native.Mathlib.Nat.{add-suc, suc-add, add-zero}
 use lib.Dec.{lit<}
 use Rattle.definition.specs.Basics.{lookup, from}
-use Rattle.definition.specs.Shapes.{Entry, isWide, withLiteral}
+use Rattle.definition.specs.Shapes.{isWide, Entry, withLiteral}
 use Rattle.definition.specs.Building.{holds, behind, contentOf}
 use Rattle.definition.specs.Numbering.{Literal, literalOf}
 use Rattle.definition.specs.Run.{shown}

@@ -6,8 +6,8 @@ use mathlib.Core.Path.{_≡_, refl}
 use Prim.Native.Nat.{ℕ, suc}
 use lib.ListN.{length, length-map}
 use Rattle.definition.specs.Basics.{concat, lookup}
-use Rattle.definition.specs.Bytes.{Parser, return, fail, andThen, _>>=_, many, be2}
-use Rattle.definition.specs.Shapes.{Field, text, shapes, bootstrapShape, bootstrapTag, Entry, readEntry, isWide}
+use Rattle.definition.specs.Bytes.{Parser, return, _>>=_, fail, andThen, many, be2}
+use Rattle.definition.specs.Shapes.{Field, text, shapes, bootstrapShape, bootstrapTag, isWide, Entry, readEntry}
 use Rattle.definition.specs.Building.{Row}
 use Rattle.definition.specs.Layout.{Layout}
 use Rattle.definition.specs.Numbering.{Literal}

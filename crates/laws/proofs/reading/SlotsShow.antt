@@ -2,23 +2,23 @@
 use mathlib.Core.Bool.{true, false}
 use mathlib.Core.List.{List, [], _∷_, map}
 use mathlib.Core.Logic.{inl, inr}
-use mathlib.Core.Option.{some, none}
+use mathlib.Core.Option.{none, some}
 use mathlib.Core.Path.{_≡_, refl, sym, ap, subst, _∙_}
 use Prim.Native.Nat.{ℕ, zero, suc, _+_, _-_, _≤_, _<_}
 use native.Mathlib.Omega.{arith}
 use lib.Dec.{eqb}
-use lib.ListN.{length, getElem?, getD, length-map}
-use borrow.Author.Tests.{ne-eqb, eq-eqb}
+use lib.ListN.{length, getD, getElem?, length-map}
+use borrow.Author.Tests.{eq-eqb, ne-eqb}
 use Rattle.definition.specs.Basics.{good, lookup, from}
-use Rattle.definition.specs.Shapes.{Entry, bootstrapTag, withKids, constant, withLiteral}
+use Rattle.definition.specs.Shapes.{bootstrapTag, Entry, withKids, withLiteral, constant}
 use Rattle.definition.specs.Job.{Reference, Job}
 use Rattle.definition.specs.Form.{form}
-use Rattle.definition.specs.Numbering.{numbered, literals, literalOf}
+use Rattle.definition.specs.Numbering.{literals, literalOf, numbered}
 use Rattle.definition.specs.Definitions.{tagAt}
-use Rattle.definition.specs.Resolving.{Goal, rawNumber, tableEntry, refusal, done, Node, firstNode, childOf, goalOf}
+use Rattle.definition.specs.Resolving.{Goal, rawNumber, tableEntry, refusal, goalOf, Node, firstNode, done, childOf}
 use Rattle.definition.specs.Slots.{highestSlot}
-use Rattle.definition.specs.Building.{kidsOf, contentOf, Row}
-use Rattle.definition.specs.Layout.{layout, Layout}
+use Rattle.definition.specs.Building.{Row, kidsOf, contentOf}
+use Rattle.definition.specs.Layout.{Layout, layout}
 use Rattle.definition.specs.Run.{shown}
 use Rattle.definition.specs.Jvms.{Shown}
 use Rattle.facts.specs.Lists.{Among}

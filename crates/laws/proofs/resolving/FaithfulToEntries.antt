@@ -3,11 +3,11 @@
 use mathlib.Core.List.{List, [], _∷_, _++_, map, append-assoc, append-nil}
 use mathlib.Core.Logic.{_⊎_, inl, inr, ⊎-map, ⊎-elim}
 use mathlib.Core.Option.{some}
-use mathlib.Core.Path.{_≡_, refl, sym, ap, subst, subst₂, _∙_}
+use mathlib.Core.Path.{_≡_, refl, sym, ap, subst, _∙_, subst₂}
 use Prim.Native.Nat.{ℕ, zero, suc, _<_}
 use native.Mathlib.Nat.{not-suc-le-zero}
 use lib.ListN.{length, getD, getElem?, set, length-set, length-replicate}
-use Rattle.definition.specs.Basics.{Result, good, bad, _>>=_, same, position}
+use Rattle.definition.specs.Basics.{Result, good, bad, same, position, _>>=_}
 use Rattle.definition.specs.Shapes.{Entry, withKids}
 use Rattle.definition.specs.Resolving.{Goal, rawNumber, tableEntry, refusal, Node, Mark, fresh, underway, done, Resolved, Item, enter, leave}
 use Rattle.definition.specs.Resolving.{sameNode, markChild, childOf, kidsAt, visited, leaveNode, leaving, entering, step, work, fuelFor}

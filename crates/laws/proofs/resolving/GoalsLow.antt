@@ -1,13 +1,13 @@
 -- A reference leads to a goal that isn't refused with 0, and to a low raw number if the references are low. Assumes nothing.
 use mathlib.Core.List.{List, map}
-use mathlib.Core.Option.{some, Option, none}
+use mathlib.Core.Option.{Option, none, some}
 use mathlib.Core.Path.{_≡_, refl}
 use Prim.Native.Nat.{ℕ, zero, suc}
 use lib.ListN.{length}
 use Rattle.definition.specs.Shapes.{Entry, withKids}
 use Rattle.definition.specs.Job.{Reference, raw, entry, name}
 use Rattle.definition.specs.Definitions.{Naming, nameTarget}
-use Rattle.definition.specs.Resolving.{goalOf, linked, follow}
+use Rattle.definition.specs.Resolving.{follow, goalOf, linked}
 use Rattle.facts.proofs.Each.{Each, each-map, each-under}
 use Rattle.laws.proofs.form.RefusalNumbers.{nonZero}
 use Rattle.laws.proofs.form.RawNumbersLow.{RefLow, KidsLow, NameLow}

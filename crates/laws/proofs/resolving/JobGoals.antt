@@ -1,20 +1,20 @@
 -- Where the references of a job lead: to what is there, of the kind that the place wants. Assumes nothing.
-use mathlib.Core.Bool.{not, false}
+use mathlib.Core.Bool.{false, not}
 use mathlib.Core.List.{List, [], _∷_, _++_, map}
-use mathlib.Core.Logic.{inl, inr, _⊎_}
-use mathlib.Core.Option.{some, Option, none}
+use mathlib.Core.Logic.{_⊎_, inl, inr}
+use mathlib.Core.Option.{Option, none, some}
 use mathlib.Core.Path.{_≡_, refl, sym, ap, _∙_}
 use Prim.Native.Nat.{ℕ, zero, suc, _+_, _≤_, _<_}
 use native.Mathlib.Omega.{arith}
 use lib.Dec.{eqb}
 use lib.ListN.{length, getElem?, length-append, length-map}
-use borrow.Author.Tests.{not-true, eqb-true}
+use borrow.Author.Tests.{eqb-true, not-true}
 use Rattle.definition.specs.Basics.{same}
-use Rattle.definition.specs.Shapes.{Entry, bootstrapTag, withKids, Kind, constant, bootstrap}
-use Rattle.definition.specs.Job.{Request, Reference, Definition, define, named, placed, Job, raw, entry, name}
-use Rattle.definition.specs.Numbering.{entries, bootstrapsOf, isBootstrap, constantsOf}
+use Rattle.definition.specs.Shapes.{Kind, bootstrapTag, Entry, withKids, constant, bootstrap}
+use Rattle.definition.specs.Job.{Reference, raw, entry, name, Definition, define, named, placed, Request, Job}
+use Rattle.definition.specs.Numbering.{entries, isBootstrap, constantsOf, bootstrapsOf}
 use Rattle.definition.specs.Definitions.{Naming, nameTarget}
-use Rattle.definition.specs.Resolving.{Goal, rawNumber, tableEntry, refusal, goalOf, placeOf, linked, follow}
+use Rattle.definition.specs.Resolving.{Goal, rawNumber, tableEntry, refusal, placeOf, follow, goalOf, linked}
 use Rattle.facts.specs.Lists.{Among}
 use Rattle.facts.proofs.Lists.{clash, found-inside, append-at, among-later, map-some, only-at}
 use Rattle.laws.proofs.form.DefinitionsRead.{entry-defined}

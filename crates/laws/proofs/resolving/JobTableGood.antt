@@ -8,7 +8,7 @@ use native.Mathlib.Omega.{arith}
 use lib.ListN.{length, getElem?, length-append}
 use borrow.Author.Tests.{eqb-false}
 use Rattle.definition.specs.Basics.{good}
-use Rattle.definition.specs.Shapes.{Kind, constant, bootstrap, bootstrapTag, Entry}
+use Rattle.definition.specs.Shapes.{Kind, bootstrapTag, Entry, constant, bootstrap}
 use Rattle.definition.specs.Job.{Reference, Definition, define, named, placed, Request, Job}
 use Rattle.definition.specs.Form.{form}
 use Rattle.definition.specs.Numbering.{constantsOf, bootstrapsOf, literals, numbered}

@@ -1,11 +1,11 @@
 -- Lists of nodes: the tag and the children of a node, children that are nodes of the list, and bootstraps whose children are constants.
 -- Assumes nothing.
 use mathlib.Core.List.{List, _++_}
-use mathlib.Core.Option.{some, Option, none}
+use mathlib.Core.Option.{Option, none, some}
 use mathlib.Core.Path.{_≡_, refl}
 use Prim.Native.Nat.{ℕ, _+_, _-_, _≤_, _<_}
 use lib.ListN.{length, getElem?}
-use Rattle.definition.specs.Shapes.{Entry, bootstrapTag}
+use Rattle.definition.specs.Shapes.{bootstrapTag, Entry}
 use Rattle.definition.specs.Definitions.{tagAt}
 use Rattle.definition.specs.Resolving.{Node, firstNode}
 use Rattle.definition.specs.Building.{kidsOf}
@@ -27,8 +27,6 @@ kids-found nodes k n h = rw (h, kidsOf)
 pub tag-append : (nodes more : List Node) (k : ℕ) → k < length nodes → tagAt (nodes ++ more) k ≡ tagAt nodes k
 unfolding tagAt
 tag-append nodes more k h = rw (place-front nodes more k h, tagAt)
-
--- ---- more nodes
 
 pub kids-append : (nodes more : List Node) (k : ℕ) → k < length nodes → kidsOf (nodes ++ more) k ≡ kidsOf nodes k
 unfolding kidsOf

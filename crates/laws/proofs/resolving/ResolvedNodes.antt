@@ -1,13 +1,14 @@
--- What requests keep, and what each answer is: the slot of what its reference became. Assumes nothing.
+-- The nodes of a faithful resolving over a good table: what a goal became is a node of the list, children lead to nodes, and a bootstrap's
+-- are constants. Assumes nothing.
 use mathlib.Core.List.{List, [], _∷_, map}
-use mathlib.Core.Option.{some, Option, none}
+use mathlib.Core.Option.{Option, none, some}
 use mathlib.Core.Path.{_≡_, refl, sym, ap, subst, _∙_}
 use Prim.Native.Nat.{ℕ, suc, _+_, _-_, _≤_, _<_}
 use native.Mathlib.Omega.{arith}
 use lib.ListN.{length, getElem?}
-use Rattle.definition.specs.Shapes.{Entry, bootstrapTag, withKids}
+use Rattle.definition.specs.Shapes.{bootstrapTag, Entry, withKids}
 use Rattle.definition.specs.Definitions.{tagAt}
-use Rattle.definition.specs.Resolving.{Goal, rawNumber, tableEntry, refusal, Mark, done, Node, firstNode, Resolved, markChild, childOf}
+use Rattle.definition.specs.Resolving.{Goal, rawNumber, tableEntry, refusal, Node, firstNode, Mark, done, Resolved, markChild, childOf}
 use Rattle.definition.specs.Building.{kidsOf}
 use Rattle.facts.specs.Lists.{Among}
 use Rattle.facts.proofs.Lists.{clash, found-inside, found-read, unmap}

@@ -1,16 +1,13 @@
 -- What resolving refuses, of requests and after record 50, has a number up to 13. Assumes nothing.
-use mathlib.Core.Bool.{Bool, true, false}
 use mathlib.Core.List.{List, [], _∷_, _++_, map}
 use mathlib.Core.Option.{Option, none, some}
 use mathlib.Core.Path.{_≡_, refl}
 use Prim.Native.Nat.{ℕ, zero, suc, _+_}
-use lib.Dec.{eqb}
 use lib.ListN.{length, getD}
 use Rattle.definition.specs.Shapes.{Entry, withKids}
 use Rattle.definition.specs.Job.{Reference, raw, entry, name}
-use Rattle.definition.specs.Form.{Counts, counted, formDefinitions, formRequests, form}
 use Rattle.definition.specs.Definitions.{Naming, Defined, nameTarget}
-use Rattle.definition.specs.Resolving.{Goal, rawNumber, tableEntry, refusal, Mark, fresh, underway, done, Resolved, Item, enter, leave, kidsAt, follow, goalOf, entering, step, work, fuelFor, resolve, resolveAll, linked, nothingResolved}
+use Rattle.definition.specs.Resolving.{Goal, rawNumber, tableEntry, refusal, follow, goalOf, Mark, fresh, underway, done, Resolved, Item, enter, leave, kidsAt, entering, step, work, fuelFor, resolve, resolveAll, linked, nothingResolved}
 use Rattle.definition.specs.Layout.{starters, endDefinitions}
 use Rattle.facts.proofs.Each.{Each, each-append, each-map, each-image}
 use Rattle.facts.proofs.Outcomes.{Ends, well, refused, next, Anything}

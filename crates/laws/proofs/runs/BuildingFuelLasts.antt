@@ -1,19 +1,19 @@
 -- The fuel of building lasts: each node is taken from the stack once, so that nothing is refused with 0. Assumes nothing.
 use mathlib.Core.Bool.{Bool, true, false}
 use mathlib.Core.List.{List, [], _∷_, reverse}
-use mathlib.Core.Option.{some, Option, none}
+use mathlib.Core.Option.{Option, none, some}
 use mathlib.Core.Path.{_≡_, refl}
 use Prim.Native.Nat.{ℕ, zero, suc, _+_, _-_, _≤_, _<_}
 use native.Mathlib.Omega.{arith}
-use lib.Dec.{ltb, eqb}
+use lib.Dec.{eqb, ltb}
 use lib.ListN.{length, getElem?}
-use borrow.Author.Tests.{ltb-false, eqb-true, eqb-false}
-use Rattle.definition.specs.Basics.{lookup, position}
+use borrow.Author.Tests.{eqb-true, eqb-false, ltb-false}
+use Rattle.definition.specs.Basics.{position, lookup}
 use Rattle.definition.specs.Shapes.{bootstrapTag, isWide}
 use Rattle.definition.specs.Definitions.{tagAt}
 use Rattle.definition.specs.Resolving.{Node, firstNode, sameNode, intern}
 use Rattle.definition.specs.Slots.{Slots, slotFor}
-use Rattle.definition.specs.Building.{Pool, allocate, slotOf, kidsOf, noSlot, give, Row, Rows, writeRaw, indexOf, rowIndex, Made, buildAll, attributeText, nameSlot, slotsOf, takeIndex, nodeNumber, childNumber, childNumbers, finish, withPending, drain, rawRows}
+use Rattle.definition.specs.Building.{Pool, noSlot, give, allocate, slotOf, slotsOf, Row, Rows, writeRaw, indexOf, takeIndex, rowIndex, Made, kidsOf, nodeNumber, childNumber, childNumbers, finish, withPending, drain, rawRows, buildAll, attributeText, nameSlot}
 use Rattle.facts.proofs.Tables.{lookup-hit, lookup-miss}
 use Rattle.facts.proofs.Each.{Each, each-at, each-weaker}
 use Rattle.facts.proofs.Outcomes.{Ends, well, refused, next, Anything}

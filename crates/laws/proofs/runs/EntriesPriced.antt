@@ -1,17 +1,17 @@
 -- Entries and their references counted together: the one table of a job costs what its entries do, and numbers for literals change nothing.
 -- Assumes nothing.
-use mathlib.Core.Bool.{Bool, true, not, false}
+use mathlib.Core.Bool.{Bool, true, false, not}
 use mathlib.Core.List.{List, [], _∷_, _++_, map}
 use mathlib.Core.Path.{_≡_, refl}
 use Prim.Native.Nat.{ℕ, suc, _+_}
 use native.Mathlib.Omega.{arith}
 use lib.ListN.{length, length-append, length-map}
-use Rattle.definition.specs.Basics.{concat, only}
+use Rattle.definition.specs.Basics.{only, concat}
 use Rattle.definition.specs.Shapes.{Entry, withKids, withLiteral}
 use Rattle.definition.specs.Job.{Reference, Definition, define, named, placed}
-use Rattle.definition.specs.Numbering.{Literal, entries, bootstrapsOf, isBootstrap, constantsOf, numberedEntry, numberedDefinition}
+use Rattle.definition.specs.Numbering.{Literal, entries, isBootstrap, constantsOf, bootstrapsOf, numberedEntry, numberedDefinition}
 use Rattle.definition.specs.Definitions.{Naming}
-use Rattle.definition.specs.Resolving.{goalOf, linked, fuelFor}
+use Rattle.definition.specs.Resolving.{goalOf, fuelFor, linked}
 use Rattle.laws.specs.Statements.{isRaw}
 use Rattle.laws.proofs.definitions.DefinitionRefusals.{rawOne, raws}
 

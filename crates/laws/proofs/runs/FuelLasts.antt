@@ -4,12 +4,12 @@ use Prim.Native.Nat.{ℕ, _+_}
 use native.Mathlib.Omega.{arith}
 use lib.Dec.{leb}
 use lib.ListN.{length}
-use Rattle.definition.specs.Job.{Job, Build}
-use Rattle.definition.specs.Numbering.{entries, numbered, literals}
+use Rattle.definition.specs.Job.{Build, Job}
+use Rattle.definition.specs.Numbering.{entries, literals, numbered}
 use Rattle.definition.specs.Slots.{highestSlot}
 use Rattle.definition.specs.Building.{fillHoles, nameWanted}
 use Rattle.definition.specs.Layout.{Ready, buildLayout, layout}
-use Rattle.definition.specs.Run.{longestJob, Lent, run, enough, fits, build}
+use Rattle.definition.specs.Run.{build, Lent, longestJob, enough, fits, run}
 use Rattle.facts.proofs.Outcomes.{Ends, well, next, whenBad, Anything, atRecord-ends, unless-ends}
 use Rattle.laws.specs.Statements.{IsBytes, FuelLasts}
 use Rattle.laws.proofs.form.RefusalNumbers.{NonZero, nonZero, Coded}

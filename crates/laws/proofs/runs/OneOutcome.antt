@@ -1,8 +1,8 @@
 -- ONE OUTCOME: no second outcome or contents of a buffer meets the definition's statement of a run or of the block file's two functions.
 -- Assumes nothing.
-use mathlib.Core.Path.{sym, _∙_, ap}
+use mathlib.Core.Path.{sym, ap, _∙_}
 use lib.ListN.{length}
-use Rattle.definition.specs.Run.{lentOf, memoryAfter, run}
+use Rattle.definition.specs.Run.{lentOf, run, memoryAfter}
 use Rattle.definition.specs.Blocks.{readBlocks, writeBlocks, blocksAfter}
 use Rattle.laws.specs.Statements.{OnlyOne, OneOutcome}
 

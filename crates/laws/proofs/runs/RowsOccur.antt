@@ -6,15 +6,13 @@ use Rattle.definition.specs.Basics.{good}
 use Rattle.definition.specs.Shapes.{Entry}
 use Rattle.definition.specs.Job.{Reference, Definition}
 use Rattle.definition.specs.Definitions.{Defined, defineAll, nothingDefined}
-use Rattle.definition.specs.Resolving.{Mark, Node}
+use Rattle.definition.specs.Resolving.{Node, Mark}
 use Rattle.definition.specs.Building.{Pool, Rows, Made, buildAll}
 use Rattle.definition.specs.Layout.{indexNodes}
 use Rattle.facts.proofs.Outcomes.{Ends, whenGood, Anything}
 use Rattle.laws.specs.Statements.{RowsOccur, rawOnly, afterRow}
 use Rattle.laws.proofs.runs.StepsOfRuns.{PoolIn, RowsIn, rawOnes, afterInline}
 use Rattle.laws.proofs.runs.StepsOfBuilding.{buildAll-steps}
-
--- ---- what a run asks for it asks of pools and rows that occur
 
 -- what building leaves, whatever is known of its refusals
 pub built :

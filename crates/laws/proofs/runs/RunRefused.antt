@@ -1,7 +1,7 @@
 -- RUN REFUSED: a refusal of a run is that of one of its steps, or has another number. Assumes nothing.
 use mathlib.Core.Bool.{Bool, true, false}
 use mathlib.Core.List.{List, [], _∷_, _++_}
-use mathlib.Core.Logic.{inl, inr, _⊎_}
+use mathlib.Core.Logic.{_⊎_, inl, inr}
 use mathlib.Core.Path.{_≡_, refl}
 use Prim.Native.Nat.{ℕ, suc, _-_, _<_}
 use native.Mathlib.Omega.{arith}
@@ -12,11 +12,11 @@ use Rattle.definition.specs.Job.{Request, Job}
 use Rattle.definition.specs.Form.{form}
 use Rattle.definition.specs.Numbering.{bootstrapsOf, numbered}
 use Rattle.definition.specs.Definitions.{Defined, defineAll, nothingDefined}
-use Rattle.definition.specs.Resolving.{firstNode, childOf, resolve, sameNode, intern}
+use Rattle.definition.specs.Resolving.{firstNode, sameNode, intern, childOf, resolve}
 use Rattle.definition.specs.Slots.{highestSlot}
-use Rattle.definition.specs.Building.{allocate, Made, buildAll, attributeText, nameSlot, nameWanted}
-use Rattle.definition.specs.Layout.{Ready, answer, answerAll, endDefinitions, buildLayout, layout}
-use Rattle.definition.specs.Run.{longestJob, Lent, run, enough, fits, build}
+use Rattle.definition.specs.Building.{allocate, Made, buildAll, attributeText, nameWanted, nameSlot}
+use Rattle.definition.specs.Layout.{Ready, endDefinitions, answer, answerAll, buildLayout, layout}
+use Rattle.definition.specs.Run.{build, Lent, longestJob, enough, fits, run}
 use Rattle.facts.proofs.Outcomes.{Ends, well, next, weaker, whenBad, ended, known-good, Anything, atRecord-ends, unless-ends}
 use Rattle.laws.proofs.form.RefusalNumbers.{Early}
 use Rattle.laws.proofs.form.FormRefusals.{form-early}
@@ -26,7 +26,7 @@ use Rattle.laws.proofs.building.LayoutStages.{constantsIn, tableIn, row
 use Rattle.laws.proofs.runs.StepsOfRuns.{goalFor, Reaches, afterFifty, afterAnswer, rawsAt, forRequest, forChild, forName, LayoutRefused, early, sixteen, atSlot, atRow}
 use Rattle.laws.proofs.runs.StepsOfBuilding.{slotOf-by, buildAll-steps}
 
--- ---- and so does a layout
+-- ---- a layout takes these steps
 
 module _ (top : ℕ) (job : Job ℕ) where
   abbrev Z : ℕ → Type 0
@@ -110,7 +110,7 @@ module _ (top : ℕ) (job : Job ℕ) where
       next _ (answerAll-steps d _ (job .requests) w (afterFifty w (defined .1) (ready .1)) (ready .0)) λ r at.
       atRecord-ends _ (buildLayout-steps d (r .0) (r .1) at)
 
--- ---- and a run
+-- ---- and so does a run
 
 -- where a run is refused: for length, work, room or form, or in its layout
 pub data RunRefused (bytes : List ℕ) (code : ℕ) : Type 0 where

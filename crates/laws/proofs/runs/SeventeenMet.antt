@@ -18,8 +18,6 @@ use Rattle.laws.proofs.runs.RunRefused.{RunRefused, outside, inLayout, 
 use Rattle.laws.proofs.runs.StepRefusals.{allocate-refused, noSlot-low}
 use Rattle.laws.proofs.runs.IndexOccurs.{indexOccurs}
 
--- ---- the laws
-
 -- a row that a run asks an index for is refused, of rows that occur
 pub record RowMet (bytes : List ℕ) : Type 0 where
   pub job : Job (List ℕ)

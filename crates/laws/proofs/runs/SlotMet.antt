@@ -2,13 +2,13 @@
 -- Assumes nothing.
 use mathlib.Core.Bool.{Bool}
 use mathlib.Core.List.{List}
-use mathlib.Core.Logic.{inl, inr, _⊎_}
+use mathlib.Core.Logic.{_⊎_, inl, inr}
 use mathlib.Core.Option.{none}
 use mathlib.Core.Path.{_≡_}
 use Prim.Native.Nat.{ℕ, _≤_, _<_}
 use native.Mathlib.Omega.{arith}
 use lib.ListN.{length}
-use Rattle.definition.specs.Basics.{good, lookup, bad, Refusal}
+use Rattle.definition.specs.Basics.{good, bad, Refusal, lookup}
 use Rattle.definition.specs.Job.{Job}
 use Rattle.definition.specs.Form.{form}
 use Rattle.definition.specs.Numbering.{numbered}

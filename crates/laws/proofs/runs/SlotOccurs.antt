@@ -11,7 +11,7 @@ use Rattle.definition.specs.Job.{Request, Job}
 use Rattle.definition.specs.Form.{form}
 use Rattle.definition.specs.Numbering.{numbered}
 use Rattle.definition.specs.Definitions.{Held, Defined}
-use Rattle.definition.specs.Resolving.{Goal, Node, firstNode, goalOf, resolve, sameNode, intern}
+use Rattle.definition.specs.Resolving.{Goal, goalOf, Node, firstNode, sameNode, intern, resolve}
 use Rattle.definition.specs.Slots.{highestSlot}
 use Rattle.definition.specs.Building.{Pool, attributeText}
 use Rattle.definition.specs.Layout.{Ready}

@@ -1,24 +1,22 @@
 -- Which step is refused with which number: one that asks for a slot with 14 or 15, one that asks for an index with 17. Assumes nothing.
 use mathlib.Core.Bool.{Bool, true, false}
 use mathlib.Core.List.{List}
-use mathlib.Core.Logic.{inl, inr, _⊎_}
-use mathlib.Core.Option.{some, Option, none}
+use mathlib.Core.Logic.{_⊎_, inl, inr}
+use mathlib.Core.Option.{Option, none, some}
 use mathlib.Core.Path.{_≡_, refl, sym, _∙_}
 use Prim.Native.Nat.{ℕ, _≤_, _<_}
 use native.Mathlib.Omega.{arith}
 use lib.ListN.{length}
-use Rattle.definition.specs.Basics.{lookup, bad}
+use Rattle.definition.specs.Basics.{bad, lookup}
 use Rattle.definition.specs.Shapes.{isWide}
 use Rattle.definition.specs.Definitions.{tagAt}
 use Rattle.definition.specs.Resolving.{Node}
 use Rattle.definition.specs.Slots.{Slots, slotFor}
-use Rattle.definition.specs.Building.{Pool, allocate, noSlot, give, Row, Rows, writeRaw, indexOf, rowIndex}
+use Rattle.definition.specs.Building.{Pool, noSlot, give, allocate, Row, Rows, writeRaw, indexOf, rowIndex}
 use Rattle.facts.proofs.Lists.{order}
 use Rattle.facts.proofs.Results.{bad≢good, bad-inj}
 use Rattle.laws.proofs.slots.SlotRequest.{allocate-new, allocate-old}
 use Rattle.laws.proofs.building.RowsThatOccur.{row-old, row-new, take-some, take-none}
-
--- ---- which step is refused with which number
 
 -- no slot is found for a node that has none: 14 or 15
 give-number : (ldc : Bool) (k code : ℕ) (p : Pool) (o : Option (ℕ × Slots)) → give ldc k p o ≡ bad code → code ≡ noSlot ldc

@@ -1,24 +1,22 @@
--- Building takes these steps, and is refused at one of them, or for want of fuel. Assumes nothing.
+-- Building takes the steps of StepsOfRuns, and is refused at one of them, or for want of fuel. Assumes nothing.
 use mathlib.Core.Bool.{Bool, true, false}
 use mathlib.Core.List.{List, [], _∷_, reverse}
-use mathlib.Core.Option.{some, Option, none}
+use mathlib.Core.Option.{Option, none, some}
 use mathlib.Core.Path.{_≡_, refl, subst}
 use Prim.Native.Nat.{ℕ, zero, suc, _+_, _-_, _≤_}
-use lib.Dec.{ltb, eqb}
+use lib.Dec.{eqb, ltb}
 use lib.ListN.{length, getElem?}
-use borrow.Author.Tests.{ltb-false, eqb-true}
+use borrow.Author.Tests.{eqb-true, ltb-false}
 use Rattle.definition.specs.Basics.{good, bad}
 use Rattle.definition.specs.Shapes.{bootstrapTag}
 use Rattle.definition.specs.Definitions.{tagAt}
 use Rattle.definition.specs.Resolving.{Node, firstNode}
-use Rattle.definition.specs.Building.{Pool, allocate, slotOf, kidsOf, Row, Rows, rowIndex, Made, buildAll, slotsOf, nodeNumber, childNumber, childNumbers, finish, withPending, drain, rawRows}
+use Rattle.definition.specs.Building.{Pool, allocate, slotOf, slotsOf, Row, Rows, rowIndex, Made, kidsOf, nodeNumber, childNumber, childNumbers, finish, withPending, drain, rawRows, buildAll}
 use Rattle.facts.specs.Lists.{Among}
 use Rattle.facts.proofs.Each.{Each, each-from}
 use Rattle.facts.proofs.Outcomes.{Ends, well, refused, next, ended, known-good}
 use Rattle.laws.proofs.resolving.NodesAndChildren.{kids-found}
 use Rattle.laws.proofs.runs.StepsOfRuns.{PoolIn, atStart, afterChild, afterTaken, RowOf, RowsIn, rawOnes, afterInline}
-
--- ---- building takes these steps, and is refused at one of them, or for want of fuel; Z is what is known of a refusal's number
 
 -- a child's slot: a raw number's is itself
 pub slotOf-by :
@@ -33,6 +31,7 @@ slotOf-by {Z} {P} nodes ldc child p o step = go (ltb child firstNode) refl
     go true e = rw (e, slotOf) (well o)
     go false e = rw (e, slotOf) (step (ltb-false child firstNode e))
 
+-- Z is what is known of a refusal's number
 module _
     (nodes : List Node)
     (indexes : List (ℕ × ℕ))

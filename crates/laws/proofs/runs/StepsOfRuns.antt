@@ -7,14 +7,12 @@ use lib.ListN.{length}
 use Rattle.definition.specs.Basics.{good, bad, position}
 use Rattle.definition.specs.Shapes.{bootstrapTag}
 use Rattle.definition.specs.Job.{Request, Job}
-use Rattle.definition.specs.Definitions.{tagAt, Defined, defineAll, nothingDefined}
-use Rattle.definition.specs.Resolving.{Goal, Node, firstNode, Resolved, childOf, goalOf, resolve, sameNode, intern}
-use Rattle.definition.specs.Building.{Pool, allocate, kidsOf, Row, Rows, rowIndex, Made, buildAll, attributeText, slotsOf, rawRows, nameWanted}
-use Rattle.definition.specs.Layout.{Ready, answer, endDefinitions, indexNodes}
+use Rattle.definition.specs.Definitions.{Defined, tagAt, defineAll, nothingDefined}
+use Rattle.definition.specs.Resolving.{Goal, goalOf, Node, firstNode, Resolved, sameNode, intern, childOf, resolve}
+use Rattle.definition.specs.Building.{Pool, allocate, slotsOf, Row, Rows, rowIndex, Made, kidsOf, rawRows, buildAll, attributeText, nameWanted}
+use Rattle.definition.specs.Layout.{Ready, endDefinitions, answer, indexNodes}
 use Rattle.facts.specs.Lists.{Among}
 use Rattle.laws.proofs.building.LayoutStages.{constantsIn, tableIn, rowsIn}
-
--- ---- the steps of a run
 
 -- the pools of building: the one that it starts from, then after each slot for a child of a node, and with the stack taken from
 pub data PoolIn (nodes : List Node) (start : Pool) : Pool → Type 0 where

@@ -1,21 +1,21 @@
 -- The records of a job in turn, up to the build record: what is counted there, and that no refusal is 0. Assumes nothing.
 use mathlib.Core.Bool.{Bool, true, false}
 use mathlib.Core.List.{List, [], _∷_, _++_, map}
-use mathlib.Core.Option.{some, Option, none}
+use mathlib.Core.Option.{Option, none, some}
 use mathlib.Core.Path.{_≡_, refl}
 use Prim.Native.Nat.{ℕ, suc, _+_, _≤_}
 use native.Mathlib.Omega.{arith}
 use lib.Dec.{ltb}
 use lib.ListN.{length, length-append, length-map}
-use Rattle.definition.specs.Basics.{lookup, same}
+use Rattle.definition.specs.Basics.{same, lookup}
 use Rattle.definition.specs.Shapes.{Entry}
-use Rattle.definition.specs.Job.{Request, Job, Build}
-use Rattle.definition.specs.Numbering.{entries, bootstrapsOf, constantsOf}
+use Rattle.definition.specs.Job.{Request, Build, Job}
+use Rattle.definition.specs.Numbering.{entries, constantsOf, bootstrapsOf}
 use Rattle.definition.specs.Definitions.{Naming, Defined, nothingDefined}
-use Rattle.definition.specs.Resolving.{Goal, tableEntry, done, Node, firstNode, markChild, childOf, goalOf, linked, fresh, fuelFor, nothingResolved}
+use Rattle.definition.specs.Resolving.{Goal, tableEntry, goalOf, Node, firstNode, fresh, done, markChild, childOf, fuelFor, linked, nothingResolved}
 use Rattle.definition.specs.Slots.{Slots}
-use Rattle.definition.specs.Building.{Pool, allocate, slotOf, noSlot, give}
-use Rattle.definition.specs.Layout.{Ready, answer, answerAll, starters, endDefinitions, buildLayout, layout, Layout}
+use Rattle.definition.specs.Building.{Pool, noSlot, give, allocate, slotOf}
+use Rattle.definition.specs.Layout.{starters, Ready, endDefinitions, answer, answerAll, Layout, buildLayout, layout}
 use Rattle.facts.proofs.Lists.{replicate-either}
 use Rattle.facts.proofs.Each.{Each, each-append, each-image}
 use Rattle.facts.proofs.Outcomes.{Ends, well, refused, next, weaker, Anything, atRecord-ends, unless-ends}

@@ -5,14 +5,14 @@ use Prim.Native.Nat.{ℕ, _+_, _≤_}
 use native.Mathlib.Omega.{arith}
 use lib.Dec.{leb}
 use lib.ListN.{length}
-use Rattle.definition.specs.Basics.{good, atRecord, unless, concat, only}
-use Rattle.definition.specs.Job.{Job, Build}
+use Rattle.definition.specs.Basics.{good, atRecord, unless, only, concat}
+use Rattle.definition.specs.Job.{Build, Job}
 use Rattle.definition.specs.Form.{form}
-use Rattle.definition.specs.Numbering.{entries, numbered, literals}
+use Rattle.definition.specs.Numbering.{entries, literals, numbered}
 use Rattle.definition.specs.Slots.{highestSlot}
-use Rattle.definition.specs.Building.{buildAll, nameSlot, fillHoles, nameWanted}
-use Rattle.definition.specs.Layout.{Ready, buildLayout, layout, layoutOf}
-use Rattle.definition.specs.Run.{longestJob, run, enough, fits, build, render}
+use Rattle.definition.specs.Building.{fillHoles, buildAll, nameWanted, nameSlot}
+use Rattle.definition.specs.Layout.{Ready, layoutOf, buildLayout, layout}
+use Rattle.definition.specs.Run.{render, build, longestJob, enough, fits, run}
 use Rattle.facts.proofs.Outcomes.{Ends, well, next, whenGood, Anything, anyhow}
 use Rattle.laws.specs.Statements.{isRaw, Visits}
 use Rattle.laws.proofs.runs.EntriesPriced.{priced-numbered, raws-numbered}

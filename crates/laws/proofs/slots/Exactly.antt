@@ -3,7 +3,7 @@ use mathlib.Core.Bool.{Bool, true, false}
 use mathlib.Core.List.{List}
 use mathlib.Core.Logic.{_↔_}
 use mathlib.Core.Option.{Option, none, some}
-use mathlib.Core.Path.{_≡_, refl, sym, _∙_, ap}
+use mathlib.Core.Path.{_≡_, refl, sym, ap, _∙_}
 use Prim.Native.Nat.{ℕ, suc, _≤_, _<_}
 use native.Mathlib.Omega.{arith}
 use lib.ListN.{getElem?}
@@ -11,7 +11,7 @@ use Rattle.definition.specs.Basics.{bad, lookup}
 use Rattle.definition.specs.Shapes.{isWide}
 use Rattle.definition.specs.Definitions.{Held, tagAt}
 use Rattle.definition.specs.Resolving.{Node}
-use Rattle.definition.specs.Slots.{Gap, size, Slots, wideSlot, narrowSlot, slotFor}
+use Rattle.definition.specs.Slots.{Gap, size, Slots, narrowSlot, wideSlot, slotFor}
 use Rattle.definition.specs.Building.{Pool, noSlot, give, allocate}
 use Rattle.facts.specs.Lists.{Among}
 use Rattle.facts.proofs.Lists.{true≢false}

@@ -6,12 +6,12 @@ use Prim.Native.Nat.{ℕ, suc, _+_, _-_, _<_}
 use native.Mathlib.Omega.{arith}
 use lib.ListN.{length, length-append}
 use Rattle.definition.specs.Basics.{good, concat, from}
-use Rattle.definition.specs.Shapes.{Entry, isWide}
-use Rattle.definition.specs.Definitions.{Held, tagAt, Defined}
+use Rattle.definition.specs.Shapes.{isWide, Entry}
+use Rattle.definition.specs.Definitions.{Held, Defined, tagAt}
 use Rattle.definition.specs.Resolving.{Goal, tableEntry, Node, resolveAll, nothingResolved}
 use Rattle.definition.specs.Slots.{Gap, gapsFrom, startSlots}
 use Rattle.definition.specs.Building.{Pool}
-use Rattle.definition.specs.Layout.{Ready, starters, endDefinitions}
+use Rattle.definition.specs.Layout.{starters, Ready, endDefinitions}
 use Rattle.facts.specs.Lists.{Rising}
 use Rattle.facts.proofs.Tables.{keys}
 use Rattle.facts.proofs.Each.{Each, each-weaker}

@@ -1,9 +1,9 @@
--- What `buildAll` leaves behind: every slot given out, and every raw one, holds its node with numbers that stand for its children; nothing
--- else is held; raw bootstraps stand at their indexes; and the pool is one that occurs. The theorems stand at the end. Assumes nothing.
+-- Slots that are to hold a node: no two start at one slot, none starts at the second half of a wide one, all lie below the count.
+-- Assumes nothing.
 use mathlib.Core.Bool.{Bool, true, false}
 use mathlib.Core.List.{List, [], _∷_, _++_, map}
-use mathlib.Core.Logic.{inl, inr, _⊎_}
-use mathlib.Core.Option.{some, Option, none}
+use mathlib.Core.Logic.{_⊎_, inl, inr}
+use mathlib.Core.Option.{Option, none, some}
 use mathlib.Core.Path.{_≡_, refl, sym, ap, _∙_}
 use Prim.Native.Nat.{ℕ, zero, suc, _+_, _≤_, _<_}
 use native.Mathlib.Omega.{arith}
@@ -12,7 +12,7 @@ use lib.ListN.{getElem?}
 use borrow.Author.Tests.{eqb-true}
 use Rattle.definition.specs.Basics.{concat, from}
 use Rattle.definition.specs.Shapes.{isWide}
-use Rattle.definition.specs.Definitions.{Held, tagAt, starts, half}
+use Rattle.definition.specs.Definitions.{Held, starts, half, tagAt}
 use Rattle.definition.specs.Resolving.{Node}
 use Rattle.definition.specs.Slots.{Gap, countFrom}
 use Rattle.definition.specs.Building.{Pool}

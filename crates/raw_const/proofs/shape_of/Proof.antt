@@ -3,7 +3,7 @@
 use mathlib.Core.Path.{sym}
 use Rattle.definition.specs.Basics.{lookup}
 use Rattle.definition.specs.Shapes.{shapes}
-use Rattle.raw_const.proofs.Tables.{passed}
+use Rattle.facts.proofs.Tables.{passed}
 use Rattle.raw_const.proofs.shape_of.Statement.{statement}
 use Rattle.raw_const.proofs.shape_of.Tie as tie
 

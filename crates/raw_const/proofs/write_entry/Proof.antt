@@ -9,11 +9,12 @@ use lib.ListN.{length, take, drop}
 use Rattle.definition.specs.Basics.{lookup}
 use Rattle.definition.specs.Shapes.{shapes}
 use Rattle.definition.specs.Run.{entryBytes}
+use Rattle.facts.proofs.Copies.{part-length}
 use Rattle.raw_const.specs.Entries.{fieldsOf, entryOf, Wrote, lengthOf}
 use Rattle.raw_const.specs.declared.Shape.{Shape}
 use Rattle.raw_const.specs.declared.Shape.the-variants.{Text, Bits, One, Two, Dynamic, KindOne, Unknown}
 use Rattle.raw_const.proofs.Shaped.{shapeBytes, wrote-entry, entry-room}
-use Rattle.raw_const.proofs.Writes.{wrote-nothing, part-length}
+use Rattle.raw_const.proofs.Writes.{wrote-nothing}
 use Rattle.raw_const.proofs.write_entry.Statement.{statement}
 use Rattle.raw_const.proofs.write_entry.Tie as tie
 

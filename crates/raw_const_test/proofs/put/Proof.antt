@@ -5,7 +5,7 @@ use mathlib.Core.Path.{refl}
 use Prim.Native.Nat.{_-_}
 use native.Mathlib.Omega.{arith}
 use lib.ListN.{length, take, drop}
-use Rattle.raw_const.proofs.Writes.{part-length}
+use Rattle.facts.proofs.Copies.{part-length}
 use Rattle.raw_const.specs.Entries.{entryOf}
 use Rattle.raw_const_test.proofs.put.Statement.{statement}
 use Rattle.raw_const_test.proofs.put.Tie as tie

@@ -1,14 +1,25 @@
--- Parts of a list written one behind the other. Assumes nothing.
+-- A part of a list, and copies of lists into another (`paste`, `overwrite`), one behind the other. Assumes nothing.
 use mathlib.Core.Path.{_≡_, refl, sym, ap, _∙_}
-use mathlib.Core.List.{List, _++_, append-assoc, append-nil}
-use Prim.Native.Nat.{ℕ, zero, suc, _+_, _*_, _<_, _≤_}
-use native.Mathlib.Nat.{add-zero, zero-add, mul-zero, mul-suc, le-refl}
+use mathlib.Core.List.{List, _++_, append-assoc}
+use Prim.Native.Nat.{ℕ, _+_, _≤_, _<_}
+use native.Mathlib.Nat.{le-refl}
 use native.Mathlib.Numerals.{add-one}
 use native.Mathlib.Omega.{arith}
-use lib.ListN.{length, set, take, drop, replicate, length-append, length-replicate, getD-replicate}
-use lib.Seq.{paste, paste-suc, take-append-seam, take-length, take-take, drop-append-add, drop-drop}
+use lib.ListN.{length, take, drop, set, replicate, length-append, length-drop, length-replicate, getD-replicate, take-append-drop}
+use lib.Seq.{paste, paste-suc, take-append-seam, take-length, take-take, take-at, drop-append-add, drop-at, drop-drop, length-take-le}
 use Rattle.definition.specs.Basics.{concat, from}
 use Rattle.definition.specs.Run.{overwrite}
+use Rattle.facts.proofs.Chunks.{joined, joined-more}
+
+-- how long a part of a list is
+pub part-length : (s : List ℕ) (from n : ℕ) → from + n ≤ length s → length (take n (drop from s)) ≡ n
+part-length s from n room =
+    let inside : n ≤ length (drop from s) = simp length-drop (omega arith) in
+    length-take-le n (drop from s) inside
+
+-- the first n, of a list that may be shorter
+pub take-short : (n : ℕ) (l : List ℕ) → take (length (take n l)) l ≡ take n l
+take-short n l = ap (take (length (take n l))) (sym (take-append-drop n l)) ∙ take-append-seam (take n l) (drop n l)
 
 -- a turn of the loop that pads with zeros
 pub pad-more :
@@ -21,35 +32,16 @@ pad-more d at n i room more =
     ∙ paste-suc d at zeros i 0 (omega arith) long
     ∙ ap (λ k. paste d at zeros k) (sym (add-one i))
 
--- the first k of f 0, f 1, .. joined
-abbrev pub joined : {A : Type 0} → (ℕ → List A) → ℕ → List A
-joined f k = concat (from f 0 k)
-
-joined-from : {A : Type 0} (f : ℕ → List A) (i k : ℕ) → concat (from f i (suc k)) ≡ concat (from f i k) ++ f (i + k)
-unfolding concat from
-joined-from f i zero = rw (add-zero i) (append-nil (f i))
-joined-from f i (suc k) =
-    let place : suc i + k ≡ i + suc k = omega arith in
-    ap (λ l. f i ++ l) (joined-from f (suc i) k)
-    ∙ sym (append-assoc (f i) (concat (from f (suc i) k)) (f (suc i + k)))
-    ∙ ap (λ j. f i ++ concat (from f (suc i) k) ++ f j) place
-
-pub joined-more : {A : Type 0} (f : ℕ → List A) (k : ℕ) → joined f (suc k) ≡ joined f k ++ f k
-joined-more f k = joined-from f 0 k ∙ ap (λ j. joined f k ++ f j) (zero-add k)
-
--- parts of one size
-pub length-joined :
-    {A : Type 0} (f : ℕ → List A) (size k : ℕ) → ((j : ℕ) → j < k → length (f j) ≡ size) → length (joined f k) ≡ size * k
-unfolding concat from
-length-joined f size zero each = sym (mul-zero size)
-length-joined f size (suc k) each =
-    ap length (joined-more f k)
-    ∙ length-append (joined f k) (f k)
-    ∙ (rw (length-joined f size k (λ j h. each j (omega arith)), each k (omega arith)) (sym (mul-suc size k)))
-
 -- a copy that takes the first n of its source
 pub paste-front : (d s : List ℕ) (at n : ℕ) → paste d at s n ≡ paste d at (take n s) n
 paste-front d s at n = ap (λ l. take at d ++ l ++ drop (at + n) d) (sym (take-take n n s (le-refl n)))
+
+-- what was copied is read there
+pub paste-there : (d s : List ℕ) (at n : ℕ) → at ≤ length d → n ≤ length s → take n (drop at (paste d at s n)) ≡ take n s
+paste-there d s at n inside whole =
+    ap (λ l. take n (drop at l)) (append-assoc (take at d) (take n s) (drop (at + n) d))
+    ∙ ap (take n) (drop-at (take at d) (take n s ++ drop (at + n) d) at (length-take-le at d inside))
+    ∙ take-at (take n s) (drop (at + n) d) n (length-take-le n s whole)
 
 -- what is copied behind a written prefix makes it longer
 pub overwrite-more :
