@@ -223,6 +223,12 @@ module _ {A : Type 0} where
   all-cons P x l here later zero a e = let s : x ≡ a = cc in rw s at here
   all-cons P x l here later (suc i) a e = later i a e
 
+-- what is read of n times a is a, or the default
+pub replicate-either : {A : Type 0} (P : A → Type 0) (n j : ℕ) (a d : A) → P a → P d → P (getD (replicate n a) j d)
+replicate-either P zero j a d h k = k
+replicate-either P (suc n) zero a d h k = h
+replicate-either P (suc n) (suc j) a d h k = replicate-either P n j a d h k
+
 -- ---- what stands in a list
 
 module _ {A : Type 0} where
@@ -274,6 +280,19 @@ module _ {A : Type 0} where
 
   pub among-back : (a : A) (l : List A) → Among a (reverse l) → Among a l
   among-back a l h = subst (Among a) (reverse-reverse l) (among-forth a (reverse l) h)
+
+-- a number stands in a list, as a test
+abbrev pub stands : ℕ → List ℕ → Bool
+stands n [] = false
+stands n (x ∷ l) = eqb n x || stands n l
+
+pub stands-among : (n : ℕ) (l : List ℕ) → stands n l ≡ true → Among n l
+stands-among n [] h = clash (cc)
+stands-among n (x ∷ l) h = go (eqb n x) refl h (stands-among n l)
+  where
+    go : (b : Bool) → eqb n x ≡ b → (b || stands n l) ≡ true → (stands n l ≡ true → Among n l) → Among n (x ∷ l)
+    go true e h rest = (0, ap some (sym (eqb-true n x e)))
+    go false e h rest = among-later n x l (rest h)
 
 -- ---- first places
 
@@ -431,21 +450,3 @@ only-map {A} {B} p q f (x ∷ l) h = go (q x) refl (only-map p q f l h)
     go : (b : Bool) → q x ≡ b → only p (map f l) ≡ map f (only q l) → only p (f x ∷ map f l) ≡ map f (only q (x ∷ l))
     go true e rest = rw (only-here p (f x) (map f l) (h x ∙ e), only-here q x l e) (ap (λ (m : List B). f x ∷ m) rest)
     go false e rest = rw (only-later p (f x) (map f l) (h x ∙ e), only-later q x l e) rest
-
--- a number stands in a list
-abbrev pub stands : ℕ → List ℕ → Bool
-stands n [] = false
-stands n (x ∷ l) = eqb n x || stands n l
-
-pub stands-among : (n : ℕ) (l : List ℕ) → stands n l ≡ true → Among n l
-stands-among n [] h = clash (cc)
-stands-among n (x ∷ l) h = go (eqb n x) refl h (stands-among n l)
-  where
-    go : (b : Bool) → eqb n x ≡ b → (b || stands n l) ≡ true → (stands n l ≡ true → Among n l) → Among n (x ∷ l)
-    go true e h rest = (0, ap some (sym (eqb-true n x e)))
-    go false e h rest = among-later n x l (rest h)
-
-pub replicate-either : {A : Type 0} (P : A → Type 0) (n j : ℕ) (a d : A) → P a → P d → P (getD (replicate n a) j d)
-replicate-either P zero j a d h k = k
-replicate-either P (suc n) zero a d h k = h
-replicate-either P (suc n) (suc j) a d h k = replicate-either P n j a d h k

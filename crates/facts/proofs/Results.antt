@@ -47,6 +47,12 @@ unfolding unless
 unless-good true code u h = refl
 unless-good false code u h = bad≢good h
 
+-- a step that passes what a test refuses
+pub unless-first : {A : Type 0} (b : Bool) (code : ℕ) (f : Unit {0} → Result ℕ A) (a : A) → (unless b code >>= f) ≡ good a → (b ≡ true) × (f tt ≡ good a)
+unfolding unless
+unless-first true code f a h = (refl, h)
+unless-first false code f a h = bad≢good h
+
 -- what was read whole was read
 pub whole-good : {A : Type 0} (o : Option A) (a : A) → whole o ≡ good a → o ≡ some a
 unfolding whole
@@ -124,9 +130,3 @@ module _ {A : Type 0} (place code : ℕ) (next : Result Refusal A) where
   unfolding atRecord unless
   refusedBy true r e = inr (refl, e)
   refusedBy false r e = inl (refl, cc)
-
--- a step that passes what a test refuses
-pub unless-first : {A : Type 0} (b : Bool) (code : ℕ) (f : Unit {0} → Result ℕ A) (a : A) → (unless b code >>= f) ≡ good a → (b ≡ true) × (f tt ≡ good a)
-unfolding unless
-unless-first true code f a h = (refl, h)
-unless-first false code f a h = bad≢good h

@@ -126,7 +126,7 @@ times-run s a (suc n) h k = ways (equal s a) (times-run s (suc a) n)
     ways (inl e) rest = rw (eq-eqb s a e, times) (ap suc (times-low s (suc a) n (omega arith)))
     ways (inr e) rest = rw (ne-eqb s a e, times) (rest (omega arith) (omega arith))
 
--- the order of a list doesn't matter
+-- the order of rows doesn't matter to how often a key stands there
 pub times-reverse : (t : ℕ) (l acc : List (ℕ × ℕ)) → times t (map (λ r. r .0) (reverseAux l acc)) ≡ times t (map (λ r. r .0) l) + times t (map (λ r. r .0) acc)
 unfolding times
 times-reverse t [] acc = omega arith
@@ -138,9 +138,11 @@ times-reverse t (x ∷ l) acc =
       times-cons t (x .0) (map (λ r. r .0) l),
     )
 
+-- a key that stands in a list of rows is counted among their keys
 counted-row : (l : List (ℕ × ℕ)) (n k : ℕ) → Among (n, k) l → 1 ≤ times n (map (λ r. r .0) l)
 counted-row l n k a = among-times n (map (λ r. r .0) l) (a .0, map-at (λ (r : ℕ × ℕ). r .0) l (a .0) (n, k) (a .1))
 
+-- so a key that stands there once has one value
 pub once-same : (l : List (ℕ × ℕ)) (n k k′ : ℕ) → times n (map (λ r. r .0) l) ≤ 1 → Among (n, k) l → Among (n, k′) l → k ≡ k′
 once-same [] n k k′ few (i, h) b = clash (cc)
 once-same (r ∷ l) n k k′ few (zero, h) (zero, h′) = sym (some-row r (n, k) h) ∙ some-row r (n, k′) h′

@@ -135,6 +135,18 @@ lookup-insert-other {A} k n a (r ∷ rows) h = ways (order n (r .0)) (equal k (r
     ways (inr o) (inr q) rest =
         ap (lookup {A = A} k) (insert-behind n a r rows o) ∙ lookup-miss k r (insert n a rows) q ∙ rest ∙ sym (lookup-miss k r rows q)
 
+-- a table is one longer with a new key
+pub insert-length : {A : Type 0} (k : ℕ) (a : A) (l : List (ℕ × A)) → length (insert k a l) ≡ suc (length l)
+unfolding insert
+insert-length k a [] = refl
+insert-length k a (r ∷ l) = go (ltb k (r .0)) refl (insert-length k a l)
+  where
+    go : (b : Bool) → ltb k (r .0) ≡ b → length (insert k a l) ≡ suc (length l) → length (insert k a (r ∷ l)) ≡ suc (suc (length l))
+    go true e ih = rw (e, insert)
+    go false e ih = rw (e, insert) (omega arith)
+
+-- ---- keys that rise
+
 -- a table's keys
 abbrev pub keys : {A : Type 0} → List (ℕ × A) → List ℕ
 keys rows = map (λ r. r .0) rows
@@ -191,16 +203,6 @@ module _ {A : Type 0} where
   rising-lookup low top (x ∷ rows) k a r (suc i, e) =
       let b = rising-from (suc (x .0)) top rows k a (r .2) (i, e) in
       lookup-miss k x rows (λ q. omega arith) ∙ rising-lookup (suc (x .0)) top rows k a (r .2) (i, e)
-
--- a table is one longer with a new key, and so are its raw constants, if one starts there
-pub insert-length : {A : Type 0} (k : ℕ) (a : A) (l : List (ℕ × A)) → length (insert k a l) ≡ suc (length l)
-unfolding insert
-insert-length k a [] = refl
-insert-length k a (r ∷ l) = go (ltb k (r .0)) refl (insert-length k a l)
-  where
-    go : (b : Bool) → ltb k (r .0) ≡ b → length (insert k a l) ≡ suc (length l) → length (insert k a (r ∷ l)) ≡ suc (suc (length l))
-    go true e ih = rw (e, insert)
-    go false e ih = rw (e, insert) (omega arith)
 
 -- ---- every row of a table
 

@@ -2,7 +2,8 @@
 -- To read: (x : A) → P is "for every x", (x : A) × P "there is an x", P → Q "if P, Q", P → ⊥ "not P", × "and", ⊎ "or", ↔ "exactly if",
 -- ≡ / ≢ "is / isn't the same"; Unit: always true, ⊥: never; λ x. e is x ↦ e; let names a part; elim: by cases; zero, suc n: 0, n + 1; ∷, ++
 -- join lists; r .f: a part of r; .0, .1: first, second of a pair; some, none: a value or none; good, bad: a result or a refusal; getElem?
--- l i ≡ some a: a is at place i; getD l i d: what is there, else d. Other names: crates/definition/specs, in the module that `use` names
+-- l i ≡ some a: a is at place i; getD l i d: what is there, else d; Among a l (crates/facts/specs): a stands in l. Other names:
+-- crates/definition/specs, in the module that `use` names
 use mathlib.Core.Bool.{Bool, true, false}
 use mathlib.Core.List.{List, [], _∷_, _++_, map, reverse}
 use mathlib.Core.Logic.{_↔_, _⊎_, _≢_}
@@ -115,7 +116,7 @@ unfoldable pub allSlots : List (ℕ × Held) → List Node → Pool → List ℕ
 allSlots held nodes p = map (λ h. h .0) held ++ (givenSlots nodes (p .given) ++ freeSlots (p .slots .gaps))
 
 -- the pools that occur over a highest slot: after record 50, after each slot request, while more is resolved and the stack is taken from.
--- Every pool of which a run asks a slot is one (slotOccurs, proofs/Covered.antt); others are too, which only makes the laws stronger
+-- Every pool of which a run asks a slot is one (slotOccurs, proofs/runs/SlotOccurs.antt); others are too, which only makes the laws stronger
 pub data Occurs (top : ℕ) (held : List (ℕ × Held)) : List Node → Pool → Type 0 where
   afterDefinitions :
       (definitions : List (Definition ℕ)) (constants : List (Entry ℕ Reference)) (table : List (Entry ℕ Goal)) (n : ℕ) (d : Defined)

@@ -1,4 +1,4 @@
--- What the definitions in turn refuse has a number from 6 to 11; and how many raw slots and indexes they leave. Assumes nothing.
+-- What the definitions in turn refuse has a number up to 13; and how many raw slots and indexes they leave. Assumes nothing.
 use mathlib.Core.Bool.{Bool, true, false}
 use mathlib.Core.List.{List, [], _∷_, _++_}
 use mathlib.Core.Option.{Option, none, some}
@@ -28,6 +28,7 @@ unfolding starters starter
 starters-cons n (starts e) held = omega arith
 starters-cons n half held = omega arith
 
+-- a new key adds a raw constant if one starts there
 starters-insert :
     (n : ℕ) (h : Held) (held : List (ℕ × Held)) → length (starters (insert n h held)) ≡ starter h + length (starters held)
 unfolding insert

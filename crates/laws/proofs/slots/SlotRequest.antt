@@ -245,7 +245,7 @@ unfolding narrowSlot
 narrow-odd ldc s g e t = rw (e, t, narrowSlot)
 
 -- an odd gap has a slot
-odd-one : (g : Gap) → isOdd g ≡ true → 1 ≤ size g
+pub odd-one : (g : Gap) → isOdd g ≡ true → 1 ≤ size g
 unfolding isOdd
 odd-one g h = let r = eqb-true (size g % 2) 1 h in omega arith
 
