@@ -765,17 +765,3 @@ pub fn next_reference(job: &[u8], at: usize, i: usize, from: usize) -> usize
         behind
     }
 }
-
-// Where reference n of the entry at a place stands, counted from 0.
-pub(crate) fn nth_reference(job: &[u8], at: usize, n: usize) -> usize
-    requires { ⌜ ((e : Entry (List ℕ) Reference) × (next : ℕ) × Found anyDefinition (now job) at (define e) next × (n < length (e .kids))) ⌝ }
-    ensures { λ r. ⌜ WhatEntry (now (job .entry)) at (λ e. n < length (e .kids) → KidAt (now (job .entry)) e n r) ⌝ }
-{
-    let mut from = first_reference(job, at);
-    let mut i = 0;
-    while i < n {
-        from = next_reference(job, at, i, from);
-        i += 1;
-    }
-    from
-}
