@@ -12,3 +12,4 @@ pub mod Taking
 pub mod Standing
 pub mod Stored
 pub mod Laying
+pub mod Single

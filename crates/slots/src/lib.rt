@@ -193,8 +193,8 @@ fn ends_fit(gaps: &[[u16; 2]]) -> bool
     true
 }
 
-// One request over a table of any contents, all of it in use: what crates/slots_test holds to the Rust's answers. A table with a gap
-// that ends past the highest slot has no answer.
+// One request over a table of any contents, all of it in use. It is public only for crates/slots_test, which holds it to the Rust's
+// answers. A table with a gap that ends past the highest slot has no answer.
 pub fn request_slot(gaps: &mut [[u16; 2]], p: Positions, wide: bool, ldc: bool) -> Allocated
     ensures { λ r. ⌜ Answered (requested wide ldc (slotsAt (now (gaps .entry)) (length (now (gaps .entry))) p)) (length (now (gaps .entry))) (now (gaps .entry)) (now (gaps .exit)) r ⌝ }
 {
