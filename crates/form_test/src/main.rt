@@ -3,8 +3,8 @@
 // constants, bootstraps, references in entries, names, raw constants, raw bootstraps, requests).
 ghost use Prim.Native.Nat.{_<_, _≤_};
 ghost use lib.ListN.{length};
-use cpool::Formed;
-use cpool::form;
+use job::Formed;
+use job::form;
 use libc::STDOUT_FILENO;
 
 fn tell(right: bool) {

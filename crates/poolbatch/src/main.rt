@@ -1,7 +1,7 @@
 // Reads framed jobs (four-byte big-endian length, bytes) from standard input and prints a line a job: what the form pass says of it.
 // Comparisons with the Rust feed it.
-use cpool::Formed;
-use cpool::JobCounts;
+use job::Formed;
+use job::JobCounts;
 use libc::STDIN_FILENO;
 use libc::STDOUT_FILENO;
 ghost use Prim.Native.Nat.{_≤_};
@@ -118,7 +118,7 @@ fn run_part(s: &[u8], n: usize) -> bool {
     if s.len() < n {
         return false;
     }
-    print_formed(cpool::form(&s[..n]))
+    print_formed(job::form(&s[..n]))
 }
 
 // Reads the first n bytes; whether all of them came.

@@ -1,9 +1,9 @@
 // Asks for slots over stored gap tables, and compares the answers with those that Krakatau's `ConstSlotAllocator` gave.
 ghost use Prim.Native.Nat.{_≤_, _+_, _*_};
 ghost use lib.ListN.{length};
-use cpool::Allocated;
-use cpool::Positions;
 use libc::STDOUT_FILENO;
+use slots::Allocated;
+use slots::Positions;
 
 // The digit at a place, or 0 where there is none.
 fn digit(text: &[u8], at: usize) -> u32
@@ -69,7 +69,7 @@ fn wrong_answers(gaps: &mut [[u16; 2]], text: &[u8], n: usize) -> usize
     let mut i = 0;
     while i < n {
         let asked = text[7 * i];
-        let answer = cpool::request_slot(gaps, p, asked == b'w', asked == b'l');
+        let answer = slots::request_slot(gaps, p, asked == b'w', asked == b'l');
         if slot_of(answer) != slot_at(text, 7 * i + 1) {
             wrong += 1;
         }

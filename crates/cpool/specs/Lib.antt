@@ -1,3 +1,0 @@
-pub mod Forms
-pub mod Gaps
-pub mod Stored

@@ -1,0 +1,15 @@
+pub mod Laws
+pub mod Table
+pub mod Entries
+pub mod Several
+pub mod Records
+pub mod Counting
+pub mod Stepping
+pub mod Passes
+pub mod Asking
+pub mod Whole
+pub mod Taking
+pub mod Standing
+pub mod Stored
+pub mod Laying
+pub mod Single

@@ -1,0 +1,767 @@
+// The form pass (document 01, "A job"): goes over a job's records once, keeps nothing of them, and counts them. Behind it, readers of
+// entries, references and names at stored places.
+use raw_const::Shape;
+ghost use mathlib.Core.Path.{_≡_};
+ghost use mathlib.Core.Bool.{true};
+ghost use mathlib.Core.List.{List, [], _∷_};
+ghost use mathlib.Core.Option.{some};
+ghost use Prim.Native.Nat.{ℕ, _+_, _-_, _^_, _<_, _≤_};
+ghost use lib.Dec.{ltb};
+ghost use lib.ListN.{length, drop};
+ghost use Rattle.definition.specs.Basics.{every, lookup};
+ghost use Rattle.definition.specs.Bytes.{one, two, many};
+ghost use Rattle.definition.specs.Shapes.{Kind, Entry, constant, text, byte, to, bootstrapShape};
+ghost use Rattle.definition.specs.Job.{Reference, define, shortName, referenceForm, reference, bodies, ofName, ofRaw, asks, readRequest, readBuild};
+ghost use Rattle.definition.specs.Form.{Counts, countOf, cites, kindOf, citesRequest, formDefinition, formDefinitions, formRequest, formBuild, formRequests, form};
+ghost use Rattle.raw_const.specs.Entries.{fieldsOf};
+ghost use Rattle.job.specs.Forms.{Skips, SkipsReference, SkipsEntry, SkipsDefinition, entryBody, bodyOf, tableOf, tables, roomFor, Bounded, Room, plus, oneOf, countsOf, tablesIn, Steps, tallied, definedAs, Within, placeOf, formedBuild, formedRequests, formedOf};
+ghost use Rattle.job.specs.Stored.{Found, Stands, WhatStands, ReferenceStands, WhatReference, EntryStands, WhatEntry, Spans, Tells, anyDefinition, KidAt};
+
+// How many entries each table takes.
+const TABLE_SIZE: usize = 65536;
+
+// What the form pass counts.
+pub struct JobCounts {
+    // The records before 50.
+    pub definitions: usize,
+    pub constants: usize,
+    pub bootstraps: usize,
+    // The references in constants and bootstraps.
+    pub references: usize,
+    // Names of either kind.
+    pub names: usize,
+    pub raw_constants: usize,
+    pub raw_bootstraps: usize,
+    pub requests: usize,
+}
+
+pub enum Formed {
+    Refused { code: u32, place: usize },
+    Counts(JobCounts),
+}
+
+// What a definition's first byte opens.
+enum Opening {
+    // A constant, or nothing that is known if its shape is unknown.
+    Constant(Shape),
+    Bootstrap,
+    NamedConstant,
+    NamedBootstrap,
+    RawConstant,
+    RawBootstrap,
+}
+
+// What skipping a part of a record finds.
+enum Skipped {
+    // The place behind it, whether what it cites by number stands earlier, and how many references it adds to an entry.
+    To {
+        next: usize,
+        cited: bool,
+        references: usize,
+    },
+    // It is cut, or has a byte that is none of its forms.
+    Cut,
+}
+
+// What one record leads to: the place behind it and the counts with it, or the number of a refusal.
+enum Step {
+    To { next: usize, counts: JobCounts },
+    Refused(u32),
+}
+
+// What all definitions lead to: the place behind 50 and the counts, or a refusal.
+enum Defined {
+    To { next: usize, counts: JobCounts },
+    Refused { code: u32, place: usize },
+}
+
+fn opening_of(first: u8) -> Opening
+    ensures { λ r. ⌜ (bodyOf r ≡ lookup first bodies) × (tableOf r ≡ kindOf first) ⌝ }
+{
+    match first {
+        0x40 => Opening::Bootstrap,
+        0x41 => Opening::NamedConstant,
+        0x42 => Opening::NamedBootstrap,
+        0x43 => Opening::RawConstant,
+        0x44 => Opening::RawBootstrap,
+        _ => Opening::Constant(raw_const::shape_of(first)),
+    }
+}
+
+fn skip_bytes(job: &[u8], at: usize, n: usize) -> Skipped
+    requires { ⌜ at ≤ length (now job) ⌝ }
+    ensures { λ r. ⌜ Skips (many n one) (λ _. true) (λ _. 0) (now (job .entry)) at r ⌝ }
+{
+    if n <= job.len() - at {
+        Skipped::To {
+            next: at + n,
+            cited: true,
+            references: 0,
+        }
+    } else {
+        Skipped::Cut
+    }
+}
+
+// A name: one byte of length, then its bytes.
+fn skip_name(job: &[u8], at: usize) -> Skipped
+    requires { ⌜ at ≤ length (now job) ⌝ }
+    ensures { λ r. ⌜ Skips shortName (λ _. true) (λ _. 0) (now (job .entry)) at r ⌝ }
+{
+    if job.len() == at {
+        return Skipped::Cut;
+    }
+    let n = writer::get_u8(job, at) as usize;
+    skip_bytes(job, at + 1, n)
+}
+
+fn skip_raw_slot(job: &[u8], at: usize) -> Skipped
+    requires { ⌜ at ≤ length (now job) ⌝ }
+    ensures { λ r. ⌜ Skips two (λ _. true) (λ _. 0) (now (job .entry)) at r ⌝ }
+{
+    if job.len() - at < 2 {
+        return Skipped::Cut;
+    }
+    Skipped::To {
+        next: at + 2,
+        cited: true,
+        references: 0,
+    }
+}
+
+// A number of an entry or a request, of which there are so many yet.
+fn skip_number(job: &[u8], at: usize, entries: usize) -> Skipped
+    requires { ⌜ at ≤ length (now job) ⌝ }
+    ensures { λ r. ⌜ Skips two (λ number. ltb number entries) (λ _. 0) (now (job .entry)) at r ⌝ }
+{
+    if job.len() - at < 2 {
+        return Skipped::Cut;
+    }
+    let number = writer::get_u16(job, at) as usize;
+    Skipped::To {
+        next: at + 2,
+        cited: number < entries,
+        references: 0,
+    }
+}
+
+// What stands behind a reference's form byte; `entries` is how many entries its table has yet.
+fn skip_form(job: &[u8], at: usize, form: u8, entries: usize) -> Skipped
+    requires { ⌜ at ≤ length (now job) ⌝ }
+    ensures { λ r. ⌜ ((kind : Kind) (n : Counts) → countOf kind n ≡ entries → Skips (referenceForm kind form) (cites n) (λ _. 0) (now (job .entry)) at r) ⌝ }
+{
+    match form {
+        0 => skip_raw_slot(job, at),
+        1 => skip_number(job, at, entries),
+        2 => skip_name(job, at),
+        _ => Skipped::Cut,
+    }
+}
+
+fn skip_reference(job: &[u8], at: usize, entries: usize) -> Skipped
+    requires { ⌜ at ≤ length (now job) ⌝ }
+    ensures { λ r. ⌜ SkipsReference entries (now (job .entry)) at r ⌝ }
+{
+    if job.len() == at {
+        return Skipped::Cut;
+    }
+    let form = writer::get_u8(job, at);
+    match skip_form(job, at + 1, form, entries) {
+        Skipped::To {
+            next,
+            cited,
+            references: _,
+        } => Skipped::To {
+            next,
+            cited,
+            references: 1,
+        },
+        Skipped::Cut => Skipped::Cut,
+    }
+}
+
+// A text: two bytes of length, then its bytes.
+fn skip_text(job: &[u8], at: usize) -> Skipped
+    requires { ⌜ at ≤ length (now job) ⌝ }
+    ensures { λ r. ⌜ ((n : Counts) → SkipsEntry n (text ∷ []) (now (job .entry)) at r) ⌝ }
+{
+    if job.len() - at < 2 {
+        return Skipped::Cut;
+    }
+    let n = writer::get_u16(job, at) as usize;
+    skip_bytes(job, at + 2, n)
+}
+
+// A method handle: its kind byte, then a reference.
+fn skip_handle(job: &[u8], at: usize, entries: usize) -> Skipped
+    requires { ⌜ at ≤ length (now job) ⌝ }
+    ensures { λ r. ⌜ ((n : Counts) → n .constants ≡ entries → SkipsEntry n (byte ∷ to constant ∷ []) (now (job .entry)) at r) ⌝ }
+{
+    if job.len() == at {
+        return Skipped::Cut;
+    }
+    skip_reference(job, at + 1, entries)
+}
+
+// Two references, each into a table that has so many entries yet.
+fn skip_pair(job: &[u8], at: usize, entries: usize, second_entries: usize) -> Skipped
+    requires { ⌜ at ≤ length (now job) ⌝ }
+    ensures { λ r. ⌜ ((k l : Kind) (n : Counts) → countOf k n ≡ entries → countOf l n ≡ «second_entries» → SkipsEntry n (to k ∷ to l ∷ []) (now (job .entry)) at r) ⌝ }
+{
+    match skip_reference(job, at, entries) {
+        Skipped::To {
+            next,
+            cited,
+            references: _,
+        } => match skip_reference(job, next, second_entries) {
+            Skipped::To {
+                next: end,
+                cited: second_cited,
+                references: _,
+            } => Skipped::To {
+                next: end,
+                cited: cited & second_cited,
+                references: 2,
+            },
+            Skipped::Cut => Skipped::Cut,
+        },
+        Skipped::Cut => Skipped::Cut,
+    }
+}
+
+// So many references to constants.
+fn skip_references(job: &[u8], at: usize, n: usize, entries: usize) -> Skipped
+    requires { ⌜ at ≤ length (now job) ⌝ }
+    ensures { λ r. ⌜ ((c : Counts) → c .constants ≡ entries → Skips (many n (reference constant)) (every (cites c)) length (now (job .entry)) at r) ⌝ }
+{
+    let mut next = at;
+    let mut cited = true;
+    let mut i = 0;
+    while i < n {
+        match skip_reference(job, next, entries) {
+            Skipped::To {
+                next: behind,
+                cited: here,
+                references: _,
+            } => {
+                next = behind;
+                cited = cited & here;
+            }
+            Skipped::Cut => {
+                return Skipped::Cut;
+            }
+        }
+        i += 1;
+    }
+    Skipped::To {
+        next,
+        cited,
+        references: n,
+    }
+}
+
+// A bootstrap: a handle's reference, two bytes of count, then as many references.
+fn skip_bootstrap(job: &[u8], at: usize, entries: usize) -> Skipped
+    requires { ⌜ at ≤ length (now job) ⌝ }
+    ensures { λ r. ⌜ ((n : Counts) → n .constants ≡ entries → SkipsEntry n bootstrapShape (now (job .entry)) at r) ⌝ }
+{
+    let Skipped::To {
+        next,
+        cited,
+        references: _,
+    } = skip_reference(job, at, entries)
+    else {
+        return Skipped::Cut;
+    };
+    if job.len() - next < 2 {
+        return Skipped::Cut;
+    }
+    let n = writer::get_u16(job, next) as usize;
+    match skip_references(job, next + 2, n, entries) {
+        Skipped::To {
+            next: end,
+            cited: all_cited,
+            references,
+        } => Skipped::To {
+            next: end,
+            cited: cited & all_cited,
+            references: references + 1,
+        },
+        Skipped::Cut => Skipped::Cut,
+    }
+}
+
+fn skip_constant(
+    job: &[u8],
+    at: usize,
+    shape: Shape,
+    constants: usize,
+    bootstraps: usize,
+) -> Skipped
+    requires { ⌜ at ≤ length (now job) ⌝ }
+    ensures { λ r. ⌜ SkipsDefinition (tables constants bootstraps) (entryBody (fieldsOf shape)) (now (job .entry)) at r ⌝ }
+{
+    match shape {
+        Shape::Text => skip_text(job, at),
+        Shape::Bits(n) => skip_bytes(job, at, n as usize),
+        Shape::One => skip_reference(job, at, constants),
+        Shape::Two => skip_pair(job, at, constants, constants),
+        Shape::KindOne => skip_handle(job, at, constants),
+        Shape::Dynamic => skip_pair(job, at, bootstraps, constants),
+        Shape::Unknown => Skipped::Cut,
+    }
+}
+
+// A name, and the reference that it stands for.
+fn skip_naming(job: &[u8], at: usize, entries: usize) -> Skipped
+    requires { ⌜ at ≤ length (now job) ⌝ }
+    ensures { λ r. ⌜ ((kind : Kind) (n : Counts) → countOf kind n ≡ entries → SkipsDefinition n (some (ofName kind)) (now (job .entry)) at r) ⌝ }
+{
+    let Skipped::To {
+        next,
+        cited: _,
+        references: _,
+    } = skip_name(job, at)
+    else {
+        return Skipped::Cut;
+    };
+    match skip_reference(job, next, entries) {
+        Skipped::To {
+            next: end,
+            cited,
+            references: _,
+        } => Skipped::To {
+            next: end,
+            cited,
+            references: 0,
+        },
+        Skipped::Cut => Skipped::Cut,
+    }
+}
+
+// A slot or an index, and the number of the entry that goes there.
+fn skip_placing(job: &[u8], at: usize, entries: usize) -> Skipped
+    requires { ⌜ at ≤ length (now job) ⌝ }
+    ensures { λ r. ⌜ ((kind : Kind) (n : Counts) → countOf kind n ≡ entries → SkipsDefinition n (some (ofRaw kind)) (now (job .entry)) at r) ⌝ }
+{
+    if job.len() - at < 2 {
+        return Skipped::Cut;
+    }
+    skip_number(job, at + 2, entries)
+}
+
+// A definition behind its first byte.
+fn skip_definition(
+    job: &[u8],
+    at: usize,
+    opening: Opening,
+    constants: usize,
+    bootstraps: usize,
+) -> Skipped
+    requires { ⌜ at ≤ length (now job) ⌝ }
+    ensures { λ r. ⌜ SkipsDefinition (tables constants bootstraps) (bodyOf opening) (now (job .entry)) at r ⌝ }
+{
+    match opening {
+        Opening::Constant(shape) => skip_constant(job, at, shape, constants, bootstraps),
+        Opening::Bootstrap => skip_bootstrap(job, at, constants),
+        Opening::NamedConstant => skip_naming(job, at, constants),
+        Opening::NamedBootstrap => skip_naming(job, at, bootstraps),
+        Opening::RawConstant => skip_placing(job, at, constants),
+        Opening::RawBootstrap => skip_placing(job, at, bootstraps),
+    }
+}
+
+// The table that a definition so opened goes into isn't full.
+fn has_room(opening: Opening, constants: usize, bootstraps: usize) -> bool
+    ensures { λ r. ⌜ r ≡ roomFor opening (tables constants bootstraps) ⌝ }
+{
+    match opening {
+        Opening::Constant(_) => constants < TABLE_SIZE,
+        Opening::Bootstrap => bootstraps < TABLE_SIZE,
+        Opening::NamedConstant => true,
+        Opening::NamedBootstrap => true,
+        Opening::RawConstant => true,
+        Opening::RawBootstrap => true,
+    }
+}
+
+// The counts with a definition so opened, which has so many references.
+fn counted(counts: JobCounts, opening: Opening, references: usize) -> JobCounts
+    requires { ⌜ Room counts references ⌝ }
+    ensures { λ r. ⌜ r ≡ plus counts (oneOf opening references) ⌝ }
+{
+    let mut c = counts;
+    c.definitions += 1;
+    c.references += references;
+    match opening {
+        Opening::Constant(_) => {
+            c.constants += 1;
+            c
+        }
+        Opening::Bootstrap => {
+            c.bootstraps += 1;
+            c
+        }
+        Opening::NamedConstant => {
+            c.names += 1;
+            c
+        }
+        Opening::NamedBootstrap => {
+            c.names += 1;
+            c
+        }
+        Opening::RawConstant => {
+            c.raw_constants += 1;
+            c
+        }
+        Opening::RawBootstrap => {
+            c.raw_bootstraps += 1;
+            c
+        }
+    }
+}
+
+// One definition: 3 if it is cut or unknown, then 5 if its table is full, then 4 if it cites what isn't there.
+fn form_definition(job: &[u8], at: usize, counts: JobCounts) -> Step
+    requires { ⌜ (at < length (now job)) × Bounded at counts ⌝ }
+    ensures { λ r. ⌜ Steps (formDefinition (tablesIn counts)) (λ d. countsOf (d ∷ []) 0) (now (job .entry)) at counts r ⌝ }
+{
+    let constants = counts.constants;
+    let bootstraps = counts.bootstraps;
+    let opening = opening_of(writer::get_u8(job, at));
+    match skip_definition(job, at + 1, opening, constants, bootstraps) {
+        Skipped::To {
+            next,
+            cited,
+            references,
+        } => {
+            if !has_room(opening, constants, bootstraps) {
+                return Step::Refused(5);
+            }
+            if !cited {
+                return Step::Refused(4);
+            }
+            Step::To {
+                next,
+                counts: counted(counts, opening, references),
+            }
+        }
+        Skipped::Cut => Step::Refused(3),
+    }
+}
+
+// The definitions and 50.
+fn form_definitions(job: &[u8]) -> Defined
+    ensures { λ r. ⌜ tallied (countsOf [] 0) (formDefinitions (length (now (job .entry))) (tables 0 0) 0 (now (job .entry))) ≡ definedAs (now (job .entry)) r ⌝ }
+    ensures { λ r. ⌜ Within (now (job .entry)) r ⌝ }
+{
+    let mut at = 0;
+    let mut counts = JobCounts {
+        definitions: 0,
+        constants: 0,
+        bootstraps: 0,
+        references: 0,
+        names: 0,
+        raw_constants: 0,
+        raw_bootstraps: 0,
+        requests: 0,
+    };
+    while at < job.len() {
+        if writer::get_u8(job, at) == 0x50 {
+            return Defined::To {
+                next: at + 1,
+                counts,
+            };
+        }
+        match form_definition(job, at, counts) {
+            Step::To { next, counts: more } => {
+                at = next;
+                counts = more;
+            }
+            Step::Refused(code) => {
+                return Defined::Refused {
+                    code,
+                    place: counts.definitions,
+                };
+            }
+        }
+    }
+    Defined::Refused {
+        code: 3,
+        place: counts.definitions,
+    }
+}
+
+// A request behind its first byte.
+fn skip_request(job: &[u8], at: usize, first: u8, constants: usize) -> Skipped
+    requires { ⌜ at ≤ length (now job) ⌝ }
+    ensures { λ r. ⌜ ((n : Counts) → n .constants ≡ constants → Skips (readRequest (lookup first asks)) (λ q. cites n (q .what)) (λ _. 1) (now (job .entry)) at r) ⌝ }
+{
+    match first {
+        0x51 | 0x52 => skip_reference(job, at, constants),
+        _ => Skipped::Cut,
+    }
+}
+
+// One request: 3 if it is cut or unknown, then 4 if it cites what isn't there.
+fn form_request(job: &[u8], at: usize, counts: JobCounts) -> Step
+    requires { ⌜ (at < length (now job)) × Bounded at counts ⌝ }
+    ensures { λ r. ⌜ Steps (formRequest (tablesIn counts)) (λ _. countsOf [] 1) (now (job .entry)) at counts r ⌝ }
+{
+    let constants = counts.constants;
+    let first = writer::get_u8(job, at);
+    match skip_request(job, at + 1, first, constants) {
+        Skipped::To {
+            next,
+            cited,
+            references: _,
+        } => {
+            if !cited {
+                return Step::Refused(4);
+            }
+            let mut c = counts;
+            c.requests += 1;
+            Step::To { next, counts: c }
+        }
+        Skipped::Cut => Step::Refused(3),
+    }
+}
+
+// 60 behind its first byte, after so many requests.
+fn skip_build(job: &[u8], at: usize, requests: usize) -> Skipped
+    requires { ⌜ at ≤ length (now job) ⌝ }
+    ensures { λ r. ⌜ Skips readBuild (λ b. citesRequest requests (b .class)) (λ _. 0) (now (job .entry)) at r ⌝ }
+{
+    if job.len() - at < 2 {
+        return Skipped::Cut;
+    }
+    if 2 < writer::get_u8(job, at) {
+        return Skipped::Cut;
+    }
+    match writer::get_u8(job, at + 1) {
+        0 => skip_raw_slot(job, at + 2),
+        1 => skip_number(job, at + 2, requests),
+        _ => Skipped::Cut,
+    }
+}
+
+// The number of the record in turn, after the definitions, 50 and the requests so far.
+fn place_of(counts: JobCounts) -> usize
+    requires { ⌜ counts .definitions + counts .requests + 1 < 2 ^ 64 ⌝ }
+    ensures { λ r. ⌜ r ≡ placeOf counts ⌝ }
+{
+    counts.definitions + counts.requests + 1
+}
+
+// 60, and nothing behind it: 3 or 4 at its own record, then 3 at the next.
+fn form_build(job: &[u8], at: usize, counts: JobCounts) -> Formed
+    requires { ⌜ (at ≤ length (now job)) × Bounded at counts ⌝ }
+    ensures { λ r. ⌜ r ≡ formedBuild counts (formBuild (counts .requests) (placeOf counts) (drop at (now (job .entry)))) ⌝ }
+{
+    let place = place_of(counts);
+    let requests = counts.requests;
+    match skip_build(job, at, requests) {
+        Skipped::To {
+            next,
+            cited,
+            references: _,
+        } => {
+            if !cited {
+                return Formed::Refused { code: 4, place };
+            }
+            if next < job.len() {
+                return Formed::Refused {
+                    code: 3,
+                    place: place + 1,
+                };
+            }
+            Formed::Counts(counts)
+        }
+        Skipped::Cut => Formed::Refused { code: 3, place },
+    }
+}
+
+// The requests and 60, from a place on.
+fn form_requests(job: &[u8], start: usize, defined: JobCounts) -> Formed
+    requires { ⌜ (start ≤ length (now job)) × Bounded start defined ⌝ }
+    ensures { λ r. ⌜ r ≡ formedRequests defined (formRequests (length (now (job .entry)) - defined .requests) (tablesIn defined) (defined .requests) (placeOf defined) (drop start (now (job .entry)))) ⌝ }
+{
+    let mut at = start;
+    let mut counts = defined;
+    while at < job.len() {
+        if writer::get_u8(job, at) == 0x60 {
+            return form_build(job, at + 1, counts);
+        }
+        match form_request(job, at, counts) {
+            Step::To { next, counts: more } => {
+                at = next;
+                counts = more;
+            }
+            Step::Refused(code) => {
+                return Formed::Refused {
+                    code,
+                    place: place_of(counts),
+                };
+            }
+        }
+    }
+    Formed::Refused {
+        code: 3,
+        place: place_of(counts),
+    }
+}
+
+// The form pass over a whole job: refusal 3, 5 or 4 at a record, or what the job counts.
+pub fn form(job: &[u8]) -> Formed
+    ensures { λ r. ⌜ r ≡ formedOf (form (now (job .entry))) ⌝ }
+{
+    match form_definitions(job) {
+        Defined::To { next, counts } => form_requests(job, next, counts),
+        Defined::Refused { code, place } => Formed::Refused { code, place },
+    }
+}
+
+// From one place of the job to another.
+pub struct Stretch {
+    pub start: usize,
+    pub end: usize,
+}
+
+// Krakatau's `RefType`: a raw number, the number of an entry of its table, or where a name stands.
+pub enum RefType {
+    Raw(u16),
+    Index(u16),
+    Sym(Stretch),
+}
+
+// What follows reads at stored places, where the form pass has found a record or a part of one: it tests nothing again.
+
+// The name at a place.
+pub fn name_at(job: &[u8], at: usize) -> Stretch
+    requires { ⌜ Stands shortName (now job) at ⌝ }
+    ensures { λ r. ⌜ WhatStands shortName (now (job .entry)) at (λ l next. Spans (now (job .entry)) r l × (r .end ≡ next)) ⌝ }
+{
+    let start = at + 1;
+    let n = writer::get_u8(job, at) as usize;
+    Stretch {
+        start,
+        end: start + n,
+    }
+}
+
+// The reference at a place.
+pub fn reference_at(job: &[u8], at: usize) -> RefType
+    requires { ⌜ ReferenceStands (now job) at ⌝ }
+    ensures { λ r. ⌜ WhatReference (now (job .entry)) at (λ kind a next. Tells (now (job .entry)) kind a r) ⌝ }
+{
+    match writer::get_u8(job, at) {
+        0 => RefType::Raw(writer::get_u16(job, at + 1)),
+        1 => RefType::Index(writer::get_u16(job, at + 1)),
+        _ => RefType::Sym(name_at(job, at + 1)),
+    }
+}
+
+// The place behind the reference at a place.
+pub fn after_reference(job: &[u8], at: usize) -> usize
+    requires { ⌜ ReferenceStands (now job) at ⌝ }
+    ensures { λ r. ⌜ WhatReference (now (job .entry)) at (λ kind a next. r ≡ next) ⌝ }
+{
+    match writer::get_u8(job, at) {
+        2 => name_at(job, at + 1).end,
+        _ => at + 3,
+    }
+}
+
+// The tag of the entry at a place, 40 hex for a bootstrap.
+pub fn tag_at(job: &[u8], at: usize) -> u8
+    requires { ⌜ EntryStands (now job) at ⌝ }
+    ensures { λ r. ⌜ WhatEntry (now (job .entry)) at (λ e. r ≡ e .tag) ⌝ }
+{
+    writer::get_u8(job, at)
+}
+
+// The literal of the entry at a place: no bytes if it has none.
+pub fn literal_at(job: &[u8], at: usize) -> Stretch
+    requires { ⌜ EntryStands (now job) at ⌝ }
+    ensures { λ r. ⌜ WhatEntry (now (job .entry)) at (λ e. Spans (now (job .entry)) r (e .literal)) ⌝ }
+{
+    let Opening::Constant(shape) = opening_of(tag_at(job, at)) else {
+        return Stretch { start: at, end: at };
+    };
+    match shape {
+        Shape::Text => {
+            let start = at + 3;
+            let n = writer::get_u16(job, at + 1) as usize;
+            Stretch {
+                start,
+                end: start + n,
+            }
+        }
+        Shape::Bits(n) => Stretch {
+            start: at + 1,
+            end: at + 1 + n as usize,
+        },
+        _ => Stretch { start: at, end: at },
+    }
+}
+
+// The kind byte of the entry at a place, 0 if it has none.
+pub fn kind_byte(job: &[u8], at: usize) -> u8
+    requires { ⌜ EntryStands (now job) at ⌝ }
+    ensures { λ r. ⌜ WhatEntry (now (job .entry)) at (λ e. r ≡ e .byte) ⌝ }
+{
+    let Opening::Constant(shape) = opening_of(tag_at(job, at)) else {
+        return 0;
+    };
+    match shape {
+        Shape::KindOne => writer::get_u8(job, at + 1),
+        _ => 0,
+    }
+}
+
+// How many references the entry at a place has.
+pub fn reference_count(job: &[u8], at: usize) -> usize
+    requires { ⌜ EntryStands (now job) at ⌝ }
+    ensures { λ r. ⌜ WhatEntry (now (job .entry)) at (λ e. r ≡ length (e .kids)) ⌝ }
+{
+    let Opening::Constant(shape) = opening_of(tag_at(job, at)) else {
+        let behind = after_reference(job, at + 1);
+        return writer::get_u16(job, behind) as usize + 1;
+    };
+    match shape {
+        Shape::Text => 0,
+        Shape::Bits(_) => 0,
+        Shape::One => 1,
+        Shape::Two => 2,
+        Shape::KindOne => 1,
+        Shape::Dynamic => 2,
+        Shape::Unknown => 0,
+    }
+}
+
+// Where reference 0 of the entry at a place stands, if it has one.
+pub fn first_reference(job: &[u8], at: usize) -> usize
+    requires { ⌜ EntryStands (now job) at ⌝ }
+    ensures { λ r. ⌜ WhatEntry (now (job .entry)) at (λ e. 0 < length (e .kids) → KidAt (now (job .entry)) e 0 r) ⌝ }
+{
+    let Opening::Constant(shape) = opening_of(tag_at(job, at)) else {
+        return at + 1;
+    };
+    match shape {
+        Shape::KindOne => at + 2,
+        _ => at + 1,
+    }
+}
+
+// Where reference i + 1 of the entry at a place stands, if reference i stands at `from`; a bootstrap's count stands behind its first.
+pub fn next_reference(job: &[u8], at: usize, i: usize, from: usize) -> usize
+    requires { ⌜ ((e : Entry (List ℕ) Reference) × (next : ℕ) × Found anyDefinition (now job) at (define e) next × KidAt (now job) e i from × (i + 1 < length (e .kids))) ⌝ }
+    ensures { λ r. ⌜ WhatEntry (now (job .entry)) at (λ e. KidAt (now (job .entry)) e i from → i + 1 < length (e .kids) → KidAt (now (job .entry)) e (i + 1) r) ⌝ }
+{
+    let behind = after_reference(job, from);
+    if (tag_at(job, at) == 0x40) & (i == 0) {
+        behind + 2
+    } else {
+        behind
+    }
+}
