@@ -1,0 +1,300 @@
+-- Every record of a job takes bytes: two or more for each reference, and enough for the words that the regions have for it. Assumes nothing.
+use mathlib.Core.Bool.{Bool, true, false}
+use mathlib.Core.List.{List, [], _∷_, _++_}
+use mathlib.Core.Option.{Option, none, some}
+use mathlib.Core.Path.{_≡_, refl, ap, subst, _∙_}
+use Prim.Native.Nat.{ℕ, zero, suc, _+_, _-_, _*_, _≤_}
+use native.Mathlib.Omega.{arith}
+use lib.Dec.{eqb, leb}
+use lib.ListN.{length, getD, drop, length-append, length-drop}
+use borrow.Author.Tests.{leb-true}
+use Rattle.definition.specs.Basics.{every, lookup, only}
+use Rattle.definition.specs.Bytes.{Parser, return, one, two, many}
+use Rattle.definition.specs.Shapes.{Kind, constant, bootstrap, Field, text, bits, byte, to, toMany, shapes, bootstrapShape, bootstrapTag, Entry, withKids, withLiteral, withByte, readFields, readEntry}
+use Rattle.definition.specs.Job.{Reference, raw, entry, name, Definition, define, named, placed, Body, ofEntry, ofName, ofRaw, bodies, shortName, referenceForm, reference, readBody, readDefinition}
+use Rattle.definition.specs.Numbering.{entries, isBootstrap, constantsOf, bootstrapsOf}
+use Rattle.definition.specs.Definitions.{sameKind}
+use Rattle.laws.proofs.form.EmptyLiterals.{fields-keep}
+use Rattle.facts.proofs.Lists.{none≢some}
+use Rattle.facts.proofs.Results.{some-then}
+use Rattle.facts.proofs.Tables.{lookup-every}
+use Rattle.job.specs.declared.JobCounts.{JobCounts}
+use Rattle.job.specs.Forms.{isNaming, isPlacing, kidsIn, referencesIn, countsOf, plus, single, Bounded}
+use Rattle.job.specs.Stored.{Found, InTurn, anyDefinition}
+use Rattle.job.proofs.Counting.{counts-more, one-constant, one-bootstrap}
+use Rattle.job.proofs.Taking.{byte-then}
+use Rattle.store.specs.Regions.{entriesOf}
+
+-- ---- the parts of a record
+
+-- what a parser reads takes at least so many bytes
+abbrev Costs : {A : Type 0} → ℕ → Parser A → Type 0
+Costs {A} least p = (l : List ℕ) (a : A) (rest : List ℕ) → p l ≡ some (a, rest) → least + length rest ≤ length l
+
+same-rest : {A : Type 0} (x a : A) (l rest : List ℕ) → return x l ≡ some (a, rest) → (x ≡ a) × (length l ≡ length rest)
+same-rest {A} x a l rest e =
+    let same : _≡_ {A = A × List ℕ} (x, l) (a, rest) = cc in
+    (ap (λ r. r .0) same, ap (λ r. length (r .1)) same)
+
+cost-one : Costs 1 one
+unfolding one
+cost-one [] a rest e = none≢some e
+cost-one (x ∷ l) a rest e = omega (arith, same-rest x a l rest e .1)
+
+cost-two : Costs 2 two
+unfolding two
+cost-two l n rest e =
+    some-then (one l) _ (n, rest) e λ a l₁ e₁ e₂.
+    some-then (one l₁) _ (n, rest) e₂ λ b l₂ e₃ e₄.
+    omega (arith, cost-one l a l₁ e₁, cost-one l₁ b l₂ e₃, same-rest (256 * a + b) n l₂ rest e₄ .1)
+
+cost-bytes : (n : ℕ) → Costs n (many n one)
+unfolding many
+cost-bytes zero l bs rest e = omega (arith, same-rest [] bs l rest e .1)
+cost-bytes (suc n) l bs rest e =
+    some-then (one l) _ (bs, rest) e λ a l₁ e₁ e₂.
+    some-then (many n one l₁) _ (bs, rest) e₂ λ more l₂ e₃ e₄.
+    omega (arith, cost-one l a l₁ e₁, cost-bytes n l₁ more l₂ e₃, same-rest (a ∷ more) bs l₂ rest e₄ .1)
+
+cost-name : Costs 1 shortName
+unfolding shortName
+cost-name l s rest e =
+    some-then (one l) _ (s, rest) e λ n l₁ e₁ e₂.
+    omega (arith, cost-one l n l₁ e₁, cost-bytes n l₁ s rest e₂)
+
+cost-form : (kind : Kind) (form : ℕ) → Costs 1 (referenceForm kind form)
+unfolding referenceForm
+cost-form kind zero l a rest e =
+    some-then (two l) _ (a, rest) e λ n l₁ e₁ e₂. omega (arith, cost-two l n l₁ e₁, same-rest (raw n) a l₁ rest e₂ .1)
+cost-form kind (suc zero) l a rest e =
+    some-then (two l) _ (a, rest) e λ n l₁ e₁ e₂. omega (arith, cost-two l n l₁ e₁, same-rest (entry kind n) a l₁ rest e₂ .1)
+cost-form kind (suc (suc zero)) l a rest e =
+    some-then (shortName l) _ (a, rest) e λ s l₁ e₁ e₂. omega (arith, cost-name l s l₁ e₁, same-rest (name kind s) a l₁ rest e₂ .1)
+cost-form kind (suc (suc (suc n))) l a rest e = none≢some e
+
+cost-reference : (kind : Kind) → Costs 2 (reference kind)
+unfolding reference
+cost-reference kind l a rest e =
+    some-then (one l) _ (a, rest) e λ form l₁ e₁ e₂.
+    omega (arith, cost-one l form l₁ e₁, cost-form kind form l₁ a rest e₂)
+
+cost-references : (n : ℕ) (l : List ℕ) (kids : List Reference) (rest : List ℕ) → many n (reference constant) l ≡ some (kids, rest) → 2 * length kids + length rest ≤ length l
+unfolding many
+cost-references zero l kids rest e =
+    let g = same-rest [] kids l rest e in
+    omega (arith, ap length (g .0), g .1)
+cost-references (suc n) l kids rest e =
+    some-then (reference constant l) _ (kids, rest) e λ a l₁ e₁ e₂.
+    some-then (many n (reference constant) l₁) _ (kids, rest) e₂ λ more l₂ e₃ e₄.
+    let g = same-rest (a ∷ more) kids l₂ rest e₄ in
+    omega (arith, cost-reference constant l a l₁ e₁, cost-references n l₁ more l₂ e₃, ap length (g .0), g .1)
+
+-- ---- an entry
+
+-- the bytes of fields beside their references, at the least, and the references that are always there
+unfoldable fixed : List Field → ℕ
+fixed [] = 0
+fixed (text ∷ fields) = 2 + fixed fields
+fixed (bits size ∷ fields) = size + fixed fields
+fixed (byte ∷ fields) = 1 + fixed fields
+fixed (to kind ∷ fields) = fixed fields
+fixed (toMany ∷ fields) = 2 + fixed fields
+
+unfoldable always : List Field → ℕ
+always [] = 0
+always (text ∷ fields) = always fields
+always (bits size ∷ fields) = always fields
+always (byte ∷ fields) = always fields
+always (to kind ∷ fields) = 1 + always fields
+always (toMany ∷ fields) = always fields
+
+record Filled (fields : List Field) (before e : Entry (List ℕ) Reference) (l rest : List ℕ) : Type 0 where
+  long : fixed fields + 2 * length (e .kids) + length rest ≤ length l + 2 * length (before .kids)
+  kids : length (before .kids) + always fields ≤ length (e .kids)
+
+cost-fields :
+    (fields : List Field) (before e : Entry (List ℕ) Reference) (l rest : List ℕ) → readFields reference fields before l ≡ some (e, rest) →
+    Filled fields before e l rest
+unfolding readFields withLiteral withByte withKids fixed always
+cost-fields [] before e l rest h =
+    let g = same-rest before e l rest h in
+    let k = ap (λ x. length (x .kids)) (g .0) in
+    record { long = omega (arith, k, g .1); kids = omega (arith, k) }
+cost-fields (text ∷ fields) before e l rest h =
+    some-then (two l) _ (e, rest) h λ n l₁ h₁ h₂.
+    some-then (many n one l₁) _ (e, rest) h₂ λ s l₂ h₃ h₄.
+    let g = cost-fields fields (withLiteral s before) e l₂ rest h₄ in
+    record { long = omega (arith, cost-two l n l₁ h₁, cost-bytes n l₁ s l₂ h₃, g .long); kids = g .kids }
+cost-fields (bits n ∷ fields) before e l rest h =
+    some-then (many n one l) _ (e, rest) h λ s l₁ h₁ h₂.
+    let g = cost-fields fields (withLiteral s before) e l₁ rest h₂ in
+    record { long = omega (arith, cost-bytes n l s l₁ h₁, g .long); kids = g .kids }
+cost-fields (byte ∷ fields) before e l rest h =
+    some-then (one l) _ (e, rest) h λ b l₁ h₁ h₂.
+    let g = cost-fields fields (withByte b before) e l₁ rest h₂ in
+    record { long = omega (arith, cost-one l b l₁ h₁, g .long); kids = g .kids }
+cost-fields (to kind ∷ fields) before e l rest h =
+    some-then (reference kind l) _ (e, rest) h λ a l₁ h₁ h₂.
+    let g = cost-fields fields (withKids (before .kids ++ a ∷ []) before) e l₁ rest h₂ in
+    let k = length-append (before .kids) (a ∷ []) in
+    record { long = omega (arith, cost-reference kind l a l₁ h₁, g .long, k); kids = omega (arith, g .kids, k) }
+cost-fields (toMany ∷ fields) before e l rest h =
+    some-then (two l) _ (e, rest) h λ n l₁ h₁ h₂.
+    some-then (many n (reference constant) l₁) _ (e, rest) h₂ λ rs l₂ h₃ h₄.
+    let g = cost-fields fields (withKids (before .kids ++ rs) before) e l₂ rest h₄ in
+    let k = length-append (before .kids) rs in
+    record { long = omega (arith, cost-two l n l₁ h₁, cost-references n l₁ rs l₂ h₃, g .long, k); kids = omega (arith, g .kids, k) }
+
+-- of every shape these are enough, and of a bootstrap's more
+unfoldable wanted : Bool → ℕ
+wanted true = 12
+wanted false = 8
+
+unfoldable enough : ℕ → Body → Bool
+enough tag (ofEntry fields) = leb (wanted (eqb tag bootstrapTag)) (6 * fixed fields + 9 * always fields)
+enough tag (ofName kind) = true
+enough tag (ofRaw kind) = true
+
+all-enough : every (λ r. enough (r .0) (r .1)) bodies ≡ true
+unfolding every bodies shapes bootstrapShape enough wanted fixed always
+all-enough = refl
+
+-- ---- a definition
+
+-- the words that the regions have for what is counted, beside those for requests and the 31 that they always have
+unfoldable pub wordsFor : JobCounts → ℕ
+wordsFor c =
+    14 * entriesOf c
+    + 4 * c .bootstraps
+    + 3 * c .references
+    + 4 * c .names
+    + 11 * c .«raw_constants»
+    + 5 * c .«raw_bootstraps»
+
+-- so many bytes are enough for what is counted: a byte for each, and six words a byte
+pub record Enough (bytes : ℕ) (c : JobCounts) : Type 0 where
+  pub bounded : Bounded bytes c
+  pub words : wordsFor c ≤ 6 * bytes
+
+pub enough-plus : (m n : ℕ) (a b : JobCounts) → Enough m a → Enough n b → Enough (m + n) (plus a b)
+unfolding plus wordsFor
+enough-plus m n a b f g =
+    let x = f .bounded in
+    let y = g .bounded in
+    record {
+      bounded =
+          record {
+            records = omega (arith, x .records, y .records);
+            constants = omega (arith, x .constants, y .constants);
+            bootstraps = omega (arith, x .bootstraps, y .bootstraps);
+            references = omega (arith, x .references, y .references);
+            names = omega (arith, x .names, y .names);
+            constants-placed = omega (arith, x .constants-placed, y .constants-placed);
+            bootstraps-placed = omega (arith, x .bootstraps-placed, y .bootstraps-placed);
+          };
+      words = omega (arith, f .words, g .words);
+    }
+
+-- a constant or a bootstrap with k references, a name, a raw definition
+enough-constant : (k n : ℕ) → 1 + k ≤ n → 14 + 3 * k ≤ 6 * n → Enough n (single 1 0 k 0 0 0)
+unfolding wordsFor
+enough-constant k n h g = record { bounded = omega arith; words = omega arith }
+
+enough-bootstrap : (k n : ℕ) → 1 + k ≤ n → 18 + 3 * k ≤ 6 * n → Enough n (single 0 1 k 0 0 0)
+unfolding wordsFor
+enough-bootstrap k n h g = record { bounded = omega arith; words = omega arith }
+
+enough-named : (kind : Kind) (s : List ℕ) (r : Reference) (n : ℕ) → 1 ≤ n → Enough n (countsOf (named kind s r ∷ []) 0)
+unfolding countsOf constantsOf bootstrapsOf entries referencesIn kidsIn only isNaming isPlacing wordsFor
+enough-named kind s r n h = record { bounded = omega arith; words = omega arith }
+
+enough-placed : (kind : Kind) (at number n : ℕ) → 2 ≤ n → Enough n (countsOf (placed kind at number ∷ []) 0)
+unfolding countsOf constantsOf bootstrapsOf entries referencesIn kidsIn only isNaming isPlacing sameKind wordsFor
+enough-placed constant at number n h = record { bounded = omega arith; words = omega arith }
+enough-placed bootstrap at number n h = record { bounded = omega arith; words = omega arith }
+
+shape-enough :
+    (tag : ℕ) (fields : List Field) (b : Bool) → lookup tag bodies ≡ some (ofEntry fields) → eqb tag bootstrapTag ≡ b →
+    wanted b ≤ 6 * fixed fields + 9 * always fields
+unfolding enough
+shape-enough tag fields b told same =
+    rw same at
+    (leb-true (wanted (eqb tag bootstrapTag)) (6 * fixed fields + 9 * always fields)
+    (lookup-every (λ r. enough (r .0) (r .1)) bodies all-enough tag (ofEntry fields) told))
+
+-- a definition behind its first byte
+module _ (n first : ℕ) (l rest : List ℕ) (size : n + length rest ≡ suc (length l)) where
+  enough-entry :
+      (fields : List Field) (e : Entry (List ℕ) Reference) →
+      lookup first bodies ≡ some (ofEntry fields) →
+      Filled fields (record { tag = first; literal = []; byte = 0; kids = [] }) e l rest →
+      (b : Bool) →
+      eqb first bootstrapTag ≡ b →
+      e .tag ≡ first →
+      Enough n (countsOf (define e ∷ []) 0)
+  unfolding wanted isBootstrap
+  enough-entry fields e told f true same t =
+      let w = shape-enough first fields true told same in
+      rw (one-bootstrap e (ap (λ k. eqb k bootstrapTag) t ∙ same))
+      (enough-bootstrap (length (e .kids)) n (omega (arith, f .long)) (omega (arith, f .long, f .kids, w)))
+  enough-entry fields e told f false same t =
+      let w = shape-enough first fields false told same in
+      rw (one-constant e (ap (λ k. eqb k bootstrapTag) t ∙ same))
+      (enough-constant (length (e .kids)) n (omega (arith, f .long)) (omega (arith, f .long, f .kids, w)))
+
+  enough-body : (body : Body) (d : Definition (List ℕ)) → lookup first bodies ≡ some body → readBody first (some body) l ≡ some (d, rest) → Enough n (countsOf (d ∷ []) 0)
+  unfolding readBody readEntry
+  enough-body (ofEntry fields) d told h =
+      some-then (readEntry reference first fields l) _ (d, rest) h λ e l₁ h₁ h₂.
+      let g = same-rest (define e) d l₁ rest h₂ in
+      let f = cost-fields fields (record { tag = first; literal = []; byte = 0; kids = [] }) e l l₁ h₁ in
+      let t = fields-keep reference fields (record { tag = first; literal = []; byte = 0; kids = [] }) l (e, l₁) h₁ .0 in
+      subst (λ x. Enough n (countsOf (x ∷ []) 0)) (g .0)
+      (enough-entry fields e told (record { long = omega (arith, f .long, g .1); kids = f .kids }) (eqb first bootstrapTag) refl t)
+  enough-body (ofName kind) d told h =
+      some-then (shortName l) _ (d, rest) h λ s l₁ h₁ h₂.
+      some-then (reference kind l₁) _ (d, rest) h₂ λ r l₂ h₃ h₄.
+      let g = same-rest (named kind s r) d l₂ rest h₄ in
+      subst (λ x. Enough n (countsOf (x ∷ []) 0)) (g .0)
+      (enough-named kind s r n (omega (arith, cost-name l s l₁ h₁, cost-reference kind l₁ r l₂ h₃, g .1)))
+  enough-body (ofRaw kind) d told h =
+      some-then (two l) _ (d, rest) h λ at l₁ h₁ h₂.
+      some-then (two l₁) _ (d, rest) h₂ λ number l₂ h₃ h₄.
+      let g = same-rest (placed kind at number) d l₂ rest h₄ in
+      subst (λ x. Enough n (countsOf (x ∷ []) 0)) (g .0)
+      (enough-placed kind at number n (omega (arith, cost-two l at l₁ h₁, cost-two l₁ number l₂ h₃, g .1)))
+
+  enough-read : (d : Definition (List ℕ)) (body : Option Body) → lookup first bodies ≡ body → readBody first body l ≡ some (d, rest) → Enough n (countsOf (d ∷ []) 0)
+  unfolding readBody
+  enough-read d none told h = none≢some h
+  enough-read d (some body) told h = enough-body body d told h
+
+-- a definition at its place
+pub enough-found :
+    (s : List ℕ) (at : ℕ) (d : Definition (List ℕ)) (next : ℕ) → Found anyDefinition s at d next → Enough (next - at) (countsOf (d ∷ []) 0)
+unfolding readDefinition
+enough-found s at d next f =
+    let b = byte-then s at readDefinition d (drop next s) (f .read) in
+    let size : next - at + length (drop next s) ≡ suc (length (drop (at + 1) s)) = simp length-drop (omega (arith, f .past, f .within)) in
+    enough-read (next - at) (getD s at 0) (drop (at + 1) s) (drop next s) size d (lookup (getD s at 0) bodies) refl (b .1)
+
+-- all definitions, from a place to another
+enough-none : Enough 0 (countsOf [] 0)
+unfolding countsOf constantsOf bootstrapsOf entries referencesIn only wordsFor
+enough-none = record { bounded = omega arith; words = omega arith }
+
+pub enough-turn :
+    (s : List ℕ) (at : ℕ) (list : List (Definition (List ℕ))) (end : ℕ) → InTurn anyDefinition s at list end →
+    (at ≤ end) × Enough (end - at) (countsOf list 0)
+enough-turn s at [] end h =
+    let z : end - at ≡ 0 = omega (arith, h) in
+    (omega (arith, h), rw z enough-none)
+enough-turn s at (d ∷ list) end (next, f, h) =
+    let g = enough-turn s next list end h in
+    let size : next - at + (end - next) ≡ end - at = omega (arith, f .past, g .0) in
+    (omega (arith, f .past, g .0), rw (counts-more d list, ← size) (enough-plus (next - at) (end - next) (countsOf (d ∷ []) 0) (countsOf list 0) (enough-found s at d next f) (g .1)))
+
+-- records of any kind: each takes a byte or more
+pub turn-length : {A : Type 0} (p : Parser A) (s : List ℕ) (at : ℕ) (list : List A) (end : ℕ) → InTurn p s at list end → at + length list ≤ end
+turn-length p s at [] end h = omega (arith, h)
+turn-length p s at (x ∷ list) end (next, f, h) = omega (arith, f .past, turn-length p s next list end h)

@@ -1,0 +1,11 @@
+pub mod Stores
+pub mod Walking
+pub mod Keeping
+pub mod Hashing
+pub mod Searching
+pub mod Laying
+pub mod Lengths
+pub mod Bounds
+pub mod Room
+pub mod Placing
+pub mod Starting

@@ -1,0 +1,66 @@
+-- The loop that lays out the places, and the regions that start as zeros. Assumes nothing.
+use mathlib.Core.List.{List}
+use mathlib.Core.Logic.{⊎-elim}
+use mathlib.Core.Path.{_≡_, sym, ap, _∙_}
+use Prim.Native.Nat.{ℕ, suc, _+_, _≤_, _<_}
+use native.Mathlib.Numerals.{add-one}
+use native.Mathlib.Omega.{arith}
+use lib.ListN.{length, getD, set, length-set}
+use lib.Seq.{getD-set-same, getD-set-other, ext-getD}
+use Rattle.store.specs.Regions.{placesOf}
+use Rattle.store.proofs.Stores.{eq-or, rising}
+use Rattle.store.proofs.Laying.{length-places, head-place, next-place, places-laid}
+
+-- a fact of each word, after one is stored
+pub each-set :
+    (P : ℕ → ℕ → Type 0) (l : List ℕ) (i x : ℕ) →
+    i < length l →
+    P i x →
+    ((j : ℕ) → (j ≡ i → ⊥) → P j (getD l j 0)) →
+    (j : ℕ) →
+    P j (getD (set l i x) j 0)
+each-set P l i x h a b j =
+    ⊎-elim
+    (λ (e : j ≡ i). rw (e, getD-set-same l i x 0 h) a)
+    (λ (e : j ≡ i → ⊥). rw (getD-set-other l i j x 0 e) (b j e))
+    (eq-or j i)
+
+-- the places up to k are laid out
+pub record Laying (p sizes : List ℕ) (k : ℕ) : Type 0 where
+  pub long : length p ≡ 32
+  pub upto : k ≤ 31
+  pub done : (j : ℕ) → j ≤ k → getD p j 0 ≡ getD (placesOf 0 sizes) j 0
+
+pub lay-begin : (p sizes : List ℕ) → length p ≡ 32 → Laying (set p 0 0) sizes 0
+lay-begin p sizes e =
+    record {
+      long = length-set p 0 0 ∙ e;
+      upto = omega arith;
+      done = λ j h. let z : j ≡ 0 = omega arith in rw z (getD-set-same p 0 0 0 (omega arith) ∙ sym (head-place 0 sizes));
+    }
+
+module _ (p sizes : List ℕ) (k : ℕ) (e : length sizes ≡ 31) (g : Laying p sizes k) where
+  -- the next place is below the last
+  pub lay-fits : k < 31 → getD p k 0 + getD sizes k 0 ≤ getD (placesOf 0 sizes) 31 0
+  lay-fits h =
+      let last = rising (placesOf 0 sizes) (places-laid sizes e) (suc k) 31 (omega arith) (omega arith) in
+      omega (arith, g .done k (omega arith), next-place 0 sizes k (omega arith), last)
+
+  pub lay-next : k < 31 → Laying (set p (k + 1) (getD p k 0 + getD sizes k 0)) sizes (k + 1)
+  lay-next h =
+      record {
+        long = length-set p (k + 1) (getD p k 0 + getD sizes k 0) ∙ g .long;
+        upto = omega arith;
+        done =
+            each-set
+            (λ j x. j ≤ k + 1 → x ≡ getD (placesOf 0 sizes) j 0)
+            p
+            (k + 1)
+            (getD p k 0 + getD sizes k 0)
+            (omega (arith, g .long))
+            (λ _. rw add-one (sym (next-place 0 sizes k (omega arith) ∙ ap (λ (x : ℕ). x + getD sizes k 0) (sym (g .done k (omega arith))))))
+            (λ j d l. g .done j (omega arith));
+      }
+
+  pub lay-end : 31 ≤ k → p ≡ placesOf 0 sizes
+  lay-end h = ext-getD 0 p (placesOf 0 sizes) (g .long ∙ sym (length-places 0 sizes ∙ ap suc e)) (λ j l. g .done j (omega (arith, g .long)))
