@@ -1,0 +1,247 @@
+-- An entry becomes a node: an old one that is the same, or a new one behind the others. Assumes nothing.
+use mathlib.Core.Bool.{Bool, true, false}
+use mathlib.Core.List.{List, [], _∷_, map, map-append}
+use mathlib.Core.Logic.{_⊎_, inl, inr, ⊎-elim}
+use mathlib.Core.Option.{some}
+use mathlib.Core.Path.{_≡_, refl, sym, ap, _∙_}
+use Prim.Native.Nat.{ℕ, _+_, _-_, _≤_, _<_}
+use native.Mathlib.Numerals.{add-one}
+use native.Mathlib.Omega.{arith}
+use lib.ListN.{length, getD, getElem?, set, take, length-map}
+use lib.Seq.{getD-set-same, getD-set-other, getD-take, length-take-le, take-suc-set}
+use borrow.Author.Tests.{lt-ltb, le-ltb}
+use Rattle.definition.specs.Basics.{position}
+use Rattle.definition.specs.Resolving.{Node, sameNode, intern}
+use Rattle.facts.proofs.Lists.{read-found, found-inside, some-inj, map-at, position-le, position-before, position-hit, position-passes}
+use Rattle.laws.proofs.resolving.Interning.{sameNode-equal, intern-old, intern-new}
+use Rattle.store.specs.Store.{Store, size, store, put}
+use Rattle.store.specs.JobIn.{countsIn, entriesIn}
+use Rattle.store.specs.Chains.{headOf, Sought, linked}
+use Rattle.store.specs.Regions.{COUNTS, NODE-HEADS, NODE-LINKS, FIRSTS, SIZES, CHILDREN, NODES, NODE-COUNT, entriesOf, Work}
+use Rattle.store.proofs.Hashing.{head-lt}
+use Rattle.store.proofs.Keeping.{kept-put}
+use Rattle.store.proofs.Laying.{work-sizes, entries-counted}
+use Rattle.store.proofs.Stores.{eq-or, lt-or, length-store}
+use Rattle.store.proofs.Walking.{both, chains-more}
+use Rattle.interner.specs.Nodes.{hashAt, nodeAt, Nodes, NodesIn, nodeCount, nodeIn, hashIn, Interned}
+use Rattle.interner.proofs.Alike.{node-same}
+use Rattle.interner.proofs.Reading.{node-heads, counter-there}
+
+-- THE NODES as a list
+
+-- node i is what entry e would be
+abbrev pub Is : List ℕ → List ℕ → List ℕ → List ℕ → List ℕ → ℕ → ℕ → Type 0
+Is s firsts sizes children nodes e i = sameNode (nodeAt s firsts sizes children e) (nodeAt s firsts sizes children (getD nodes i 0)) ≡ true
+
+module _ (h : ℕ) (s firsts sizes children nodes heads links : List ℕ) (n e : ℕ) (g : Nodes h s firsts sizes children nodes heads links n) (room : n ≤ length nodes) where
+  abbrev list : List Node
+  list = map (nodeAt s firsts sizes children) (take n nodes)
+
+  abbrev new : Node
+  new = nodeAt s firsts sizes children e
+
+  abbrev at : ℕ → Node
+  at i = nodeAt s firsts sizes children (getD nodes i 0)
+
+  list-length : length list ≡ n
+  list-length = length-map (take n nodes) (nodeAt s firsts sizes children) ∙ length-take-le n nodes room
+
+  list-at : (i : ℕ) → i < n → getElem? list i ≡ some (at i)
+  list-at i less =
+      let q : getElem? (take n nodes) i ≡ some (getD nodes i 0) = read-found (take n nodes) i 0 (omega (arith, length-take-le n nodes room)) ∙ ap some (getD-take n nodes i 0 less) in
+      map-at (nodeAt s firsts sizes children) (take n nodes) i (getD nodes i 0) q
+
+  -- what stands at a place of the list that passes
+  passes-at : (i : ℕ) (b : Node) → getElem? list i ≡ some b → sameNode new b ≡ true → (i < n) × Is s firsts sizes children nodes e i
+  passes-at i b q p =
+      let less : i < n = omega (arith, found-inside list i b q, list-length) in
+      let same : b ≡ at i = some-inj (sym q ∙ list-at i less) in
+      (less, rw same at p)
+
+  -- no two are the same, so that an equal one is the first
+  pub position-old : (r : ℕ) → Sought (Is s firsts sizes children nodes e) n r → 0 < r → r - 1 ≡ position (sameNode new) list
+  position-old r sought pos =
+      let less : r - 1 < n = omega (arith, sought .low) in
+      let hit = sought .hit pos in
+      let p = position-hit (sameNode new) list (r - 1) (at (r - 1)) (list-at (r - 1) less) hit in
+      let q = passes-at (position (sameNode new) list) (p .0) (p .1) (p .2) in
+      ⊎-elim
+      (λ (l : r - 1 < position (sameNode new) list).
+      absurd (both hit (position-before (sameNode new) list (r - 1) (at (r - 1)) (list-at (r - 1) less) l)))
+      (λ (l : position (sameNode new) list ≤ r - 1).
+      ⊎-elim
+      (λ (z : position (sameNode new) list ≡ r - 1). sym z)
+      (λ (z : position (sameNode new) list ≡ r - 1 → ⊥).
+      let one : at (position (sameNode new) list) ≡ at (r - 1) = sym (sameNode-equal new (at (position (sameNode new) list)) (q .1)) ∙ sameNode-equal new (at (r - 1)) hit in
+      let apart : sameNode (at (position (sameNode new) list)) (at (r - 1)) ≡ false = g .unlike (position (sameNode new) list) (r - 1) (omega arith) less in
+      absurd (both (node-same (at (r - 1))) (rw one at apart)))
+      (eq-or (position (sameNode new) list) (r - 1)))
+      (lt-or (r - 1) (position (sameNode new) list))
+
+  pub position-new : Sought (Is s firsts sizes children nodes e) n 0 → n ≡ position (sameNode new) list
+  position-new sought =
+      ⊎-elim
+      (λ (l : position (sameNode new) list < length list).
+      let p = position-passes (sameNode new) list l in
+      let q = passes-at (position (sameNode new) list) (p .0) (p .1) (p .2) in
+      absurd (sought .miss refl (position (sameNode new) list) (q .0) (q .1)))
+      (λ (l : length list ≤ position (sameNode new) list). omega (arith, position-le (sameNode new) list, list-length))
+      (lt-or (position (sameNode new) list) (length list))
+
+  pub interned-old : (r : ℕ) → Sought (Is s firsts sizes children nodes e) n r → 0 < r → list ≡ intern new list
+  interned-old r sought pos =
+      sym (intern-old new list (lt-ltb (position (sameNode new) list) (length list) (omega (arith, position-old r sought pos, list-length, sought .low))))
+
+  -- ONE MORE
+
+  module _ (inside : e < entriesIn s) (few : n < entriesIn s) (space : n < length nodes) (miss : Sought (Is s firsts sizes children nodes e) n 0) where
+    pub list-more : map (nodeAt s firsts sizes children) (take (n + 1) (set nodes n e)) ≡ intern new list
+    list-more =
+        rw (add-one n, take-suc-set nodes n e space)
+        (map-append (nodeAt s firsts sizes children) (take n nodes) (e ∷ [])
+        ∙ sym (intern-new new list (le-ltb (position (sameNode new) list) (length list) (omega (arith, position-new miss, list-length)))))
+
+    entry-new : getD (set nodes n e) n 0 ≡ e
+    entry-new = getD-set-same nodes n e 0 space
+
+    entry-old : (i : ℕ) → i < n → getD (set nodes n e) i 0 ≡ getD nodes i 0
+    entry-old i less = getD-set-other nodes n i e 0 (λ z. omega arith)
+
+    pub entries-more : (i : ℕ) → i < n + 1 → ((i < n) × (getD (set nodes n e) i 0 ≡ getD nodes i 0)) ⊎ (getD (set nodes n e) i 0 ≡ e)
+    entries-more i less =
+        ⊎-elim
+        (λ (l : i < n). inl (l, entry-old i l))
+        (λ (l : n ≤ i). let z : i ≡ n = omega arith in inr (rw z entry-new))
+        (lt-or i n)
+
+    -- the new one is none of the old
+    new-unlike : (i : ℕ) → i < n → sameNode (at i) new ≡ false
+    new-unlike i less = ways (sameNode (at i) new) refl
+      where
+        ways : (b : Bool) → sameNode (at i) new ≡ b → b ≡ false
+        ways true q = absurd (miss .miss refl i less (rw (sameNode-equal (at i) new q) (node-same new)))
+        ways false q = refl
+
+    module _ (head : ℕ) (is : head ≡ headOf h (hashAt s firsts sizes children e)) (there : head < length heads) (link : n < length links) where
+      pub nodes-more : Nodes h s firsts sizes children (set nodes n e) (set heads head (n + 1)) (set links n (getD heads head 0)) (n + 1)
+      nodes-more =
+          record {
+            few = omega arith;
+            inside = λ i less. ⊎-elim (λ l. rw (l .1) (g .inside i (l .0))) (λ l. rw l inside) (entries-more i less);
+            chains =
+                chains-more
+                (λ i. headOf h (hashAt s firsts sizes children (getD nodes i 0)))
+                (λ i. headOf h (hashAt s firsts sizes children (getD (set nodes n e) i 0)))
+                heads
+                links
+                n
+                head
+                (g .chains)
+                (ap (λ x. headOf h (hashAt s firsts sizes children x)) entry-new ∙ sym is)
+                (λ i less. ap (λ x. headOf h (hashAt s firsts sizes children x)) (entry-old i less))
+                there
+                link;
+            unlike =
+                λ i j less below.
+                ⊎-elim
+                (λ (l : j < n). rw (entry-old i (omega arith), entry-old j l) (g .unlike i j less l))
+                (λ (l : n ≤ j).
+                let z : j ≡ n = omega arith in
+                rw (z, entry-new, entry-old i (omega arith)) (new-unlike i (omega arith)))
+                (lt-or j n);
+          }
+
+-- INTERNED, over the store
+
+module _ (h : ℕ) (s : List ℕ) (t : Store) (e : ℕ) (g : NodesIn h s t) (room : entriesIn s ≤ length (t NODES)) where
+  fits : nodeCount t ≤ length (t NODES)
+  fits = omega (arith, g .few)
+
+  pub became-old : (r : ℕ) → Sought (Is s (t FIRSTS) (t SIZES) (t CHILDREN) (t NODES) e) (nodeCount t) r → 0 < r → Interned h s t t e (r - 1)
+  became-old r sought pos =
+      record {
+        node = position-old h s (t FIRSTS) (t SIZES) (t CHILDREN) (t NODES) (t NODE-HEADS) (t NODE-LINKS) (nodeCount t) e g fits r sought pos;
+        nodes = interned-old h s (t FIRSTS) (t SIZES) (t CHILDREN) (t NODES) (t NODE-HEADS) (t NODE-LINKS) (nodeCount t) e g fits r sought pos;
+        again = g;
+        low = omega (arith, sought .low);
+        count = omega arith;
+        made = λ i less. inl (less, refl);
+        counters = λ c other. refl;
+        kept = λ k other. refl;
+      }
+
+  module _
+      (p : List ℕ) (heads : h ≡ size p NODE-HEADS) (two : 1 < h) (all : length (t NODE-HEADS) ≡ h) (links : entriesIn s ≤ length (t NODE-LINKS))
+      (counter : NODE-COUNT < length (t COUNTS)) (inside : e < entriesIn s) (few : nodeCount t < entriesIn s)
+      (miss : Sought (Is s (t FIRSTS) (t SIZES) (t CHILDREN) (t NODES) e) (nodeCount t) 0) where
+    abbrev after : Store
+    after = linked (put (put t COUNTS NODE-COUNT (nodeCount t + 1)) NODES (nodeCount t) e) p NODE-HEADS (hashIn s t e) (nodeCount t)
+
+    counted : nodeCount after ≡ nodeCount t + 1
+    counted = getD-set-same (t COUNTS) NODE-COUNT (nodeCount t + 1) 0 counter
+
+    again : NodesIn h s after
+    again =
+        rw (counted, ← heads)
+        (nodes-more h s (t FIRSTS) (t SIZES) (t CHILDREN) (t NODES) (t NODE-HEADS) (t NODE-LINKS) (nodeCount t) e g fits inside few (omega arith) miss
+        (headOf h (hashIn s t e))
+        refl
+        (omega (arith, head-lt h (hashIn s t e) two))
+        (omega arith))
+
+    became-after : Interned h s t after e (nodeCount t)
+    became-after =
+        record {
+          node = position-new h s (t FIRSTS) (t SIZES) (t CHILDREN) (t NODES) (t NODE-HEADS) (t NODE-LINKS) (nodeCount t) e g fits miss;
+          nodes =
+              rw counted
+              (list-more h s (t FIRSTS) (t SIZES) (t CHILDREN) (t NODES) (t NODE-HEADS) (t NODE-LINKS) (nodeCount t) e g fits inside few (omega arith) miss);
+          again = again;
+          low = omega (arith, counted);
+          count = omega (arith, counted);
+          made =
+              λ i less.
+              entries-more h s (t FIRSTS) (t SIZES) (t CHILDREN) (t NODES) (t NODE-HEADS) (t NODE-LINKS) (nodeCount t) e g fits inside few (omega arith) miss
+              i
+              (omega (arith, counted));
+          counters = λ c other. getD-set-other (t COUNTS) NODE-COUNT c (nodeCount t + 1) 0 other;
+          kept =
+              kept-put written t _ NODE-HEADS _ _ refl
+              (kept-put written t _ NODE-LINKS _ _ refl
+              (kept-put written t _ NODES _ _ refl
+              (kept-put written t t COUNTS _ _ refl (λ k other. refl))));
+        }
+      where
+        written : List ℕ
+        written = COUNTS ∷ NODE-HEADS ∷ NODE-LINKS ∷ NODES ∷ []
+
+    -- as the code has it
+    pub became-new :
+        (hash k : ℕ) → hash ≡ hashIn s t e → k ≡ nodeCount t →
+        Interned h s t (linked (put (put t COUNTS NODE-COUNT (k + 1)) NODES k e) p NODE-HEADS hash k) e k
+    became-new hash k q z = rw (q, z) became-after
+
+-- IN THE WORK of a job
+
+module _ (s p w : List ℕ) (e : ℕ) (work : Work s p) (g : NodesIn (size p NODE-HEADS) s (store p w)) (r : ℕ)
+    (sought : Sought (λ i. sameNode (nodeIn s (store p w) e) (nodeIn s (store p w) (getD (store p w NODES) i 0)) ≡ true) (nodeCount (store p w)) r) where
+  -- a region of entries has room for all
+  wide : (k : ℕ) → size p k ≡ entriesOf (countsIn s) → entriesIn s ≤ length (store p w k)
+  wide k q = omega (arith, length-store p w k, entries-counted s)
+
+  pub interned-found : 0 < r → Interned (size p NODE-HEADS) s (store p w) (store p w) e (r - 1)
+  interned-found pos = became-old (size p NODE-HEADS) s (store p w) e g (wide NODES (work-sizes s p work .nodes)) r sought pos
+
+  pub interned-made :
+      r ≤ 0 → e < entriesIn s → nodeCount (store p w) < entriesIn s → (hash k : ℕ) → hash ≡ hashIn s (store p w) e → k ≡ nodeCount (store p w) →
+      Interned (size p NODE-HEADS) s (store p w) (linked (put (put (store p w) COUNTS NODE-COUNT (k + 1)) NODES k e) p NODE-HEADS hash k) e k
+  interned-made end inside few =
+      let z : r ≡ 0 = omega arith in
+      became-new (size p NODE-HEADS) s (store p w) e g (wide NODES (work-sizes s p work .nodes)) p refl
+      (node-heads s p work .two)
+      (length-store p w NODE-HEADS)
+      (wide NODE-LINKS (work-sizes s p work .node-links))
+      (omega (arith, length-store p w COUNTS, counter-there s p work))
+      inside
+      few
+      (rw z at sought)
