@@ -1,5 +1,6 @@
--- Facts about lists: tests, what stands at a place and in a list, first places, images, and those that pass a test. Assumes nothing.
-use mathlib.Core.Bool.{Bool, true, false, _&&_, _||_}
+-- Facts about lists: tests, what stands at a place and in a list, first places, images, those that pass a test, and what
+-- holds of numbers in a row. Assumes nothing.
+use mathlib.Core.Bool.{Bool, true, false, _&&_, _||_, and-true, and-assoc}
 use mathlib.Core.List.{List, [], _∷_, _++_, map, reverse, reverseAux, reverse-reverse}
 use mathlib.Core.Logic.{_⊎_, inl, inr}
 use mathlib.Core.Option.{Option, none, some}
@@ -8,7 +9,7 @@ use Prim.Native.Nat.{ℕ, zero, suc, _+_, _-_, _≤_, _<_}
 use native.Mathlib.Nat.{zero-add, suc-add, not-suc-le-zero, le-of-suc-le-suc, sub-zero, suc-sub-suc}
 use native.Mathlib.Omega.{arith}
 use lib.Dec.{eqb, ltb}
-use lib.ListN.{length, drop, getD, getElem?, set, replicate, length-append, length-replicate, length-set}
+use lib.ListN.{length, drop, getD, getElem?, set, replicate, length-append, length-replicate, length-set, length-drop}
 use borrow.Author.Tests.{eqb-true, eqb-false, eq-eqb, ltb-true, ltb-false}
 use Rattle.definition.specs.Basics.{same, position, every, only}
 use Rattle.facts.specs.Lists.{Among}
@@ -450,3 +451,73 @@ only-map {A} {B} p q f (x ∷ l) h = go (q x) refl (only-map p q f l h)
     go : (b : Bool) → q x ≡ b → only p (map f l) ≡ map f (only q l) → only p (f x ∷ map f l) ≡ map f (only q (x ∷ l))
     go true e rest = rw (only-here p (f x) (map f l) (h x ∙ e), only-here q x l e) (ap (λ (m : List B). f x ∷ m) rest)
     go false e rest = rw (only-later p (f x) (map f l) (h x ∙ e), only-later q x l e) rest
+
+-- what stands at a place of a list, and of the list's images
+pub place-map :
+    {A B : Type 0} (f : A → B) (xs : List A) (i : ℕ) (d : A) →
+    i < length xs →
+    getElem? (map f xs) i ≡ some (f (getD xs i d))
+place-map f [] i d h = absurd (omega arith)
+place-map f (x ∷ xs) zero d h = refl
+place-map f (x ∷ xs) (suc i) d h = place-map f xs i d (omega arith)
+
+pub get-map : {A B : Type 0} (f : A → B) (xs : List A) (i : ℕ) (x : A) (d : B) → getElem? xs i ≡ some x → getD (map f xs) i d ≡ f x
+get-map f [] i x d e = none≢some e
+get-map f (y ∷ xs) zero x d e = ap f (some-inj e)
+get-map f (y ∷ xs) (suc i) x d e = get-map f xs i x d e
+
+pub map-set : {A B : Type 0} (f : A → B) (xs : List A) (i : ℕ) (x : A) → map f (set xs i x) ≡ set (map f xs) i (f x)
+map-set f [] i x = refl
+map-set f (y ∷ xs) zero x = refl
+map-set f (y ∷ xs) (suc i) x = ap (λ l. f y ∷ l) (map-set f xs i x)
+
+-- what a list holds from a place on
+pub drop-place : {A : Type 0} (xs : List A) (i : ℕ) (x : A) → getElem? xs i ≡ some x → drop i xs ≡ x ∷ drop (suc i) xs
+drop-place [] i x e = none≢some e
+drop-place (y ∷ xs) zero x e = rw (some-inj e)
+drop-place (y ∷ xs) (suc i) x e = drop-place xs i x e
+
+-- nothing stands past the end
+pub place-out : {A : Type 0} (xs : List A) (i : ℕ) → length xs ≤ i → getElem? xs i ≡ none
+place-out [] i h = refl
+place-out (x ∷ xs) zero h = absurd (omega arith)
+place-out (x ∷ xs) (suc i) h = place-out xs i (omega arith)
+
+-- one more in front of those that pass
+pub only-more : {A : Type 0} (p : A → Bool) (x : A) (l : List A) → length (only p (x ∷ l)) ≡ length (only p (x ∷ [])) + length (only p l)
+unfolding only
+only-more p x l = ways (p x) refl
+  where
+    ways : (b : Bool) → p x ≡ b → length (only p (x ∷ l)) ≡ length (only p (x ∷ [])) + length (only p l)
+    ways true e = rw (only-here p x l e, only-here p x [] e) (omega arith)
+    ways false e = rw (only-later p x l e, only-later p x [] e) (omega arith)
+
+-- one more behind those that all pass
+pub every-snoc : {A : Type 0} (p : A → Bool) (l : List A) (x : A) → every p (l ++ x ∷ []) ≡ every p l && p x
+unfolding every
+every-snoc p [] x = and-true (p x)
+every-snoc p (y ∷ l) x = rw (every-snoc p l x) (sym (and-assoc (p y) (every p l) (p x)))
+
+-- what is left tells the place
+pub same-place : (s : List ℕ) (a b : ℕ) → a ≤ length s → b ≤ length s → drop a s ≡ drop b s → a ≡ b
+same-place s a b ha hb e = let sizes : length s - a ≡ length s - b = sym (length-drop a s) ∙ ap length e ∙ length-drop b s in omega arith
+
+-- a number at a place, and what is behind it
+pub front : (s : List ℕ) (at b : ℕ) (l : List ℕ) → b ∷ l ≡ drop at s → (getElem? s at ≡ some b) × (at < length s) × (l ≡ drop (suc at) s)
+front [] zero b l e = clash (cc)
+front [] (suc at) b l e = clash (cc)
+front (x ∷ s) zero b l e = (ap some (cc), omega arith, cc)
+front (x ∷ s) (suc at) b l e = let g = front s at b l e in (g .0, omega arith, g .2)
+
+-- what holds of k and the next n - 1 numbers holds of each of them
+abbrev pub Throughout : (ℕ → Type 0) → ℕ → ℕ → Type 0
+Throughout P k zero = Unit {0}
+Throughout P k (suc n) = P k × Throughout P (suc k) n
+
+pub throughout : (P : ℕ → Type 0) (n k x : ℕ) → k ≤ x → x < k + n → Throughout P k n → P x
+throughout P zero k x low high h = absurd (omega arith)
+throughout P (suc n) k x low high h = ways (eqb x k) refl (λ above. throughout P n (suc k) x above (omega arith) (h .1))
+  where
+    ways : (b : Bool) → eqb x k ≡ b → (suc k ≤ x → P x) → P x
+    ways true e later = rw (eqb-true x k e) (h .0)
+    ways false e later = later (let differ = eqb-false x k e in omega arith)

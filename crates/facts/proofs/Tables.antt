@@ -232,3 +232,13 @@ module _ {A : Type 0} (P : Option A → Type 0) where
       ways : (b : Bool) → eqb k (r .0) ≡ b → P (lookup k rows) → P (lookup k (r ∷ rows))
       ways true e rest = rw (e, lookup) (h .0)
       ways false e rest = rw (e, lookup) rest
+
+-- a number that is no key of a table
+abbrev pub NoKey : {A : Type 0} → ℕ → List (ℕ × A) → Type 0
+NoKey x [] = Unit {0}
+NoKey x (r ∷ t) = (x ≡ r .0 → ⊥) × NoKey x t
+
+pub lookup-none : {A : Type 0} (x : ℕ) (t : List (ℕ × A)) → NoKey x t → lookup x t ≡ none
+unfolding lookup
+lookup-none x [] h = refl
+lookup-none x (r ∷ t) h = rw (ne-eqb x (r .0) (h .0), lookup) (lookup-none x t (h .1))

@@ -23,7 +23,7 @@ use Rattle.job.specs.declared.Skipped.{Skipped}
 use Rattle.job.specs.declared.Skipped.the-variants.{To, Cut}
 use Rattle.job.specs.Forms.{Read, Skips, referencesIn, countsOf, plus, Bounded, tablesIn, Moved, formedBuild}
 use Rattle.job.proofs.Laws.{one-at, one-cut, mapped}
-use Rattle.job.proofs.Table.{Apart, lookup-none}
+use Rattle.facts.proofs.Tables.{NoKey, lookup-none}
 
 -- ---- a request
 
@@ -36,7 +36,7 @@ module _ (n : Counts) (s : List ℕ) (at : ℕ) where
       rw e
       (mapped (reference constant) (λ a. record { ldc = ldc; what = a }) (cites n) (λ _. 1) (λ q. cites n (q .what)) (λ _. 1) s at r (λ a. refl) (λ a. refl) v)
 
-  pub request-unknown : (first : ℕ) → Apart first asks → readRequest (lookup first asks) (drop at s) ≡ none
+  pub request-unknown : (first : ℕ) → NoKey first asks → readRequest (lookup first asks) (drop at s) ≡ none
   unfolding readRequest
   request-unknown first h = rw (lookup-none first asks h)
 

@@ -7,7 +7,7 @@ use native.Mathlib.Nat.{add-assoc, add-zero, zero-add}
 use native.Mathlib.Omega.{arith}
 use lib.Dec.{eqb}
 use lib.ListN.{length}
-use Rattle.facts.proofs.Lists.{only-here, only-later}
+use Rattle.facts.proofs.Lists.{only-here, only-later, only-more}
 use Rattle.definition.specs.Basics.{only}
 use Rattle.definition.specs.Shapes.{Kind, constant, bootstrap, bootstrapTag, Entry}
 use Rattle.definition.specs.Job.{Reference, Definition, define, named, placed}
@@ -34,14 +34,6 @@ unfolding plus countsOf constantsOf bootstrapsOf entries only referencesIn
 none-plus c = simp zero-add
 
 -- ---- one more in front of a list
-
-pub only-more : {A : Type 0} (p : A → Bool) (x : A) (l : List A) → length (only p (x ∷ l)) ≡ length (only p (x ∷ [])) + length (only p l)
-unfolding only
-only-more p x l = ways (p x) refl
-  where
-    ways : (b : Bool) → p x ≡ b → length (only p (x ∷ l)) ≡ length (only p (x ∷ [])) + length (only p l)
-    ways true e = rw (only-here p x l e, only-here p x [] e) (omega arith)
-    ways false e = rw (only-later p x l e, only-later p x [] e) (omega arith)
 
 pub entries-more :
     (p : Entry (List ℕ) Reference → Bool) (d : Definition (List ℕ)) (l : List (Definition (List ℕ))) →

@@ -14,17 +14,10 @@ use Rattle.definition.specs.Bytes.{Parser, _>>=_, one}
 use Rattle.definition.specs.Job.{Build, Job, readDefinition, asks, readRequest, readBuild}
 use Rattle.definition.specs.Form.{Counts, counted, whole, cites, citesRequest, Definitions, formDefinitions, formRequest, nothingBehind, formBuild, Requests, formRequests, form}
 use Rattle.laws.proofs.form.DefinitionsRead.{formed-read, formed-end, formed-step}
-use Rattle.facts.proofs.Lists.{clash, true≢false}
+use Rattle.facts.proofs.Lists.{true≢false, front}
 use Rattle.facts.proofs.Results.{bad≢good, good-inj, good-then, atRecord-good, unless-good, whole-good, decided}
 use Rattle.job.specs.Stored.{Found, InTurn, anyDefinition, anyRequest, Laid}
 use Rattle.job.proofs.Taking.{Takes, takes-definition, takes-request, finds}
-
--- a byte at a place, and what is behind it
-front : (s : List ℕ) (at b : ℕ) (l : List ℕ) → b ∷ l ≡ drop at s → (getElem? s at ≡ some b) × (at < length s) × (l ≡ drop (suc at) s)
-front [] zero b l e = clash (cc)
-front [] (suc at) b l e = clash (cc)
-front (x ∷ s) zero b l e = (ap some (cc), omega arith, cc)
-front (x ∷ s) (suc at) b l e = let g = front s at b l e in (g .0, omega arith, g .2)
 
 no-bytes-left : (l : List ℕ) → nothingBehind l ≡ true → l ≡ []
 unfolding nothingBehind

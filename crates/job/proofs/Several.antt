@@ -1,5 +1,5 @@
 -- Skipping several references, one after the other. Assumes nothing.
-use mathlib.Core.Bool.{Bool, true, _&&_, and-true, and-assoc}
+use mathlib.Core.Bool.{Bool, true, _&&_}
 use mathlib.Core.List.{List, [], _∷_, _++_, append-nil}
 use mathlib.Core.Option.{Option, none, some}
 use mathlib.Core.Path.{_≡_, refl, sym, _∙_}
@@ -14,16 +14,12 @@ use Rattle.definition.specs.Job.{Reference, reference}
 use Rattle.definition.specs.Form.{Counts, cites}
 use Rattle.job.specs.declared.Skipped.the-variants.{To}
 use Rattle.job.specs.Forms.{Read, Skips}
+use Rattle.facts.proofs.Lists.{every-snoc}
 
 -- what was read so far, in front of what the rest gives
 abbrev pub prepend : {A : Type 0} → List A → Option (List A × List ℕ) → Option (List A × List ℕ)
 prepend l none = none
 prepend l (some r) = some (l ++ r .0, r .1)
-
-pub every-snoc : {A : Type 0} (p : A → Bool) (l : List A) (x : A) → every p (l ++ x ∷ []) ≡ every p l && p x
-unfolding every
-every-snoc p [] x = and-true (p x)
-every-snoc p (y ∷ l) x = rw (every-snoc p l x) (sym (and-assoc (p y) (every p l) (p x)))
 
 pub prepend-nil : {A : Type 0} (o : Option (List A × List ℕ)) → prepend [] o ≡ o
 prepend-nil none = refl

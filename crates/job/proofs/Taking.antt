@@ -9,7 +9,7 @@ use lib.Dec.{ltb}
 use lib.ListN.{length, getD, take, drop, length-drop}
 use lib.Seq.{drop-drop}
 use borrow.Author.Tests.{ltb-true, ltb-false}
-use Rattle.facts.proofs.Lists.{none≢some}
+use Rattle.facts.proofs.Lists.{none≢some, same-place}
 use Rattle.facts.proofs.Results.{some-then}
 use Rattle.definition.specs.Basics.{lookup}
 use Rattle.definition.specs.Bytes.{Parser, return, fail, _>>=_, one, two, many}
@@ -114,10 +114,6 @@ pub takes-request : Takes 1 anyRequest
 takes-request = takes-bind 1 one _ takes-one λ first. takes-ask (lookup first asks)
 
 -- ---- places
-
--- what is left tells the place
-same-place : (s : List ℕ) (a b : ℕ) → a ≤ length s → b ≤ length s → drop a s ≡ drop b s → a ≡ b
-same-place s a b ha hb e = let sizes : length s - a ≡ length s - b = sym (length-drop a s) ∙ ap length e ∙ length-drop b s in omega arith
 
 module _ (s : List ℕ) (at : ℕ) where
   -- what is read at a place is found there

@@ -1,27 +1,23 @@
 -- A request for a slot: what its search finds, what it takes, and that the definition says the same. Assumes nothing.
 use mathlib.Core.Bool.{Bool, true, false}
-use mathlib.Core.List.{List, [], _∷_}
+use mathlib.Core.List.{List}
 use mathlib.Core.Option.{Option, none, some}
 use mathlib.Core.Path.{_≡_, refl, sym, _∙_, ap}
-use Prim.Native.Nat.{ℕ, zero, suc, _+_, _%_, _≤_, _<_}
+use Prim.Native.Nat.{ℕ, _+_, _≤_, _<_}
 use native.Mathlib.Numerals.{add-one}
 use native.Mathlib.Omega.{arith}
 use lib.ListN.{length, drop, set, getElem?}
 use lib.Seq.{drop-set-lt, set-getD}
-use borrow.Author.Tests.{eqb-true, leb-true}
+use borrow.Author.Tests.{leb-true}
 use Rattle.definition.specs.Slots.{Gap, size, Slots, scan, cut, tooHigh, isOdd, plainEnds, plainSlot, narrowSlot, wideSlot, highestSlot}
 use Rattle.laws.proofs.slots.Gaps.{less, cut-some, scan-at}
-use Rattle.laws.proofs.slots.SlotRequest.{hasTwo}
+use Rattle.laws.proofs.slots.SlotRequest.{hasTwo, odd-one}
 use Rattle.slots.specs.declared.Positions.{Positions}
 use Rattle.slots.specs.declared.Allocated.{Allocated}
 use Rattle.slots.specs.declared.Allocated.the-variants.{Slot, None}
 use Rattle.slots.specs.Gaps.{rowOf, gapAt, gapsAt, ends, AtMost, slotsAt, rowsLess, answerOf, Answered}
-use Rattle.slots.proofs.Rows.{map-set, gaps-length, gap-place, end-place, gaps-set}
-
-place-out : {A : Type 0} (xs : List A) (i : ℕ) → length xs ≤ i → getElem? xs i ≡ none
-place-out [] i h = refl
-place-out (x ∷ xs) zero h = absurd (omega arith)
-place-out (x ∷ xs) (suc i) h = place-out xs i (omega arith)
+use Rattle.slots.proofs.Rows.{gaps-length, gap-place, end-place, gaps-set}
+use Rattle.facts.proofs.Lists.{place-out, map-set}
 
 -- WHERE A SEARCH ENDS
 
@@ -158,11 +154,6 @@ module _
         (rw (there, ← t, w, ← e, plainSlot))
 
 -- NARROW
-
--- an odd gap has a slot
-odd-one : (g : Gap) → isOdd g ≡ true → 1 ≤ size g
-unfolding isOdd
-odd-one g t = let r = eqb-true (size g % 2) 1 t in omega arith
 
 -- the odd position stands here
 abbrev pub oddAt : ℕ → Positions → Positions

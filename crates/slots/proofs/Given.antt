@@ -9,10 +9,9 @@ use native.Mathlib.Nat.{le-trans}
 use native.Mathlib.Omega.{arith}
 use lib.ListN.{set, getElem?}
 use Rattle.definition.specs.Slots.{highestSlot, Gap, size, gapsFrom, Slots, narrowSlot, wideSlot}
-use Rattle.facts.specs.Lists.{Among}
+use Rattle.facts.specs.Lists.{Among, Rising}
 use Rattle.laws.specs.Statements.{freeSlots}
 use Rattle.facts.proofs.Lists.{some-inj, order, equal, found-inside, found-set, found-elsewhere}
-use Rattle.facts.specs.Lists.{Rising}
 use Rattle.laws.proofs.slots.Gaps.{Apart, less, cut-some, apart-start, apart-set, apart-at, apart-rise, Within, free-within, within-free}
 use Rattle.laws.proofs.slots.SlotRequest.{Taken, wide-taken, narrow-taken}
 use Rattle.slots.specs.declared.Positions.{Positions}

@@ -1,39 +1,14 @@
 -- Facts on the gap table as the definition's gaps. Assumes nothing.
-use mathlib.Core.List.{List, [], _∷_, _++_, map, map-append}
+use mathlib.Core.List.{List, [], _∷_, _++_, map-append}
 use mathlib.Core.Option.{some}
-use mathlib.Core.Path.{_≡_, refl, _∙_, ap}
-use Prim.Native.Nat.{ℕ, zero, suc, _≤_, _<_}
+use mathlib.Core.Path.{_≡_, _∙_}
+use Prim.Native.Nat.{ℕ, suc, _≤_, _<_}
 use native.Mathlib.Omega.{arith}
 use lib.ListN.{length, getD, take, drop, set, getElem?, length-map}
 use lib.Seq.{length-take-le, getD-take, take-suc, take-set-lt, take-suc-set}
 use Rattle.definition.specs.Slots.{Gap}
-use Rattle.facts.proofs.Lists.{none≢some, some-inj}
+use Rattle.facts.proofs.Lists.{place-map, get-map, map-set, drop-place}
 use Rattle.slots.specs.Gaps.{gapOf, rowOf, gapAt, gapsAt, ends}
-
--- what stands at a place of a list, and of the list's images
-pub place-map :
-    {A B : Type 0} (f : A → B) (xs : List A) (i : ℕ) (d : A) →
-    i < length xs →
-    getElem? (map f xs) i ≡ some (f (getD xs i d))
-place-map f [] i d h = absurd (omega arith)
-place-map f (x ∷ xs) zero d h = refl
-place-map f (x ∷ xs) (suc i) d h = place-map f xs i d (omega arith)
-
-pub get-map : {A B : Type 0} (f : A → B) (xs : List A) (i : ℕ) (x : A) (d : B) → getElem? xs i ≡ some x → getD (map f xs) i d ≡ f x
-get-map f [] i x d e = none≢some e
-get-map f (y ∷ xs) zero x d e = ap f (some-inj e)
-get-map f (y ∷ xs) (suc i) x d e = get-map f xs i x d e
-
-pub map-set : {A B : Type 0} (f : A → B) (xs : List A) (i : ℕ) (x : A) → map f (set xs i x) ≡ set (map f xs) i (f x)
-map-set f [] i x = refl
-map-set f (y ∷ xs) zero x = refl
-map-set f (y ∷ xs) (suc i) x = ap (λ l. f y ∷ l) (map-set f xs i x)
-
--- what a list holds from a place on
-drop-place : {A : Type 0} (xs : List A) (i : ℕ) (x : A) → getElem? xs i ≡ some x → drop i xs ≡ x ∷ drop (suc i) xs
-drop-place [] i x e = none≢some e
-drop-place (y ∷ xs) zero x e = rw (some-inj e)
-drop-place (y ∷ xs) (suc i) x e = drop-place xs i x e
 
 module _ (rows : List (List ℕ)) (count : ℕ) where
   pub gaps-length : count ≤ length rows → length (gapsAt rows count) ≡ count

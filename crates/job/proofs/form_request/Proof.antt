@@ -1,10 +1,8 @@
 -- `job::form_request` meets its contract. Assumes nothing.
 use Rattle.job.proofs.Asking.{request-cut, request-missing, request-good}
 use Rattle.job.specs.Forms.{tablesIn}
-use Rattle.definition.specs.Numbering.{entries, constantsOf, bootstrapsOf}
-use Rattle.definition.specs.Basics.{only}
 use borrow.Author.Tests.{not-true, not-false}
-use mathlib.Core.Path.{refl, sym}
+use mathlib.Core.Path.{refl}
 use borrow.Author.Needs.{needs}
 use Rattle.job.proofs.form_request.Statement.{statement}
 use Rattle.job.proofs.form_request.Tie as tie

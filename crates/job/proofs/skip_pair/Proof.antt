@@ -2,7 +2,6 @@
 use Rattle.job.proofs.Entries.{reference-bounds, to-cut, pair-to, pair-cut}
 use mathlib.Core.List.{[], _∷_}
 use Rattle.definition.specs.Shapes.{to}
-use native.Mathlib.Omega.{arith}
 use borrow.Author.Needs.{needs}
 use Rattle.job.proofs.skip_pair.Statement.{statement}
 use Rattle.job.proofs.skip_pair.Tie as tie

@@ -1,6 +1,6 @@
 -- `job::skip_request` meets its contract. Assumes nothing.
 use Rattle.job.proofs.Asking.{request-to, request-unknown}
-use Rattle.job.proofs.Table.{Each, among}
+use Rattle.facts.proofs.Lists.{throughout}
 use Rattle.job.specs.Forms.{Skips}
 use Rattle.definition.specs.Shapes.{constant}
 use Rattle.definition.specs.Job.{asks, readRequest}
@@ -22,7 +22,7 @@ returns c = λ n e.
     let a = c .before .before .before .before .args in
     let r = c .skip-reference .result in
     let v = c .skip-reference .ensures constant n e in
-    among (λ x. Skips (readRequest (lookup x asks)) (λ q. cites n (q .what)) (λ _. 1) (a .job .now) (a .at) r) 2 0x51 (a .first) (omega arith) (omega arith)
+    throughout (λ x. Skips (readRequest (lookup x asks)) (λ q. cites n (q .what)) (λ _. 1) (a .job .now) (a .at) r) 2 0x51 (a .first) (omega arith) (omega arith)
     (request-to n (a .job .now) (a .at) 0x51 false r refl v, (request-to n (a .job .now) (a .at) 0x52 true r refl v, tt))
 
 returns-2 : tie.Need-returns-2
