@@ -11,11 +11,11 @@ use Rattle.definition.specs.Resolving.{childOf}
 use Rattle.store.specs.Store.{Store, put, IsWord, Kept}
 use Rattle.store.specs.Regions.{MARKS, FIRSTS, SIZES, GOALS, CHILDREN, STACK}
 use Rattle.store.specs.Words.{ENTRY, LEAVE, REFUSED, markWord, goalWord}
-use Rattle.store.proofs.Stores.{eq-or, lt-or}
 use Rattle.store.proofs.Keeping.{kept-put, kept-then, kept-more}
 use Rattle.resolver.specs.Resolved.{Became}
 use Rattle.resolver.specs.Moves.{Places, ToLeave, Written, Pushed, Enters}
 use Rattle.resolver.proofs.Meanings.{child-raw, child-entry}
+use Rattle.facts.proofs.Lists.{equal, order}
 
 -- a child is a word
 child-word :
@@ -29,7 +29,7 @@ child-word marks goal child low b e =
     let r = b .ready l in
     let q = child-entry marks goal k l (b .low) (omega arith) in
     omega (arith, low (goal - ENTRY)))
-    (lt-or goal ENTRY)
+    (order goal ENTRY)
 
 -- WRITING: the places from `first` up to i have their children
 pub record Writing (t u : Store) (first end i : ℕ) : Type 0 where
@@ -50,7 +50,7 @@ module _ (t u : Store) (e first end i : ℕ) (w : Writing t u first end i) where
         record {
           low = omega (arith, w .low);
           high = omega arith;
-          is = λ j a b. ⊎-elim (λ (z : j ≡ i). rw z here) (λ (z : j ≡ i → ⊥). getD-set-other (u CHILDREN) i j child 0 z ∙ w .is j a (omega arith)) (eq-or j i);
+          is = λ j a b. ⊎-elim (λ (z : j ≡ i). rw z here) (λ (z : j ≡ i → ⊥). getD-set-other (u CHILDREN) i j child 0 z ∙ w .is j a (omega arith)) (equal j i);
           others = λ j o. getD-set-other (u CHILDREN) i j child 0 (other j o) ∙ w .others j (wider j o);
           kept = kept-put (CHILDREN ∷ []) t u CHILDREN i child refl (w .kept);
         }
@@ -111,7 +111,7 @@ module _ (t u : Store) (e n first count i : ℕ) (w : Pushing t u n first count 
   pushing-next h inside goal got =
       record {
         high = omega arith;
-        is = λ j l. ⊎-elim (λ (z : j ≡ i). rw z here) (λ (z : j ≡ i → ⊥). getD-set-other (u STACK) (n + count - i) (n + count - j) goal 0 (λ q. z (omega arith)) ∙ w .is j (omega arith)) (eq-or j i);
+        is = λ j l. ⊎-elim (λ (z : j ≡ i). rw z here) (λ (z : j ≡ i → ⊥). getD-set-other (u STACK) (n + count - i) (n + count - j) goal 0 (λ q. z (omega arith)) ∙ w .is j (omega arith)) (equal j i);
         below = λ j l. getD-set-other (u STACK) (n + count - i) j goal 0 (λ q. omega arith) ∙ w .below j l;
         kept = kept-put (STACK ∷ []) t u STACK (n + count - i) goal refl (w .kept);
       }

@@ -13,7 +13,7 @@ use borrow.Author.Tests.{lt-ltb, le-ltb}
 use Rattle.definition.specs.Basics.{every, from, position}
 use Rattle.definition.specs.Shapes.{Entry, withKids}
 use Rattle.definition.specs.Resolving.{Goal, Node, done, sameNode, intern, childOf, leaveNode, leaving}
-use Rattle.facts.proofs.Lists.{found-inside, found-read, map-same, only-here, only-later}
+use Rattle.facts.proofs.Lists.{found-inside, found-read, map-same, only-here, only-later, map-set}
 use Rattle.facts.proofs.Chunks.{from-same}
 use Rattle.laws.proofs.resolving.FaithfulToEntries.{leaving-some}
 use Rattle.store.specs.Store.{Store, put, IsWord}
@@ -27,7 +27,7 @@ use Rattle.store.proofs.Keeping.{kept-put, kept-then, kept-more}
 use Rattle.interner.specs.Nodes.{hashNode, hashAt, nodeAt, Nodes, nodeCount, NodesIn, nodeIn, nodesIn, Interned}
 use Rattle.resolver.specs.Resolved.{unfinished, Table}
 use Rattle.resolver.specs.Moves.{stateAt, ToLeave, Written, NodesHold, Leaves}
-use Rattle.resolver.proofs.Meanings.{map-set, is-done, there}
+use Rattle.resolver.proofs.Meanings.{is-done, there}
 use Rattle.resolver.proofs.Tabled.{Row, row, kids-of, kids-there}
 
 -- UNFINISHED ENTRIES

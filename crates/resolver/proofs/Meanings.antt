@@ -5,26 +5,18 @@ use mathlib.Core.Option.{some}
 use mathlib.Core.Path.{_≡_, refl, sym, ap, _∙_}
 use Prim.Native.Nat.{ℕ, zero, suc, _+_, _-_, _≤_, _<_}
 use native.Mathlib.Omega.{arith}
-use lib.ListN.{length, getD, getElem?, set}
+use lib.ListN.{length, getD, getElem?}
 use borrow.Author.Tests.{lt-ltb, le-ltb}
 use Rattle.definition.specs.Resolving.{rawNumber, tableEntry, refusal, Mark, fresh, underway, done, enter, leave, markChild, childOf}
-use Rattle.facts.proofs.Lists.{clash, found-read, read-found, map-some, map-at}
+use Rattle.facts.proofs.Lists.{clash, found-read, read-found, map-some, map-at, order}
 use Rattle.laws.proofs.form.RefusalNumbers.{NonZero, nonZero}
 use Rattle.laws.proofs.resolving.OwedVisits.{GoalOk}
 use Rattle.laws.specs.Faithful.{Settled, InTable}
 use Rattle.store.specs.Words.{ENTRY, LEAVE, REFUSED, goalWord, itemWord, markWord, IsGoal}
-use Rattle.store.proofs.Stores.{lt-or}
 use Rattle.resolver.specs.Resolved.{Became}
+use Rattle.store.proofs.Goals.{goal-raw, goal-entry}
 
 -- GOALS
-
-pub goal-raw : (x : ℕ) → x < ENTRY → goalWord x ≡ rawNumber x
-unfolding goalWord
-goal-raw x h = rw (lt-ltb x ENTRY h, goalWord)
-
-pub goal-entry : (x : ℕ) → ENTRY ≤ x → x < REFUSED → goalWord x ≡ tableEntry (x - ENTRY)
-unfolding goalWord
-goal-entry x h l = rw (le-ltb x ENTRY h, lt-ltb x REFUSED l, goalWord)
 
 pub goal-refused : (x : ℕ) → REFUSED ≤ x → goalWord x ≡ refusal (x - REFUSED)
 unfolding goalWord
@@ -41,7 +33,7 @@ goal-ways entries x few (inl h) =
     ⊎-elim
     (λ (l : x < ENTRY). isRaw l (goal-raw x l))
     (λ (l : ENTRY ≤ x). isEntry l h (goal-entry x l (omega arith)))
-    (lt-or x ENTRY)
+    (order x ENTRY)
 goal-ways entries x few (inr h) = isRefused h (goal-refused x (⊎-elim (λ (e : x ≡ REFUSED + 12). omega arith) (λ (e : x ≡ REFUSED + 13). omega arith) h))
 
 module _ (entries x : ℕ) (few : entries ≤ 131072) (is : IsGoal entries x) where
@@ -112,11 +104,6 @@ unfolding markWord
 is-done zero k e = absurd (omega arith)
 is-done (suc zero) k e = absurd (omega arith)
 is-done (suc (suc i)) k e = let q : i ≡ k = omega arith in rw q
-
-pub map-set : {A B : Type 0} (f : A → B) (l : List A) (i : ℕ) (a : A) → map f (set l i a) ≡ set (map f l) i (f a)
-map-set f [] i a = refl
-map-set f (x ∷ l) zero a = refl
-map-set f (x ∷ l) (suc i) a = ap (λ m. f x ∷ m) (map-set f l i a)
 
 -- the mark of an entry that is there
 pub mark-at : (marks : List ℕ) (e : ℕ) (d : Mark) → e < length marks → getD (map markWord marks) e d ≡ markWord (getD marks e 0)

@@ -9,9 +9,9 @@ use lib.ListN.{length, getD}
 use Rattle.definition.specs.Basics.{from}
 use Rattle.definition.specs.Resolving.{enter, leave}
 use Rattle.store.specs.Words.{LEAVE, goalWord, itemWord, IsGoal}
-use Rattle.store.proofs.Stores.{eq-or, lt-or}
 use Rattle.resolver.specs.Moves.{stackOf, IsItem}
 use Rattle.resolver.proofs.Meanings.{item-goal, item-leave}
+use Rattle.facts.proofs.Lists.{equal, order}
 
 pub stack-same : (l m : List ℕ) (n : ℕ) → ((i : ℕ) → i < n → getD l i 0 ≡ getD m i 0) → stackOf l n ≡ stackOf m n
 unfolding stackOf
@@ -53,11 +53,11 @@ module _
 
   -- each is an item's word
   pub words-pushed : ((i : ℕ) → i < n → IsItem entries (getD old i 0)) → (i : ℕ) → i < n + count + 1 → IsItem entries (getD new i 0)
-  words-pushed h i l = ways (eq-or i n)
+  words-pushed h i l = ways (equal i n)
     where
       ways : (i ≡ n) ⊎ (i ≡ n → ⊥) → IsItem entries (getD new i 0)
       ways (inl q) = rw (q, leaving) (inr (omega arith, omega arith))
-      ways (inr q) = ⊎-elim lower upper (lt-or i n)
+      ways (inr q) = ⊎-elim lower upper (order i n)
         where
           lower : i < n → IsItem entries (getD new i 0)
           lower k = rw (below i k) (h i k)

@@ -11,7 +11,7 @@ use Rattle.definition.specs.Basics.{good, bad, every, from}
 use Rattle.definition.specs.Shapes.{Entry}
 use Rattle.definition.specs.Resolving.{Goal, tableEntry, refusal, Mark, fresh, underway, done, Resolved, Item, enter, leave}
 use Rattle.definition.specs.Resolving.{kidsAt, visited, leaving, entering, step, work, fuelFor}
-use Rattle.facts.proofs.Lists.{found-inside}
+use Rattle.facts.proofs.Lists.{found-inside, map-set, equal, order}
 use Rattle.facts.proofs.Outcomes.{whenGood}
 use Rattle.facts.proofs.Chunks.{length-from}
 use Rattle.laws.specs.Faithful.{owing}
@@ -23,17 +23,17 @@ use Rattle.store.specs.JobIn.{entriesIn, linkedIn}
 use Rattle.store.specs.Regions.{COUNTS, MARKS, NODE-HEADS, NODE-LINKS, OFFSETS, FIRSTS, SIZES, GOALS, CHILDREN, NODES, STACK, NODE-COUNT, Work}
 use Rattle.store.specs.Words.{ENTRY, LEAVE, REFUSED, markWord, goalWord, itemWord, IsGoal}
 use Rattle.store.specs.Small.{Small}
-use Rattle.store.proofs.Stores.{eq-or, lt-or}
 use Rattle.store.proofs.Keeping.{kept-then, kept-more, kept-put}
 use Rattle.store.proofs.Laying.{work-sizes, work-formed, entries-counted}
 use Rattle.store.proofs.Bounds.{small}
 use Rattle.interner.specs.Nodes.{nodeAt, nodeCount, nodesIn}
 use Rattle.resolver.specs.Resolved.{Table}
 use Rattle.resolver.specs.Moves.{stateAt, stackOf, IsItem, Places, ToLeave, Pushed, Enters, NodesHold, Running, CountersKept, Leaves, Steps}
-use Rattle.resolver.proofs.Meanings.{goal-raw, goal-entry, goal-refused, goal-ok, item-goal, item-leave, is-fresh, is-underway, is-done, map-set, mark-at, found-underway, done-found, settled-became}
+use Rattle.resolver.proofs.Meanings.{goal-refused, goal-ok, item-goal, item-leave, is-fresh, is-underway, is-done, mark-at, found-underway, done-found, settled-became}
 use Rattle.resolver.proofs.Tabled.{Kids, kids-there, word-kid, cited, table-ok, linked-count, fuel-counted}
 use Rattle.resolver.proofs.Stacks.{stack-length, stack-pushed, words-pushed}
 use Rattle.resolver.proofs.Leaving.{unfinished-same}
+use Rattle.store.proofs.Goals.{goal-raw, goal-entry}
 
 -- the regions that a step writes
 abbrev pub stepRegions : List ℕ
@@ -322,7 +322,7 @@ module _ (h : ℕ) (s : List ℕ) (t : Store) (n : ℕ) (few : Small s) (table :
   pub step-entered :
       (u : Store) (r : ℕ) → ENTRY ≤ getD (t STACK) n 0 → getD (t STACK) n 0 < LEAVE → Enters t u (getD (t STACK) n 0 - ENTRY) n r → Steps h s t u n r
   unfolding item
-  step-entered u r l g enters = ways (lt-or 1 (getD (t MARKS) e 0))
+  step-entered u r l g enters = ways (order 1 (getD (t MARKS) e 0))
     where
       x : ℕ
       x = getD (t STACK) n 0
@@ -342,7 +342,7 @@ module _ (h : ℕ) (s : List ℕ) (t : Store) (n : ℕ) (few : Small s) (table :
           ⊎-elim
           (λ (q : getD (t MARKS) e 0 ≡ 1). entry-underway e inside at u r q (enters .isUnderway q) (enters .kept))
           (λ (q : getD (t MARKS) e 0 ≡ 1 → ⊥). let z : getD (t MARKS) e 0 ≡ 0 = omega arith in entry-fresh e inside at u r z (enters .isFresh z))
-          (eq-or (getD (t MARKS) e 0) 1)
+          (equal (getD (t MARKS) e 0) 1)
 
   -- AN ENTRY LEFT
   pub left-inside : LEAVE ≤ getD (t STACK) n 0 → getD (t STACK) n 0 < REFUSED → getD (t STACK) n 0 - LEAVE < entriesIn s
@@ -364,7 +364,7 @@ module _ (h : ℕ) (s : List ℕ) (t : Store) (n : ℕ) (few : Small s) (table :
       let low = found-inside (nodesIn s t) k _ (node .2) in
       omega (arith, length-map (take (nodeCount t) (t NODES)) (nodeAt s (t FIRSTS) (t SIZES) (t CHILDREN)), taken (nodeCount t) (t NODES), run .hold .nodes .few, few .entries))
       (λ (l : getD (t MARKS) d 0 ≤ 1). omega arith)
-      (lt-or 1 (getD (t MARKS) d 0))
+      (order 1 (getD (t MARKS) d 0))
     where
       taken : (n : ℕ) (l : List ℕ) → length (take n l) ≤ n
       taken zero l = omega arith

@@ -1,6 +1,6 @@
 -- The linked table against the job's: as many entries, as many children each, and where the children's words stand. Assumes nothing.
 use mathlib.Core.Bool.{Bool, true, false, not}
-use mathlib.Core.List.{List, [], _∷_, _++_, map, map-append}
+use mathlib.Core.List.{List, [], _∷_, _++_, map}
 use mathlib.Core.Option.{some}
 use mathlib.Core.Path.{_≡_, refl, sym, ap, subst, _∙_}
 use Prim.Native.Nat.{ℕ, suc, _+_, _≤_, _<_}
@@ -16,7 +16,6 @@ use Rattle.facts.specs.Lists.{Among}
 use Rattle.facts.proofs.Lists.{found-inside, inside-found, map-some, only-here, only-later}
 use Rattle.facts.proofs.Each.{Each, each-from}
 use Rattle.facts.proofs.Chunks.{from-place}
-use Rattle.laws.proofs.numbering.NumberedCited.{constants-numbered, bootstraps-numbered}
 use Rattle.laws.proofs.resolving.JobGoals.{linked-length}
 use Rattle.laws.proofs.resolving.OwedVisits.{GoalOk, TableOk}
 use Rattle.laws.specs.Faithful.{Cited}
@@ -24,6 +23,7 @@ use Rattle.store.specs.JobIn.{jobIn, definitionsIn, countsIn, tableOf, tableIn,
 use Rattle.store.specs.Words.{goalWord, IsGoal}
 use Rattle.store.specs.Entries.{Entered, Linked}
 use Rattle.resolver.proofs.Meanings.{goal-in, goal-ok}
+use Rattle.interner.proofs.Shaped.{numbered-table}
 
 -- a list that is told place by place
 pub from-is : {A : Type 0} (f : ℕ → A) (k : ℕ) (l : List A) → ((i : ℕ) (a : A) → getElem? l i ≡ some a → f (k + i) ≡ a) → from f k (length l) ≡ l
@@ -36,14 +36,6 @@ from-is f k (a ∷ l) h =
     rw (first, rest)
 
 -- THE TABLES
-
--- the numbered table is the job's, entry by entry
-pub numbered-table : (s : List ℕ) → numberedIn s ≡ map (numberedEntry (literals (jobIn s))) (tableIn s)
-unfolding numberedIn tableOf definitionsIn
-numbered-table s =
-    let n = numberedEntry (literals (jobIn s)) in
-    let ds = jobIn s .definitions in
-    rw (constants-numbered (jobIn s), bootstraps-numbered (jobIn s), map-append n (constantsOf ds) (bootstrapsOf ds))
 
 -- an entry of the linked table, with what it came from
 pub record Row (s : List ℕ) (e : ℕ) (x : Entry ℕ Goal) : Type 0 where

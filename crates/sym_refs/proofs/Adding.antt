@@ -10,14 +10,13 @@ use lib.ListN.{length, getD, set, getElem?}
 use lib.Seq.{getD-set-same, getD-set-other}
 use Rattle.definition.specs.Job.{shortName}
 use Rattle.definition.specs.Definitions.{Naming, isNone}
-use Rattle.facts.proofs.Lists.{some-inj, found-inside}
+use Rattle.facts.proofs.Lists.{some-inj, found-inside, equal}
 use Rattle.job.specs.Stored.{Stands}
 use Rattle.store.specs.Store.{Store, size, put}
 use Rattle.store.specs.Chains.{headOf, Sought, linked}
 use Rattle.store.specs.JobIn.{namingsIn}
 use Rattle.store.specs.Regions.{COUNTS, NAME-HEADS, NAME-LINKS, NAME-PLACES, NAME-COUNT}
 use Rattle.store.specs.Words.{labelAt}
-use Rattle.store.proofs.Stores.{eq-or}
 use Rattle.store.proofs.Keeping.{kept-put}
 use Rattle.store.proofs.Hashing.{head-lt}
 use Rattle.store.proofs.Walking.{both, chains-more}
@@ -92,7 +91,7 @@ module _ (p s : List ℕ) (t : Store) (x : Naming) (at : ℕ) (g : NamesIn (size
               let same : x ≡ y = some-inj (sym e ∙ ap (getElem? (namingsIn s)) (sym k) ∙ d) in
               rw (k, getD-set-same (t NAME-PLACES) n at 0 places) (subst (NamingAt s at) same stands))
               (λ (k : i ≡ n → ⊥). rw (getD-set-other (t NAME-PLACES) n i at 0 k) (g .at i y (omega arith) d))
-              (eq-or i n);
+              (equal i n);
           chains =
               chains-more
               (λ i. headOf h (hashName s i))
@@ -115,7 +114,7 @@ module _ (p s : List ℕ) (t : Store) (x : Naming) (at : ℕ) (g : NamesIn (size
               (not-named s (y .kind) (y .label) n x e
               (λ w. f .miss z i (omega arith) (other y i d w))))
               (λ (k : j ≡ n → ⊥). g .unlike i j y v l (omega arith) d q)
-              (eq-or j n);
+              (equal j n);
         }
       where
         other : (y : Naming) (i : ℕ) → getElem? (namingsIn s) i ≡ some y → Named s (kindByte (y .kind)) (y .label) n → Named s (kindByte (x .kind)) (x .label) i

@@ -6,13 +6,12 @@ use Prim.Native.Nat.{ℕ, suc, _+_, _-_, _≤_, _<_}
 use native.Mathlib.Omega.{arith}
 use lib.ListN.{length, getD}
 use Rattle.definition.specs.Resolving.{goalOf}
-use Rattle.facts.proofs.Lists.{found-inside, inside-found}
+use Rattle.facts.proofs.Lists.{found-inside, inside-found, order}
 use Rattle.store.specs.Store.{Store, put, Kept}
 use Rattle.store.specs.Chains.{Sought}
 use Rattle.store.specs.JobIn.{countsIn, entriesIn, constantsIn, namingsIn}
 use Rattle.store.specs.Regions.{NAME-GOALS, GOALS}
 use Rattle.store.specs.Words.{ENTRY, SYM, REFUSED, NAME, referenceWord, IsReference, IsGoal}
-use Rattle.store.proofs.Stores.{lt-or}
 use Rattle.store.proofs.Keeping.{kept-put, kept-then}
 use Rattle.sym_refs.specs.Names.{Names, Goals, Goes}
 use Rattle.sym_refs.specs.Leading.{NamedBy, endOf, Finished, Started, NamesFollowed, ReferencesLinked}
@@ -28,7 +27,7 @@ end-goal entries x f =
     ⊎-elim
     (λ (z : x < NAME). rw (ended-same x z) (f z))
     (λ (z : NAME ≤ x). rw (ended-circular x z) (inr (inr refl)))
-    (lt-or x NAME)
+    (order x NAME)
 
 pub follow-end :
     (s : List ℕ) (t u v w : Store) (n span : ℕ) → n ≡ length (namingsIn s) → Started s t u n → n < span → Following s u v n span → Finished v w n → NamesFollowed s t w

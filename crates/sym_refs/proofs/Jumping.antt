@@ -10,8 +10,8 @@ use lib.Seq.{getD-set-same, getD-set-other}
 use borrow.Author.Tests.{lt-ltb, le-ltb}
 use Rattle.definition.specs.Resolving.{Goal}
 use Rattle.store.specs.Words.{NAME, REFUSED, goalWord, IsGoal}
-use Rattle.store.proofs.Stores.{eq-or, lt-or}
 use Rattle.sym_refs.specs.Leading.{settled, leadsIn, Leads, AllLead, Inner, Settled, hopped, onName, endOf}
+use Rattle.facts.proofs.Lists.{equal, order}
 
 pub hop-stays : (l : List ℕ) (x : ℕ) → x < NAME → hopped l x ≡ x
 unfolding hopped
@@ -77,21 +77,21 @@ module _ (f : ℕ → ℕ → Goal) where
       (λ (s : NAME ≤ getD l i 0).
       rw (hop-goes l (getD l i 0) s)
       (leads-jump span i (getD l i 0) (getD l (getD l i 0 - NAME) 0) s (all i h) (all (getD l i 0 - NAME) (omega (arith, inner i h)))))
-      (lt-or (getD l i 0) NAME)
+      (order (getD l i 0) NAME)
 
 pub inner-hop : (n i : ℕ) (l : List ℕ) → Inner n l → i < n → hopped l (getD l i 0) < NAME + n
 inner-hop n i l inner h =
     ⊎-elim
     (λ (s : getD l i 0 < NAME). rw (hop-stays l (getD l i 0) s) (inner i h))
     (λ (s : NAME ≤ getD l i 0). rw (hop-goes l (getD l i 0) s) (inner (getD l i 0 - NAME) (omega (arith, inner i h))))
-    (lt-or (getD l i 0) NAME)
+    (order (getD l i 0) NAME)
 
 goal-hop : (entries n i : ℕ) (l : List ℕ) → Inner n l → Settled entries n l → i < n → hopped l (getD l i 0) < NAME → IsGoal entries (hopped l (getD l i 0))
 goal-hop entries n i l inner all h =
     ⊎-elim
     (λ (s : getD l i 0 < NAME). rw (hop-stays l (getD l i 0) s) (λ k. all i h k))
     (λ (s : NAME ≤ getD l i 0). rw (hop-goes l (getD l i 0) s) (λ k. all (getD l i 0 - NAME) (omega (arith, inner i h)) k))
-    (lt-or (getD l i 0) NAME)
+    (order (getD l i 0) NAME)
 
 -- A ROUND at item i: l₀ where it began, l now
 pub record Turning (n : ℕ) (l₀ l : List ℕ) (i left : ℕ) : Type 0 where
@@ -115,7 +115,7 @@ module _ (n : ℕ) (l₀ l : List ℕ) (i left : ℕ) (g : Turning n l₀ l i le
       ⊎-elim
       (λ (e : j ≡ i). rw (e, getD-set-same l i y 0 (omega arith)) a)
       (λ (e : j ≡ i → ⊥). rw (getD-set-other l i j y 0 e) (b j e))
-      (eq-or j i)
+      (equal j i)
 
   turn-next : Turning n l₀ (set l i y) (i + 1) (left + onName y)
   turn-next =
@@ -137,13 +137,13 @@ module _ (n : ℕ) (l₀ l : List ℕ) (i left : ℕ) (g : Turning n l₀ l i le
             λ e j.
             at
             (λ j x. j < i + 1 → settled x ≡ true)
-            (λ _. ⊎-elim (λ (s : y < NAME). lt-ltb y NAME s) (λ (s : NAME ≤ y). absurd (omega (arith, on-one y s))) (lt-or y NAME))
+            (λ _. ⊎-elim (λ (s : y < NAME). lt-ltb y NAME s) (λ (s : NAME ≤ y). absurd (omega (arith, on-one y s))) (order y NAME))
             (λ j d k. g .none (omega arith) j (omega arith))
             j;
       }
     where
       one : onName y ≤ 1
-      one = ⊎-elim (λ (s : y < NAME). omega (arith, on-none y s)) (λ (s : NAME ≤ y). omega (arith, on-one y s)) (lt-or y NAME)
+      one = ⊎-elim (λ (s : y < NAME). omega (arith, on-none y s)) (λ (s : NAME ≤ y). omega (arith, on-one y s)) (order y NAME)
 
   -- the same of words that are known to be these
   pub turn-to : (x z k : ℕ) → x ≡ getD l i 0 → z ≡ hopped l x → k ≡ onName z → Turning n l₀ (set l i z) (i + 1) (left + k)

@@ -10,10 +10,10 @@ use borrow.Author.Tests.{ltb-true}
 use Rattle.store.specs.Store.{Store, put, Kept}
 use Rattle.store.specs.Regions.{NAME-GOALS}
 use Rattle.store.specs.Words.{NAME}
-use Rattle.store.proofs.Stores.{eq-or}
 use Rattle.store.proofs.Keeping.{kept-put, kept-then}
 use Rattle.sym_refs.specs.Leading.{Settled, AllLead, Inner, endOf, Jumped, Finished, leadsFrom, First, Started}
 use Rattle.sym_refs.proofs.Jumping.{leads-on, Turning}
+use Rattle.facts.proofs.Lists.{equal}
 
 -- a fact of each word, after one is stored
 pub each-set : (P : ℕ → ℕ → Type 0) (l : List ℕ) (i x : ℕ) → i < length l → P i x → ((j : ℕ) → (j ≡ i → ⊥) → P j (getD l j 0)) → (j : ℕ) → P j (getD (set l i x) j 0)
@@ -21,7 +21,7 @@ each-set P l i x h a b j =
     ⊎-elim
     (λ (e : j ≡ i). rw (e, getD-set-same l i x 0 h) a)
     (λ (e : j ≡ i → ⊥). rw (getD-set-other l i j x 0 e) (b j e))
-    (eq-or j i)
+    (equal j i)
 
 -- THE FIRST STEP
 pub record Starting (s : List ℕ) (t u : Store) (n i : ℕ) : Type 0 where
@@ -153,4 +153,4 @@ follow-next s t u v n span left r g j a b =
       },
       inl (omega (arith, b d, g .low)),
     ))
-    (eq-or left 0)
+    (equal left 0)

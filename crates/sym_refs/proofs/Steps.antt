@@ -15,13 +15,13 @@ use Rattle.laws.proofs.resolving.Followed.{followed}
 use Rattle.store.specs.Chains.{Sought}
 use Rattle.store.specs.JobIn.{entriesIn, constantsIn, namingsIn}
 use Rattle.store.specs.Words.{ENTRY, SYM, BOOTSTRAP-SYM, REFUSED, NAME, referenceWord, goalWord, IsGoal}
-use Rattle.store.proofs.Stores.{lt-or}
 use Rattle.sym_refs.specs.Names.{kindByte, Names}
 use Rattle.sym_refs.specs.Leading.{Named, NamedBy, Leads, leadsFrom, First, endOf}
 use Rattle.sym_refs.proofs.Jumping.{leads-settled, leads-name, ended-same, ended-circular}
 use Rattle.sym_refs.proofs.Wording.{follow-low, ref-name, ref-bootstrap-name, goal-12, goal-13}
 use Rattle.sym_refs.proofs.Namings.{kind-byte}
 use Rattle.sym_refs.proofs.Lookup.{found-target, missing-target}
+use Rattle.facts.proofs.Lists.{order}
 
 follow-none : (m : ℕ) (names : List Naming) (c : ℕ) (kind : Kind) (l : List ℕ) → nameTarget kind l names ≡ none → follow (suc m) names c (name kind l) ≡ refusal 12
 unfolding follow
@@ -47,7 +47,7 @@ symbol-name s c x few h =
     ⊎-elim
     (λ (l : x < BOOTSTRAP-SYM). rw (ref-name s c x few h l) tt)
     (λ (l : BOOTSTRAP-SYM ≤ x). rw (ref-bootstrap-name s c x few l) tt)
-    (lt-or x BOOTSTRAP-SYM)
+    (order x BOOTSTRAP-SYM)
 
 -- all names are there
 module _ (h : ℕ) (s places heads links : List ℕ) (n : ℕ) (all : n ≡ length (namingsIn s)) (g : Names h s places heads links n) where
@@ -164,4 +164,4 @@ module _ (s : List ℕ) (i : ℕ) (x : Naming) (e : getElem? (namingsIn s) i ≡
       ∙ leads-name (leadsFrom s) 0 y z
       ∙ nowhere (y - NAME)
       ∙ sym goal-13)))
-      (lt-or y NAME)
+      (order y NAME)

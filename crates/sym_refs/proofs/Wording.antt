@@ -13,7 +13,8 @@ use Rattle.definition.specs.Resolving.{rawNumber, tableEntry, refusal, placeOf,
 use Rattle.job.specs.Stored.{Found, Stands}
 use Rattle.job.proofs.Standing.{name-there}
 use Rattle.store.specs.Words.{ENTRY, SYM, BOOTSTRAP-SYM, REFUSED, labelAt, referenceWord, IsReference, goalWord}
-use Rattle.store.proofs.Stores.{lt-or}
+use Rattle.store.proofs.Goals.{goal-raw, goal-entry}
+use Rattle.facts.proofs.Lists.{order}
 
 -- the name that stands at a place is the label there
 pub label-there : (s : List ℕ) (at : ℕ) (l : List ℕ) (next : ℕ) → Found shortName s at l next → (labelAt s at ≡ l) × (at < length s) × (at + 1 + getD s at 0 ≡ next) × (next ≤ length s)
@@ -59,15 +60,6 @@ module _ (s : List ℕ) (c x : ℕ) where
         let i : SYM ≤ x = omega arith in
         rw (le-ltb x ENTRY k, referenceWord) (rw (le-ltb x (ENTRY + c) j) (rw (le-ltb x SYM i) (rw (le-ltb x BOOTSTRAP-SYM h))))
 
-module _ (x : ℕ) where
-  goal-raw : x < ENTRY → goalWord x ≡ rawNumber x
-  unfolding goalWord
-  goal-raw h = rw (lt-ltb x ENTRY h, goalWord)
-
-  goal-entry : ENTRY ≤ x → x < REFUSED → goalWord x ≡ tableEntry (x - ENTRY)
-  unfolding goalWord
-  goal-entry h l = rw (le-ltb x ENTRY h, goalWord) (rw (lt-ltb x REFUSED l))
-
 pub goal-12 : goalWord (REFUSED + 12) ≡ refusal 12
 unfolding goalWord
 goal-12 = refl
@@ -100,8 +92,8 @@ module _ (names : List Naming) (c : ℕ) where
       (λ (k : ENTRY + c ≤ x).
       let e : c + (x - (ENTRY + c)) ≡ x - ENTRY = omega arith in
       ap (follow m names c) (ref-bootstrap s c x k h) ∙ follow-entry m bootstrap (x - (ENTRY + c)) ∙ ap tableEntry e ∙ sym (goal-entry x l (omega arith)))
-      (lt-or x (ENTRY + c)))
-      (lt-or x ENTRY)
+      (order x (ENTRY + c)))
+      (order x ENTRY)
 
 -- a reference's word that is no name's is an entry's or a raw number
 pub low-word : (s : List ℕ) (entries x : ℕ) → IsReference s entries x → x < SYM → x < ENTRY + entries
