@@ -3,8 +3,6 @@ use job::RefType;
 use store::BOOTSTRAP_SYM;
 use store::ENTRY;
 use store::GOALS;
-use store::INDEXES;
-use store::MARKS;
 use store::NAME;
 use store::NAME_COUNT;
 use store::NAME_GOALS;
@@ -13,6 +11,7 @@ use store::NAME_LINKS;
 use store::NAME_PLACES;
 use store::REFUSED;
 use store::SYM;
+use store::constants;
 use store::first_link;
 use store::load;
 use store::next_count;
@@ -21,27 +20,19 @@ use store::save;
 use store::size_of;
 ghost use mathlib.Core.Option.{some};
 ghost use mathlib.Core.Path.{_≡_};
-ghost use Prim.Native.Nat.{ℕ, _+_, _-_, _<_, _≤_};
+ghost use Prim.Native.Nat.{ℕ, _+_, _<_, _≤_};
 ghost use lib.ListN.{length, getD, getElem?};
 ghost use Rattle.definition.specs.Job.{shortName, reference};
 ghost use Rattle.definition.specs.Definitions.{Naming};
 ghost use Rattle.job.specs.Stored.{Stands, WhatStands, ReferenceStands};
-ghost use Rattle.store.specs.Store.{size, store, Laid, On, IsWord};
+ghost use Rattle.store.specs.Store.{size, store, On, IsWord};
 ghost use Rattle.store.specs.Chains.{Sought};
 ghost use Rattle.store.specs.JobIn.{countsIn, entriesIn, constantsIn, namingsIn};
-ghost use Rattle.store.specs.Regions.{MARKS, INDEXES, NAME-HEADS, NAME-GOALS, GOALS, Work};
+ghost use Rattle.store.specs.Regions.{NAME-HEADS, NAME-GOALS, GOALS, Work};
 ghost use Rattle.store.specs.Words.{labelAt, referenceWord, IsReference};
 ghost use Rattle.interner.specs.Nodes.{hashBytes};
 ghost use Rattle.sym_refs.specs.Names.{kindByte, CitedIn, NamingAt, nameCount, NamesIn, Tried, Goals, Goes};
 ghost use Rattle.sym_refs.specs.Leading.{flagged, WordFor, Named, NamedBy, AllNames, Decides, hopped, onName, endOf, Inner, Jumped, Finished, First, Started, NamesFollowed, ReferencesLinked};
-
-// How many constants the job has.
-fn constants(p: &[usize]) -> usize
-    requires { ⌜ Laid (now p) × (size (now p) INDEXES ≤ size (now p) MARKS) ⌝ }
-    ensures { λ r. ⌜ r ≡ size (now (p .entry)) MARKS - size (now (p .entry)) INDEXES ⌝ }
-{
-    size_of(p, MARKS) - size_of(p, INDEXES)
-}
 
 // The reference at a place as a word: a raw number, an entry of the one table, or where its name stands.
 pub fn reference_word(job: &[u8], p: &[usize], at: usize, bootstrap: bool) -> usize
