@@ -23,11 +23,7 @@ use Rattle.facts.proofs.Each.{each-at}
 use Rattle.laws.proofs.form.DefinitionsRead.{noEntries}
 use Rattle.laws.proofs.form.FormedEntries.{OfKind, OfKinds, ShapeOf, FormedDefinition}
 use Rattle.laws.proofs.form.FormedJobs.{FormedFrom, countsAfter, FormedRequest, Formed, formed-definitions-each}
-
--- how many entries of a kind the definitions have
-unfoldable pub countIn : {L : Type 0} → Kind → List (Definition L) → ℕ
-countIn constant ds = length (constantsOf ds)
-countIn bootstrap ds = length (bootstrapsOf ds)
+use Rattle.laws.specs.Counted.{countIn}
 
 -- a reference cites an entry that is there
 unfoldable pub Cites : {L : Type 0} → List (Definition L) → Reference → Type 0

@@ -9,7 +9,8 @@ use Rattle.definition.specs.Shapes.{Kind, withLiteral, constant, bootstrap}
 use Rattle.definition.specs.Job.{Reference, raw, entry, name, Definition, define, named, placed, Job}
 use Rattle.definition.specs.Numbering.{Literal, entries, isBootstrap, constantsOf, bootstrapsOf, literals, numberedEntry, numberedDefinition, numbered}
 use Rattle.facts.proofs.Lists.{map-some, only-map}
-use Rattle.laws.proofs.form.CitedEntries.{countIn, Cites, AllCited, AllOfKind, Cited}
+use Rattle.laws.proofs.form.CitedEntries.{Cites, AllCited, AllOfKind, Cited}
+use Rattle.laws.specs.Counted.{countIn}
 
 -- numbers for literals change nothing else
 entries-numbered : (all : List Literal) (ds : List (Definition (List ℕ))) → entries (map (numberedDefinition all) ds) ≡ map (numberedEntry all) (entries ds)

@@ -30,7 +30,8 @@ use Rattle.facts.proofs.Chunks.{length-from}
 use Rattle.facts.proofs.Sums.{times, times-reverse}
 use Rattle.laws.specs.Statements.{IsBytes}
 use Rattle.laws.proofs.form.EntryShapes.{Short}
-use Rattle.laws.proofs.form.CitedEntries.{countIn, placed-cited}
+use Rattle.laws.proofs.form.CitedEntries.{placed-cited}
+use Rattle.laws.specs.Counted.{countIn}
 use Rattle.laws.proofs.definitions.DefinedAsPlaced.{starters-start}
 use Rattle.laws.proofs.resolving.JobGoals.{jobNames, jobConstants, linked-at, table-constant}
 use Rattle.laws.proofs.resolving.NodesAndChildren.{tag-found, kids-found, tag-append, Constant}

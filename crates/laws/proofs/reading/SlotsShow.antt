@@ -27,7 +27,7 @@ use Rattle.facts.proofs.Each.{Both, both-length, both-at}
 use Rattle.facts.proofs.Chunks.{length-from, from-place}
 use Rattle.facts.proofs.Sums.{once-same}
 use Rattle.laws.specs.Statements.{IsBytes, namings, Finished, leadsTo, slotShows, Shows}
-use Rattle.laws.proofs.form.CitedEntries.{countIn}
+use Rattle.laws.specs.Counted.{countIn}
 use Rattle.laws.proofs.numbering.NumberedCited.{count-numbered}
 use Rattle.laws.proofs.definitions.DefinedAsPlaced.{namings-numbered}
 use Rattle.laws.proofs.resolving.JobGoals.{jobNames, jobConstants}

@@ -19,7 +19,8 @@ use Rattle.facts.specs.Lists.{Among}
 use Rattle.facts.proofs.Lists.{clash, found-inside, append-at, among-later, map-some, only-at}
 use Rattle.laws.proofs.form.DefinitionsRead.{entry-defined}
 use Rattle.laws.proofs.form.FormedEntries.{OfKind}
-use Rattle.laws.proofs.form.CitedEntries.{countIn, Cites, kidKind, Cited, kid-cited, named-cited, placed-cited}
+use Rattle.laws.proofs.form.CitedEntries.{Cites, kidKind, Cited, kid-cited, named-cited, placed-cited}
+use Rattle.laws.specs.Counted.{countIn}
 use Rattle.laws.proofs.definitions.DefinedAsPlaced.{namingsOf}
 use Rattle.laws.proofs.resolving.NameTargets.{target-at}
 
