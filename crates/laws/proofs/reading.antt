@@ -8,3 +8,4 @@ pub mod Reads
 pub mod SlotsShow
 pub mod JobHeld
 pub mod Holds
+pub mod Reader

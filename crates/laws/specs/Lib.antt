@@ -2,3 +2,4 @@ pub mod Starred
 pub mod Decided
 pub mod Statements
 pub mod Faithful
+pub mod ReaderStatements
