@@ -8,4 +8,6 @@ pub mod Reads
 pub mod SlotsShow
 pub mod JobHeld
 pub mod Holds
+pub mod ReadIsSpelled
+pub mod SpelledIsRead
 pub mod Reader
