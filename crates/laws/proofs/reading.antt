@@ -11,3 +11,5 @@ pub mod Holds
 pub mod ReadIsSpelled
 pub mod SpelledIsRead
 pub mod Reader
+pub mod ConstantsAgree
+pub mod ReadersAgree

@@ -66,7 +66,7 @@ takes-bind P Q r f tr tf bytes b = go (r bytes) refl
 abbrev pub Item : {A : Type 0} → (A → Type 0) → (A → List ℕ) → Reader A → Type 0
 Item P W r = Takes (λ a used. P a × (used ≡ W a)) r
 
-item-u1 : Item Is1 (λ n. n ∷ []) u1
+pub item-u1 : Item Is1 (λ n. n ∷ []) u1
 unfolding u1 All
 item-u1 [] b a rest e = none≢some e
 item-u1 (x ∷ bytes) b a rest e =
@@ -79,28 +79,28 @@ item-u1 (x ∷ bytes) b a rest e =
     }
 
 -- the bytes of a number of two and of four bytes
-two-bytes : (x y : ℕ) → Is1 x → Is1 y → x ∷ y ∷ [] ≡ bytes2 (256 * x + y)
+pub two-bytes : (x y : ℕ) → Is1 x → Is1 y → x ∷ y ∷ [] ≡ bytes2 (256 * x + y)
 unfolding bytes2
 two-bytes x y hx hy =
     let p : (256 * x + y) / 256 ≡ x = omega arith in
     let q : (256 * x + y) % 256 ≡ y = omega arith in
     rw (p, q)
 
-four-bytes : (x y : ℕ) → Is2 x → Is2 y → bytes2 x ++ bytes2 y ≡ bytes4 (65536 * x + y)
+pub four-bytes : (x y : ℕ) → Is2 x → Is2 y → bytes2 x ++ bytes2 y ≡ bytes4 (65536 * x + y)
 unfolding bytes4
 four-bytes x y hx hy =
     let p : (65536 * x + y) / 65536 ≡ x = omega arith in
     let q : (65536 * x + y) % 65536 ≡ y = omega arith in
     rw (p, q)
 
-item-u2 : Item Is2 bytes2 u2
+pub item-u2 : Item Is2 bytes2 u2
 unfolding u2
 item-u2 =
     takes-bind (λ a used. Is1 a × (used ≡ a ∷ [])) (λ a used. Is2 a × (used ≡ bytes2 a)) u1 _ item-u1 λ x used hx.
     takes-bind (λ a more. Is1 a × (more ≡ a ∷ [])) (λ a more. Is2 a × (used ++ more ≡ bytes2 a)) u1 _ item-u1 λ y more hy.
     takes-return _ (256 * x + y) (omega (arith, hx .0, hy .0), rw (hx .1, hy .1) (two-bytes x y (hx .0) (hy .0)))
 
-item-u4 : Item Is4 bytes4 u4
+pub item-u4 : Item Is4 bytes4 u4
 unfolding u4
 item-u4 =
     takes-bind (λ a used. Is2 a × (used ≡ bytes2 a)) (λ a used. Is4 a × (used ≡ bytes4 a)) u2 _ item-u2 λ x used hx.
@@ -210,14 +210,14 @@ of-tag tag (s ∷ l) h = go (eqb tag (s .0)) refl (of-tag tag l (h .1))
     go true e rest = subst (λ t. Takes (Whole t) (s .1)) (sym (eqb-true tag (s .0) e)) (h .0)
     go false e rest = rest
 
-item-constant : Item IsConstant constant-bytes cp-info
+pub item-constant : Item IsConstant constant-bytes cp-info
 unfolding cp-info
 item-constant =
     takes-bind (λ a used. Is1 a × (used ≡ a ∷ [])) (λ c used. IsConstant c × (used ≡ constant-bytes c)) u1 _ item-u1 λ tag used h.
     rw (h .1) (of-tag tag structures eachStructure)
 
 -- slots
-takes-slots : (n : ℕ) (w : Bool) → Takes (λ s used. (InOrder w s × (length s ≡ n)) × (used ≡ each-of slot-bytes s)) (slots n w)
+pub takes-slots : (n : ℕ) (w : Bool) → Takes (λ s used. (InOrder w s × (length s ≡ n)) × (used ≡ each-of slot-bytes s)) (slots n w)
 unfolding slots InOrder each-of slot-bytes
 takes-slots zero false = takes-return _ [] ((tt, refl), refl)
 takes-slots zero true = takes-fail _
