@@ -15,7 +15,7 @@ use Rattle.definition.specs.Jvms.{index, ofTag, cpInfo}
 use Rattle.jvms.specs.Pool.{Reader, return, andThen, _>>=_, u1, u2, u4, array, Constant, Utf8, Integer, Float, Long, Double, Class, String, Fieldref, Methodref, InterfaceMethodref, NameAndType, MethodHandle, MethodType, Dynamic, InvokeDynamic, Module, Package, structures, structure, cp-info}
 use Rattle.jvms.specs.Written.{bytes4, Is1, All}
 use Rattle.facts.proofs.Lists.{none≢some}
-use Rattle.laws.specs.ReaderStatements.{entryOf, asEntry}
+use Rattle.laws.specs.AsEntries.{entryOf, asEntry}
 use Rattle.laws.proofs.reading.ReadIsSpelled.{Takes, two-bytes, four-bytes, item-u1, item-u2, item-u4, item-constant}
 use Rattle.definition.specs.Bytes as parse
 

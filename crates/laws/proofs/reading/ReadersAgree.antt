@@ -9,7 +9,8 @@ use Rattle.definition.specs.Shapes.{bootstrapShape, bootstrapTag, isWide, withK
 use Rattle.definition.specs.Jvms.{index, cpInfo, readSlots, belowCount, readPool, readBootstraps}
 use Rattle.jvms.specs.Pool.{return, andThen, _>>=_, u2, array, Constant, Utf8, Integer, Float, Long, Double, Class, String, Fieldref, Methodref, InterfaceMethodref, NameAndType, MethodHandle, MethodType, Dynamic, InvokeDynamic, Module, Package, cp-info, takes-two, Slot, usable, unusable, slots, constant-pool, wholly, read-pool, bootstrap-method, read-bootstrap-methods}
 use Rattle.laws.specs.Statements.{IsBytes}
-use Rattle.laws.specs.ReaderStatements.{asEntry, asShown, asRow, ReadersAgree}
+use Rattle.laws.specs.AsEntries.{asEntry, asShown, asRow}
+use Rattle.laws.specs.ReaderStatements.{ReadersAgree}
 use Rattle.laws.proofs.reading.ReadIsSpelled.{all-bytes, takes-slots, item-method}
 use Rattle.laws.proofs.reading.ConstantsAgree.{over, Agree, leaves, leaves-u2, leaves-array, agree-bind, agree-two, agree-many, agree-plain, agree-constant, leaves-constant}
 use Rattle.definition.specs.Bytes as parse
