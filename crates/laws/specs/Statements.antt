@@ -177,9 +177,8 @@ ExactlySeventeen =
 
 -- READS: what is returned for a job of bytes is its layout with its literals; the pool's bytes read, under JVMS 4.4, as exactly what the
 -- layout assigns to each slot, with nothing left over, and the bootstraps' bytes, under 4.7.23 and with the count returned, as exactly the
--- rows assigned. What a slot is assigned (an owned slot its constant with its children's slots, the second half of a wide one nothing,
--- every other slot below the count the empty text) is `contentOf` of the definition's Building and `shown` of Run; asShown and asRow bring
--- what JVMS reads into that form
+-- rows assigned (asShown, asRow: in the definition's form). A slot is assigned (`contentOf` of Building, `shown` of Run): an owned one its
+-- constant with its children's slots, the second half of a wide one nothing, every other one below the count the empty text
 abbrev pub Reads : Type 0
 Reads =
     (bytes : List ℕ) (job : Job (List ℕ)) (lent : Lent) (b : Built) → IsBytes bytes → form bytes ≡ good job → run lent bytes ≡ good b →
