@@ -2,7 +2,7 @@
 -- To read: a list of numbers is a row of bytes; a Reader takes what it reads from the front and leaves the bytes behind it, or gives none
 -- where they aren't that; r >>= λ x. q reads x by r and then goes on as q, and so do the lines x ← r of a do block; p ∷ l is p and then l.
 -- Items are named as in the specification, with - for _
-use mathlib.Core.Bool.{Bool, true, false, _||_}
+use mathlib.Core.Bool.{Bool, true, false}
 use mathlib.Core.List.{List, [], _∷_}
 use mathlib.Core.Option.{Option, none, some}
 use Prim.Native.Nat.{ℕ, zero, suc, _+_, _*_}
