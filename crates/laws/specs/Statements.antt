@@ -3,11 +3,11 @@
 -- ≡ / ≢ "is / isn't the same"; Unit: always true, ⊥: never; λ x. e is x ↦ e; let names a part; elim: by cases; zero, suc n: 0, n + 1; ∷, ++
 -- join lists; r .f: a part of r; .0, .1: first, second of a pair; some, none: a value or none; good, bad: a result or a refusal; getElem?
 -- l i ≡ some a: a is at place i; getD l i d: what is there, else d; Among a l (crates/facts/specs): a stands in l. Other names:
--- crates/definition/specs, in the module that `use` names
+-- crates/definition/specs and, of JVMS, crates/jvms/specs, in the module that `use` names
 use mathlib.Core.Bool.{Bool, true, false}
 use mathlib.Core.List.{List, [], _∷_, _++_, map, reverse}
 use mathlib.Core.Logic.{_↔_, _⊎_, _≢_}
-use mathlib.Core.Option.{Option, none, some}
+use mathlib.Core.Option.{Option, none, some, Option·map}
 use mathlib.Core.Path.{_≡_}
 use Prim.Native.Nat.{ℕ, zero, suc, _+_, _*_, _%_, _≤_, _<_}
 use lib.Dec.{eqb}
@@ -23,10 +23,12 @@ use Rattle.definition.specs.Slots.{highestSlot, Gap, size}
 use Rattle.definition.specs.Building.{Pool, allocate, Row, Rows, indexOf, rowIndex, rawRows, nameWanted}
 use Rattle.definition.specs.Layout.{Ready, endDefinitions, classSlotOf, Layout, indexNodes, layout}
 use Rattle.definition.specs.Run.{shown, Built, render, Lent, Memory, lentOf, longestJob, memoryAfter, run}
-use Rattle.definition.specs.Jvms.{Shown, readPool, readBootstraps}
+use Rattle.definition.specs.Jvms.{Shown}
 use Rattle.definition.specs.Blocks.{block, blockCount, blockAt, blockData, rightUse, rightBlock, mostBlocks}
 use Rattle.definition.specs.Blocks.{readBlocks, blocksFor, writeBlocks, blocksAfter}
 use Rattle.facts.specs.Lists.{Among}
+use Rattle.jvms.specs.Pool.{Slot, BootstrapMethod, read-pool, read-bootstrap-methods}
+use Rattle.laws.specs.AsEntries.{asShown, asRow}
 
 -- a byte string
 abbrev pub IsBytes : List ℕ → Type 0
@@ -175,14 +177,14 @@ ExactlySeventeen =
 
 -- READS: what is returned for a job of bytes is its layout with its literals; the pool's bytes read, under JVMS 4.4, as exactly what the
 -- layout assigns to each slot, with nothing left over, and the bootstraps' bytes, under 4.7.23 and with the count returned, as exactly the
--- rows assigned. What a slot is assigned (an owned slot its constant with its children's slots, the second half of a wide one nothing,
--- every other slot below the count the empty text) is `contentOf` of the definition's Building and `shown` of Run
+-- rows assigned (asShown, asRow: in the definition's form). A slot is assigned (`contentOf` of Building, `shown` of Run): an owned one its
+-- constant with its children's slots, the second half of a wide one nothing, every other one below the count the empty text
 abbrev pub Reads : Type 0
 Reads =
     (bytes : List ℕ) (job : Job (List ℕ)) (lent : Lent) (b : Built) → IsBytes bytes → form bytes ≡ good job → run lent bytes ≡ good b →
     (l : Layout) × (layout highestSlot (numbered job) ≡ good l) × (b ≡ render (literals job) l)
-    × (readPool (b .pool) ≡ some (map (shown (literals job)) (l .contents)))
-    × (readBootstraps (b .bootstrapCount) (b .bootstraps)
+    × (Option·map (map asShown) (read-pool (b .pool)) ≡ some (map (shown (literals job)) (l .contents)))
+    × (Option·map (map asRow) (read-bootstrap-methods (b .bootstrapCount) (b .bootstraps))
     ≡ some (map (λ row. record { tag = bootstrapTag; literal = []; byte = 0; kids = row }) (l .rows)))
 
 -- the name records of a job
@@ -252,9 +254,9 @@ pub record HeldBy (f : Finished) (requests : List Request) (build : Build) (b : 
 abbrev pub Holds : Type 0
 Holds =
     (bytes : List ℕ) (job : Job (List ℕ)) (lent : Lent) (b : Built) → IsBytes bytes → form bytes ≡ good job → run lent bytes ≡ good b →
-    (pool : List Shown) × (bootstraps : List (Entry (List ℕ) ℕ)) × (readPool (b .pool) ≡ some pool)
-    × (readBootstraps (b .bootstrapCount) (b .bootstraps) ≡ some bootstraps)
-    × HeldBy (record { definitions = job .definitions; pool = pool; bootstraps = bootstraps }) (job .requests) (job .build) b
+    (pool : List Slot) × (methods : List BootstrapMethod) × (read-pool (b .pool) ≡ some pool)
+    × (read-bootstrap-methods (b .bootstrapCount) (b .bootstraps) ≡ some methods)
+    × HeldBy (record { definitions = job .definitions; pool = map asShown pool; bootstraps = map asRow methods }) (job .requests) (job .build) b
 
 -- BLOCKS READ: a file of bytes is accepted exactly if it is the blocks of n parts, at most 2,081, and the job is their used bytes, joined,
 -- isn't too long and has room. A part has 504 bytes; all but the last use 504, the last at least 1, and 0 only if it is the only one

@@ -5,14 +5,19 @@ use mathlib.Core.Logic.{inl, inr}
 use mathlib.Core.Option.{none, some}
 use mathlib.Core.Path.{_≡_, refl, sym, subst}
 use Prim.Native.Nat.{ℕ}
+use lib.Dec.{ltb}
 use lib.ListN.{length}
-use Rattle.definition.specs.Basics.{lookup}
+use borrow.Author.Tests.{ltb-true}
+use Rattle.definition.specs.Basics.{every, lookup}
+use Rattle.definition.specs.Ascii.{ascii}
 use Rattle.definition.specs.Shapes.{Field, shapes, bootstrapShape, bootstrapTag, Entry}
 use Rattle.definition.specs.Job.{Reference}
+use Rattle.definition.specs.Numbering.{attributeName}
 use Rattle.definition.specs.Building.{Row}
-use Rattle.facts.proofs.Lists.{clash}
-use Rattle.facts.proofs.Each.{Each}
+use Rattle.facts.proofs.Lists.{clash, every-at}
+use Rattle.facts.proofs.Each.{Each, each-from}
 use Rattle.laws.proofs.form.EntryShapes.{Short, HasShape}
+use Rattle.laws.proofs.form.ParsersYield.{Byte}
 use Rattle.laws.proofs.form.FormedEntries.{ShapeOf, FormedEntry}
 use Rattle.laws.proofs.reading.EntriesReadBack.{IsFor, isFor-like}
 use Rattle.laws.proofs.reading.PoolReadBack.{rowShown, Fits}
@@ -49,6 +54,8 @@ fits-formed x e h other t l b n k =
       fields = h .fields;
       known = rw t (constantShape (x .tag) (h .fields) (h .shapeOf) other);
       isFor = isFor-like (h .fields) x e (h .shape) l b n k;
+      literalBytes = rw l (h .literalBytes);
+      kindByte = rw b (h .kindByte);
     }
 
 -- a formed bootstrap's row, likewise
@@ -70,3 +77,8 @@ unfolding bootstrapShape
 row-plain x h is =
     let shape = subst (λ fields. HasShape fields x) (rowShape (x .tag) (h .fields) (h .shapeOf) is) (h .shape) in
     (shape .noLiteral refl, shape .noByte refl)
+
+-- "BootstrapMethods" is bytes
+pub attribute-bytes : Each Byte attributeName
+unfolding every attributeName ascii
+attribute-bytes = each-from Byte attributeName (λ i b e. ltb-true b 256 (every-at (λ b. ltb b 256) attributeName refl i b e))

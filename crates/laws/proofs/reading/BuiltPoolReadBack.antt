@@ -47,7 +47,7 @@ use Rattle.laws.proofs.building.AfterName.{Named}
 use Rattle.laws.proofs.building.BuiltJob.{st, table, facts, rising, good-job-table, raws, asked, nodes, marks, raw-node, indexes, node-tag, indexes-are, starts-here, rows, ending}
 use Rattle.laws.proofs.reading.EntriesReadBack.{IsFor}
 use Rattle.laws.proofs.reading.PoolReadBack.{rowShown, Fits, LaidBehind, Laid, fits-text, reads-layout}
-use Rattle.laws.proofs.reading.BuiltEntriesFit.{fits-formed, isFor-formed}
+use Rattle.laws.proofs.reading.BuiltEntriesFit.{fits-formed, isFor-formed, attribute-bytes}
 use Rattle.laws.proofs.reading.PoolContents.{wideThere, spelled, laidFrom}
 
 module _ (bytes : List ℕ) (job : Job (List ℕ)) (l : Layout) (are : IsBytes bytes) (formed : form bytes ≡ good job) (laid : layout highestSlot (numbered job) ≡ good l) where
@@ -184,7 +184,7 @@ module _ (bytes : List ℕ) (job : Job (List ℕ)) (l : Layout) (are : IsBytes b
   attribute-fits nd ns is nums =
       let none = both-nil (NumberFor allNodes (pool .given) (rows bytes job l are formed laid)) (nd .kids) ns (ap (λ (y : Node). y .kids) is) nums in
       subst (λ (y : Node). Fits (spelled (literals job) (withKids ns y))) (sym is)
-      (subst (λ ks. Fits (spelled (literals job) (withKids ks attributeText))) (sym none) (fits-text attributeName (lit< tt)))
+      (subst (λ ks. Fits (spelled (literals job) (withKids ks attributeText))) (sym none) (fits-text attributeName (lit< tt) attribute-bytes))
 
   -- whatever a slot holds fits its shape
   pub owner-fits : (n : ℕ) (e : Entry ℕ ℕ) → lookup n owned ≡ some e → Fits (spelled (literals job) e)

@@ -1,6 +1,7 @@
 -- HOLDS: every answer, every raw definition, the class name and the name slot of a built job show, in the finished pool as JVMS reads it,
 -- what the job's own records say. Assumes nothing.
 use mathlib.Core.List.{List, map}
+use mathlib.Core.Option.{map-eq-some-iff}
 use mathlib.Core.Path.{_≡_, sym, subst}
 use Prim.Native.Nat.{ℕ}
 use Rattle.definition.specs.Basics.{good}
@@ -10,9 +11,11 @@ use Rattle.definition.specs.Numbering.{literals, numbered}
 use Rattle.definition.specs.Slots.{highestSlot}
 use Rattle.definition.specs.Layout.{Layout, layoutOf, layout}
 use Rattle.definition.specs.Run.{shown, render}
+use Rattle.jvms.specs.Pool.{read-pool, read-bootstrap-methods}
+use Rattle.laws.specs.AsEntries.{asShown, asRow}
 use Rattle.laws.specs.Statements.{IsBytes, Finished, HeldBy, Holds}
 use Rattle.laws.proofs.reading.PoolReadBack.{rowShown}
-use Rattle.laws.proofs.reading.BuiltPoolReadBack.{stg, pool}
+use Rattle.laws.proofs.reading.BuiltPoolReadBack.{stg}
 use Rattle.laws.proofs.reading.Reads.{reads}
 use Rattle.laws.proofs.reading.JobHeld.{held-by}
 
@@ -34,10 +37,12 @@ held-laid bytes job l are formed laid =
 -- what was returned is read, and is so
 pub heldSlots : Holds
 heldSlots bytes job lent b are formed ran =
-    let (l, laid, is, readsPool, readsRows) = reads bytes job lent b are formed ran in (
-      map (shown (literals job)) (l .contents),
-      map rowShown (l .rows),
-      readsPool,
-      readsRows,
-      subst (HeldBy (shownOf job l) (job .requests) (job .build)) (sym is) (held-laid bytes job l are formed laid),
+    let (l, laid, is, readsPool, readsRows) = reads bytes job lent b are formed ran in
+    let (pool, poolRead, samePool) = map-eq-some-iff (map asShown) (read-pool (b .pool)) .0 readsPool in
+    let (methods, methodsRead, sameRows) = map-eq-some-iff (map asRow) (read-bootstrap-methods (b .bootstrapCount) (b .bootstraps)) .0 readsRows in (
+      pool,
+      methods,
+      poolRead,
+      methodsRead,
+      rw (samePool, sameRows) (subst (HeldBy (shownOf job l) (job .requests) (job .build)) (sym is) (held-laid bytes job l are formed laid)),
     )

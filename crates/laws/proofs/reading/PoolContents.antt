@@ -41,12 +41,12 @@ module _ (owned : List (ℕ × Entry ℕ ℕ)) (all : List Literal)
       LaidBehind rest false →
       LaidBehind (shown all (behind before) ∷ rest) (wideThere before)
   unfolding shown behind wideThere isWide
-  laidBehind rest none l = (fits-text [] (lit< tt), l)
+  laidBehind rest none l = (fits-text [] (lit< tt) tt, l)
   laidBehind rest (some p) l = ways (isWide (p .tag)) refl
     where
       ways : (w : Bool) → isWide (p .tag) ≡ w → LaidBehind (shown all (behind (some p)) ∷ rest) (isWide (p .tag))
       ways true e = rw (e, behind) l
-      ways false e = rw (e, behind) (fits-text [] (lit< tt), l)
+      ways false e = rw (e, behind) (fits-text [] (lit< tt) tt, l)
 
   -- one slot, with what stands before it and what follows
   laidOne :

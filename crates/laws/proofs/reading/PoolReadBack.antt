@@ -4,6 +4,7 @@ use mathlib.Core.List.{List, [], _∷_, _++_, map, map-map, append-nil, append-a
 use mathlib.Core.Option.{none, some}
 use mathlib.Core.Path.{_≡_, refl}
 use Prim.Native.Nat.{ℕ, suc}
+use lib.Dec.{lit<}
 use lib.ListN.{length, length-map}
 use Rattle.definition.specs.Basics.{concat, lookup}
 use Rattle.definition.specs.Bytes.{Parser, return, _>>=_, fail, andThen, many, be2}
@@ -15,17 +16,20 @@ use Rattle.definition.specs.Jvms.{Shown, index, cpInfo, readSlots, belowCount, 
 use Rattle.definition.specs.Run.{shown, entryBytes, slotBytes, rowBytes, render}
 use Rattle.facts.proofs.Each.{Each}
 use Rattle.laws.proofs.form.EntryShapes.{Short}
+use Rattle.laws.proofs.form.ParsersYield.{Byte}
 use Rattle.laws.proofs.reading.EntriesReadBack.{IsFor, two-be2, readEntry-writeFields, cpInfo-entryBytes}
 
 -- a row as the reader of bootstraps shows it
 abbrev pub rowShown : Row → Entry (List ℕ) ℕ
 rowShown row = record { tag = bootstrapTag; literal = []; byte = 0; kids = row }
 
--- an entry that fits the shape that its tag has
+-- an entry that fits the shape that its tag has, all of it bytes
 pub record Fits (e : Entry (List ℕ) ℕ) : Type 0 where
   pub fields : List Field
   pub known : lookup (e .tag) shapes ≡ some fields
   pub isFor : IsFor fields e
+  pub literalBytes : Each Byte (e .literal)
+  pub kindByte : Byte (e .byte)
 
 -- slots as a pool has them, behind a Long or a Double or not: an entry each, and behind a Long or a Double a slot that shows none
 abbrev pub LaidBehind : List Shown → Bool → Type 0
@@ -151,14 +155,16 @@ pub readBootstraps-rowBytes :
 unfolding readBootstraps wholly
 readBootstraps-rowBytes rows h = rw (← (append-nil (concat (map rowBytes rows)))) (rw (many-rowBytes rows [] h))
 
--- a text fits its shape if two bytes hold its length
-pub fits-text : (s : List ℕ) → Short (length s) → Fits (record { tag = 1; literal = s; byte = 0; kids = [] })
+-- a text of bytes fits its shape if two bytes hold its length
+pub fits-text : (s : List ℕ) → Short (length s) → Each Byte s → Fits (record { tag = 1; literal = s; byte = 0; kids = [] })
 unfolding shapes lookup
-fits-text s h =
+fits-text s h b =
     record {
       fields = text ∷ [];
       known = refl;
       isFor = record { shape = record { filled = (h, refl); noLiteral = λ z. cc; noByte = λ z. refl }; shortKids = tt };
+      literalBytes = b;
+      kindByte = lit< tt;
     }
 
 -- the law READS, from what it takes of a layout: the contents are below the count, laid as slots are, and the rows fit their shape
