@@ -13,3 +13,4 @@ pub mod Standing
 pub mod Stored
 pub mod Laying
 pub mod Single
+pub mod Endings

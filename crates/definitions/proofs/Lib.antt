@@ -1,0 +1,15 @@
+pub mod Rooms
+pub mod Reading
+pub mod Turning
+pub mod Prefixes
+pub mod Entering
+pub mod Cited
+pub mod Runs
+pub mod Adding
+pub mod Steps
+pub mod Placed
+pub mod Whole
+pub mod Ordering
+pub mod Linking
+pub mod Ends
+pub mod Handing

@@ -1,0 +1,100 @@
+-- `definitions::define_one` meets its contract. Assumes nothing.
+use Rattle.definitions.proofs.Placed.{record-stands, constant-needs, constant-done, bootstrap-needs, bootstrap-done}
+use Rattle.definitions.proofs.Rooms.{room}
+use Rattle.sym_refs.specs.Names.{kindByte}
+use Rattle.store.proofs.Stores.{length-store}
+use Rattle.store.specs.Store.{store}
+use Rattle.definition.specs.Shapes.{constant, bootstrap}
+use lib.ListN.{getD}
+use native.Mathlib.Omega.{arith}
+use mathlib.Core.Path.{_≡_, sym, _∙_}
+use borrow.Author.Needs.{needs}
+use Rattle.definitions.proofs.define_one.Statement.{statement}
+use Rattle.definitions.proofs.define_one.Tie as tie
+
+get-u8-requires : tie.Need-get-u8-requires
+get-u8-requires c κs = let a = c .before .before .before .args in record-stands (a .p .now) (a .top) (a .job .now) (store (a .p .now) (a .w .now)) (a .at) (c .before .before .before .pre .2)
+
+constants-requires : tie.Need-constants-requires
+constants-requires c κs = let a = c .before .before .before .before .before .before .args in let m = room (a .job .now) (a .p .now) (c .before .before .before .before .before .before .pre .1) in (m .laid, m .indexes)
+
+add-counted-requires : tie.Need-add-counted-requires
+add-counted-requires c κs = let a = c .before .before .before .before .before .before .before .args in let h = c .before .before .before .before .before .before .before .pre in let m = room (a .job .now) (a .p .now) (h .1) in let e : getD (a .job .now) (a .at) 0 ≡ 0x40 = sym (c .before .before .before .get-u8 .ensures) ∙ c .before .before .match .keys1 in (search needs, h .1, omega arith, omega arith, rw (c .constants .ensures, m .constants) (bootstrap-needs (a .p .now) (a .top) (a .job .now) (store (a .p .now) (a .w .now)) (a .at) (h .2) (h .1) (λ i. c .before .before .before .before .before .before .shared-slice-known .given i .fits) (length-store (a .p .now) (a .w .now)) (λ q. omega (arith, q, e)) (λ q. omega (arith, q, e)) (λ q. omega (arith, q, e)) (λ q. omega (arith, q, e)) e))
+
+add-sym-def-requires : tie.Need-add-sym-def-requires
+unfolding kindByte
+add-sym-def-requires c κs = let a = c .before .before .before .before .before .before .args in let h = c .before .before .before .before .before .before .pre in (search needs, h .1, (a .top, h .2), (constant, sym (c .before .before .get-u8 .ensures) ∙ c .before .match .keys2))
+
+add-sym-def-requires-2 : tie.Need-add-sym-def-requires-2
+unfolding kindByte
+add-sym-def-requires-2 c κs = let a = c .before .before .before .before .before .before .args in let h = c .before .before .before .before .before .before .pre in (search needs, h .1, (a .top, h .2), (bootstrap, sym (c .before .before .get-u8 .ensures) ∙ c .before .match .keys3))
+
+add-raw-def-requires : tie.Need-add-raw-def-requires
+add-raw-def-requires c κs = let a = c .before .before .before .before .before .before .args in let h = c .before .before .before .before .before .before .pre in (search needs, h .1, h .2, sym (c .before .before .get-u8 .ensures) ∙ c .before .match .keys4)
+
+add-bs-raw-def-requires : tie.Need-add-bs-raw-def-requires
+add-bs-raw-def-requires c κs = let a = c .before .before .before .before .before .before .args in let h = c .before .before .before .before .before .before .pre in (search needs, h .1, (a .top, h .2), sym (c .before .before .get-u8 .ensures) ∙ c .before .match .keys5)
+
+add-counted-requires-2 : tie.Need-add-counted-requires-2
+add-counted-requires-2 c κs = let a = c .before .before .before .before .before .before .args in let h = c .before .before .before .before .before .before .pre in let r = c .before .match .rest in let g = c .before .before .get-u8 .ensures in (search needs, h .1, omega arith, omega arith, constant-needs (a .p .now) (a .top) (a .job .now) (store (a .p .now) (a .w .now)) (a .at) (h .2) (h .1) (λ i. c .before .before .before .before .before .shared-slice-known .given i .fits) (length-store (a .p .now) (a .w .now)) (λ q. r .0 .0 .0 .1 (g ∙ q)) (λ q. r .0 .0 .1 (g ∙ q)) (λ q. r .0 .1 (g ∙ q)) (λ q. r .1 (g ∙ q)) (λ q. r .0 .0 .0 .0 .1 (g ∙ q)))
+
+same-length : tie.Need-same-length
+same-length c = search needs
+
+returns : tie.Need-returns
+returns c = let a = c .before .before .before .before .before .before .before .before .before .before .args in let h = c .before .before .before .before .before .before .before .before .before .before .pre in let m = room (a .job .now) (a .p .now) (h .1) in let e : getD (a .job .now) (a .at) 0 ≡ 0x40 = sym (c .before .before .before .before .before .before .get-u8 .ensures) ∙ c .before .before .before .before .before .match .keys1 in bootstrap-done (a .p .now) (a .top) (a .job .now) (store (a .p .now) (a .w .now)) (a .at) (h .2) (h .1) (λ i. c .before .before .before .before .before .before .before .before .before .shared-slice-known .given i .fits) (length-store (a .p .now) (a .w .now)) (λ q. omega (arith, q, e)) (λ q. omega (arith, q, e)) (λ q. omega (arith, q, e)) (λ q. omega (arith, q, e)) e _ (c .before .before .add-counted .result) (rw (c .before .before .before .constants .ensures, m .constants) at (c .before .before .add-counted .ensures))
+
+same-length-2 : tie.Need-same-length-2
+same-length-2 c = search needs
+
+returns-2 : tie.Need-returns-2
+returns-2 c = c .before .before .add-sym-def .ensures (c .before .before .before .before .before .before .before .before .before .args .top) (c .before .before .before .before .before .before .before .before .before .pre .2)
+
+same-length-3 : tie.Need-same-length-3
+same-length-3 c = search needs
+
+returns-3 : tie.Need-returns-3
+returns-3 c = c .before .before .add-sym-def2 .ensures (c .before .before .before .before .before .before .before .before .before .args .top) (c .before .before .before .before .before .before .before .before .before .pre .2)
+
+same-length-4 : tie.Need-same-length-4
+same-length-4 c = search needs
+
+returns-4 : tie.Need-returns-4
+returns-4 c = c .before .before .add-raw-def .ensures
+
+same-length-5 : tie.Need-same-length-5
+same-length-5 c = search needs
+
+returns-5 : tie.Need-returns-5
+returns-5 c = c .before .before .add-bs-raw-def .ensures (c .before .before .before .before .before .before .before .before .before .args .top) (c .before .before .before .before .before .before .before .before .before .pre .2)
+
+same-length-6 : tie.Need-same-length-6
+same-length-6 c = search needs
+
+returns-6 : tie.Need-returns-6
+returns-6 c = let a = c .before .before .before .before .before .before .before .before .before .args in let h = c .before .before .before .before .before .before .before .before .before .pre in let r = c .before .before .before .before .match .rest in let g = c .before .before .before .before .before .get-u8 .ensures in constant-done (a .p .now) (a .top) (a .job .now) (store (a .p .now) (a .w .now)) (a .at) (h .2) (h .1) (λ i. c .before .before .before .before .before .before .before .before .shared-slice-known .given i .fits) (length-store (a .p .now) (a .w .now)) (λ q. r .0 .0 .0 .1 (g ∙ q)) (λ q. r .0 .0 .1 (g ∙ q)) (λ q. r .0 .1 (g ∙ q)) (λ q. r .1 (g ∙ q)) (λ q. r .0 .0 .0 .0 .1 (g ∙ q)) _ (c .before .before .add-counted2 .result) (c .before .before .add-counted2 .ensures)
+
+pub define-one-spec : {M : Type 1} → statement M
+define-one-spec =
+    tie.close
+    (tie.spec
+    get-u8-requires
+    constants-requires
+    add-counted-requires
+    add-sym-def-requires
+    add-sym-def-requires-2
+    add-raw-def-requires
+    add-bs-raw-def-requires
+    add-counted-requires-2
+    same-length
+    returns
+    same-length-2
+    returns-2
+    same-length-3
+    returns-3
+    same-length-4
+    returns-4
+    same-length-5
+    returns-5
+    same-length-6
+    returns-6)

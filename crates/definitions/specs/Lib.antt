@@ -1,0 +1,3 @@
+pub mod Kids
+pub mod Defining
+pub mod Ending
