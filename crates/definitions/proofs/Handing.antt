@@ -1,5 +1,5 @@
 -- What the stages around record 50 hand on: the start leaves nothing resolved, and record 50 is the definition's. Assumes nothing.
-use mathlib.Core.List.{List, [], _++_, map, reverse}
+use mathlib.Core.List.{List, _++_}
 use mathlib.Core.Path.{_≡_, refl, ap, _∙_}
 use Prim.Native.Nat.{ℕ, zero, suc, _<_}
 use native.Mathlib.Omega.{arith}
@@ -7,9 +7,8 @@ use lib.ListN.{length, length-map}
 use Rattle.definition.specs.Basics.{good, bad, _>>=_}
 use Rattle.definition.specs.Numbering.{constantsOf, bootstrapsOf, literals, numberedEntry}
 use Rattle.definition.specs.Definitions.{Defined}
-use Rattle.definition.specs.Resolving.{Resolved, linked}
-use Rattle.definition.specs.Slots.{gapsFrom, startSlots}
-use Rattle.definition.specs.Layout.{starters, Ready, nodeAt, endDefinitions}
+use Rattle.definition.specs.Resolving.{linked}
+use Rattle.definition.specs.Layout.{endDefinitions}
 use Rattle.laws.proofs.numbering.NumberedCited.{constants-numbered}
 use Rattle.store.specs.Store.{Store}
 use Rattle.store.specs.JobIn.{jobIn, definitionsIn, tableOf, numberedIn, constantsIn, linkedIn}
@@ -17,6 +16,7 @@ use Rattle.store.specs.Regions.{MARKS, NODE-HEADS, COUNTS, NODE-COUNT, VISITS, 
 use Rattle.resolver.specs.Resolved.{resolvedIn, told}
 use Rattle.definitions.specs.Defining.{recordsIn, DefinedAll, Defines, Zeros}
 use Rattle.definitions.specs.Ending.{goalsOf, Fresh, Ended}
+use Rattle.definitions.specs.Begun.{readyFrom}
 use Rattle.definitions.proofs.Rooms.{room}
 
 -- the definitions leave marks, nodes and visits as they were
@@ -41,20 +41,6 @@ pub linked-is :
     linked (d .names) (length (constantsOf (recordsIn s))) (constantsOf (recordsIn s) ++ bootstrapsOf (recordsIn s)) ≡ linkedIn s
 unfolding linkedIn numberedIn tableOf recordsIn
 linked-is p top s t d all = rw (all .naming, constants-many s)
-
--- what requests start from, when so much is resolved
-abbrev pub readyFrom : ℕ → List ℕ → Defined → Resolved → Ready
-readyFrom top s d state =
-    record {
-      table = linkedIn s;
-      resolved = state;
-      pool =
-          record {
-            slots = startSlots (gapsFrom top 1 (map (λ r. r .0) (d .held)));
-            given = [];
-            pending = reverse (map (λ r. (r .0, nodeAt (state .marks) (r .1))) (starters (d .held)));
-          };
-    }
 
 -- record 50, as the definition ends the definitions
 module _ (p : List ℕ) (top : ℕ) (s : List ℕ) (t u : Store) (d : Defined) (r : ℕ) (ended : Ended p top s t u d r) where

@@ -13,3 +13,4 @@ pub mod Ordering
 pub mod Linking
 pub mod Ends
 pub mod Handing
+pub mod Beginning

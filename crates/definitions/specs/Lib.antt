@@ -1,3 +1,4 @@
 pub mod Kids
 pub mod Defining
 pub mod Ending
+pub mod Begun

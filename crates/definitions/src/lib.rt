@@ -1,4 +1,5 @@
 // The definitions in turn, then record 50: Krakatau's mod.rs, `Pool`.
+use job::JobCounts;
 use raws::place_bootstrap;
 use raws::place_constant;
 use raws::raw_entry;
@@ -23,13 +24,14 @@ use store::constants;
 use store::load;
 use store::next_count;
 use store::save;
+use store::start;
 use sym_refs::add_name;
 use sym_refs::link_references;
 use sym_refs::reference_word;
 use sym_refs::resolve_names;
 ghost use mathlib.Core.List.{List};
 ghost use mathlib.Core.Path.{_≡_};
-ghost use Prim.Native.Nat.{ℕ, _+_, _<_, _≤_};
+ghost use Prim.Native.Nat.{ℕ, _+_, _*_, _<_, _≤_};
 ghost use lib.ListN.{length, getD};
 ghost use Rattle.definition.specs.Shapes.{Kind, Entry};
 ghost use Rattle.definition.specs.Job.{Reference, define, named};
@@ -37,11 +39,12 @@ ghost use Rattle.definition.specs.Definitions.{Defined};
 ghost use Rattle.job.specs.Stored.{Found, ReferenceStands, WhatReference, anyDefinition};
 ghost use Rattle.job.proofs.Endings.{firstPlace};
 ghost use Rattle.store.specs.Store.{size, store, put, On, IsWord};
-ghost use Rattle.store.specs.JobIn.{definitionsIn};
+ghost use Rattle.store.specs.JobIn.{WellFormed, definitionsIn, countsIn};
 ghost use Rattle.store.specs.Regions.{Work, COUNTS, RECORDS, OFFSETS, FIRSTS, SIZES, GOALS, PLACE, REFERENCE-COUNT, NODE-HEADS, ORDER, RAW-ENTRIES};
 ghost use Rattle.sym_refs.specs.Names.{kindByte};
 ghost use Rattle.raws.specs.Raws.{rawCount};
 ghost use Rattle.resolver.specs.Resolved.{Table, AtRest, visitsOwed};
+ghost use Rattle.definitions.specs.Begun.{Begun};
 ghost use Rattle.definitions.specs.Kids.{entryPut, gapAfter, HasKids, ReadsAll, CanEnter, Enters, counted};
 ghost use Rattle.definitions.specs.Defining.{SomePlace, answered, Stepped, DefinedAll, Defines, Zeros};
 ghost use Rattle.definitions.specs.Ending.{rawGoal, rawAt, rawGoals, ResolvesAll, IsRaw, CanResolve, Fresh, Ended};
@@ -270,4 +273,19 @@ pub fn end_definitions(job: &[u8], w: &mut [u32], p: &[usize]) -> usize
     link_references(job, w, p);
     sort_raws(w, p);
     resolve_raws(job, w, p)
+}
+
+// A job up to record 50, in words that may hold anything: regions laid out, definitions in turn, record 50. 0, or a refusal's number, met
+// at the record that PLACE tells.
+pub fn begin(job: &[u8], w: &mut [u32], p: &mut [usize], c: JobCounts, top: usize) -> usize
+    requires { ⌜ WellFormed (now job) × (c ≡ countsIn (now job)) × (length (now p) ≡ 32) × (6 * length (now job) + 1024 ≤ length (now w)) × (top < 65535) ⌝ }
+    ensures { λ r. ⌜ Begun (now (p .exit)) (length (now (w .exit))) top (now (job .entry)) (store (now (p .exit)) (now (w .exit))) r ⌝ }
+{
+    let n = c.definitions;
+    start(w, p, c);
+    let code = define_all(job, w, p, n, top);
+    if code != 0 {
+        return code;
+    }
+    end_definitions(job, w, p)
 }
