@@ -1,0 +1,144 @@
+// The rows of the bootstrap table: indexes for inline bootstraps, and which bootstrap node has the row at an index.
+use raws::raw_entry;
+use raws::raw_key;
+use store::CHILDREN;
+use store::COUNTS;
+use store::DONE;
+use store::ENTRY;
+use store::FIRSTS;
+use store::GIVEN;
+use store::HELD_COUNT;
+use store::INDEXES;
+use store::INLINE;
+use store::INLINE_COUNT;
+use store::MARKS;
+use store::NODES;
+use store::RAW_COUNT;
+use store::ROW_COUNT;
+use store::ROW_HEADS;
+use store::ROW_LINKS;
+use store::SIZES;
+use store::WRITTEN_COUNT;
+use store::constants;
+use store::first_link;
+use store::load;
+use store::mix;
+use store::next_count;
+use store::push_link;
+use store::save;
+ghost use mathlib.Core.Path.{_≡_};
+ghost use Prim.Native.Nat.{ℕ, _+_, _-_, _<_, _≤_};
+ghost use lib.ListN.{length, getD};
+ghost use Rattle.definition.specs.Basics.{same};
+ghost use Rattle.definition.specs.Building.{Rows, writeRaw, takeIndex, rowIndex};
+ghost use Rattle.interner.specs.Nodes.{nodeCount};
+ghost use Rattle.store.specs.Store.{size, store, put, On, IsWord, Read};
+ghost use Rattle.store.specs.Chains.{Sought};
+ghost use Rattle.store.specs.Regions.{GIVEN, INDEXES, FIRSTS, SIZES, NODES, INLINE};
+ghost use Rattle.store.specs.Words.{ENTRY};
+ghost use Rattle.rows.specs.Rowed.{childSlot, hashRow, constantsOf, rawRows, rawIndex, rawNode, rowIn, RowRoom, KidsIn, RawsReadyIn, RowWordsIn, RowedIn, IsBootstrapIn, indexWord, inlineCount, Nth, Reached, WroteRaws, withInline, withIndex, NewRow, Indexed, inlineIndex, InTable, RowNode, tableOf, isBootstrap, numberOf, HasNumber};
+
+// Past every index.
+const PAST: usize = 65536;
+
+// How many children a node has.
+fn child_count(w: &[u32], p: &[usize], k: usize) -> usize
+    requires { ⌜ On (now p) (length (now w)) × RowRoom (now p) × KidsIn (now p) (store (now p) (now w)) × (k < nodeCount (store (now p) (now w))) ⌝ }
+    ensures { λ r. ⌜ Read (store (now (p .entry)) (now (w .entry))) SIZES (getD (store (now (p .entry)) (now (w .entry)) NODES) k 0) r ⌝ }
+{
+    load(w, p, SIZES, load(w, p, NODES, k))
+}
+
+// Where in CHILDREN they begin.
+fn first_child(w: &[u32], p: &[usize], k: usize) -> usize
+    requires { ⌜ On (now p) (length (now w)) × RowRoom (now p) × KidsIn (now p) (store (now p) (now w)) × (k < nodeCount (store (now p) (now w))) ⌝ }
+    ensures { λ r. ⌜ Read (store (now (p .entry)) (now (w .entry))) FIRSTS (getD (store (now (p .entry)) (now (w .entry)) NODES) k 0) r ⌝ }
+{
+    load(w, p, FIRSTS, load(w, p, NODES, k))
+}
+
+// The slot of a child that has one: a raw number is itself.
+pub fn child_slot(w: &[u32], p: &[usize], child: usize) -> usize
+    requires { ⌜ On (now p) (length (now w)) × (child < ENTRY + size (now p) GIVEN) ⌝ }
+    ensures { λ r. ⌜ (r ≡ childSlot (store (now (p .entry)) (now (w .entry)) GIVEN) child) × IsWord r ⌝ }
+{
+    if child < ENTRY {
+        child
+    } else {
+        load(w, p, GIVEN, child - ENTRY)
+    }
+}
+
+// How many raw bootstraps there are.
+pub fn raw_rows(w: &[u32], p: &[usize]) -> usize
+    requires { ⌜ On (now p) (length (now w)) × RowRoom (now p) × RawsReadyIn (now p) (store (now p) (now w)) ⌝ }
+    ensures { λ r. ⌜ r ≡ rawRows (store (now (p .entry)) (now (w .entry))) ⌝ }
+{
+    load(w, p, COUNTS, RAW_COUNT) - load(w, p, COUNTS, HELD_COUNT)
+}
+
+// The index of raw bootstrap i by rising index; past every index where there is none.
+pub fn raw_index(w: &[u32], p: &[usize], i: usize) -> usize
+    requires { ⌜ On (now p) (length (now w)) × RowRoom (now p) × RawsReadyIn (now p) (store (now p) (now w)) ⌝ }
+    ensures { λ r. ⌜ Nth (rawIndex (store (now (p .entry)) (now (w .entry)))) (rawRows (store (now (p .entry)) (now (w .entry)))) i r ⌝ }
+{
+    if raw_rows(w, p) <= i {
+        return PAST;
+    }
+    raw_key(w, p, load(w, p, COUNTS, HELD_COUNT) + i) - ENTRY
+}
+
+// 1 + the index of bootstrap node k, 0 while it has none.
+pub fn index_of(w: &[u32], p: &[usize], k: usize) -> usize
+    requires { ⌜ On (now p) (length (now w)) × RowRoom (now p) × KidsIn (now p) (store (now p) (now w)) × IsBootstrapIn (now p) (store (now p) (now w)) k ⌝ }
+    ensures { λ r. ⌜ (r ≡ indexWord (now (p .entry)) (store (now (p .entry)) (now (w .entry))) k) × IsWord r ⌝ }
+{
+    load(w, p, INDEXES, load(w, p, NODES, k) - constants(p))
+}
+
+// Makes it x.
+fn set_index(w: &mut [u32], p: &[usize], k: usize, x: usize)
+    requires { ⌜ On (now p) (length (now w)) × RowRoom (now p) × KidsIn (now p) (store (now p) (now w)) × IsBootstrapIn (now p) (store (now p) (now w)) k × IsWord x ⌝ }
+    ensures { λ _. ⌜ store (now (p .entry)) (now (w .exit)) ≡ put (store (now (p .entry)) (now (w .entry))) INDEXES (getD (store (now (p .entry)) (now (w .entry)) NODES) k 0 - constantsOf (now (p .entry))) x ⌝ }
+{
+    let e = load(w, p, NODES, k);
+    save(w, p, INDEXES, e - constants(p), x);
+}
+
+// The hash of the row of bootstrap node k: a function of its slots.
+fn hash_row(w: &[u32], p: &[usize], k: usize) -> usize
+    requires { ⌜ On (now p) (length (now w)) × RowRoom (now p) × KidsIn (now p) (store (now p) (now w)) × (k < nodeCount (store (now p) (now w))) ⌝ }
+    ensures { λ r. ⌜ (r ≡ hashRow (rowIn (store (now (p .entry)) (now (w .entry))) k)) × IsWord r ⌝ }
+{
+    let n = child_count(w, p, k);
+    let first = first_child(w, p, k);
+    let mut hash = n;
+    let mut i = 0;
+    while i < n {
+        hash = mix(hash, child_slot(w, p, load(w, p, CHILDREN, first + i)));
+        i += 1;
+    }
+    hash
+}
+
+// The rows of two bootstrap nodes are the same.
+fn same_row(w: &[u32], p: &[usize], k: usize, l: usize) -> bool
+    requires { ⌜ On (now p) (length (now w)) × RowRoom (now p) × KidsIn (now p) (store (now p) (now w)) × (k < nodeCount (store (now p) (now w))) × (l < nodeCount (store (now p) (now w))) ⌝ }
+    ensures { λ r. ⌜ r ≡ same (rowIn (store (now (p .entry)) (now (w .entry))) k) (rowIn (store (now (p .entry)) (now (w .entry))) l) ⌝ }
+{
+    let n = child_count(w, p, k);
+    if child_count(w, p, l) != n {
+        return false;
+    }
+    let a = first_child(w, p, k);
+    let b = first_child(w, p, l);
+    let mut i = 0;
+    while i < n {
+        let slot = child_slot(w, p, load(w, p, CHILDREN, a + i));
+        if child_slot(w, p, load(w, p, CHILDREN, b + i)) != slot {
+            return false;
+        }
+        i += 1;
+    }
+    true
+}
