@@ -99,3 +99,6 @@ filled-room (y ∷ l) (suc i) h e = ways (eqb y 0) (filled-room l i (omega arith
     ways : (b : Bool) → filled l < length l → cond b (filled l) (suc (filled l)) < suc (length l)
     ways true q = omega arith
     ways false q = omega arith
+
+pub few-room : (l : List ℕ) (n : ℕ) → n ≤ filled l → n ≤ length l
+few-room l n h = omega (arith, filled-le l)

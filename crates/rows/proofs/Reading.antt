@@ -1,7 +1,8 @@
 -- The places that the code reads at are there. Assumes nothing.
 use mathlib.Core.List.{List}
+use mathlib.Core.Logic.{⊎-elim}
 use mathlib.Core.Path.{_≡_, refl, sym, ap, subst, _∙_}
-use Prim.Native.Nat.{ℕ, _+_, _-_, _≤_, _<_}
+use Prim.Native.Nat.{ℕ, zero, suc, _+_, _-_, _≤_, _<_}
 use native.Mathlib.Omega.{arith}
 use lib.ListN.{length, getD}
 use Rattle.interner.specs.Nodes.{nodeCount}
@@ -9,7 +10,7 @@ use Rattle.raws.specs.Raws.{rawCount, heldCount}
 use Rattle.store.specs.Store.{Store, size, store, On, IsWord}
 use Rattle.store.specs.Regions.{COUNTS, MARKS, GIVEN, INDEXES, FIRSTS, SIZES, CHILDREN, RAW-KEYS, RAW-ENTRIES, ORDER, NODES}
 use Rattle.store.specs.Words.{ENTRY}
-use Rattle.store.proofs.Stores.{length-store, in-words}
+use Rattle.store.proofs.Stores.{lt-or, length-store, in-words}
 use Rattle.rows.specs.Rowed.{constantsOf, rawRows, rawItem, rawIndex, RowRoom, Kids, KidsAt, KidsIn, RawAt, RawsReady, RawsReadyIn, IsBootstrapIn, Nth}
 
 -- COUNTERS
@@ -76,6 +77,18 @@ module _ (p : List ℕ) (t : Store) (ready : RawsReadyIn p t) where
   pub raw-rise : (i j : ℕ) → i < j → j < rawRows t → rawIndex t i < rawIndex t j
   unfolding RawsReady
   raw-rise i j l h = omega (arith, ready .2 i j l h, raw-at i (omega arith) .low)
+
+  raw-far : (i : ℕ) → i < rawRows t → i ≤ rawIndex t i
+  raw-far zero h = omega arith
+  raw-far (suc i) h = omega (arith, raw-far i (omega arith), raw-rise i (suc i) (omega arith) h)
+
+  -- the indexes rise, so that there are few
+  pub raws-few : rawRows t ≤ 65535
+  raws-few =
+      ⊎-elim
+      (λ (l : 0 < rawRows t). omega (arith, raw-far (rawRows t - 1) (omega arith), raw-low (rawRows t - 1) (omega arith)))
+      (λ (l : rawRows t ≤ 0). omega arith)
+      (lt-or 0 (rawRows t))
 
   module _ (i n : ℕ) (all : n ≡ rawRows t) where
     pub nth-past : n ≤ i → Nth (rawIndex t) (rawRows t) i 65536

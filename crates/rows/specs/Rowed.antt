@@ -12,7 +12,7 @@ use Rattle.definition.specs.Basics.{Result, good, bad, from}
 use Rattle.definition.specs.Building.{Row, Rows, writeRaw, indexOf, takeIndex, rowIndex, fillHoles}
 use Rattle.interner.specs.Nodes.{hashWords, nodeCount}
 use Rattle.raws.specs.Raws.{rawCount, heldCount}
-use Rattle.store.specs.Store.{Store, size, put, Kept}
+use Rattle.store.specs.Store.{Store, size, put, among, Kept}
 use Rattle.store.specs.Chains.{headOf, Chains, Heads, linked}
 use Rattle.store.specs.Regions.{COUNTS, MARKS, GIVEN, INDEXES, ROW-HEADS, ROW-LINKS, FIRSTS, SIZES, CHILDREN, RAW-KEYS, RAW-ENTRIES, ORDER, NODES, INLINE, ROW-COUNT, WRITTEN-COUNT, INLINE-COUNT}
 use Rattle.store.specs.Words.{ENTRY, cut}
@@ -144,7 +144,7 @@ baseIn p t =
       constants = constantsOf p;
       nodes = t NODES;
       made = nodeCount t;
-      row = entryRow t;
+      row = rowAt (t GIVEN) (t CHILDREN) (t FIRSTS) (t SIZES);
       raw = λ i. (rawIndex t i, rowIn t (rawNode t i));
       raws = rawRows t;
     }
@@ -171,6 +171,7 @@ pub record RowRoom (p : List ℕ) : Type 0 where
   pub heads : Heads p ROW-HEADS
   pub indexes : size p INDEXES ≤ size p MARKS
   pub few : size p INDEXES ≤ 65536
+  pub entries : size p MARKS ≤ 131072
   pub links : size p INDEXES ≤ size p ROW-LINKS
   pub inline : size p INDEXES ≤ size p INLINE
   pub firsts : size p MARKS ≤ size p FIRSTS
@@ -217,8 +218,8 @@ RawsReadyIn p t = RawsReady p (t MARKS) (t RAW-KEYS) (t RAW-ENTRIES) (t ORDER) (
 -- WHAT THE FUNCTIONS DO: t before, u after
 
 -- every counter but these is as it was
-abbrev pub SameBut : List ℕ → Store → Store → Type 0
-SameBut l t u = Kept l (λ c. getD (t COUNTS) c 0 ∷ []) (λ c. getD (u COUNTS) c 0 ∷ [])
+abbrev pub SameBut : List ℕ → List ℕ → List ℕ → Type 0
+SameBut l before after = (c : ℕ) → among c l ≡ false → getD after c 0 ≡ getD before c 0
 
 -- the rows with raw ones written
 abbrev pub withRaws : Rows → Rows
@@ -234,7 +235,7 @@ pub record WroteRaws (p : List ℕ) (t u : Store) : Type 0 where
   pub rows : (rows : Rows) → RowedIn p rows t → RowedIn p (withRaws rows) u
   pub words : RowWordsIn p u
   pub stop : (i : ℕ) → writtenCount u ≤ i → i < rawRows u → rowCount u < rawIndex u i
-  pub counters : SameBut (ROW-COUNT ∷ WRITTEN-COUNT ∷ []) t u
+  pub counters : SameBut (ROW-COUNT ∷ WRITTEN-COUNT ∷ []) (t COUNTS) (u COUNTS)
   pub kept : Kept (COUNTS ∷ []) t u
 
 -- node k is the next inline one, and took the next index
@@ -261,7 +262,7 @@ pub record Indexed (found : Rows → Result ℕ (ℕ × Rows)) (p : List ℕ) (k
   pub refused : (r ≡ 0 → ⊥) → (r ≡ 17) × ((rows : Rows) → RowedIn p rows t → found rows ≡ bad 17)
   pub words : RowWordsIn p u
   pub index : r ≡ 0 → 0 < indexWord p u k
-  pub counters : SameBut (ROW-COUNT ∷ WRITTEN-COUNT ∷ INLINE-COUNT ∷ []) t u
+  pub counters : SameBut (ROW-COUNT ∷ WRITTEN-COUNT ∷ INLINE-COUNT ∷ []) (t COUNTS) (u COUNTS)
   pub kept : Kept written t u
 
 -- THE TABLE at the end

@@ -142,3 +142,53 @@ fn same_row(w: &[u32], p: &[usize], k: usize, l: usize) -> bool
     }
     true
 }
+
+// 1 + the place in INLINE of a row that is the same as node k's, of this hash; 0 if there is none.
+fn find_row(w: &[u32], p: &[usize], k: usize, hash: usize) -> usize
+    requires { ⌜ On (now p) (length (now w)) × RowRoom (now p) × KidsIn (now p) (store (now p) (now w)) × RowWordsIn (now p) (store (now p) (now w)) × (k < nodeCount (store (now p) (now w))) × (hash ≡ hashRow (rowIn (store (now p) (now w)) k)) × IsWord hash ⌝ }
+    ensures { λ r. ⌜ Sought (λ i. rowIn (store (now (p .entry)) (now (w .entry))) (getD (store (now (p .entry)) (now (w .entry)) INLINE) i 0) ≡ rowIn (store (now (p .entry)) (now (w .entry))) k) (inlineCount (store (now (p .entry)) (now (w .entry)))) r ⌝ }
+{
+    let mut link = first_link(w, p, ROW_HEADS, hash);
+    while 0 < link {
+        if same_row(w, p, k, load(w, p, INLINE, link - 1)) {
+            return link;
+        }
+        link = load(w, p, ROW_LINKS, link - 1);
+    }
+    0
+}
+
+// Raw rows whose index is next are written.
+fn write_raw(w: &mut [u32], p: &[usize])
+    requires { ⌜ On (now p) (length (now w)) × RowRoom (now p) × RawsReadyIn (now p) (store (now p) (now w)) × RowWordsIn (now p) (store (now p) (now w)) ⌝ }
+    ensures { λ _. ⌜ WroteRaws (now (p .entry)) (store (now (p .entry)) (now (w .entry))) (store (now (p .entry)) (now (w .exit))) ⌝ }
+{
+    let mut rows = load(w, p, COUNTS, ROW_COUNT);
+    let mut written = load(w, p, COUNTS, WRITTEN_COUNT);
+    while raw_index(w, p, written) == rows {
+        rows += 1;
+        written += 1;
+    }
+    save(w, p, COUNTS, ROW_COUNT, rows);
+    save(w, p, COUNTS, WRITTEN_COUNT, written);
+}
+
+// Node k is the next inline one.
+fn add_inline(w: &mut [u32], p: &[usize], k: usize, hash: usize)
+    requires { ⌜ On (now p) (length (now w)) × RowRoom (now p) × (inlineCount (store (now p) (now w)) < size (now p) INDEXES) × IsWord k × IsWord hash ⌝ }
+    ensures { λ _. ⌜ store (now (p .entry)) (now (w .exit)) ≡ withInline (now (p .entry)) k hash (store (now (p .entry)) (now (w .entry))) ⌝ }
+{
+    let i = next_count(w, p, INLINE_COUNT);
+    save(w, p, INLINE, i, k);
+    push_link(w, p, ROW_HEADS, hash, i);
+}
+
+// Node k takes index `rows`, the next one.
+fn take_next(w: &mut [u32], p: &[usize], k: usize, hash: usize, rows: usize)
+    requires { ⌜ On (now p) (length (now w)) × RowRoom (now p) × KidsIn (now p) (store (now p) (now w)) × IsBootstrapIn (now p) (store (now p) (now w)) k × (inlineCount (store (now p) (now w)) < size (now p) INDEXES) × IsWord k × IsWord hash × (rows < 65535) ⌝ }
+    ensures { λ _. ⌜ store (now (p .entry)) (now (w .exit)) ≡ withIndex (now (p .entry)) k hash rows (store (now (p .entry)) (now (w .entry))) ⌝ }
+{
+    set_index(w, p, k, rows + 1);
+    add_inline(w, p, k, hash);
+    save(w, p, COUNTS, ROW_COUNT, rows + 1);
+}
