@@ -5,3 +5,5 @@ pub mod Finding
 pub mod Staying
 pub mod Writing
 pub mod Taking
+pub mod Sharing
+pub mod Indexing

@@ -7,11 +7,13 @@ use lib.Dec.{eqb}
 use lib.ListN.{getD, set}
 use lib.Seq.{getD-set-other}
 use borrow.Author.Tests.{eqb-true, eqb-false}
+use Rattle.definition.specs.Basics.{every}
 use Rattle.definition.specs.Building.{Rows}
 use Rattle.interner.specs.Nodes.{nodeCount}
 use Rattle.raws.specs.Raws.{rawCount, heldCount}
 use Rattle.store.specs.Store.{Store, among, Kept}
 use Rattle.store.specs.Regions.{COUNTS, MARKS, GIVEN, INDEXES, ROW-HEADS, ROW-LINKS, FIRSTS, SIZES, CHILDREN, RAW-KEYS, RAW-ENTRIES, ORDER, NODES, INLINE, ROW-COUNT, WRITTEN-COUNT, INLINE-COUNT, NODE-COUNT, RAW-COUNT, HELD-COUNT}
+use Rattle.store.proofs.Keeping.{kept-more}
 use Rattle.store.proofs.Walking.{both}
 use Rattle.rows.specs.Rowed.{Base, RowWords, RowWordsIn, Rowed, RowedIn, baseIn, rowCount, writtenCount, inlineCount, SameBut, written, KidsIn, RawsReadyIn}
 
@@ -22,6 +24,13 @@ same-set l xs ys i x a g c f = ways (eqb c i) refl
     ways : (b : Bool) → eqb c i ≡ b → getD (set ys i x) c 0 ≡ getD xs c 0
     ways true e = absurd (both (subst (λ (y : ℕ). among y l ≡ true) (sym (eqb-true c i e)) a) f)
     ways false e = getD-set-other ys i c x 0 (eqb-false c i e) ∙ g c f
+
+-- fewer counters are written
+pub same-more : (l m xs ys : List ℕ) → every (λ x. among x m) l ≡ true → SameBut l xs ys → SameBut m xs ys
+same-more l m xs ys e g c f =
+    ap
+    (λ (z : List ℕ). getD z 0 0)
+    (kept-more l m (λ c. getD xs c 0 ∷ []) (λ c. getD ys c 0 ∷ []) e (λ c f. ap (λ (z : ℕ). z ∷ []) (g c f)) c f)
 
 abbrev pub counters : List ℕ
 counters = ROW-COUNT ∷ WRITTEN-COUNT ∷ INLINE-COUNT ∷ []

@@ -192,3 +192,32 @@ fn take_next(w: &mut [u32], p: &[usize], k: usize, hash: usize, rows: usize)
     add_inline(w, p, k, hash);
     save(w, p, COUNTS, ROW_COUNT, rows + 1);
 }
+
+// The row of node k, which no inline one has, takes the next index, 0, or 17.
+fn take_index(w: &mut [u32], p: &[usize], k: usize, hash: usize) -> usize
+    requires { ⌜ On (now p) (length (now w)) × RowRoom (now p) × KidsIn (now p) (store (now p) (now w)) × RawsReadyIn (now p) (store (now p) (now w)) × RowWordsIn (now p) (store (now p) (now w)) × IsBootstrapIn (now p) (store (now p) (now w)) k × NewRow (store (now p) (now w)) k × (hash ≡ hashRow (rowIn (store (now p) (now w)) k)) × IsWord hash ⌝ }
+    ensures { λ r. ⌜ Indexed (λ rows. takeIndex (rowIn (store (now (p .entry)) (now (w .entry))) k) (rows .inline) (writeRaw (rows .written) (rows .waiting))) (now (p .entry)) k (store (now (p .entry)) (now (w .entry))) (store (now (p .entry)) (now (w .exit))) r ⌝ }
+{
+    write_raw(w, p);
+    let rows = load(w, p, COUNTS, ROW_COUNT);
+    if 65535 <= rows {
+        return 17;
+    }
+    take_next(w, p, k, hash, rows);
+    0
+}
+
+// Bootstrap node k, whose children have slots, has an index from then on, 0, or 17: `rowIndex`.
+pub fn row_index(w: &mut [u32], p: &[usize], k: usize) -> usize
+    requires { ⌜ On (now p) (length (now w)) × RowRoom (now p) × KidsIn (now p) (store (now p) (now w)) × RawsReadyIn (now p) (store (now p) (now w)) × RowWordsIn (now p) (store (now p) (now w)) × IsBootstrapIn (now p) (store (now p) (now w)) k ⌝ }
+    ensures { λ r. ⌜ Indexed (rowIndex (rowIn (store (now (p .entry)) (now (w .entry))) k)) (now (p .entry)) k (store (now (p .entry)) (now (w .entry))) (store (now (p .entry)) (now (w .exit))) r ⌝ }
+{
+    let hash = hash_row(w, p, k);
+    let link = find_row(w, p, k, hash);
+    if link == 0 {
+        return take_index(w, p, k, hash);
+    }
+    let shared = index_of(w, p, load(w, p, INLINE, link - 1));
+    set_index(w, p, k, shared);
+    0
+}
