@@ -7,3 +7,6 @@ pub mod Writing
 pub mod Taking
 pub mod Sharing
 pub mod Indexing
+pub mod Holes
+pub mod Ending
+pub mod Numbers

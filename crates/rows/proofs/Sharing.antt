@@ -94,7 +94,7 @@ module _
       }
 
   pub words-still : RowWords b indexes′ inline heads links count wrote n
-  words-still = record { inlined = inlined-still; few = words .few; low = words .low; ahead = words .ahead }
+  words-still = record { inlined = inlined-still; few = words .few; low = words .low; behind = words .behind; ahead = words .ahead }
 
   pub rows-still : (rows : Rows) → Rowed b indexes inline heads links count wrote n rows → Rowed b indexes′ inline heads links count wrote n rows
   rows-still rows r =
@@ -103,6 +103,7 @@ module _
         items = r .items ∙ sym items-same;
         waiting = r .waiting;
         written = r .written;
+        inlines = λ i h. rw (word-old i h) (r .inlines i h);
         stands =
             λ i h.
             ⊎-elim

@@ -155,6 +155,7 @@ module _
             inlined = inlined-more;
             few = omega arith;
             low = words .low;
+            behind = λ i l. omega (arith, words .behind i l);
             ahead = λ i a l. omega (arith, stop i a l);
           }
 
@@ -171,6 +172,16 @@ module _
             items = sym (items-more ∙ ap (λ x. (b .row e, x) ∷ backwards (itemOf b indexes inline) n) (sym (r .written)) ∙ ap (λ l. (b .row e, length (rows .written)) ∷ l) (sym (r .items)));
             waiting = r .waiting;
             written = length-append (rows .written) (b .row e ∷ []) ∙ omega (arith, r .written);
+            inlines =
+                λ j h.
+                ⊎-elim
+                (λ (l : j < n).
+                rw (entry-old j l, word-old j l) (found-append (rows .written) (b .row e ∷ []) _ _ (r .inlines j l)))
+                (λ (l : n ≤ j).
+                let z : j ≡ n = omega arith in
+                let y : count + 1 - 1 ≡ length (rows .written) = omega (arith, r .written) in
+                rw (z, entry-new, word-new, y) (found-seam (rows .written) (b .row e) []))
+                (lt-or j n);
             stands =
                 λ i h.
                 ⊎-elim

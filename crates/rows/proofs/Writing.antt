@@ -41,7 +41,14 @@ pub rowed-same :
     rows′ .written ≡ rows .written → rows′ .waiting ≡ rows .waiting → rows′ .inline ≡ rows .inline →
     Rowed b indexes inline heads links count wrote n rows → Rowed b indexes inline heads links count wrote n rows′
 rowed-same b indexes inline heads links count wrote n rows rows′ w a l g =
-    record { words = g .words; items = l ∙ g .items; waiting = a ∙ g .waiting; written = ap length w ∙ g .written; stands = λ i h. rw w (g .stands i h) }
+    record {
+      words = g .words;
+      items = l ∙ g .items;
+      waiting = a ∙ g .waiting;
+      written = ap length w ∙ g .written;
+      inlines = λ j h. rw w (g .inlines j h);
+      stands = λ i h. rw w (g .stands i h);
+    }
 
 module _ (b : Base) (indexes inline heads links : List ℕ) (n : ℕ) where
   abbrev Words : ℕ → ℕ → Type 0
@@ -66,6 +73,12 @@ module _ (b : Base) (indexes inline heads links : List ℕ) (n : ℕ) where
           inlined = inlined-longer b indexes inline heads links count (count + 1) n (omega arith) (g .inlined);
           few = omega arith;
           low = omega arith;
+          behind =
+              λ i l.
+              ⊎-elim
+              (λ (h : i < wrote). omega (arith, g .behind i h))
+              (λ (h : wrote ≤ i). let z : i ≡ wrote = omega arith in rw z (omega arith))
+              (lt-or i wrote);
           ahead = λ i a l. omega (arith, rise wrote i (omega arith) l);
         }
 
@@ -80,6 +93,7 @@ module _ (b : Base) (indexes inline heads links : List ℕ) (n : ℕ) where
           items = g .items;
           waiting = refl;
           written = length-append (rows .written) (b .raw wrote .1 ∷ []) ∙ omega (arith, g .written);
+          inlines = λ j h. found-append (rows .written) (b .raw wrote .1 ∷ []) _ _ (g .inlines j h);
           stands =
               λ i h.
               ⊎-elim

@@ -87,6 +87,7 @@ pub record RowWords (b : Base) (indexes inline heads links : List ℕ) (count wr
   pub inlined : Inlined b indexes inline heads links count n
   pub few : count ≤ 65535
   pub low : wrote ≤ b .raws
+  pub behind : (i : ℕ) → i < wrote → b .raw i .0 < count
   pub ahead : (i : ℕ) → wrote ≤ i → i < b .raws → count ≤ b .raw i .0
 
 -- a row that is written is an inline one or a raw one with this index
@@ -101,6 +102,7 @@ pub record Rowed (b : Base) (indexes inline heads links : List ℕ) (count wrote
   pub items : rows .inline ≡ backwards (itemOf b indexes inline) n
   pub waiting : rows .waiting ≡ from (b .raw) wrote (b .raws - wrote)
   pub written : length (rows .written) ≡ count
+  pub inlines : (j : ℕ) → j < n → getElem? (rows .written) (wordOf b indexes (entryOf b inline j) - 1) ≡ some (b .row (entryOf b inline j))
   pub stands : (i : ℕ) → i < count → RowStands b indexes inline wrote n (rows .written) i
 
 -- THE SAME over the store
@@ -174,6 +176,7 @@ pub record RowRoom (p : List ℕ) : Type 0 where
   pub entries : size p MARKS ≤ 131072
   pub links : size p INDEXES ≤ size p ROW-LINKS
   pub inline : size p INDEXES ≤ size p INLINE
+  pub given : size p MARKS ≤ size p GIVEN
   pub firsts : size p MARKS ≤ size p FIRSTS
   pub sizes : size p MARKS ≤ size p SIZES
   pub nodes : size p MARKS ≤ size p NODES
@@ -301,6 +304,6 @@ isBootstrap p t child = leb ENTRY child && leb (constantsOf p) (getD (t NODES) (
 unfoldable pub numberOf : List ℕ → Store → ℕ → ℕ
 numberOf p t child = elim (isBootstrap p t child) [ true ↦ indexWord p t (child - ENTRY) - 1 | false ↦ childSlot (t GIVEN) child ]
 
--- a child that is a bootstrap has an index
-abbrev pub HasNumber : List ℕ → Store → ℕ → Type 0
+-- a child that is a bootstrap has an index. It is shut, as Kids is
+unfoldable pub HasNumber : List ℕ → Store → ℕ → Type 0
 HasNumber p t child = isBootstrap p t child ≡ true → 0 < indexWord p t (child - ENTRY)

@@ -34,7 +34,7 @@ ghost use Rattle.definition.specs.Building.{Rows, writeRaw, takeIndex, rowIndex
 ghost use Rattle.interner.specs.Nodes.{nodeCount};
 ghost use Rattle.store.specs.Store.{size, store, put, On, IsWord, Read};
 ghost use Rattle.store.specs.Chains.{Sought};
-ghost use Rattle.store.specs.Regions.{GIVEN, INDEXES, FIRSTS, SIZES, NODES, INLINE};
+ghost use Rattle.store.specs.Regions.{MARKS, GIVEN, INDEXES, FIRSTS, SIZES, NODES, INLINE};
 ghost use Rattle.store.specs.Words.{ENTRY};
 ghost use Rattle.rows.specs.Rowed.{childSlot, hashRow, constantsOf, rawRows, rawIndex, rawNode, rowIn, RowRoom, KidsIn, RawsReadyIn, RowWordsIn, RowedIn, IsBootstrapIn, indexWord, inlineCount, Nth, Reached, WroteRaws, withInline, withIndex, NewRow, Indexed, inlineIndex, InTable, RowNode, tableOf, isBootstrap, numberOf, HasNumber};
 
@@ -220,4 +220,76 @@ pub fn row_index(w: &mut [u32], p: &[usize], k: usize) -> usize
     let shared = index_of(w, p, load(w, p, INLINE, link - 1));
     set_index(w, p, k, shared);
     0
+}
+
+// The node that entry e became.
+fn node_of(w: &[u32], p: &[usize], e: usize) -> usize
+    requires { ⌜ On (now p) (length (now w)) × (e < size (now p) MARKS) × (2 ≤ getD (store (now p) (now w) MARKS) e 0) ⌝ }
+    ensures { λ r. ⌜ r ≡ getD (store (now (p .entry)) (now (w .entry)) MARKS) e 0 - 2 ⌝ }
+{
+    load(w, p, MARKS, e) - DONE
+}
+
+// The node of raw bootstrap i by rising index.
+pub fn raw_row(w: &[u32], p: &[usize], i: usize) -> usize
+    requires { ⌜ On (now p) (length (now w)) × RowRoom (now p) × RawsReadyIn (now p) (store (now p) (now w)) × (i < rawRows (store (now p) (now w))) ⌝ }
+    ensures { λ r. ⌜ (r ≡ rawNode (store (now (p .entry)) (now (w .entry))) i) × (r < nodeCount (store (now (p .entry)) (now (w .entry)))) ⌝ }
+{
+    node_of(w, p, raw_entry(w, p, load(w, p, COUNTS, HELD_COUNT) + i))
+}
+
+// A child is a bootstrap node.
+pub fn is_bootstrap(w: &[u32], p: &[usize], child: usize) -> bool
+    requires { ⌜ On (now p) (length (now w)) × RowRoom (now p) × KidsIn (now p) (store (now p) (now w)) × (child < ENTRY + nodeCount (store (now p) (now w))) ⌝ }
+    ensures { λ r. ⌜ r ≡ isBootstrap (now (p .entry)) (store (now (p .entry)) (now (w .entry))) child ⌝ }
+{
+    if child < ENTRY {
+        return false;
+    }
+    constants(p) <= load(w, p, NODES, child - ENTRY)
+}
+
+// The number of a child that has one: a bootstrap's index, or a slot.
+pub fn child_number(w: &[u32], p: &[usize], child: usize) -> usize
+    requires { ⌜ On (now p) (length (now w)) × RowRoom (now p) × KidsIn (now p) (store (now p) (now w)) × (child < ENTRY + nodeCount (store (now p) (now w))) × HasNumber (now p) (store (now p) (now w)) child ⌝ }
+    ensures { λ r. ⌜ r ≡ numberOf (now (p .entry)) (store (now (p .entry)) (now (w .entry))) child ⌝ }
+{
+    if is_bootstrap(w, p, child) {
+        return index_of(w, p, child - ENTRY) - 1;
+    }
+    child_slot(w, p, child)
+}
+
+// How many rows the table has, once its holes are filled.
+pub fn row_count(w: &[u32], p: &[usize]) -> usize
+    requires { ⌜ On (now p) (length (now w)) × RowRoom (now p) × RawsReadyIn (now p) (store (now p) (now w)) ⌝ }
+    ensures { λ r. ⌜ ((rows : Rows) → RowedIn (now (p .entry)) rows (store (now (p .entry)) (now (w .entry))) → r ≡ length (tableOf rows)) ⌝ }
+{
+    let n = raw_rows(w, p);
+    if load(w, p, COUNTS, WRITTEN_COUNT) < n {
+        return raw_index(w, p, n - 1) + 1;
+    }
+    load(w, p, COUNTS, ROW_COUNT)
+}
+
+// The index of inline row i; past every index where there is none.
+pub fn inline_index(w: &[u32], p: &[usize], i: usize) -> usize
+    requires { ⌜ On (now p) (length (now w)) × RowRoom (now p) × KidsIn (now p) (store (now p) (now w)) × RowWordsIn (now p) (store (now p) (now w)) ⌝ }
+    ensures { λ r. ⌜ Nth (inlineIndex (now (p .entry)) (store (now (p .entry)) (now (w .entry)))) (inlineCount (store (now (p .entry)) (now (w .entry)))) i r ⌝ }
+{
+    if load(w, p, COUNTS, INLINE_COUNT) <= i {
+        return PAST;
+    }
+    index_of(w, p, load(w, p, INLINE, i)) - 1
+}
+
+// The node whose row stands at an index, `inline` inline and `raws` raw indexes being below it.
+pub fn row_node(w: &[u32], p: &[usize], index: usize, inline: usize, raws: usize) -> usize
+    requires { ⌜ On (now p) (length (now w)) × RowRoom (now p) × KidsIn (now p) (store (now p) (now w)) × RawsReadyIn (now p) (store (now p) (now w)) × RowWordsIn (now p) (store (now p) (now w)) × InTable (now p) (store (now p) (now w)) index × Reached (inlineIndex (now p) (store (now p) (now w))) (inlineCount (store (now p) (now w))) index inline × Reached (rawIndex (store (now p) (now w))) (rawRows (store (now p) (now w))) index raws ⌝ }
+    ensures { λ r. ⌜ RowNode (now (p .entry)) (store (now (p .entry)) (now (w .entry))) index r × (r < nodeCount (store (now (p .entry)) (now (w .entry)))) ⌝ }
+{
+    if inline_index(w, p, inline) == index {
+        return load(w, p, INLINE, inline);
+    }
+    raw_row(w, p, raws)
 }
