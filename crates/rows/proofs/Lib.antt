@@ -10,3 +10,5 @@ pub mod Indexing
 pub mod Holes
 pub mod Ending
 pub mod Numbers
+pub mod Starting
+pub mod Asking
