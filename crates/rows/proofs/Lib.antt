@@ -12,3 +12,4 @@ pub mod Ending
 pub mod Numbers
 pub mod Starting
 pub mod Asking
+pub mod Readying

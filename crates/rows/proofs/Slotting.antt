@@ -26,7 +26,7 @@ pub slot-node : (given : List ℕ) (child x : ℕ) → ENTRY ≤ child → x ≡
 unfolding childSlot
 slot-node given child x h e = rw (le-ltb child ENTRY h, childSlot) e
 
-map-from : {A B : Type 0} (g : A → B) (f : ℕ → A) (i n : ℕ) → map g (from f i n) ≡ from (λ j. g (f j)) i n
+pub map-from : {A B : Type 0} (g : A → B) (f : ℕ → A) (i n : ℕ) → map g (from f i n) ≡ from (λ j. g (f j)) i n
 unfolding from
 map-from g f i zero = refl
 map-from g f i (suc n) = rw (map-from g f (suc i) n)
