@@ -1,27 +1,30 @@
 -- A bootstrap that has an index: asked again it has the same, it is small, and it stays whatever slots other nodes are given. Assumes nothing.
-use mathlib.Core.List.{List, [], _∷_}
-use mathlib.Core.Logic.{_⊎_, inl, inr, ⊎-elim}
-use mathlib.Core.Option.{Option, none, some}
-use mathlib.Core.Path.{_≡_, refl, sym, ap, subst, _∙_}
+use mathlib.Core.Bool.{Bool, true, false}
+use mathlib.Core.List.{List}
+use mathlib.Core.Logic.{inl, inr, ⊎-elim}
+use mathlib.Core.Option.{some}
+use mathlib.Core.Path.{_≡_, refl, sym, ap, _∙_}
 use Prim.Native.Nat.{ℕ, zero, suc, _+_, _-_, _≤_, _<_}
 use native.Mathlib.Omega.{arith}
 use lib.Dec.{eqb}
 use lib.ListN.{length, getD, getElem?}
 use Rattle.definition.specs.Basics.{good, from}
-use Rattle.definition.specs.Building.{Row, Rows, indexOf, rowIndex}
+use Rattle.definition.specs.Building.{Rows, indexOf, rowIndex}
 use Rattle.interner.specs.Nodes.{nodeCount}
 use Rattle.facts.specs.Lists.{Among}
 use Rattle.facts.proofs.Lists.{none≢some, some-inj}
 use Rattle.facts.proofs.Chunks.{from-same}
 use Rattle.laws.proofs.building.ChildNumbers.{indexOf-there}
 use Rattle.laws.proofs.building.RowsThatOccur.{row-old}
-use Rattle.store.specs.Store.{Store}
+use Rattle.store.specs.Store.{Store, size}
+use Rattle.store.specs.Words.{ENTRY}
 use Rattle.store.specs.Chains.{headOf, Chains}
-use Rattle.store.specs.Regions.{INDEXES, ROW-HEADS, ROW-LINKS, NODES, INLINE}
+use Rattle.store.specs.Regions.{GIVEN, INDEXES, ROW-HEADS, ROW-LINKS, NODES, INLINE}
 use Rattle.store.proofs.Stores.{lt-or, eq-or}
 use Rattle.store.proofs.Walking.{last-ext}
-use Rattle.rows.specs.Rowed.{childSlot, rowAt, hashRow, backwards, Base, entryOf, wordOf, itemOf, IsBootstrap, Inlined, RowWords, Rowed, constantsOf, rowCount, writtenCount, inlineCount, rawRows, rawIndex, rawNode, entryRow, rowIn, baseIn, RowWordsIn, RowedIn, IsBootstrapIn, indexWord, Reached, Nth}
+use Rattle.rows.specs.Rowed.{childSlot, rowAt, hashRow, backwards, Base, entryOf, wordOf, itemOf, Inlined, RowWords, Rowed, constantsOf, rowCount, writtenCount, inlineCount, rawRows, rawIndex, rawNode, entryRow, rowIn, baseIn, RowWordsIn, RowedIn, IsBootstrapIn, indexWord, Reached, Nth, RowRoom, KidsIn, isBootstrap, numberOf, HasNumber}
 use Rattle.rows.proofs.Listing.{backwards-same}
+use Rattle.rows.proofs.Numbers.{boot-is, number-there, number-boot, number-slot}
 use Rattle.rows.proofs.Slotting.{slotAt, row-from}
 
 -- an item of a list from the last on
@@ -50,6 +53,20 @@ module _ (p : List ℕ) (t : Store) (k : ℕ) (is : IsBootstrapIn p t k) (there 
       let a = indexOf-there (rowIn t k) _ (indexWord p t k - 1) (words .inlined .has _ (is .behind) there) in
       let (j, l, e) = among-backwards _ _ _ a in
       omega (arith, ap (λ x. x .1) e, words .inlined .high j l, words .inlined .low j l)
+
+-- the number of a child fits two bytes, if its slot does
+pub number-small :
+    (p : List ℕ) (t : Store) (child : ℕ) → RowRoom p → KidsIn p t → child < ENTRY + nodeCount t → length (t INDEXES) ≡ size p INDEXES → RowWordsIn p t →
+    HasNumber p t child → (isBootstrap p t child ≡ false → childSlot (t GIVEN) child < 65536) → numberOf p t child < 65536
+number-small p t child room kids low long words has slot = ways (isBootstrap p t child) refl
+  where
+    ways : (b : Bool) → isBootstrap p t child ≡ b → numberOf p t child < 65536
+    ways true e =
+        let is = boot-is p t child true (sym e) refl room kids low long in
+        let there = number-there p t child true (sym e) refl has in
+        rw (← number-boot p t child true (sym e) refl (indexWord p t (child - ENTRY)) refl)
+        (omega (arith, index-small p t (child - ENTRY) is there words, words .few))
+    ways false e = rw (← number-slot p t child false (sym e) refl (childSlot (t GIVEN) child) refl) (slot e)
 
 -- REACHED: how many of n rising indexes are below one
 

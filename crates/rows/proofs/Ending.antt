@@ -1,19 +1,17 @@
 -- How many rows the table has at the end, and which node's row stands at an index. Assumes nothing.
-use mathlib.Core.Bool.{Bool, true, false, _&&_}
-use mathlib.Core.List.{List, []}
+use mathlib.Core.List.{List}
 use mathlib.Core.Logic.{⊎-elim}
 use mathlib.Core.Option.{some}
 use mathlib.Core.Path.{_≡_, refl, sym, ap, subst, _∙_}
 use Prim.Native.Nat.{ℕ, suc, _+_, _-_, _≤_, _<_}
 use native.Mathlib.Omega.{arith}
-use lib.Dec.{leb}
 use lib.ListN.{length, getD, getElem?}
 use Rattle.definition.specs.Basics.{from}
 use Rattle.definition.specs.Building.{Row, Rows, fillHoles}
 use Rattle.interner.specs.Nodes.{nodeCount}
 use Rattle.raws.specs.Raws.{heldCount}
 use Rattle.store.specs.Store.{Store, size}
-use Rattle.store.specs.Regions.{MARKS, INDEXES, RAW-ENTRIES, ORDER, INLINE}
+use Rattle.store.specs.Regions.{MARKS, RAW-ENTRIES, ORDER, INLINE}
 use Rattle.store.proofs.Stores.{lt-or, eq-or}
 use Rattle.rows.specs.Rowed.{rowCount, writtenCount, inlineCount, rawRows, rawIndex, rawNode, rawItem, rowIn, baseIn, RowWordsIn, RowedIn, RawsReadyIn, IsBootstrapIn, indexWord, inlineIndex, Nth, Reached, tableOf, InTable, RowNode}
 use Rattle.rows.proofs.Reading.{raw-at, raw-low, raw-rise}
@@ -239,3 +237,13 @@ module _
     node-raw k e =
         let (rows, g, h) = inside in
         rw e (λ rows′ g′. row-raw p t ready rows′ g′ index inline raws reached passed other (omega (arith, same-length rows rows′ g g′)))
+
+-- WHAT A CALLER SHOWS
+
+-- the indexes of inline rows rise
+pub inline-rise : (p : List ℕ) (t : Store) → RowWordsIn p t → (i j : ℕ) → i < j → j < inlineCount t → inlineIndex p t i < inlineIndex p t j
+inline-rise p t words i j a l = omega (arith, words .inlined .rise i j a l, words .inlined .low i (omega arith))
+
+pub in-table : (p : List ℕ) (t : Store) (rows : Rows) (index : ℕ) → RowedIn p rows t → index < length (tableOf rows) → InTable p t index
+unfolding InTable
+in-table p t rows index g h = (rows, g, h)

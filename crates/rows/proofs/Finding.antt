@@ -1,7 +1,7 @@
 -- A walk along a chain of inline rows finds the row of a node. Assumes nothing.
 use mathlib.Core.Bool.{Bool, true, false}
 use mathlib.Core.List.{List}
-use mathlib.Core.Path.{_≡_, refl, sym, ap, _∙_}
+use mathlib.Core.Path.{_≡_, sym, ap, _∙_}
 use Prim.Native.Nat.{ℕ, _-_, _≤_, _<_}
 use native.Mathlib.Omega.{arith}
 use lib.ListN.{length, getD}
@@ -13,7 +13,7 @@ use Rattle.store.specs.Chains.{headOf, Sought}
 use Rattle.store.specs.Regions.{INDEXES, ROW-HEADS, ROW-LINKS, INLINE}
 use Rattle.store.proofs.Hashing.{head-lt}
 use Rattle.store.proofs.Walking.{both, Down, walk-start, walk-on}
-use Rattle.rows.specs.Rowed.{hashRow, rowIn, inlineCount, RowWordsIn, IsBootstrapIn}
+use Rattle.rows.specs.Rowed.{hashRow, rowIn, inlineCount, RowWordsIn}
 use Rattle.rows.proofs.Listing.{few-room}
 
 -- inline item i has the row of node k

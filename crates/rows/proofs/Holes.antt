@@ -2,14 +2,14 @@
 use mathlib.Core.List.{List, [], _∷_, _++_}
 use mathlib.Core.Logic.{⊎-elim}
 use mathlib.Core.Option.{some}
-use mathlib.Core.Path.{_≡_, refl, sym, ap, subst, _∙_}
+use mathlib.Core.Path.{_≡_, refl, subst, _∙_}
 use Prim.Native.Nat.{ℕ, zero, suc, _+_, _-_, _≤_, _<_}
 use native.Mathlib.Omega.{arith}
 use lib.ListN.{length, getElem?, replicate}
 use Rattle.definition.specs.Basics.{from}
 use Rattle.definition.specs.Building.{Row, fillHoles}
 use Rattle.facts.proofs.Lists.{place-behind, found-append, length-filled}
-use Rattle.store.proofs.Stores.{lt-or, eq-or}
+use Rattle.store.proofs.Stores.{eq-or}
 
 -- what is written stays
 pub fill-keeps : (written : List Row) (waiting : List (ℕ × Row)) (i : ℕ) (row : Row) → getElem? written i ≡ some row → getElem? (fillHoles written waiting) i ≡ some row

@@ -1,24 +1,24 @@
 -- The row of a bootstrap node gets an index: a new one, that of a row that is the same, or none is left. Assumes nothing.
-use mathlib.Core.List.{List, [], _∷_, _++_}
+use mathlib.Core.List.{List, [], _∷_}
 use mathlib.Core.Option.{none, some}
 use mathlib.Core.Path.{_≡_, refl, sym, ap, subst, _∙_}
-use Prim.Native.Nat.{ℕ, suc, _+_, _-_, _≤_, _<_}
+use Prim.Native.Nat.{ℕ, _+_, _-_, _≤_, _<_}
 use native.Mathlib.Omega.{arith}
 use lib.ListN.{length, getD, set, length-set}
 use lib.Seq.{getD-set-same, getD-set-other}
-use Rattle.definition.specs.Basics.{Result, good, bad, every}
-use Rattle.definition.specs.Building.{Row, Rows, writeRaw, indexOf, takeIndex, rowIndex}
+use Rattle.definition.specs.Basics.{Result, good, every}
+use Rattle.definition.specs.Building.{Rows, writeRaw, indexOf, takeIndex, rowIndex}
 use Rattle.laws.proofs.building.RowsThatOccur.{row-old, row-new, take-some, take-none}
-use Rattle.store.specs.Store.{Store, size, put, among, Kept}
+use Rattle.store.specs.Store.{Store, size, put, Kept}
 use Rattle.store.specs.Chains.{headOf, Sought}
-use Rattle.store.specs.Regions.{COUNTS, MARKS, GIVEN, INDEXES, ROW-HEADS, ROW-LINKS, FIRSTS, SIZES, CHILDREN, NODES, INLINE, ROW-COUNT, WRITTEN-COUNT, INLINE-COUNT}
+use Rattle.store.specs.Regions.{COUNTS, GIVEN, INDEXES, ROW-HEADS, ROW-LINKS, FIRSTS, SIZES, CHILDREN, NODES, INLINE, ROW-COUNT, WRITTEN-COUNT, INLINE-COUNT}
 use Rattle.store.proofs.Hashing.{head-lt}
 use Rattle.store.proofs.Keeping.{kept-put, kept-then, kept-more}
-use Rattle.rows.specs.Rowed.{hashRow, backwards, itemOf, constantsOf, rowCount, writtenCount, inlineCount, rawRows, rawIndex, rowIn, baseIn, RowWordsIn, RowedIn, IsBootstrap, IsBootstrapIn, indexWord, KidsIn, SameBut, withRaws, WroteRaws, withIndex, NewRow, written, Indexed}
+use Rattle.rows.specs.Rowed.{hashRow, itemOf, constantsOf, rowCount, writtenCount, inlineCount, rowIn, baseIn, RowWordsIn, RowedIn, IsBootstrap, IsBootstrapIn, indexWord, KidsIn, SameBut, withRaws, WroteRaws, withIndex, NewRow, written, Indexed}
 use Rattle.rows.proofs.Listing.{index-none}
 use Rattle.rows.proofs.Staying.{counters, same-set, same-more, base-same, kids-stay, words-in, rowed-in}
-use Rattle.rows.proofs.Taking.{inline-room, words-more, wider, rows-more}
-use Rattle.rows.proofs.Sharing.{word-shared, index-shared, words-still, rows-still}
+use Rattle.rows.proofs.Taking.{inline-room, word-stays, words-more, wider, rows-more}
+use Rattle.rows.proofs.Sharing.{word-shared, index-shared, still-stays, words-still, rows-still}
 
 abbrev pub takes : Store → ℕ → Rows → Result ℕ (ℕ × Rows)
 takes t k rows = takeIndex (rowIn t k) (rows .inline) (writeRaw (rows .written) (rows .waiting))
@@ -36,6 +36,9 @@ module _ (p : List ℕ) (k : ℕ) (t u : Store) (w : WroteRaws p t u) where
 
   row-same : (x : ℕ) → rowIn u x ≡ rowIn t x
   row-same x = rw (w .kept NODES refl, w .kept GIVEN refl, w .kept CHILDREN refl, w .kept FIRSTS refl, w .kept SIZES refl)
+
+  indexes-same : (e : ℕ) → getD (u INDEXES) (e - constantsOf p) 0 ≡ getD (t INDEXES) (e - constantsOf p) 0
+  indexes-same e = ap (λ (l : List ℕ). getD l (e - constantsOf p) 0) (w .kept INDEXES refl)
 
   pub boot-stays : IsBootstrapIn p t k → IsBootstrapIn p u k
   boot-stays is = subst (λ b. IsBootstrap b (u INDEXES) k) (sym (base-same p t u kept-all same-all)) (rw (w .kept INDEXES refl) is)
@@ -65,6 +68,7 @@ module _ (p : List ℕ) (k : ℕ) (t u : Store) (w : WroteRaws p t u) where
             );
         words = w .words;
         index = λ z. absurd (omega arith);
+        stays = λ e low there. indexes-same e;
         counters = same-all;
         kept = kept-all;
       }
@@ -159,6 +163,11 @@ module _ (p : List ℕ) (k : ℕ) (t u : Store) (w : WroteRaws p t u) where
             refused = λ z. absurd (z refl);
             words = words-after;
             index = λ z. omega (arith, word-is);
+            stays =
+                λ e less there.
+                word-stays (baseIn p u) (u INDEXES) (u INLINE) (u ROW-HEADS) (u ROW-LINKS) (rowCount u) (inlineCount u) k (w .words .inlined) is fresh
+                space link (headOf (size p ROW-HEADS) hash) head-is head-there e less (rw (indexes-same e) there)
+                ∙ indexes-same e;
             counters = λ c other. same-after c other ∙ same-all c other;
             kept = kept-then written t u after kept-all kept-after;
           }
@@ -186,6 +195,7 @@ module _ (p : List ℕ) (k : ℕ) (t : Store) where
         refused = λ z. let (c, f) = g .refused z in (c, λ rows h. is-new rows h ∙ f rows h);
         words = g .words;
         index = g .index;
+        stays = g .stays;
         counters = g .counters;
         kept = g .kept;
       }
@@ -241,6 +251,9 @@ module _ (p : List ℕ) (k : ℕ) (t : Store) where
               words-still (baseIn p t) (t INDEXES) (t INLINE) (t ROW-HEADS) (t ROW-LINKS) (rowCount t) (writtenCount t) (inlineCount t) k
               words is (r - 1) old-there old-row;
           index = λ z. omega (arith, word-still, words .inlined .low (r - 1) old-there);
+          stays =
+              still-stays (baseIn p t) (t INDEXES) (t INLINE) (t ROW-HEADS) (t ROW-LINKS) (rowCount t) (writtenCount t) (inlineCount t) k
+              words is (r - 1) old-there old-row;
           counters = λ c other. refl;
           kept = kept-shares;
         }

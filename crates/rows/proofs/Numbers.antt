@@ -1,8 +1,8 @@
 -- The number of a child: a bootstrap's index, or a slot. Assumes nothing.
-use mathlib.Core.Bool.{Bool, true, false, _&&_}
+use mathlib.Core.Bool.{Bool, true, false}
 use mathlib.Core.List.{List}
 use mathlib.Core.Logic.{⊎-elim}
-use mathlib.Core.Path.{_≡_, refl, sym, ap, _∙_}
+use mathlib.Core.Path.{_≡_, sym, _∙_}
 use Prim.Native.Nat.{ℕ, _+_, _-_, _≤_, _<_}
 use native.Mathlib.Omega.{arith}
 use lib.Dec.{leb}
@@ -11,7 +11,7 @@ use borrow.Author.Tests.{leb-true, le-leb, lt-leb}
 use Rattle.facts.proofs.Lists.{both-true}
 use Rattle.interner.specs.Nodes.{nodeCount}
 use Rattle.store.specs.Store.{Store, size}
-use Rattle.store.specs.Regions.{MARKS, GIVEN, INDEXES, NODES}
+use Rattle.store.specs.Regions.{GIVEN, INDEXES, NODES}
 use Rattle.store.specs.Words.{ENTRY}
 use Rattle.store.proofs.Stores.{lt-or}
 use Rattle.rows.specs.Rowed.{childSlot, constantsOf, RowRoom, KidsIn, IsBootstrapIn, indexWord, isBootstrap, numberOf, HasNumber}
@@ -56,3 +56,8 @@ module _ (p : List ℕ) (t : Store) (child : ℕ) where
       (λ (h : child < ENTRY). omega arith)
       (λ (h : ENTRY ≤ child). omega (arith, kids-at p t room kids (child - ENTRY) (omega arith) .node, room .given))
       (lt-or child ENTRY)
+
+  -- what a caller shows
+  pub has-number : (isBootstrap p t child ≡ true → 0 < indexWord p t (child - ENTRY)) → HasNumber p t child
+  unfolding HasNumber
+  has-number h = h

@@ -4,10 +4,10 @@ use mathlib.Core.Logic.{⊎-elim}
 use mathlib.Core.Path.{_≡_, refl, sym, ap, subst, _∙_}
 use Prim.Native.Nat.{ℕ, zero, suc, _+_, _-_, _≤_, _<_}
 use native.Mathlib.Omega.{arith}
-use lib.ListN.{length, getD}
+use lib.ListN.{getD}
 use Rattle.interner.specs.Nodes.{nodeCount}
 use Rattle.raws.specs.Raws.{rawCount, heldCount}
-use Rattle.store.specs.Store.{Store, size, store, On, IsWord}
+use Rattle.store.specs.Store.{Store, size, store, On}
 use Rattle.store.specs.Regions.{COUNTS, MARKS, GIVEN, INDEXES, FIRSTS, SIZES, CHILDREN, RAW-KEYS, RAW-ENTRIES, ORDER, NODES}
 use Rattle.store.specs.Words.{ENTRY}
 use Rattle.store.proofs.Stores.{lt-or, length-store, in-words}

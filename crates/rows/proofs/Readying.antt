@@ -1,7 +1,7 @@
 -- The raw bootstraps stand by rising index, as the definition's table of them has them. Assumes nothing.
 use mathlib.Core.List.{List, [], _∷_, map}
 use mathlib.Core.Option.{some}
-use mathlib.Core.Path.{_≡_, refl, sym, ap, subst, _∙_}
+use mathlib.Core.Path.{_≡_, sym, ap, _∙_}
 use Prim.Native.Nat.{ℕ, zero, suc, _+_, _-_, _≤_, _<_}
 use native.Mathlib.Omega.{arith}
 use lib.ListN.{length, getD, take, drop, length-map}
@@ -11,14 +11,17 @@ use Rattle.definition.specs.Definitions.{Held}
 use Rattle.facts.specs.Lists.{Rising}
 use Rattle.facts.proofs.Chunks.{length-from}
 use Rattle.facts.proofs.Tables.{keys}
-use Rattle.interner.specs.Nodes.{nodeCount}
+use Rattle.facts.proofs.Lists.{inside-found}
+use Rattle.interner.specs.Nodes.{nodeCount, EnteredIn, NodesIn}
 use Rattle.raws.specs.Raws.{rawCount, heldCount, indexRow, RawsIn, Ordered, IndexItem, RawRoom}
 use Rattle.raws.proofs.Sweeping.{cut-long}
 use Rattle.store.specs.Store.{Store, size}
-use Rattle.store.specs.Regions.{MARKS, RAW-KEYS, RAW-ENTRIES, ORDER}
+use Rattle.store.specs.JobIn.{tableIn}
+use Rattle.store.specs.Regions.{MARKS, FIRSTS, SIZES, CHILDREN, RAW-KEYS, RAW-ENTRIES, ORDER, NODES, Work}
 use Rattle.store.specs.Words.{ENTRY, cut}
+use Rattle.store.proofs.Laying.{work-sizes, entries-counted}
 use Rattle.store.proofs.Stores.{from-get}
-use Rattle.rows.specs.Rowed.{rawRows, rawItem, rawIndex, RawAt, RawsReady, RawsReadyIn}
+use Rattle.rows.specs.Rowed.{rawRows, rawItem, rawIndex, Kids, KidsIn, RawAt, RawsReady, RawsReadyIn}
 use Rattle.rows.proofs.Slotting.{map-from}
 
 part-is : (l : List ℕ) (at n : ℕ) → at + n ≤ length l → take n (drop at l) ≡ cut l at n
@@ -106,3 +109,22 @@ module _
             item-at j l .low,
           ),
     )
+
+-- THE NODES and their children, once the entries are in and resolved
+
+pub kids-ready :
+    (s p : List ℕ) (t : Store) (h : ℕ) → Work s p → EnteredIn s t → NodesIn h s t →
+    ((k i : ℕ) → k < nodeCount t → i < getD (t SIZES) (getD (t NODES) k 0) 0 → getD (t CHILDREN) (getD (t FIRSTS) (getD (t NODES) k 0) 0 + i) 0 < ENTRY + nodeCount t) →
+    KidsIn p t
+unfolding Kids
+kids-ready s p t h work all g kids k less =
+    let z = work-sizes s p work in
+    let n = entries-counted s in
+    let (x, is) = inside-found (tableIn s) (getD (t NODES) k 0) (g .inside k less) in
+    let a = all .at (getD (t NODES) k 0) x is in
+    record {
+      node = omega (arith, g .few, z .marks);
+      entry = omega (arith, g .inside k less, z .marks);
+      room = omega (arith, a .room, z .children);
+      kids = λ i l. omega (arith, kids k i less l, g .few, z .given);
+    }

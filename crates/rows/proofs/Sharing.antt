@@ -1,13 +1,14 @@
 -- A row that an inline one has shares its index. Assumes nothing.
 use mathlib.Core.List.{List}
-use mathlib.Core.Logic.{_⊎_, inl, inr, ⊎-elim}
+use mathlib.Core.Logic.{inl, inr, ⊎-elim}
 use mathlib.Core.Option.{some}
-use mathlib.Core.Path.{_≡_, refl, sym, ap, _∙_}
+use mathlib.Core.Path.{_≡_, sym, ap, _∙_}
 use Prim.Native.Nat.{ℕ, _-_, _≤_, _<_}
 use native.Mathlib.Omega.{arith}
-use lib.ListN.{length, getD, set, length-set}
+use lib.ListN.{getD, set, length-set}
 use lib.Seq.{getD-set-same, getD-set-other}
 use Rattle.definition.specs.Building.{Rows, indexOf}
+use Rattle.facts.proofs.Lists.{some-inj}
 use Rattle.store.proofs.Stores.{lt-or, eq-or}
 use Rattle.rows.specs.Rowed.{backwards, Base, entryOf, wordOf, itemOf, IsBootstrap, Inlined, RowWords, Rowed}
 use Rattle.rows.proofs.Listing.{backwards-same, index-some, filled-keeps}
@@ -64,6 +65,16 @@ module _
 
   pub index-shared : indexOf (b .row e) (backwards (itemOf b indexes inline) n) ≡ some (shared - 1)
   index-shared = index-some (b .row e) (itemOf b indexes inline) n j less same (λ i a l q. g .unlike j i a l (same ∙ sym q))
+
+  pub still-stays : (d : ℕ) → b .constants ≤ d → 0 < wordOf b indexes d → wordOf b indexes′ d ≡ wordOf b indexes d
+  still-stays d low there =
+      ⊎-elim
+      (λ (z : d - b .constants ≡ e - b .constants).
+      let q : d ≡ e = omega (arith, is .behind) in
+      let y : shared - 1 ≡ wordOf b indexes d - 1 = some-inj (sym index-shared ∙ ap (λ (x : ℕ). indexOf (b .row x) (backwards (itemOf b indexes inline) n)) (sym q) ∙ g .has d low there) in
+      ap (λ (x : ℕ). wordOf b indexes′ x) q ∙ word-shared ∙ omega (arith, g .low j less))
+      (word-other d)
+      (eq-or (d - b .constants) (e - b .constants))
 
   has-still :
       (d : ℕ) → b .constants ≤ d → 0 < wordOf b indexes′ d →

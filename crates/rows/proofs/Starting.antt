@@ -1,21 +1,16 @@
--- The rows before any inline one, the room for them in the work of a job, and the raw bootstraps by rising index. Assumes nothing.
-use mathlib.Core.List.{List, [], _∷_, map}
-use mathlib.Core.Path.{_≡_, refl, sym, ap, subst, _∙_}
-use Prim.Native.Nat.{ℕ, suc, _+_, _-_, _≤_, _<_}
+-- The rows before any inline one, and the room for them in the work of a job. Assumes nothing.
+use mathlib.Core.List.{List, []}
+use mathlib.Core.Path.{_≡_, refl, sym, ap}
+use Prim.Native.Nat.{ℕ, _-_}
 use native.Mathlib.Omega.{arith}
-use lib.ListN.{length, getD}
+use lib.ListN.{getD}
 use Rattle.definition.specs.Basics.{from}
-use Rattle.definition.specs.Definitions.{Held}
 use Rattle.definition.specs.Building.{Rows}
-use Rattle.interner.specs.Nodes.{nodeCount}
-use Rattle.raws.specs.Raws.{rawCount, heldCount, RawsIn, Ordered, RawRoom}
-use Rattle.store.specs.Store.{Store, size}
-use Rattle.store.specs.Chains.{headOf}
-use Rattle.store.specs.Regions.{COUNTS, MARKS, INDEXES, ROW-HEADS, ROW-LINKS, RAW-KEYS, RAW-ENTRIES, ORDER, INLINE, Work}
-use Rattle.store.specs.Words.{ENTRY}
+use Rattle.store.specs.Store.{Store}
+use Rattle.store.specs.Regions.{INDEXES, ROW-HEADS, ROW-LINKS, INLINE, Work}
 use Rattle.store.proofs.Bounds.{work-small, work-heads}
 use Rattle.store.proofs.Laying.{work-sizes}
-use Rattle.rows.specs.Rowed.{backwards, Base, RowWords, Rowed, rowCount, writtenCount, inlineCount, rawRows, rawItem, baseIn, RowWordsIn, RowedIn, RowRoom, RawAt, RawsReady, RawsReadyIn}
+use Rattle.rows.specs.Rowed.{backwards, Base, RowWords, Rowed, rowCount, writtenCount, inlineCount, rawRows, baseIn, RowedIn, RowRoom}
 
 -- the work of a job has room
 pub row-room : (s p : List ℕ) → Work s p → RowRoom p

@@ -4,7 +4,7 @@ use mathlib.Core.List.{List, [], _∷_}
 use mathlib.Core.Path.{_≡_, refl, sym, ap, subst, _∙_}
 use Prim.Native.Nat.{ℕ}
 use lib.Dec.{eqb}
-use lib.ListN.{getD, set}
+use lib.ListN.{length, getD, set}
 use lib.Seq.{getD-set-other}
 use borrow.Author.Tests.{eqb-true, eqb-false}
 use Rattle.definition.specs.Basics.{every}
@@ -15,7 +15,7 @@ use Rattle.store.specs.Store.{Store, among, Kept}
 use Rattle.store.specs.Regions.{COUNTS, MARKS, GIVEN, INDEXES, ROW-HEADS, ROW-LINKS, FIRSTS, SIZES, CHILDREN, RAW-KEYS, RAW-ENTRIES, ORDER, NODES, INLINE, ROW-COUNT, WRITTEN-COUNT, INLINE-COUNT, NODE-COUNT, RAW-COUNT, HELD-COUNT}
 use Rattle.store.proofs.Keeping.{kept-more}
 use Rattle.store.proofs.Walking.{both}
-use Rattle.rows.specs.Rowed.{Base, RowWords, RowWordsIn, Rowed, RowedIn, baseIn, rowCount, writtenCount, inlineCount, SameBut, written, KidsIn, RawsReadyIn}
+use Rattle.rows.specs.Rowed.{RowWords, RowWordsIn, Rowed, RowedIn, baseIn, rowCount, writtenCount, inlineCount, SameBut, written, KidsIn, RawsReadyIn, rowIn, IsBootstrapIn}
 
 -- a counter that is written is among those that are
 pub same-set : (l xs ys : List ℕ) (i x : ℕ) → among i l ≡ true → SameBut l xs ys → SameBut l xs (set ys i x)
@@ -48,6 +48,17 @@ module _ (p : List ℕ) (t u : Store) (kept : Kept written t u) (same : SameBut 
   pub base-same : baseIn p u ≡ baseIn p t
   base-same =
       rw (nodes-same, raws-same, held-same, kept NODES refl, kept GIVEN refl, kept CHILDREN refl, kept FIRSTS refl, kept SIZES refl, kept ORDER refl, kept RAW-KEYS refl, kept RAW-ENTRIES refl, kept MARKS refl)
+
+  pub row-kept : (k : ℕ) → rowIn u k ≡ rowIn t k
+  row-kept k = rw (kept NODES refl, kept GIVEN refl, kept CHILDREN refl, kept FIRSTS refl, kept SIZES refl)
+
+  pub boot-kept : (k : ℕ) → length (u INDEXES) ≡ length (t INDEXES) → IsBootstrapIn p t k → IsBootstrapIn p u k
+  boot-kept k long is =
+      record {
+        made = rw nodes-same (is .made);
+        behind = rw (kept NODES refl) (is .behind);
+        inside = rw (kept NODES refl, long) (is .inside);
+      }
 
   pub kids-stay : KidsIn p t → KidsIn p u
   kids-stay h = rw (nodes-same, kept NODES refl, kept FIRSTS refl, kept SIZES refl, kept CHILDREN refl) h

@@ -1,19 +1,19 @@
 -- A row that no inline one has takes the next index. Assumes nothing.
 use mathlib.Core.List.{List, [], _∷_, _++_}
-use mathlib.Core.Logic.{_⊎_, inl, inr, ⊎-elim}
+use mathlib.Core.Logic.{inl, inr, ⊎-elim}
 use mathlib.Core.Option.{none, some}
-use mathlib.Core.Path.{_≡_, refl, sym, ap, subst, _∙_}
-use Prim.Native.Nat.{ℕ, suc, _+_, _-_, _≤_, _<_}
+use mathlib.Core.Path.{_≡_, refl, sym, ap, _∙_}
+use Prim.Native.Nat.{ℕ, _+_, _-_, _≤_, _<_}
 use native.Mathlib.Numerals.{add-one}
 use native.Mathlib.Omega.{arith}
-use lib.ListN.{length, getD, getElem?, set, length-append, length-set}
+use lib.ListN.{length, getD, set, length-append, length-set}
 use lib.Seq.{getD-set-same, getD-set-other}
-use Rattle.definition.specs.Building.{Row, Rows, indexOf}
+use Rattle.definition.specs.Building.{Rows, indexOf}
 use Rattle.facts.proofs.Lists.{none≢some, found-append, found-seam}
 use Rattle.store.specs.Chains.{headOf}
 use Rattle.store.proofs.Stores.{lt-or, eq-or}
 use Rattle.store.proofs.Walking.{chains-more}
-use Rattle.rows.specs.Rowed.{hashRow, backwards, filled, Base, entryOf, wordOf, itemOf, IsBootstrap, Inlined, RowWords, RowStands, Rowed}
+use Rattle.rows.specs.Rowed.{hashRow, backwards, Base, entryOf, wordOf, itemOf, IsBootstrap, Inlined, RowWords, Rowed}
 use Rattle.rows.proofs.Listing.{backwards-same, index-here, index-later, index-none, filled-more, filled-room}
 
 module _
@@ -62,6 +62,13 @@ module _
         word-other (entryOf b inline i) λ z.
         let q : entryOf b inline i ≡ e = omega (arith, g .nodes i l .behind, is .behind) in
         new i l (ap (b .row) q)
+
+    pub word-stays : (d : ℕ) → b .constants ≤ d → 0 < wordOf b indexes d → wordOf b indexes′ d ≡ wordOf b indexes d
+    word-stays d low there =
+        word-other d λ z.
+        let q : d ≡ e = omega (arith, is .behind) in
+        let y : wordOf b indexes d ≡ 0 = ap (λ (x : ℕ). wordOf b indexes x) q ∙ no-index in
+        omega arith
 
     item-old : (i : ℕ) → i < n → itemOf b indexes′ inline′ i ≡ itemOf b indexes inline i
     item-old i l = rw (entry-old i l, word-old i l)

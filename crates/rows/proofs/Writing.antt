@@ -1,21 +1,21 @@
 -- Raw rows whose index is next are written, one in each turn. Assumes nothing.
 use mathlib.Core.List.{List, [], _∷_, _++_}
-use mathlib.Core.Logic.{_⊎_, inl, inr, ⊎-elim}
-use mathlib.Core.Path.{_≡_, refl, sym, ap, subst, _∙_}
+use mathlib.Core.Logic.{inl, inr, ⊎-elim}
+use mathlib.Core.Path.{_≡_, refl, sym, ap, _∙_}
 use Prim.Native.Nat.{ℕ, suc, _+_, _-_, _≤_, _<_}
 use native.Mathlib.Numerals.{add-one}
 use native.Mathlib.Omega.{arith}
-use lib.ListN.{length, getD, getElem?, set, length-append, length-set}
+use lib.ListN.{length, set, length-append, length-set}
 use lib.Seq.{getD-set-same, getD-set-other}
 use Rattle.definition.specs.Basics.{every, from}
-use Rattle.definition.specs.Building.{Row, Rows, writeRaw}
+use Rattle.definition.specs.Building.{Rows, writeRaw}
 use Rattle.facts.proofs.Lists.{found-append, found-seam}
 use Rattle.laws.proofs.building.RowsThatOccur.{write-next, write-stop}
 use Rattle.store.specs.Store.{Store, put, Kept}
 use Rattle.store.specs.Regions.{COUNTS, INDEXES, ROW-HEADS, ROW-LINKS, INLINE, ROW-COUNT, WRITTEN-COUNT, INLINE-COUNT}
 use Rattle.store.proofs.Keeping.{kept-put, kept-more}
 use Rattle.store.proofs.Stores.{lt-or, eq-or}
-use Rattle.rows.specs.Rowed.{Base, Inlined, RowWords, RowStands, Rowed, rowCount, writtenCount, inlineCount, rawRows, rawIndex, baseIn, RowWordsIn, RowedIn, RawsReadyIn, Nth, withRaws, SameBut, WroteRaws, written}
+use Rattle.rows.specs.Rowed.{Base, Inlined, RowWords, Rowed, rowCount, writtenCount, inlineCount, rawRows, rawIndex, baseIn, RowWordsIn, RowedIn, RawsReadyIn, Nth, withRaws, SameBut, WroteRaws, written}
 use Rattle.rows.proofs.Reading.{raw-low, raw-rise}
 use Rattle.rows.proofs.Staying.{counters, same-set, base-same, words-in, rowed-in}
 

@@ -9,7 +9,7 @@ use Prim.Native.Nat.{ℕ, zero, suc, _+_, _-_, _≤_, _<_}
 use lib.Dec.{eqb, ltb, leb}
 use lib.ListN.{length, getD, getElem?}
 use Rattle.definition.specs.Basics.{Result, good, bad, from}
-use Rattle.definition.specs.Building.{Row, Rows, writeRaw, indexOf, takeIndex, rowIndex, fillHoles}
+use Rattle.definition.specs.Building.{Row, Rows, writeRaw, indexOf, fillHoles}
 use Rattle.interner.specs.Nodes.{hashWords, nodeCount}
 use Rattle.raws.specs.Raws.{rawCount, heldCount}
 use Rattle.store.specs.Store.{Store, size, put, among, Kept}
@@ -265,6 +265,10 @@ pub record Indexed (found : Rows → Result ℕ (ℕ × Rows)) (p : List ℕ) (k
   pub refused : (r ≡ 0 → ⊥) → (r ≡ 17) × ((rows : Rows) → RowedIn p rows t → found rows ≡ bad 17)
   pub words : RowWordsIn p u
   pub index : r ≡ 0 → 0 < indexWord p u k
+  -- a bootstrap that has an index keeps it
+  pub stays :
+      (e : ℕ) → constantsOf p ≤ e → 0 < getD (t INDEXES) (e - constantsOf p) 0 →
+      getD (u INDEXES) (e - constantsOf p) 0 ≡ getD (t INDEXES) (e - constantsOf p) 0
   pub counters : SameBut (ROW-COUNT ∷ WRITTEN-COUNT ∷ INLINE-COUNT ∷ []) (t COUNTS) (u COUNTS)
   pub kept : Kept written t u
 

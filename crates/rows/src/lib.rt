@@ -27,7 +27,7 @@ use store::next_count;
 use store::push_link;
 use store::save;
 ghost use mathlib.Core.Path.{_≡_};
-ghost use Prim.Native.Nat.{ℕ, _+_, _-_, _<_, _≤_};
+ghost use Prim.Native.Nat.{_+_, _-_, _<_, _≤_};
 ghost use lib.ListN.{length, getD};
 ghost use Rattle.definition.specs.Basics.{same};
 ghost use Rattle.definition.specs.Building.{Rows, writeRaw, takeIndex, rowIndex};

@@ -1,31 +1,22 @@
+-- `rows::add_inline` meets its contract. The stores in turn. Assumes nothing.
 use native.Mathlib.Omega.{arith}
 use Rattle.rows.proofs.Reading.{counter}
 use borrow.Author.Needs.{needs}
 use Rattle.rows.proofs.add_inline.Statement.{statement}
 use Rattle.rows.proofs.add_inline.Tie as tie
-use Rattle.rows.proofs.add_inline.Reads as reads
-use Rattle.rows.proofs.add_inline.Lts as lts
-use Rattle.store.proofs.next_count.Reads as next-count-reads
-use Rattle.store.proofs.push_link.Reads as push-link-reads
-use Rattle.store.proofs.save.Reads as save-reads
 
--- src/lib.rt:181:9
 next-count-requires : tie.Need-next-count-requires
 next-count-requires c κs = let a = c .before .before .before .args in let q = c .before .before .before .pre in (search needs, counter (a .p .now) (q .1) _ (omega arith), omega (arith, q .1 .few, q .2))
 
--- src/lib.rt:182:5
 save-requires : tie.Need-save-requires
 save-requires c κs = let q = c .before .before .before .before .before .before .before .pre in (search needs, omega (arith, c .before .before .before .next-count .ensures .0, q .1 .inline, q .2), q .3)
 
--- src/lib.rt:183:5
 push-link-requires : tie.Need-push-link-requires
 push-link-requires c κs = let q = c .before .before .before .before .before .before .before .before .before .before .before .pre in (search needs, q .1 .heads, q .4, omega (arith, c .before .before .before .before .before .before .before .next-count .ensures .0, q .1 .links, q .2), omega (arith, c .before .before .before .before .before .before .before .next-count .ensures .0, q .1 .few, q .2))
 
--- src/lib.rt:177:1
 same-length : tie.Need-same-length
 same-length c = search needs
 
--- src/lib.rt:177:1
 returns : tie.Need-returns
 returns c = rw (c .before .before .push-link .ensures, c .before .before .before .before .before .before .save .ensures, c .before .before .before .before .before .before .before .before .before .before .next-count .ensures .1, c .before .before .before .before .before .before .before .before .before .before .next-count .ensures .0)
 

@@ -1,23 +1,17 @@
+-- `rows::child_slot` meets its contract. A raw number is itself, a node has the slot that GIVEN has. Assumes nothing.
 use native.Mathlib.Omega.{arith}
 use Rattle.store.specs.Regions.{GIVEN}
 use Rattle.store.specs.Store.{store}
 use Rattle.rows.proofs.Slotting.{slot-raw, slot-node}
-use borrow.Author.Needs.{needs}
 use Rattle.rows.proofs.child_slot.Statement.{statement}
 use Rattle.rows.proofs.child_slot.Tie as tie
-use Rattle.rows.proofs.child_slot.Reads as reads
-use Rattle.rows.proofs.child_slot.Lts as lts
-use Rattle.store.proofs.load.Reads as load-reads
 
--- src/lib.rt:68:9
 load-requires : tie.Need-load-requires
 load-requires c κs = (c .before .before .before .pre .0, omega arith)
 
--- src/lib.rt:61:1
 returns : tie.Need-returns
 returns c = let a = c .before .before .before .args in (slot-raw (store (a .p .now) (a .w .now) GIVEN) (a .child) (c .if1 .taken), omega arith)
 
--- src/lib.rt:61:1
 returns-2 : tie.Need-returns-2
 returns-2 c = let a = c .before .before .before .before .args in (slot-node (store (a .p .now) (a .w .now) GIVEN) (a .child) (c .load .result) (c .before .if1 .left) (c .load .ensures .word), c .load .ensures .small)
 

@@ -1,16 +1,11 @@
+-- `rows::find_row` meets its contract. No row from the link on, along the chain, is the one sought. Assumes nothing.
 use native.Mathlib.Omega.{arith}
-use Rattle.store.specs.Regions.{INDEXES, ROW-HEADS, INLINE, ROW-LINKS}
-use Rattle.store.specs.Store.{store, size}
+use Rattle.store.specs.Regions.{INDEXES, ROW-HEADS}
+use Rattle.store.specs.Store.{store}
 use Rattle.store.proofs.Stores.{length-store}
 use Rattle.rows.proofs.Finding.{Looking, looking-start, looking-low, looking-node, looking-hit, looking-on, looking-less, looking-miss}
-use borrow.Author.Needs.{needs}
 use Rattle.rows.proofs.find_row.Statement.{statement}
 use Rattle.rows.proofs.find_row.Tie as tie
-use Rattle.rows.proofs.find_row.Reads as reads
-use Rattle.rows.proofs.find_row.Lts as lts
-use Rattle.rows.proofs.same_row.Reads as same-row-reads
-use Rattle.store.proofs.first_link.Reads as first-link-reads
-use Rattle.store.proofs.load.Reads as load-reads
 
 abbrev Inv-loop : tie.InvT-loop
 Inv-loop w p k hash link₀ link = Looking p (store p w) k link
@@ -18,47 +13,36 @@ Inv-loop w p k hash link₀ link = Looking p (store p w) k link
 abbrev μ-loop : tie.MeasureT-loop
 μ-loop w p k hash link₀ link = link
 
--- src/lib.rt:151:9
 first-link-requires : tie.Need-first-link-requires Inv-loop μ-loop
 first-link-requires c κs = let q = c .before .before .pre in (q .0, q .1 .heads, q .6)
 
--- src/lib.rt:152:5
 loop-holds : tie.Need-loop-holds Inv-loop μ-loop
 loop-holds c = let a = c .before .before .before .args in let q = c .before .before .before .pre in looking-start (a .p .now) (store (a .p .now) (a .w .now)) (a .k) (q .3) (a .hash) (c .first-link .result) (length-store (a .p .now) (a .w .now) ROW-HEADS) (q .1 .heads .two) (q .5) (c .first-link .ensures)
 
--- src/lib.rt:153:49
 sub-load : tie.Need-sub-load Inv-loop μ-loop
 sub-load c = omega arith
 
--- src/lib.rt:153:30
 load-requires : tie.Need-load-requires Inv-loop μ-loop
 load-requires c κs = let a = c .before .before .before .before .before .args in let q = c .before .before .before .before .before .pre in (q .0, omega (arith, looking-low (a .p .now) (store (a .p .now) (a .w .now)) (a .k) (q .3) (c .before .loop .link) (c .loop-test .taken) (c .before .loop .inv) (length-store (a .p .now) (a .w .now) INDEXES), q .1 .inline))
 
--- src/lib.rt:153:12
 same-row-requires : tie.Need-same-row-requires Inv-loop μ-loop
 same-row-requires c κs = let a = c .before .before .before .before .before .before .args in let q = c .before .before .before .before .before .before .pre in (q .0, q .1, q .2, q .4, looking-node (a .p .now) (store (a .p .now) (a .w .now)) (a .k) (q .3) (c .before .before .loop .link) (c .before .loop-test .taken) (c .before .before .loop .inv) (c .load .result) (c .load .ensures .word))
 
--- src/lib.rt:154:13
 returns : tie.Need-returns Inv-loop μ-loop
 returns c = let a = c .before .before .before .before .before .before .before .before .args in let q = c .before .before .before .before .before .before .before .before .pre in looking-hit (a .p .now) (store (a .p .now) (a .w .now)) (a .k) (q .3) (c .before .before .before .before .loop .link) (c .before .before .before .loop-test .taken) (c .before .before .before .before .loop .inv) (c .before .before .load .result) (c .before .before .load .ensures .word) (c .before .same-row .result) (c .before .same-row .ensures) (c .if1 .taken)
 
--- src/lib.rt:156:38
 sub-load-2 : tie.Need-sub-load-2 Inv-loop μ-loop
 sub-load-2 c = omega arith
 
--- src/lib.rt:156:9
 load-requires-2 : tie.Need-load-requires-2 Inv-loop μ-loop
 load-requires-2 c κs = let a = c .before .before .before .before .before .before .before .before .args in let q = c .before .before .before .before .before .before .before .before .pre in (q .0, omega (arith, looking-low (a .p .now) (store (a .p .now) (a .w .now)) (a .k) (q .3) (c .before .before .before .before .loop .link) (c .before .before .before .loop-test .taken) (c .before .before .before .before .loop .inv) (length-store (a .p .now) (a .w .now) INDEXES), q .1 .links))
 
--- src/lib.rt:152:5
 loop-less : tie.Need-loop-less Inv-loop μ-loop
 loop-less c = let a = c .before .before .before .before .before .before .before .before .before .args in let q = c .before .before .before .before .before .before .before .before .before .pre in looking-less (a .p .now) (store (a .p .now) (a .w .now)) (a .k) (q .3) (c .before .before .before .before .before .loop .link) (c .before .before .before .before .loop-test .taken) (c .before .before .before .before .before .loop .inv) (c .before .before .before .load .result) (c .before .before .before .load .ensures .word) (c .before .before .same-row .result) (c .before .before .same-row .ensures) (c .before .if1 .left) (c .load2 .result) (c .load2 .ensures .word)
 
--- src/lib.rt:152:5
 loop-again : tie.Need-loop-again Inv-loop μ-loop
 loop-again c = let a = c .before .before .before .before .before .before .before .before .before .args in let q = c .before .before .before .before .before .before .before .before .before .pre in looking-on (a .p .now) (store (a .p .now) (a .w .now)) (a .k) (q .3) (c .before .before .before .before .before .loop .link) (c .before .before .before .before .loop-test .taken) (c .before .before .before .before .before .loop .inv) (c .before .before .before .load .result) (c .before .before .before .load .ensures .word) (c .before .before .same-row .result) (c .before .before .same-row .ensures) (c .before .if1 .left) (c .load2 .result) (c .load2 .ensures .word)
 
--- src/lib.rt:147:1
 returns-2 : tie.Need-returns-2 Inv-loop μ-loop
 returns-2 c = let a = c .before .before .before .before .before .args in let q = c .before .before .before .before .before .pre in looking-miss (a .p .now) (store (a .p .now) (a .w .now)) (a .k) (q .3) (c .before .loop .link) (c .loop-test .left) (c .before .loop .inv)
 

@@ -1,31 +1,21 @@
-use native.Mathlib.Omega.{arith}
+-- `rows::index_of` meets its contract. By the places of bootstraps. Assumes nothing.
 use Rattle.store.specs.Store.{store}
 use Rattle.rows.proofs.Reading.{node-place, boot-behind, boot-place}
-use borrow.Author.Needs.{needs}
 use Rattle.rows.proofs.index_of.Statement.{statement}
 use Rattle.rows.proofs.index_of.Tie as tie
-use Rattle.rows.proofs.index_of.Reads as reads
-use Rattle.rows.proofs.index_of.Lts as lts
-use Rattle.store.proofs.constants.Reads as constants-reads
-use Rattle.store.proofs.load.Reads as load-reads
 
--- src/lib.rt:96:25
 load-requires : tie.Need-load-requires
 load-requires c κs = let a = c .before .before .args in let q = c .before .before .pre in (q .0, node-place (a .p .now) (store (a .p .now) (a .w .now)) (q .1) (q .2) (a .k) (q .3 .made))
 
--- src/lib.rt:96:48
 constants-requires : tie.Need-constants-requires
 constants-requires c κs = let q = c .before .before .before .pre in (q .0 .0, q .1 .indexes)
 
--- src/lib.rt:96:25
 sub-load : tie.Need-sub-load
 sub-load c = let a = c .before .before .before .before .args in let q = c .before .before .before .before .pre in boot-behind (a .p .now) (a .w .now) (q .1) (a .k) (q .3) (c .before .load .result) (c .constants .result) (c .before .load .ensures .word) (c .constants .ensures)
 
--- src/lib.rt:96:5
 load-requires-2 : tie.Need-load-requires-2
 load-requires-2 c κs = let a = c .before .before .before .before .args in let q = c .before .before .before .before .pre in (q .0, boot-place (a .p .now) (a .w .now) (q .1) (a .k) (q .3) (c .before .load .result) (c .constants .result) (c .before .load .ensures .word) (c .constants .ensures))
 
--- src/lib.rt:92:1
 returns : tie.Need-returns
 returns c = rw (← c .before .constants .ensures, ← c .before .before .load .ensures .word) (c .load2 .ensures .word, c .load2 .ensures .small)
 

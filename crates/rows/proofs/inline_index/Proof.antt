@@ -1,3 +1,4 @@
+-- `rows::inline_index` meets its contract. By the place of the item. Assumes nothing.
 use native.Mathlib.Omega.{arith}
 use Rattle.store.specs.Regions.{INDEXES}
 use Rattle.store.specs.Store.{store}
@@ -6,35 +7,24 @@ use Rattle.rows.specs.Rowed.{inlineCount}
 use Rattle.rows.proofs.Ending.{inline-past, inline-boot, inline-low, inline-there}
 use Rattle.rows.proofs.Listing.{few-room}
 use Rattle.rows.proofs.Reading.{counter}
-use borrow.Author.Needs.{needs}
 use Rattle.rows.proofs.inline_index.Statement.{statement}
 use Rattle.rows.proofs.inline_index.Tie as tie
-use Rattle.rows.proofs.inline_index.Reads as reads
-use Rattle.rows.proofs.inline_index.Lts as lts
-use Rattle.rows.proofs.index_of.Reads as index-of-reads
-use Rattle.store.proofs.load.Reads as load-reads
 
--- src/lib.rt:280:8
 load-requires : tie.Need-load-requires
 load-requires c κs = let a = c .before .before .args in let q = c .before .before .pre in (q .0, counter (a .p .now) (q .1) _ (omega arith))
 
--- src/lib.rt:281:9
 returns : tie.Need-returns
 returns c = let a = c .before .before .before .before .args in let q = c .before .before .before .before .pre in inline-past (a .p .now) (store (a .p .now) (a .w .now)) (q .3) (a .i) (c .before .load .result) (c .before .load .ensures .word) (c .if1 .taken)
 
--- src/lib.rt:283:20
 load-requires-2 : tie.Need-load-requires-2
 load-requires-2 c κs = let a = c .before .before .before .before .args in let q = c .before .before .before .before .pre in let t = store (a .p .now) (a .w .now) in (q .0, omega (arith, c .before .load .ensures .word, few-room (t INDEXES) (inlineCount t) (q .3 .inlined .few), length-store (a .p .now) (a .w .now) INDEXES, q .1 .inline))
 
--- src/lib.rt:283:5
 index-of-requires : tie.Need-index-of-requires
 index-of-requires c κs = let a = c .before .before .before .before .before .args in let q = c .before .before .before .before .before .pre in (q .0, q .1, q .2, inline-boot (a .p .now) (store (a .p .now) (a .w .now)) (q .3) (a .i) (c .before .before .load .result) (c .before .before .load .ensures .word) (c .before .if1 .left) (c .load2 .result) (c .load2 .ensures .word))
 
--- src/lib.rt:283:5
 sub-result : tie.Need-sub-result
 sub-result c = let a = c .before .before .before .before .before .before .args in let q = c .before .before .before .before .before .before .pre in inline-low (a .p .now) (store (a .p .now) (a .w .now)) (q .3) (a .i) (c .before .before .before .load .result) (c .before .before .before .load .ensures .word) (c .before .before .if1 .left) (c .before .load2 .result) (c .before .load2 .ensures .word) (c .index-of .result) (c .index-of .ensures .0)
 
--- src/lib.rt:276:1
 returns-2 : tie.Need-returns-2
 returns-2 c = let a = c .before .before .before .before .before .before .args in let q = c .before .before .before .before .before .before .pre in inline-there (a .p .now) (store (a .p .now) (a .w .now)) (q .3) (a .i) (c .before .before .before .load .result) (c .before .before .before .load .ensures .word) (c .before .before .if1 .left) (c .before .load2 .result) (c .before .load2 .ensures .word) (c .index-of .result) (c .index-of .ensures .0)
 

@@ -1,26 +1,19 @@
+-- `rows::raw_rows` meets its contract. The slots are not more than the raw definitions. Assumes nothing.
 use native.Mathlib.Omega.{arith}
 use Rattle.store.specs.Store.{store}
 use Rattle.rows.proofs.Reading.{counter, raws-held}
-use borrow.Author.Needs.{needs}
 use Rattle.rows.proofs.raw_rows.Statement.{statement}
 use Rattle.rows.proofs.raw_rows.Tie as tie
-use Rattle.rows.proofs.raw_rows.Reads as reads
-use Rattle.rows.proofs.raw_rows.Lts as lts
-use Rattle.store.proofs.load.Reads as load-reads
 
--- src/lib.rt:77:5
 load-requires : tie.Need-load-requires
 load-requires c κs = let a = c .before .before .args in let q = c .before .before .pre in (q .0, counter (a .p .now) (q .1) _ (omega arith))
 
--- src/lib.rt:77:37
 load-requires-2 : tie.Need-load-requires-2
 load-requires-2 c κs = let a = c .before .before .before .args in let q = c .before .before .before .pre in (q .0, counter (a .p .now) (q .1) _ (omega arith))
 
--- src/lib.rt:77:5
 sub-result : tie.Need-sub-result
 sub-result c = let a = c .before .before .before .before .args in let q = c .before .before .before .before .pre in omega (arith, raws-held (a .p .now) (store (a .p .now) (a .w .now)) (q .2), c .load2 .ensures .word, c .before .load .ensures .word)
 
--- src/lib.rt:73:1
 returns : tie.Need-returns
 returns c = (cc)
 

@@ -1,3 +1,4 @@
+-- `rows::row_index` meets its contract. A row that is the same shares its index, and another takes one. Assumes nothing.
 use native.Mathlib.Omega.{arith}
 use Rattle.store.specs.Regions.{INDEXES}
 use Rattle.store.specs.Store.{store}
@@ -8,56 +9,37 @@ use Rattle.rows.proofs.Listing.{few-room}
 use borrow.Author.Needs.{needs}
 use Rattle.rows.proofs.row_index.Statement.{statement}
 use Rattle.rows.proofs.row_index.Tie as tie
-use Rattle.rows.proofs.row_index.Reads as reads
-use Rattle.rows.proofs.row_index.Lts as lts
-use Rattle.rows.proofs.find_row.Reads as find-row-reads
-use Rattle.rows.proofs.hash_row.Reads as hash-row-reads
-use Rattle.rows.proofs.index_of.Reads as index-of-reads
-use Rattle.rows.proofs.set_index.Reads as set-index-reads
-use Rattle.rows.proofs.take_index.Reads as take-index-reads
-use Rattle.store.proofs.load.Reads as load-reads
 
--- src/lib.rt:215:9
 hash-row-requires : tie.Need-hash-row-requires
 hash-row-requires c κs = let q = c .before .before .before .pre in (search needs, q .1, q .2, q .5 .made)
 
--- src/lib.rt:216:9
 find-row-requires : tie.Need-find-row-requires
 find-row-requires c κs = let q = c .before .before .before .before .before .pre in (search needs, q .1, q .2, q .4, q .5 .made, c .before .hash-row .ensures .0, c .before .hash-row .ensures .1)
 
--- src/lib.rt:218:9
 take-index-requires : tie.Need-take-index-requires
 take-index-requires c κs = let a = c .before .before .before .before .before .before .before .before .args in let q = c .before .before .before .before .before .before .before .before .pre in (search needs, q .1, q .2, q .3, q .4, q .5, new-row (a .p .now) (a .k) (store (a .p .now) (a .w .now)) (c .before .before .find-row .result) (c .before .before .find-row .ensures) (c .before .if1 .taken), c .before .before .before .before .hash-row .ensures .0, c .before .before .before .before .hash-row .ensures .1)
 
--- src/lib.rt:218:9
 same-length : tie.Need-same-length
 same-length c = search needs
 
--- src/lib.rt:218:9
 returns : tie.Need-returns
 returns c = let a = c .before .before .before .before .before .before .before .before .before .before .before .args in let q = c .before .before .before .before .before .before .before .before .before .before .before .pre in let t = store (a .p .now) (a .w .now) in index-made (a .p .now) (a .k) t (new-row (a .p .now) (a .k) t (c .before .before .before .before .before .find-row .result) (c .before .before .before .before .before .find-row .ensures) (c .before .before .before .before .if1 .taken)) (store (a .p .now) (c .before .before .take-index .last .0)) (c .before .before .take-index .result) (c .before .before .take-index .ensures)
 
--- src/lib.rt:220:52
 sub-load : tie.Need-sub-load
 sub-load c = omega arith
 
--- src/lib.rt:220:33
 load-requires : tie.Need-load-requires
 load-requires c κs = let a = c .before .before .before .before .before .before .before .before .args in let q = c .before .before .before .before .before .before .before .before .pre in let t = store (a .p .now) (a .w .now) in (search needs, omega (arith, old-there (a .p .now) (a .k) t (q .4) (q .5) (c .before .before .find-row .result) (c .before .before .find-row .ensures) (c .before .if1 .left), few-room (t INDEXES) (inlineCount t) (q .4 .inlined .few), length-store (a .p .now) (a .w .now) INDEXES, q .1 .inline))
 
--- src/lib.rt:220:9
 index-of-requires : tie.Need-index-of-requires
 index-of-requires c κs = let a = c .before .before .before .before .before .before .before .before .before .args in let q = c .before .before .before .before .before .before .before .before .before .pre in let t = store (a .p .now) (a .w .now) in (search needs, q .1, q .2, old-boot (a .p .now) (a .k) t (q .4) (q .5) (c .before .before .before .find-row .result) (c .before .before .before .find-row .ensures) (c .before .before .if1 .left) (c .load .result) (c .load .ensures .word))
 
--- src/lib.rt:221:5
 set-index-requires : tie.Need-set-index-requires
 set-index-requires c κs = let q = c .before .before .before .before .before .before .before .before .before .before .before .pre in (search needs, q .1, q .2, q .5, c .before .index-of .ensures .1)
 
--- src/lib.rt:211:1
 same-length-2 : tie.Need-same-length-2
 same-length-2 c = search needs
 
--- src/lib.rt:211:1
 returns-2 : tie.Need-returns-2
 returns-2 c = let a = c .before .before .before .before .before .before .before .before .before .before .before .before .before .before .args in let q = c .before .before .before .before .before .before .before .before .before .before .before .before .before .before .pre in let t = store (a .p .now) (a .w .now) in rw (c .before .before .set-index .ensures) (index-old (a .p .now) (a .k) t (q .4) (q .5) (c .before .before .before .before .before .before .before .before .find-row .result) (c .before .before .before .before .before .before .before .before .find-row .ensures) (c .before .before .before .before .before .before .before .if1 .left) (c .before .before .before .before .before .load .result) (c .before .before .before .before .index-of .result) (c .before .before .before .before .before .load .ensures .word) (c .before .before .before .before .index-of .ensures .0))
 

@@ -1,3 +1,4 @@
+-- `rows::row_node` meets its contract. An inline row has the index, or the next raw one is for it. Assumes nothing.
 use native.Mathlib.Omega.{arith}
 use Rattle.store.specs.Regions.{INDEXES}
 use Rattle.store.specs.Store.{store}
@@ -5,32 +6,21 @@ use Rattle.store.proofs.Stores.{length-store}
 use Rattle.rows.specs.Rowed.{inlineCount}
 use Rattle.rows.proofs.Ending.{node-inside, node-inline, node-below, node-raw}
 use Rattle.rows.proofs.Listing.{few-room}
-use borrow.Author.Needs.{needs}
 use Rattle.rows.proofs.row_node.Statement.{statement}
 use Rattle.rows.proofs.row_node.Tie as tie
-use Rattle.rows.proofs.row_node.Reads as reads
-use Rattle.rows.proofs.row_node.Lts as lts
-use Rattle.rows.proofs.inline_index.Reads as inline-index-reads
-use Rattle.rows.proofs.raw_row.Reads as raw-row-reads
-use Rattle.store.proofs.load.Reads as load-reads
 
--- src/lib.rt:291:8
 inline-index-requires : tie.Need-inline-index-requires
 inline-index-requires c κs = let q = c .before .before .pre in (q .0, q .1, q .2, q .4)
 
--- src/lib.rt:292:9
 load-requires : tie.Need-load-requires
 load-requires c κs = let a = c .before .before .before .before .args in let q = c .before .before .before .before .pre in let t = store (a .p .now) (a .w .now) in (q .0, omega (arith, node-inside (a .p .now) t (q .3) (a .index) (a .inline) (a .raws) (q .5) (q .6) (q .7) (c .before .inline-index .result) (c .before .inline-index .ensures) (c .if1 .taken), few-room (t INDEXES) (inlineCount t) (q .4 .inlined .few), length-store (a .p .now) (a .w .now) INDEXES, q .1 .inline))
 
--- src/lib.rt:292:9
 returns : tie.Need-returns
 returns c = let a = c .before .before .before .before .before .args in let q = c .before .before .before .before .before .pre in node-inline (a .p .now) (store (a .p .now) (a .w .now)) (q .3) (a .index) (a .inline) (a .raws) (q .5) (q .6) (q .7) (c .before .before .inline-index .result) (c .before .before .inline-index .ensures) (c .before .if1 .taken) (c .load .result) (c .load .ensures .word) (q .4)
 
--- src/lib.rt:294:5
 raw-row-requires : tie.Need-raw-row-requires
 raw-row-requires c κs = let a = c .before .before .before .before .args in let q = c .before .before .before .before .pre in (q .0, q .1, q .3, node-below (a .p .now) (store (a .p .now) (a .w .now)) (q .3) (a .index) (a .inline) (a .raws) (q .5) (q .6) (q .7) (c .before .inline-index .result) (c .before .inline-index .ensures) (c .if1 .left))
 
--- src/lib.rt:287:1
 returns-2 : tie.Need-returns-2
 returns-2 c = let a = c .before .before .before .before .before .args in let q = c .before .before .before .before .before .pre in (node-raw (a .p .now) (store (a .p .now) (a .w .now)) (q .3) (a .index) (a .inline) (a .raws) (q .5) (q .6) (q .7) (c .before .before .inline-index .result) (c .before .before .inline-index .ensures) (c .before .if1 .left) (c .raw-row .result) (c .raw-row .ensures .0), c .raw-row .ensures .1)
 

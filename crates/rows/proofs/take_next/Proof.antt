@@ -1,39 +1,28 @@
+-- `rows::take_next` meets its contract. The stores in turn. Assumes nothing.
 use native.Mathlib.Omega.{arith}
 use Rattle.rows.proofs.Reading.{counter}
 use borrow.Author.Needs.{needs}
 use Rattle.rows.proofs.take_next.Statement.{statement}
 use Rattle.rows.proofs.take_next.Tie as tie
-use Rattle.rows.proofs.take_next.Reads as reads
-use Rattle.rows.proofs.take_next.Lts as lts
-use Rattle.rows.proofs.add_inline.Reads as add-inline-reads
-use Rattle.rows.proofs.set_index.Reads as set-index-reads
-use Rattle.store.proofs.save.Reads as save-reads
 
--- src/lib.rt:191:24
 add-set-index : tie.Need-add-set-index
 add-set-index c = omega arith
 
--- src/lib.rt:191:5
 set-index-requires : tie.Need-set-index-requires
 set-index-requires c κs = let q = c .before .before .before .pre in (search needs, q .1, q .2, q .3, omega arith)
 
--- src/lib.rt:192:5
 add-inline-requires : tie.Need-add-inline-requires
 add-inline-requires c κs = let q = c .before .before .before .before .before .before .before .pre in (search needs, q .1, rw (c .before .before .before .set-index .ensures) (q .4), q .5, q .6)
 
--- src/lib.rt:193:35
 add-save : tie.Need-add-save
 add-save c = omega arith
 
--- src/lib.rt:193:5
 save-requires : tie.Need-save-requires
 save-requires c κs = let a = c .before .before .before .before .before .before .before .before .before .before .before .args in let q = c .before .before .before .before .before .before .before .before .before .before .before .pre in (search needs, counter (a .p .now) (q .1) _ (omega arith), omega arith)
 
--- src/lib.rt:187:1
 same-length : tie.Need-same-length
 same-length c = search needs
 
--- src/lib.rt:187:1
 returns : tie.Need-returns
 returns c = rw (c .before .before .save .ensures, c .before .before .before .before .before .before .add-inline .ensures, c .before .before .before .before .before .before .before .before .before .before .set-index .ensures)
 
