@@ -1,13 +1,13 @@
 -- A bootstrap that has an index: asked again it has the same, it is small, and it stays whatever slots other nodes are given. Assumes nothing.
 use mathlib.Core.Bool.{Bool, true, false}
-use mathlib.Core.List.{List}
+use mathlib.Core.List.{List, map, reverse}
 use mathlib.Core.Logic.{inl, inr, ⊎-elim}
 use mathlib.Core.Option.{some}
 use mathlib.Core.Path.{_≡_, refl, sym, ap, _∙_}
 use Prim.Native.Nat.{ℕ, zero, suc, _+_, _-_, _≤_, _<_}
 use native.Mathlib.Omega.{arith}
 use lib.Dec.{eqb}
-use lib.ListN.{length, getD, getElem?}
+use lib.ListN.{length, getD, getElem?, take}
 use Rattle.definition.specs.Basics.{good, from}
 use Rattle.definition.specs.Building.{Rows, indexOf, rowIndex}
 use Rattle.interner.specs.Nodes.{nodeCount}
@@ -23,9 +23,9 @@ use Rattle.store.specs.Regions.{GIVEN, INDEXES, ROW-HEADS, ROW-LINKS, NODES, IN
 use Rattle.store.proofs.Stores.{lt-or, eq-or}
 use Rattle.store.proofs.Walking.{last-ext}
 use Rattle.rows.specs.Rowed.{childSlot, rowAt, hashRow, backwards, Base, entryOf, wordOf, itemOf, Inlined, RowWords, Rowed, constantsOf, rowCount, writtenCount, inlineCount, rawRows, rawIndex, rawNode, entryRow, rowIn, baseIn, RowWordsIn, RowedIn, IsBootstrapIn, indexWord, Reached, Nth, RowRoom, KidsIn, isBootstrap, numberOf, HasNumber}
-use Rattle.rows.proofs.Listing.{backwards-same}
+use Rattle.rows.proofs.Listing.{backwards-same, reverse-backwards}
 use Rattle.rows.proofs.Numbers.{boot-is, number-there, number-boot, number-slot}
-use Rattle.rows.proofs.Slotting.{slotAt, row-from}
+use Rattle.rows.proofs.Slotting.{map-from, part-is, slotAt, row-from}
 
 -- an item of a list from the last on
 among-backwards : {A : Type 0} (f : ℕ → A) (n : ℕ) (a : A) → Among a (backwards f n) → (i : ℕ) × (i < n) × (f i ≡ a)
@@ -53,6 +53,18 @@ module _ (p : List ℕ) (t : Store) (k : ℕ) (is : IsBootstrapIn p t k) (there 
       let a = indexOf-there (rowIn t k) _ (indexWord p t k - 1) (words .inlined .has _ (is .behind) there) in
       let (j, l, e) = among-backwards _ _ _ a in
       omega (arith, ap (λ x. x .1) e, words .inlined .high j l, words .inlined .low j l)
+
+-- the inline rows, the first first, are those of the nodes that took an index
+pub items-listed :
+    (p : List ℕ) (t : Store) (rows : Rows) → RowedIn p rows t → inlineCount t ≤ length (t INLINE) →
+    map (λ k. (rowIn t k, indexWord p t k - 1)) (take (inlineCount t) (t INLINE)) ≡ reverse (rows .inline)
+items-listed p t rows g fits =
+    let n = inlineCount t in
+    ap (map (λ k. (rowIn t k, indexWord p t k - 1))) (part-is (t INLINE) 0 n (omega arith))
+    ∙ map-from (λ k. (rowIn t k, indexWord p t k - 1)) (λ i. getD (t INLINE) (0 + i) 0) 0 n
+    ∙ from-same (λ i. (rowIn t (getD (t INLINE) (0 + i) 0), indexWord p t (getD (t INLINE) (0 + i) 0) - 1)) (λ i. (rowIn t (getD (t INLINE) i 0), indexWord p t (getD (t INLINE) i 0) - 1)) 0 n
+    (λ i a l. let e : 0 + i ≡ i = omega arith in rw e)
+    ∙ sym (ap reverse (g .items) ∙ reverse-backwards _ n)
 
 -- the number of a child fits two bytes, if its slot does
 pub number-small :

@@ -1,15 +1,15 @@
 -- Lists that are searched from the last item on, and numbers that aren't 0. Assumes nothing.
 use mathlib.Core.Bool.{Bool, true, false, cond}
-use mathlib.Core.List.{List, [], _∷_}
+use mathlib.Core.List.{List, [], _∷_, reverse, reverseAux, reverse-reverse}
 use mathlib.Core.Logic.{⊎-elim}
 use mathlib.Core.Option.{none, some}
 use mathlib.Core.Path.{_≡_, refl, sym, ap, _∙_}
-use Prim.Native.Nat.{ℕ, zero, suc, _≤_, _<_}
+use Prim.Native.Nat.{ℕ, zero, suc, _+_, _≤_, _<_}
 use native.Mathlib.Omega.{arith}
 use lib.Dec.{eqb}
 use lib.ListN.{length, getD, set}
 use borrow.Author.Tests.{eq-eqb, ne-eqb}
-use Rattle.definition.specs.Basics.{same}
+use Rattle.definition.specs.Basics.{same, from}
 use Rattle.definition.specs.Building.{Row, indexOf}
 use Rattle.facts.proofs.Lists.{same-true, same-refl}
 use Rattle.store.proofs.Stores.{eq-or}
@@ -19,6 +19,19 @@ pub backwards-same : {A : Type 0} (f g : ℕ → A) (n : ℕ) → ((i : ℕ) →
 unfolding backwards
 backwards-same f g zero h = refl
 backwards-same f g (suc n) h = rw (h n (omega arith), backwards-same f g n (λ i l. h i (omega arith)))
+
+-- a list the other way round
+turned : {A : Type 0} (f : ℕ → A) (m i : ℕ) → reverseAux (from f i m) (backwards f i) ≡ backwards f (i + m)
+unfolding backwards from
+turned f zero i = let e : i + 0 ≡ i = omega arith in rw e
+turned f (suc m) i = let e : i + suc m ≡ suc i + m = omega arith in rw e (turned f m (suc i))
+
+pub reverse-from : {A : Type 0} (f : ℕ → A) (n : ℕ) → reverse (from f 0 n) ≡ backwards f n
+unfolding backwards
+reverse-from f n = let e : 0 + n ≡ n = omega arith in rw e at (turned f n 0)
+
+pub reverse-backwards : {A : Type 0} (f : ℕ → A) (n : ℕ) → reverse (backwards f n) ≡ from f 0 n
+reverse-backwards f n = ap reverse (sym (reverse-from f n)) ∙ reverse-reverse (from f 0 n)
 
 -- THE INDEX of a row
 

@@ -1,35 +1,29 @@
 -- The raw bootstraps stand by rising index, as the definition's table of them has them. Assumes nothing.
-use mathlib.Core.List.{List, [], _∷_, map}
+use mathlib.Core.List.{List, [], _∷_, map, reverse}
 use mathlib.Core.Option.{some}
 use mathlib.Core.Path.{_≡_, sym, ap, _∙_}
 use Prim.Native.Nat.{ℕ, zero, suc, _+_, _-_, _≤_, _<_}
 use native.Mathlib.Omega.{arith}
-use lib.ListN.{length, getD, take, drop, length-map}
-use lib.Seq.{ext-getD, getD-take, getD-drop}
+use lib.ListN.{length, getD, length-map}
 use Rattle.definition.specs.Basics.{from, lookup}
 use Rattle.definition.specs.Definitions.{Held}
+use Rattle.definition.specs.Resolving.{Mark}
+use Rattle.definition.specs.Layout.{nodeAt, indexNodes}
 use Rattle.facts.specs.Lists.{Rising}
-use Rattle.facts.proofs.Chunks.{length-from}
+use Rattle.facts.proofs.Chunks.{from-same}
 use Rattle.facts.proofs.Tables.{keys}
 use Rattle.facts.proofs.Lists.{inside-found}
 use Rattle.interner.specs.Nodes.{nodeCount, EnteredIn, NodesIn}
 use Rattle.raws.specs.Raws.{rawCount, heldCount, indexRow, RawsIn, Ordered, IndexItem, RawRoom}
-use Rattle.raws.proofs.Sweeping.{cut-long}
 use Rattle.store.specs.Store.{Store, size}
 use Rattle.store.specs.JobIn.{tableIn}
 use Rattle.store.specs.Regions.{MARKS, FIRSTS, SIZES, CHILDREN, RAW-KEYS, RAW-ENTRIES, ORDER, NODES, Work}
-use Rattle.store.specs.Words.{ENTRY, cut}
+use Rattle.store.specs.Words.{ENTRY}
 use Rattle.store.proofs.Laying.{work-sizes, entries-counted}
 use Rattle.store.proofs.Stores.{from-get}
-use Rattle.rows.specs.Rowed.{rawRows, rawItem, rawIndex, Kids, KidsIn, RawAt, RawsReady, RawsReadyIn}
-use Rattle.rows.proofs.Slotting.{map-from}
-
-part-is : (l : List ℕ) (at n : ℕ) → at + n ≤ length l → take n (drop at l) ≡ cut l at n
-part-is l at n h =
-    ext-getD 0 (take n (drop at l)) (cut l at n) (cut-long l at n h ∙ sym (length-from _ 0 n))
-    (λ i less.
-    let k : i < n = omega (arith, cut-long l at n h) in
-    getD-take n (drop at l) i 0 k ∙ getD-drop at l i 0 ∙ sym (from-get (λ i. getD l (at + i) 0) 0 n i 0 k ∙ ap (λ (x : ℕ). getD l (at + x) 0) (omega arith)))
+use Rattle.rows.specs.Rowed.{backwards, rawRows, rawItem, rawIndex, rawNode, Kids, KidsIn, RawAt, RawsReady, RawsReadyIn}
+use Rattle.rows.proofs.Listing.{reverse-from}
+use Rattle.rows.proofs.Slotting.{map-from, part-is}
 
 rising-low : (low top : ℕ) (l : List ℕ) (j : ℕ) → Rising low top l → j < length l → low ≤ getD l j 0
 rising-low low top [] j r h = absurd (omega arith)
@@ -61,14 +55,30 @@ module _
       ∙ ap (λ (h : ℕ). from (λ i. indexRow constants (t RAW-KEYS) (t RAW-ENTRIES) (getD (t ORDER) (h + i) 0)) 0 (length indexes)) (g .heldCounted)
       ∙ ap (from (λ i. (rawIndex t i, getD (t RAW-ENTRIES) (rawItem t i) 0 - constants)) 0) (sym raws-counted)
 
+  item-at : (i : ℕ) → i < rawRows t → IndexItem constants indexes (getD (t RAW-KEYS) (rawItem t i) 0) (getD (t RAW-ENTRIES) (rawItem t i) 0)
+  item-at i l = o .rowItems (heldCount t + i) (omega (arith, g .heldCounted)) (omega (arith, raws-counted, g .counted, g .heldCounted))
+
+  -- with their nodes, by falling index, as `rawRows` takes them
+  pub nodes-falling :
+      (marks : List Mark) → ((i : ℕ) → i < rawRows t → nodeAt marks (getD (t RAW-ENTRIES) (rawItem t i) 0) ≡ rawNode t i) →
+      reverse (indexNodes constants marks indexes) ≡ backwards (λ i. (rawIndex t i, rawNode t i)) (rawRows t)
+  unfolding indexNodes
+  nodes-falling marks same =
+      ap reverse
+      (ap (map (λ r. (r .0, nodeAt marks (constants + r .1)))) indexes-from
+      ∙ map-from (λ r. (r .0, nodeAt marks (constants + r .1))) (λ i. (rawIndex t i, getD (t RAW-ENTRIES) (rawItem t i) 0 - constants)) 0 (rawRows t)
+      ∙ from-same (λ i. (rawIndex t i, nodeAt marks (constants + (getD (t RAW-ENTRIES) (rawItem t i) 0 - constants)))) (λ i. (rawIndex t i, rawNode t i)) 0 (rawRows t)
+      (λ i a l.
+      let h : i < rawRows t = omega arith in
+      let z : constants + (getD (t RAW-ENTRIES) (rawItem t i) 0 - constants) ≡ getD (t RAW-ENTRIES) (rawItem t i) 0 = omega (arith, item-at i h .behind) in
+      ap (λ (x : ℕ). (rawIndex t i, x)) (ap (nodeAt marks) z ∙ same i h)))
+      ∙ reverse-from (λ i. (rawIndex t i, rawNode t i)) (rawRows t)
+
   keys-from : keys indexes ≡ from (rawIndex t) 0 (rawRows t)
   keys-from = ap keys indexes-from ∙ map-from (λ r. r .0) (λ i. (rawIndex t i, getD (t RAW-ENTRIES) (rawItem t i) 0 - constants)) 0 (rawRows t)
 
   key-at : (i : ℕ) → i < rawRows t → getD (keys indexes) i 0 ≡ rawIndex t i
   key-at i l = ap (λ (x : List ℕ). getD x i 0) keys-from ∙ from-get (rawIndex t) 0 (rawRows t) i 0 l ∙ ap (rawIndex t) (omega arith)
-
-  item-at : (i : ℕ) → i < rawRows t → IndexItem constants indexes (getD (t RAW-KEYS) (rawItem t i) 0) (getD (t RAW-ENTRIES) (rawItem t i) 0)
-  item-at i l = o .rowItems (heldCount t + i) (omega (arith, g .heldCounted)) (omega (arith, raws-counted, g .counted, g .heldCounted))
 
   -- and their entries became nodes
   module _

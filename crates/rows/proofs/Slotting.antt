@@ -4,7 +4,8 @@ use mathlib.Core.List.{List, [], _∷_, _++_, map}
 use mathlib.Core.Path.{_≡_, refl, sym, ap, _∙_}
 use Prim.Native.Nat.{ℕ, zero, suc, _+_, _-_, _≤_, _<_}
 use native.Mathlib.Omega.{arith}
-use lib.ListN.{length, getD}
+use lib.ListN.{length, getD, take, drop}
+use lib.Seq.{ext-getD, getD-take, getD-drop}
 use borrow.Author.Count.{below-more}
 use borrow.Author.Tests.{lt-ltb, le-ltb}
 use Rattle.definition.specs.Basics.{same, from}
@@ -12,9 +13,10 @@ use Rattle.definition.specs.Building.{Row}
 use Rattle.facts.proofs.Chunks.{length-from, from-same}
 use Rattle.facts.proofs.Lists.{same-true, same-refl}
 use Rattle.interner.specs.Nodes.{hashWords}
+use Rattle.raws.proofs.Sweeping.{cut-long}
 use Rattle.store.specs.Store.{IsWord}
 use Rattle.store.specs.Chains.{mixed}
-use Rattle.store.specs.Words.{ENTRY}
+use Rattle.store.specs.Words.{ENTRY, cut}
 use Rattle.store.proofs.Stores.{from-get, from-snoc}
 use Rattle.rows.specs.Rowed.{childSlot, rowAt, hashRow}
 
@@ -30,6 +32,14 @@ pub map-from : {A B : Type 0} (g : A → B) (f : ℕ → A) (i n : ℕ) → map 
 unfolding from
 map-from g f i zero = refl
 map-from g f i (suc n) = rw (map-from g f (suc i) n)
+
+-- n places from a place on
+pub part-is : (l : List ℕ) (at n : ℕ) → at + n ≤ length l → take n (drop at l) ≡ cut l at n
+part-is l at n h =
+    ext-getD 0 (take n (drop at l)) (cut l at n) (cut-long l at n h ∙ sym (length-from _ 0 n))
+    (λ i less.
+    let k : i < n = omega (arith, cut-long l at n h) in
+    getD-take n (drop at l) i 0 k ∙ getD-drop at l i 0 ∙ sym (from-get (λ i. getD l (at + i) 0) 0 n i 0 k ∙ ap (λ (x : ℕ). getD l (at + x) 0) (omega arith)))
 
 module _ (given children firsts sizes : List ℕ) (e : ℕ) where
   -- slot i of an entry's row
