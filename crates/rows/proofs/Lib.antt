@@ -1,0 +1,15 @@
+pub mod Listing
+pub mod Slotting
+pub mod Reading
+pub mod Finding
+pub mod Staying
+pub mod Writing
+pub mod Taking
+pub mod Sharing
+pub mod Indexing
+pub mod Holes
+pub mod Ending
+pub mod Numbers
+pub mod Starting
+pub mod Asking
+pub mod Readying
