@@ -1,0 +1,212 @@
+// What a run gives out: the answers, the pool slot by slot, the bootstrap rows and the class name. Everything is measured before anything
+// is written.
+use store::CHILDREN;
+use store::ENTRY;
+use store::FIRSTS;
+use store::GIVEN;
+use store::INDEXES;
+use store::NODES;
+use store::OFFSETS;
+use store::SIZES;
+use store::constants;
+use store::load;
+ghost use mathlib.Core.List.{map};
+ghost use mathlib.Core.Path.{_≡_};
+ghost use Prim.Native.Nat.{ℕ, _+_, _-_, _<_, _≤_};
+ghost use lib.ListN.{length, getD};
+ghost use Rattle.definition.specs.Shapes.{isWide};
+ghost use Rattle.definition.specs.Numbering.{attributeName};
+ghost use Rattle.definition.specs.Run.{entryBytes, slotBytes};
+ghost use Rattle.raw_const.specs.Entries.{Wrote};
+ghost use Rattle.store.specs.Store.{size, store, On, IsWord, Read};
+ghost use Rattle.store.specs.Regions.{MARKS, GIVEN, INDEXES, OFFSETS, FIRSTS, SIZES, CHILDREN, NODES, Work};
+ghost use Rattle.store.specs.Words.{ENTRY, cut};
+ghost use Rattle.interner.specs.Nodes.{nodeCount};
+ghost use Rattle.output.specs.Contents.{NOTHING, ATTRIBUTE, childSlot, childNumber, ChildThere, childCount, childAt, finishedIn, numberIn, Made, KidsNumbered, ShortChild, shownIn, wideIn, IsContent};
+
+// What a slot holds, as a number: a node, or past every node nothing, the empty text, or the text "BootstrapMethods": `Content`.
+const NOTHING: usize = 131072;
+
+const EMPTY: usize = 131073;
+
+const ATTRIBUTE: usize = 131074;
+
+// Where the record of a node's entry stands.
+fn node_at(w: &[u32], p: &[usize], k: usize) -> usize
+    requires { ⌜ On (now p) (length (now w)) × (k < size (now p) NODES) × (getD (store (now p) (now w) NODES) k 0 < size (now p) OFFSETS) ⌝ }
+    ensures { λ r. ⌜ Read (store (now (p .entry)) (now (w .entry))) OFFSETS (getD (store (now (p .entry)) (now (w .entry)) NODES) k 0) r ⌝ }
+{
+    load(w, p, OFFSETS, load(w, p, NODES, k))
+}
+
+// How many children a node has.
+fn child_count(w: &[u32], p: &[usize], k: usize) -> usize
+    requires { ⌜ On (now p) (length (now w)) × (k < size (now p) NODES) × (getD (store (now p) (now w) NODES) k 0 < size (now p) SIZES) ⌝ }
+    ensures { λ r. ⌜ Read (store (now (p .entry)) (now (w .entry))) SIZES (getD (store (now (p .entry)) (now (w .entry)) NODES) k 0) r ⌝ }
+{
+    load(w, p, SIZES, load(w, p, NODES, k))
+}
+
+// Where in CHILDREN they begin.
+fn first_child(w: &[u32], p: &[usize], k: usize) -> usize
+    requires { ⌜ On (now p) (length (now w)) × (k < size (now p) NODES) × (getD (store (now p) (now w) NODES) k 0 < size (now p) FIRSTS) ⌝ }
+    ensures { λ r. ⌜ Read (store (now (p .entry)) (now (w .entry))) FIRSTS (getD (store (now (p .entry)) (now (w .entry)) NODES) k 0) r ⌝ }
+{
+    load(w, p, FIRSTS, load(w, p, NODES, k))
+}
+
+// The slot of a child that has one: `slotOf`.
+fn child_slot(w: &[u32], p: &[usize], child: usize) -> usize
+    requires { ⌜ On (now p) (length (now w)) × (child < ENTRY + size (now p) GIVEN) ⌝ }
+    ensures { λ r. ⌜ r ≡ childSlot (store (now (p .entry)) (now (w .entry)) GIVEN) child ⌝ }
+{
+    if child < ENTRY {
+        return child;
+    }
+    load(w, p, GIVEN, child - ENTRY)
+}
+
+// The index of the bootstrap that is node k, made from entry e.
+fn index_of(w: &[u32], p: &[usize], e: usize, first: usize) -> usize
+    requires { ⌜ On (now p) (length (now w)) × (first ≤ e) × (e - first < size (now p) INDEXES) × (0 < getD (store (now p) (now w) INDEXES) (e - first) 0) ⌝ }
+    ensures { λ r. ⌜ r ≡ getD (store (now (p .entry)) (now (w .entry)) INDEXES) (e - first) 0 - 1 ⌝ }
+{
+    load(w, p, INDEXES, e - first) - 1
+}
+
+// The number of a child that has one: `childNumber`.
+fn child_number(w: &[u32], p: &[usize], child: usize) -> usize
+    requires { ⌜ On (now p) (length (now w)) × ChildThere (now p) (store (now p) (now w) NODES) (store (now p) (now w) INDEXES) child ⌝ }
+    ensures { λ r. ⌜ r ≡ childNumber (size (now (p .entry)) MARKS - size (now (p .entry)) INDEXES) (store (now (p .entry)) (now (w .entry)) GIVEN) (store (now (p .entry)) (now (w .entry)) INDEXES) (store (now (p .entry)) (now (w .entry)) NODES) child ⌝ }
+{
+    if child < ENTRY {
+        return child;
+    }
+    let e = load(w, p, NODES, child - ENTRY);
+    let first = constants(p);
+    if e < first {
+        return load(w, p, GIVEN, child - ENTRY);
+    }
+    index_of(w, p, e, first)
+}
+
+// The tag of a node is that of a wide constant.
+fn node_is_wide(job: &[u8], w: &[u32], p: &[usize], k: usize) -> bool
+    requires { ⌜ On (now p) (length (now w)) × Work (now job) (now p) × Made (now job) (store (now p) (now w)) × (k < nodeCount (store (now p) (now w))) ⌝ }
+    ensures { λ r. ⌜ r ≡ isWide (finishedIn (now (job .entry)) (store (now (p .entry)) (now (w .entry))) k .tag) ⌝ }
+{
+    raw_const::is_long(job::tag_at(job, node_at(w, p, k)))
+}
+
+// How many bytes a node's entry takes: `length (entryBytes ..)`.
+fn node_length(job: &[u8], w: &[u32], p: &[usize], k: usize) -> usize
+    requires { ⌜ On (now p) (length (now w)) × Work (now job) (now p) × Made (now job) (store (now p) (now w)) × (k < nodeCount (store (now p) (now w))) ⌝ }
+    ensures { λ r. ⌜ r ≡ length (entryBytes (finishedIn (now (job .entry)) (store (now (p .entry)) (now (w .entry))) k)) ⌝ }
+{
+    let at = node_at(w, p, k);
+    let tag = job::tag_at(job, at);
+    if 0 < child_count(w, p, k) {
+        return raw_const::entry_length(tag, 0);
+    }
+    let s = job::literal_at(job, at);
+    let start = s.start;
+    raw_const::entry_length(tag, s.end - start)
+}
+
+// The text that the bootstrap attribute's name needs: `attributeName`.
+fn attribute_name() -> [u8; 16]
+    ensures { λ r. ⌜ r ≡ attributeName ⌝ }
+{
+    *b"BootstrapMethods"
+}
+
+// How many bytes a content takes: `length (slotBytes ..)`.
+fn content_length(job: &[u8], w: &[u32], p: &[usize], content: usize) -> usize
+    requires { ⌜ On (now p) (length (now w)) × Work (now job) (now p) × Made (now job) (store (now p) (now w)) × IsContent (now job) (store (now p) (now w)) content ⌝ }
+    ensures { λ r. ⌜ r ≡ length (slotBytes (shownIn (now (job .entry)) (store (now (p .entry)) (now (w .entry))) content)) ⌝ }
+{
+    if content < NOTHING {
+        return node_length(job, w, p, content);
+    }
+    if content == NOTHING {
+        return 0;
+    }
+    if content == EMPTY {
+        return 3;
+    }
+    19
+}
+
+// The number of child i of n that stand from `first` on; 0 where there is none.
+fn number_at(w: &[u32], p: &[usize], first: usize, n: usize, i: usize) -> u16
+    requires { ⌜ On (now p) (length (now w)) × (first + n ≤ size (now p) CHILDREN) × (i < n → ShortChild (now p) (store (now p) (now w)) (getD (store (now p) (now w) CHILDREN) (first + i) 0)) ⌝ }
+    ensures { λ r. ⌜ r ≡ getD (map (childNumber (size (now (p .entry)) MARKS - size (now (p .entry)) INDEXES) (store (now (p .entry)) (now (w .entry)) GIVEN) (store (now (p .entry)) (now (w .entry)) INDEXES) (store (now (p .entry)) (now (w .entry)) NODES)) (cut (store (now (p .entry)) (now (w .entry)) CHILDREN) first n)) i 0 ⌝ }
+{
+    if i < n {
+        return child_number(w, p, load(w, p, CHILDREN, first + i)) as u16;
+    }
+    0
+}
+
+// Writes the entry of node k, which has n children; the place behind it: `entryBytes`.
+fn write_references(
+    pool: &mut [u8],
+    at: usize,
+    job: &[u8],
+    w: &[u32],
+    p: &[usize],
+    k: usize,
+    n: usize,
+) -> usize
+    requires { ⌜ On (now p) (length (now w)) × Work (now job) (now p) × Made (now job) (store (now p) (now w)) × (k < nodeCount (store (now p) (now w))) × KidsNumbered (now job) (store (now p) (now w)) k × (n ≡ childCount (store (now p) (now w) SIZES) (store (now p) (now w) NODES) k) × (0 < n) × (at + length (entryBytes (finishedIn (now job) (store (now p) (now w)) k)) ≤ length (now pool)) ⌝ }
+    ensures { λ r. ⌜ Wrote (now (pool .entry)) at (entryBytes (finishedIn (now (job .entry)) (store (now (p .entry)) (now (w .entry))) k)) (now (pool .exit)) r ⌝ }
+{
+    let from = node_at(w, p, k);
+    let tag = job::tag_at(job, from);
+    let kind = job::kind_byte(job, from);
+    let children = first_child(w, p, k);
+    let first = number_at(w, p, children, n, 0);
+    let second = number_at(w, p, children, n, 1);
+    raw_const::write_entry(pool, at, tag, kind, job, from, 0, first, second)
+}
+
+// Writes a node's entry; the place behind it: `entryBytes`.
+fn write_node(pool: &mut [u8], at: usize, job: &[u8], w: &[u32], p: &[usize], k: usize) -> usize
+    requires { ⌜ On (now p) (length (now w)) × Work (now job) (now p) × Made (now job) (store (now p) (now w)) × (k < nodeCount (store (now p) (now w))) × KidsNumbered (now job) (store (now p) (now w)) k × (at + length (entryBytes (finishedIn (now job) (store (now p) (now w)) k)) ≤ length (now pool)) ⌝ }
+    ensures { λ r. ⌜ Wrote (now (pool .entry)) at (entryBytes (finishedIn (now (job .entry)) (store (now (p .entry)) (now (w .entry))) k)) (now (pool .exit)) r ⌝ }
+{
+    let n = child_count(w, p, k);
+    if 0 < n {
+        return write_references(pool, at, job, w, p, k, n);
+    }
+    let from = node_at(w, p, k);
+    let tag = job::tag_at(job, from);
+    let s = job::literal_at(job, from);
+    let start = s.start;
+    raw_const::write_entry(pool, at, tag, 0, job, start, s.end - start, 0, 0)
+}
+
+// Writes a content; the place behind it: `slotBytes`.
+fn write_content(
+    pool: &mut [u8],
+    at: usize,
+    job: &[u8],
+    w: &[u32],
+    p: &[usize],
+    content: usize,
+) -> usize
+    requires { ⌜ On (now p) (length (now w)) × Work (now job) (now p) × Made (now job) (store (now p) (now w)) × IsContent (now job) (store (now p) (now w)) content × (at + length (slotBytes (shownIn (now job) (store (now p) (now w)) content)) ≤ length (now pool)) ⌝ }
+    ensures { λ r. ⌜ Wrote (now (pool .entry)) at (slotBytes (shownIn (now (job .entry)) (store (now (p .entry)) (now (w .entry))) content)) (now (pool .exit)) r ⌝ }
+{
+    if content < NOTHING {
+        return write_node(pool, at, job, w, p, content);
+    }
+    if content == NOTHING {
+        return at;
+    }
+    if content == EMPTY {
+        return raw_const::write_entry(pool, at, 1, 0, job, 0, 0, 0, 0);
+    }
+    let name = attribute_name();
+    raw_const::write_entry(pool, at, 1, 0, &name, 0, 16, 0, 0)
+}
