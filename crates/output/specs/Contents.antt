@@ -12,10 +12,10 @@ use Rattle.definition.specs.Bytes.{be2}
 use Rattle.definition.specs.Shapes.{Entry, withKids, isWide}
 use Rattle.definition.specs.Numbering.{attributeName}
 use Rattle.definition.specs.Run.{slotBytes}
-use Rattle.store.specs.Store.{Store, size}
+use Rattle.store.specs.Store.{Store, size, Kept}
 use Rattle.store.specs.Chains.{last, Heads, NumbersIn}
 use Rattle.store.specs.JobIn.{tableIn, entriesIn, constantsIn}
-use Rattle.store.specs.Regions.{COUNTS, MARKS, GIVEN, INDEXES, RAW-HEADS, OWNER-HEADS, FIRSTS, SIZES, CHILDREN, RAW-KEYS, RAW-ENTRIES, ORDER, NODES, NAME-SLOT, POOL-COUNT}
+use Rattle.store.specs.Regions.{COUNTS, MARKS, GIVEN, INDEXES, RAW-HEADS, OWNER-HEADS, OWNER-LINKS, FIRSTS, SIZES, CHILDREN, RAW-KEYS, RAW-ENTRIES, ORDER, NODES, HELD-COUNT, NAME-SLOT, POOL-COUNT}
 use Rattle.store.specs.Words.{ENTRY, HALF, cut}
 use Rattle.interner.specs.Nodes.{nodeCount, EnteredIn}
 use Rattle.raws.specs.Raws.{rawCount, heldCount}
@@ -220,3 +220,37 @@ pub record Owned (s : List ℕ) (t : Store) : Type 0 where
       (i : ℕ) → i < rawCount t → (getD (t RAW-ENTRIES) i 0 ≡ HALF → ⊥) →
       (getD (t MARKS) (getD (t RAW-ENTRIES) i 0) 0 < nodeCount t + 2) × KidsNumbered s t (getD (t MARKS) (getD (t RAW-ENTRIES) i 0) 0 - 2)
   pub givenNodes : (k : ℕ) → k < nodeCount t → 0 < getD (t GIVEN) k 0 → KidsNumbered s t k
+
+-- RAW SLOTS IN THEIR ORDER
+
+-- the raw slot i by rising slot; past every slot where there is none
+unfoldable pub heldAt : List ℕ → List ℕ → ℕ → ℕ → ℕ
+heldAt keys order n i = elim (ltb i n) [ true ↦ getD keys (getD order i 0) 0 | false ↦ 65536 ]
+
+abbrev pub heldIn : Store → ℕ → ℕ
+heldIn t i = heldAt (t RAW-KEYS) (t ORDER) (heldCount t) i
+
+-- the order has all raw slots, rising
+pub record HeldOrder (p : List ℕ) (t : Store) : Type 0 where
+  pub counted : HELD-COUNT < size p COUNTS
+  pub room : heldCount t ≤ size p ORDER
+  pub keysRoom : rawCount t ≤ size p RAW-KEYS
+  pub entriesRoom : rawCount t ≤ size p RAW-ENTRIES
+  pub inside : (j : ℕ) → j < heldCount t → getD (t ORDER) j 0 < rawCount t
+  pub rise : (i j : ℕ) → i < j → j < heldCount t → getD (t RAW-KEYS) (getD (t ORDER) i 0) 0 < getD (t RAW-KEYS) (getD (t ORDER) j 0) 0
+  pub low : (j : ℕ) → j < heldCount t → 1 ≤ getD (t RAW-KEYS) (getD (t ORDER) j 0) 0
+  pub high : (j : ℕ) → j < heldCount t → getD (t RAW-KEYS) (getD (t ORDER) j 0) 0 < 65536
+  pub whole : (i : ℕ) → i < rawCount t → getD (t RAW-KEYS) i 0 < 65536 → (j : ℕ) × (j < heldCount t) × (getD (t ORDER) j 0 ≡ i)
+
+-- a walk over the slots, at one of them: so many raw slots are below it, and `held` is the next one
+pub record Sweep (t : Store) (slot raws held : ℕ) : Type 0 where
+  pub is : held ≡ heldIn t raws
+  pub below : (j : ℕ) → j < raws → j < heldCount t → getD (t RAW-KEYS) (getD (t ORDER) j 0) 0 < slot
+  pub above : (j : ℕ) → raws ≤ j → j < heldCount t → slot ≤ getD (t RAW-KEYS) (getD (t ORDER) j 0) 0
+
+-- OWNERS
+
+-- every node joined the chain of its slot: t before, u after
+pub record OwnersMade (p : List ℕ) (t u : Store) : Type 0 where
+  pub owners : NumbersIn p u OWNER-HEADS GIVEN (nodeCount u)
+  pub kept : Kept (OWNER-HEADS ∷ OWNER-LINKS ∷ []) t u

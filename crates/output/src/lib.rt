@@ -1,16 +1,28 @@
 // What a run gives out: the answers, the pool slot by slot, the bootstrap rows and the class name. Everything is measured before anything
 // is written.
 use store::CHILDREN;
+use store::COUNTS;
 use store::ENTRY;
 use store::FIRSTS;
 use store::GIVEN;
+use store::HALF;
+use store::HELD_COUNT;
 use store::INDEXES;
+use store::NAME_SLOT;
 use store::NODES;
+use store::NODE_COUNT;
 use store::OFFSETS;
+use store::OWNER_HEADS;
+use store::RAW_ENTRIES;
+use store::RAW_HEADS;
+use store::RAW_KEYS;
 use store::SIZES;
 use store::constants;
+use store::find_number;
 use store::load;
+use store::push_link;
 ghost use mathlib.Core.List.{map};
+ghost use mathlib.Core.Logic.{_⊎_};
 ghost use mathlib.Core.Path.{_≡_};
 ghost use Prim.Native.Nat.{ℕ, _+_, _-_, _<_, _≤_};
 ghost use lib.ListN.{length, getD};
@@ -19,10 +31,11 @@ ghost use Rattle.definition.specs.Numbering.{attributeName};
 ghost use Rattle.definition.specs.Run.{entryBytes, slotBytes};
 ghost use Rattle.raw_const.specs.Entries.{Wrote};
 ghost use Rattle.store.specs.Store.{size, store, On, IsWord, Read};
-ghost use Rattle.store.specs.Regions.{MARKS, GIVEN, INDEXES, OFFSETS, FIRSTS, SIZES, CHILDREN, NODES, Work};
-ghost use Rattle.store.specs.Words.{ENTRY, cut};
+ghost use Rattle.store.specs.Regions.{COUNTS, MARKS, GIVEN, INDEXES, OWNER-HEADS, OWNER-LINKS, OFFSETS, FIRSTS, SIZES, CHILDREN, NODES, NODE-COUNT, Work};
+ghost use Rattle.store.specs.Chains.{Heads};
+ghost use Rattle.store.specs.Words.{ENTRY, HALF, cut};
 ghost use Rattle.interner.specs.Nodes.{nodeCount};
-ghost use Rattle.output.specs.Contents.{NOTHING, ATTRIBUTE, childSlot, childNumber, ChildThere, childCount, childAt, finishedIn, numberIn, Made, KidsNumbered, ShortChild, shownIn, wideIn, IsContent};
+ghost use Rattle.output.specs.Contents.{NOTHING, ATTRIBUTE, childSlot, childNumber, ChildThere, childCount, childAt, finishedIn, numberIn, Made, KidsNumbered, ShortChild, shownIn, wideIn, IsContent, rawWord, linkWord, linkOf, ownerIn, nameSlot, wideAt, contentIn, Searched, Owned, heldIn, HeldOrder, Sweep, OwnersMade};
 
 // What a slot holds, as a number: a node, or past every node nothing, the empty text, or the text "BootstrapMethods": `Content`.
 const NOTHING: usize = 131072;
@@ -209,4 +222,126 @@ fn write_content(
     }
     let name = attribute_name();
     raw_const::write_entry(pool, at, 1, 0, &name, 0, 16, 0, 0)
+}
+
+// Each node joins the chain of its slot, one without a slot that of 0.
+pub fn own_slots(w: &mut [u32], p: &[usize])
+    requires { ⌜ On (now p) (length (now w)) × Heads (now p) OWNER-HEADS × (NODE-COUNT < size (now p) COUNTS) × (nodeCount (store (now p) (now w)) ≤ size (now p) GIVEN) × (nodeCount (store (now p) (now w)) ≤ size (now p) OWNER-LINKS) × ((i : ℕ) → getD (store (now p) (now w) OWNER-HEADS) i 0 ≡ 0) ⌝ }
+    ensures { λ _. ⌜ OwnersMade (now (p .entry)) (store (now (p .entry)) (now (w .entry))) (store (now (p .entry)) (now (w .exit))) ⌝ }
+{
+    let n = load(w, p, COUNTS, NODE_COUNT);
+    let mut k = 0;
+    while k < n {
+        let slot = load(w, p, GIVEN, k);
+        push_link(w, p, OWNER_HEADS, slot, k);
+        k += 1;
+    }
+}
+
+// What a raw slot holds, by its entry: `starts`, `half`.
+fn raw_content(w: &[u32], p: &[usize], e: usize) -> usize
+    requires { ⌜ On (now p) (length (now w)) × ((e ≡ HALF) ⊎ ((e < size (now p) MARKS) × (1 < getD (store (now p) (now w) MARKS) e 0))) ⌝ }
+    ensures { λ r. ⌜ r ≡ rawWord (store (now (p .entry)) (now (w .entry)) MARKS) e ⌝ }
+{
+    if e == HALF {
+        return NOTHING;
+    }
+    resolver::node_of(w, p, e)
+}
+
+// What a slot that is neither raw nor the name's holds: a node that has it, else nothing behind a wide constant, else the empty text:
+// `lookup`, `behind`.
+fn given_content(w: &[u32], p: &[usize], slot: usize, wide: bool) -> usize
+    requires { ⌜ On (now p) (length (now w)) × Searched (now p) (store (now p) (now w)) × (0 < slot) × IsWord slot ⌝ }
+    ensures { λ r. ⌜ r ≡ linkWord wide (linkOf (store (now (p .entry)) (now (w .entry)) GIVEN) (nodeCount (store (now (p .entry)) (now (w .entry)))) slot) ⌝ }
+{
+    let link = find_number(w, p, OWNER_HEADS, GIVEN, slot);
+    if 0 < link {
+        return link - 1;
+    }
+    if wide {
+        return NOTHING;
+    }
+    EMPTY
+}
+
+// What a slot above 0 holds, `wide` telling whether the slot before holds a wide constant: `lookup slot owned`, `behind`.
+fn owner_of(w: &[u32], p: &[usize], slot: usize, wide: bool) -> usize
+    requires { ⌜ On (now p) (length (now w)) × Searched (now p) (store (now p) (now w)) × (0 < slot) × IsWord slot ⌝ }
+    ensures { λ r. ⌜ r ≡ ownerIn (store (now (p .entry)) (now (w .entry))) slot wide ⌝ }
+{
+    if slot == load(w, p, COUNTS, NAME_SLOT) {
+        return ATTRIBUTE;
+    }
+    let raw = find_number(w, p, RAW_HEADS, RAW_KEYS, slot);
+    if 0 < raw {
+        return raw_content(w, p, load(w, p, RAW_ENTRIES, raw - 1));
+    }
+    given_content(w, p, slot, wide)
+}
+
+// A content is a node, and wide.
+fn is_wide(job: &[u8], w: &[u32], p: &[usize], content: usize) -> bool
+    requires { ⌜ On (now p) (length (now w)) × Work (now job) (now p) × Made (now job) (store (now p) (now w)) × (content < NOTHING → content < nodeCount (store (now p) (now w))) ⌝ }
+    ensures { λ r. ⌜ r ≡ wideIn (now (job .entry)) (store (now (p .entry)) (now (w .entry))) content ⌝ }
+{
+    if NOTHING <= content {
+        return false;
+    }
+    node_is_wide(job, w, p, content)
+}
+
+// The slot before one above 0 holds a wide constant.
+fn wide_before(job: &[u8], w: &[u32], p: &[usize], slot: usize) -> bool
+    requires { ⌜ On (now p) (length (now w)) × Work (now job) (now p) × Searched (now p) (store (now p) (now w)) × Owned (now job) (store (now p) (now w)) × (0 < slot) × IsWord slot ⌝ }
+    ensures { λ r. ⌜ r ≡ wideAt (ownerIn (store (now (p .entry)) (now (w .entry)))) (wideIn (now (job .entry)) (store (now (p .entry)) (now (w .entry)))) (slot - 1) ⌝ }
+{
+    if slot < 2 {
+        return false;
+    }
+    is_wide(job, w, p, owner_of(w, p, slot - 1, false))
+}
+
+// What a slot holds: `contentOf`.
+fn content_of(job: &[u8], w: &[u32], p: &[usize], slot: usize) -> usize
+    requires { ⌜ On (now p) (length (now w)) × Work (now job) (now p) × Searched (now p) (store (now p) (now w)) × Owned (now job) (store (now p) (now w)) × IsWord slot ⌝ }
+    ensures { λ r. ⌜ r ≡ contentIn (now (job .entry)) (store (now (p .entry)) (now (w .entry))) slot ⌝ }
+{
+    if slot == 0 {
+        return NOTHING;
+    }
+    owner_of(w, p, slot, wide_before(job, w, p, slot))
+}
+
+// The raw slot i by rising slot; past every slot where there is none.
+fn held_slot(w: &[u32], p: &[usize], i: usize) -> usize
+    requires { ⌜ On (now p) (length (now w)) × HeldOrder (now p) (store (now p) (now w)) ⌝ }
+    ensures { λ r. ⌜ r ≡ heldIn (store (now (p .entry)) (now (w .entry))) i ⌝ }
+{
+    if i < load(w, p, COUNTS, HELD_COUNT) {
+        return raws::raw_key(w, p, i);
+    }
+    65536
+}
+
+// What a slot holds, where `raws` raw slots are below it, `held` is the next one, and `wide` tells of the slot before: `contentOf`.
+fn next_content(
+    w: &[u32],
+    p: &[usize],
+    slot: usize,
+    name: usize,
+    raws: usize,
+    held: usize,
+    wide: bool,
+) -> usize
+    requires { ⌜ On (now p) (length (now w)) × Searched (now p) (store (now p) (now w)) × HeldOrder (now p) (store (now p) (now w)) × Sweep (store (now p) (now w)) slot raws held × (name ≡ nameSlot (store (now p) (now w))) × (0 < slot) × (slot < 65536) ⌝ }
+    ensures { λ r. ⌜ r ≡ ownerIn (store (now (p .entry)) (now (w .entry))) slot wide ⌝ }
+{
+    if slot == name {
+        return ATTRIBUTE;
+    }
+    if slot == held {
+        return raw_content(w, p, raws::raw_entry(w, p, raws));
+    }
+    given_content(w, p, slot, wide)
 }

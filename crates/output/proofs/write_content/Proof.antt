@@ -54,7 +54,7 @@ slice-aggregate-write-entry c = search needs
 
 -- src/lib.rt:211:5
 write-entry-requires-2 : tie.Need-write-entry-requires-2
-write-entry-requires-2 c κs = ?
+write-entry-requires-2 c κs = let a = c .before .before .before .before .before .before .before .before .before .before .args in let q = c .before .before .before .before .before .before .before .before .before .before .pre in let t = store (a .p .now) (a .w .now) in let name = c .before .before .attribute-name .ensures in (text-fits 16 (omega arith), (omega (arith, ap length name, name-length), rw (attribute-bytes (c .before .before .attribute-name .result) name) (rw (slot-some (shownIn (a .job .now) t (a .content)) (textEntry attributeName) (shown-attribute (finishedIn (a .job .now) t) (a .content) (c .before .before .before .before .before .if1 .left) (c .before .before .before .before .if2 .left) (c .before .before .before .if3 .left))) at (q .4))))
 
 -- src/lib.rt:190:1
 same-length-3 : tie.Need-same-length-3
@@ -62,7 +62,7 @@ same-length-3 c = search needs
 
 -- src/lib.rt:190:1
 returns-4 : tie.Need-returns-4
-returns-4 c = ?
+returns-4 c = let a = c .before .before .before .before .before .before .before .before .before .before .before .before .before .args in let t = store (a .p .now) (a .w .now) in let name = c .before .before .before .before .before .attribute-name .ensures in rw (slot-some (shownIn (a .job .now) t (a .content)) (textEntry attributeName) (shown-attribute (finishedIn (a .job .now) t) (a .content) (c .before .before .before .before .before .before .before .before .if1 .left) (c .before .before .before .before .before .before .before .if2 .left) (c .before .before .before .before .before .before .if3 .left))) (rw (attribute-bytes (c .before .before .before .before .before .attribute-name .result) name) at (c .before .before .write-entry2 .ensures))
 
 pub write-content-spec : {M : Type 1} → statement M
 write-content-spec =
