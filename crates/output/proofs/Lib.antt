@@ -1,3 +1,5 @@
 pub mod Numbers
 pub mod Showing
 pub mod Shown
+pub mod Owners
+pub mod Holding

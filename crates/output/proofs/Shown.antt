@@ -1,5 +1,6 @@
 -- What the code writes of a node and of a content are the bytes of what it shows. Assumes nothing.
 use mathlib.Core.List.{List, [], _∷_, _++_, map}
+use mathlib.Core.Logic.{⊎-elim}
 use mathlib.Core.Option.{Option, none, some}
 use mathlib.Core.Path.{_≡_, refl, sym, ap, subst, _∙_}
 use Prim.Native.Nat.{ℕ, zero, suc, _+_, _-_, _≤_, _<_}
@@ -25,6 +26,7 @@ use Rattle.store.specs.JobIn.{constantsIn}
 use Rattle.store.specs.Regions.{MARKS, GIVEN, INDEXES, OFFSETS, FIRSTS, SIZES, CHILDREN, NODES, Work}
 use Rattle.store.specs.Words.{cut}
 use Rattle.store.proofs.Laying.{work-sizes}
+use Rattle.store.proofs.Stores.{eq-or, lt-or}
 use Rattle.store.proofs.Bounds.{work-constants}
 use Rattle.interner.specs.Nodes.{nodeCount}
 use Rattle.output.specs.Contents.{NOTHING, EMPTY, ATTRIBUTE, childNumber, ShortChild, finishedIn, numberIn, Made, KidsNumbered, textEntry, shownWord, shownIn, IsContent}
@@ -137,3 +139,38 @@ name-length = refl
 
 pub attribute-bytes : (name : List ℕ) → name ≡ attributeName → entryBytes (entryOf 1 0 (take 16 (drop 0 name)) 0 0) ≡ entryBytes (textEntry attributeName)
 attribute-bytes name h = parts-are (textEntry attributeName) 1 0 (take 16 (drop 0 name)) 0 0 refl refl (rw h name-whole) refl refl
+
+-- NO ENTRY IS LONGER than the longest text
+
+pub entry-bound : (e : Entry (List ℕ) ℕ) → LiteralFits (lookup (e .tag) shapes) (length (e .literal)) → length (entryBytes e) ≤ 65538
+unfolding entryBytes shapes writeFields be2
+entry-bound e =
+    looked-up
+    (λ o. LiteralFits o (length (e .literal)) → length (elim o [ none ↦ [] | some fields ↦ e .tag ∷ writeFields fields e (e .kids) ]) ≤ 65538)
+    (e .tag)
+    shapes
+    (λ f. simp length-append (omega (arith, f .asText refl)),
+      (λ f. simp length-append (omega (arith, f .asBits 4 refl)),
+      (λ f. simp length-append (omega (arith, f .asBits 4 refl)),
+      (λ f. simp length-append (omega (arith, f .asBits 8 refl)),
+      (λ f. simp length-append (omega (arith, f .asBits 8 refl)),
+      (λ f. omega arith, (λ f. omega arith, (λ f. omega arith, (λ f. omega arith, (λ f. omega arith, (λ f. omega arith, (λ f. omega arith,
+      (λ f. omega arith, (λ f. omega arith, (λ f. omega arith, (λ f. omega arith, (λ f. omega arith, λ f. omega arith)))))))))))))))))
+
+pub content-bound : (s : List ℕ) (t : Store) (c : ℕ) → IsBytes s → Made s t → IsContent s t c → length (slotBytes (shownIn s t c)) ≤ 65538
+content-bound s t c b made is =
+    ⊎-elim
+    (λ (l : c < NOTHING).
+    rw (slot-some (shownIn s t c) (finishedIn s t c) (shown-node (finishedIn s t) c l))
+    (entry-bound (finishedIn s t c) (shown-fits s t c made (is .1 l .0) b)))
+    (λ (l : NOTHING ≤ c).
+    ⊎-elim
+    (λ (z : c ≡ NOTHING). rw (slot-none (shownIn s t c) (shown-nothing (finishedIn s t) c z)) (omega arith))
+    (λ (z : c ≡ NOTHING → ⊥).
+    ⊎-elim
+    (λ (y : c ≡ EMPTY). rw (slot-some (shownIn s t c) (textEntry []) (shown-empty (finishedIn s t) c y)) (omega (arith, empty-length)))
+    (λ (y : c ≡ EMPTY → ⊥).
+    rw (slot-some (shownIn s t c) (textEntry attributeName) (shown-attribute (finishedIn s t) c l z y)) (omega (arith, attribute-length)))
+    (eq-or c EMPTY))
+    (eq-or c NOTHING))
+    (lt-or c NOTHING)

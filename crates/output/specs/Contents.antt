@@ -254,3 +254,12 @@ pub record Sweep (t : Store) (slot raws held : ℕ) : Type 0 where
 pub record OwnersMade (p : List ℕ) (t u : Store) : Type 0 where
   pub owners : NumbersIn p u OWNER-HEADS GIVEN (nodeCount u)
   pub kept : Kept (OWNER-HEADS ∷ OWNER-LINKS ∷ []) t u
+
+-- ALL THAT IS FINISHED: what the outputs are read from
+pub record Finished (s p : List ℕ) (t : Store) : Type 0 where
+  pub sought : Searched p t
+  pub owned : Owned s t
+  pub order : HeldOrder p t
+  pub counted : POOL-COUNT < size p COUNTS
+  pub low : 1 ≤ poolCount t
+  pub high : poolCount t < 65536

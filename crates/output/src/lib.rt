@@ -13,6 +13,7 @@ use store::NODES;
 use store::NODE_COUNT;
 use store::OFFSETS;
 use store::OWNER_HEADS;
+use store::POOL_COUNT;
 use store::RAW_ENTRIES;
 use store::RAW_HEADS;
 use store::RAW_KEYS;
@@ -28,14 +29,14 @@ ghost use Prim.Native.Nat.{ℕ, _+_, _-_, _<_, _≤_};
 ghost use lib.ListN.{length, getD};
 ghost use Rattle.definition.specs.Shapes.{isWide};
 ghost use Rattle.definition.specs.Numbering.{attributeName};
-ghost use Rattle.definition.specs.Run.{entryBytes, slotBytes};
+ghost use Rattle.definition.specs.Run.{entryBytes, slotBytes, overwrite};
 ghost use Rattle.raw_const.specs.Entries.{Wrote};
 ghost use Rattle.store.specs.Store.{size, store, On, IsWord, Read};
 ghost use Rattle.store.specs.Regions.{COUNTS, MARKS, GIVEN, INDEXES, OWNER-HEADS, OWNER-LINKS, OFFSETS, FIRSTS, SIZES, CHILDREN, NODES, NODE-COUNT, Work};
 ghost use Rattle.store.specs.Chains.{Heads};
 ghost use Rattle.store.specs.Words.{ENTRY, HALF, cut};
 ghost use Rattle.interner.specs.Nodes.{nodeCount};
-ghost use Rattle.output.specs.Contents.{NOTHING, ATTRIBUTE, childSlot, childNumber, ChildThere, childCount, childAt, finishedIn, numberIn, Made, KidsNumbered, ShortChild, shownIn, wideIn, IsContent, rawWord, linkWord, linkOf, ownerIn, nameSlot, wideAt, contentIn, Searched, Owned, heldIn, HeldOrder, Sweep, OwnersMade};
+ghost use Rattle.output.specs.Contents.{NOTHING, ATTRIBUTE, childSlot, childNumber, ChildThere, childCount, childAt, finishedIn, numberIn, Made, KidsNumbered, ShortChild, shownIn, wideIn, IsContent, rawWord, linkWord, linkOf, ownerIn, nameSlot, wideAt, contentIn, Searched, Owned, heldIn, HeldOrder, Sweep, OwnersMade, poolIn, Finished};
 
 // What a slot holds, as a number: a node, or past every node nothing, the empty text, or the text "BootstrapMethods": `Content`.
 const NOTHING: usize = 131072;
@@ -344,4 +345,54 @@ fn next_content(
         return raw_content(w, p, raws::raw_entry(w, p, raws));
     }
     given_content(w, p, slot, wide)
+}
+
+// How many bytes the pool takes: `length pool`.
+pub fn pool_length(job: &[u8], w: &[u32], p: &[usize]) -> usize
+    requires { ⌜ On (now p) (length (now w)) × Work (now job) (now p) × Finished (now job) (now p) (store (now p) (now w)) ⌝ }
+    ensures { λ r. ⌜ r ≡ length (poolIn (now (job .entry)) (store (now (p .entry)) (now (w .entry)))) ⌝ }
+{
+    let end = load(w, p, COUNTS, POOL_COUNT);
+    let name = load(w, p, COUNTS, NAME_SLOT);
+    let mut size = 2;
+    let mut raws = 0;
+    let mut held = held_slot(w, p, 0);
+    let mut wide = false;
+    let mut slot = 1;
+    while slot < end {
+        let content = next_content(w, p, slot, name, raws, held, wide);
+        size += content_length(job, w, p, content);
+        wide = is_wide(job, w, p, content);
+        if slot == held {
+            raws += 1;
+            held = held_slot(w, p, raws);
+        }
+        slot += 1;
+    }
+    size
+}
+
+// Writes the pool, its count, then the entries below it: `pool` of `render`.
+pub fn write_pool(pool: &mut [u8], job: &[u8], w: &[u32], p: &[usize])
+    requires { ⌜ On (now p) (length (now w)) × Work (now job) (now p) × Finished (now job) (now p) (store (now p) (now w)) × (length (poolIn (now job) (store (now p) (now w))) ≤ length (now pool)) ⌝ }
+    ensures { λ _. ⌜ now (pool .exit) ≡ overwrite (poolIn (now (job .entry)) (store (now (p .entry)) (now (w .entry)))) (now (pool .entry)) ⌝ }
+{
+    let end = load(w, p, COUNTS, POOL_COUNT);
+    let name = load(w, p, COUNTS, NAME_SLOT);
+    writer::put_u16(pool, 0, end as u16);
+    let mut at = 2;
+    let mut raws = 0;
+    let mut held = held_slot(w, p, 0);
+    let mut wide = false;
+    let mut slot = 1;
+    while slot < end {
+        let content = next_content(w, p, slot, name, raws, held, wide);
+        at = write_content(pool, at, job, w, p, content);
+        wide = is_wide(job, w, p, content);
+        if slot == held {
+            raws += 1;
+            held = held_slot(w, p, raws);
+        }
+        slot += 1;
+    }
 }
