@@ -3,3 +3,4 @@ pub mod Showing
 pub mod Shown
 pub mod Owners
 pub mod Holding
+pub mod Pools

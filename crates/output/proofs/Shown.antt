@@ -146,7 +146,7 @@ pub entry-bound : (e : Entry (List ℕ) ℕ) → LiteralFits (lookup (e .tag) sh
 unfolding entryBytes shapes writeFields be2
 entry-bound e =
     looked-up
-    (λ o. LiteralFits o (length (e .literal)) → length (elim o [ none ↦ [] | some fields ↦ e .tag ∷ writeFields fields e (e .kids) ]) ≤ 65538)
+    (λ o. LiteralFits o (length (e .literal)) → length {A = ℕ} (elim o [ none ↦ [] | some fields ↦ e .tag ∷ writeFields fields e (e .kids) ]) ≤ 65538)
     (e .tag)
     shapes
     (λ f. simp length-append (omega (arith, f .asText refl)),
