@@ -4,3 +4,5 @@ pub mod Shown
 pub mod Owners
 pub mod Holding
 pub mod Pools
+pub mod Rowing
+pub mod Classes

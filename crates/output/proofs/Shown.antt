@@ -57,7 +57,7 @@ module _ (s p : List ℕ) (t : Store) (k : ℕ) (work : Work s p) (made : Made s
     kid-ready kids i h =
         rw first-is (short-child s p t work made (getD (t CHILDREN) (getD (t FIRSTS) (getD (t NODES) k 0) 0 + i) 0) (kids i (omega (arith, size-is))))
 
-    kid-number : (i r : ℕ) →
+    pub kid-number : (i r : ℕ) →
         r ≡ getD (map (childNumber (size p MARKS - size p INDEXES) (t GIVEN) (t INDEXES) (t NODES)) (cut (t CHILDREN) children n)) i 0 →
         r ≡ getD (fin .kids) i 0
     kid-number i r h = rw (shown-kids s t k made low, ← first-is, ← size-is) (rw (work-constants s p work .1) at h)
@@ -129,7 +129,7 @@ text-fits n h = record { asText = λ _. h; asBits = λ size q. clash (text-bits 
 pub empty-bytes : (s : List ℕ) → entryBytes (entryOf 1 0 (take 0 (drop 0 s)) 0 0) ≡ entryBytes (textEntry [])
 empty-bytes s = parts-are (textEntry []) 1 0 (take 0 (drop 0 s)) 0 0 refl refl refl refl refl
 
-name-whole : take 16 (drop 0 attributeName) ≡ attributeName
+pub name-whole : take 16 (drop 0 attributeName) ≡ attributeName
 unfolding attributeName ascii
 name-whole = refl
 

@@ -1,5 +1,7 @@
 // What a run gives out: the answers, the pool slot by slot, the bootstrap rows and the class name. Everything is measured before anything
 // is written.
+use store::ANSWERS;
+use store::AT;
 use store::CHILDREN;
 use store::COUNTS;
 use store::ENTRY;
@@ -22,21 +24,30 @@ use store::constants;
 use store::find_number;
 use store::load;
 use store::push_link;
-ghost use mathlib.Core.List.{map};
+use store::size_of;
+ghost use mathlib.Core.List.{List, map};
 ghost use mathlib.Core.Logic.{_⊎_};
 ghost use mathlib.Core.Path.{_≡_};
-ghost use Prim.Native.Nat.{ℕ, _+_, _-_, _<_, _≤_};
+ghost use Prim.Native.Nat.{ℕ, _+_, _-_, _*_, _<_, _≤_};
 ghost use lib.ListN.{length, getD};
+ghost use mathlib.Core.Bool.{_&&_};
+ghost use mathlib.Core.Option.{Option, some};
+ghost use lib.Dec.{eqb, ltb};
+ghost use Rattle.definition.specs.Basics.{concat};
+ghost use Rattle.definition.specs.Bytes.{be2};
 ghost use Rattle.definition.specs.Shapes.{isWide};
 ghost use Rattle.definition.specs.Numbering.{attributeName};
-ghost use Rattle.definition.specs.Run.{entryBytes, slotBytes, overwrite};
+ghost use Rattle.definition.specs.Run.{entryBytes, slotBytes, rowBytes, classOut, overwrite};
 ghost use Rattle.raw_const.specs.Entries.{Wrote};
 ghost use Rattle.store.specs.Store.{size, store, On, IsWord, Read};
-ghost use Rattle.store.specs.Regions.{COUNTS, MARKS, GIVEN, INDEXES, OWNER-HEADS, OWNER-LINKS, OFFSETS, FIRSTS, SIZES, CHILDREN, NODES, NODE-COUNT, Work};
+ghost use Rattle.store.specs.Regions.{COUNTS, MARKS, GIVEN, INDEXES, OWNER-HEADS, OWNER-LINKS, OFFSETS, FIRSTS, SIZES, CHILDREN, NODES, ANSWERS, NODE-COUNT, Work};
 ghost use Rattle.store.specs.Chains.{Heads};
 ghost use Rattle.store.specs.Words.{ENTRY, HALF, cut};
 ghost use Rattle.interner.specs.Nodes.{nodeCount};
 ghost use Rattle.output.specs.Contents.{NOTHING, ATTRIBUTE, childSlot, childNumber, ChildThere, childCount, childAt, finishedIn, numberIn, Made, KidsNumbered, ShortChild, shownIn, wideIn, IsContent, rawWord, linkWord, linkOf, ownerIn, nameSlot, wideAt, contentIn, Searched, Owned, heldIn, HeldOrder, Sweep, OwnersMade, poolIn, Finished};
+
+ghost use Rattle.output.specs.Names.{textOf, classSlotIn, classIn, NameIs, ClassAt};
+ghost use Rattle.output.specs.Rows.{slotsFrom, rowIn, Slotted, RowReady};
 
 // What a slot holds, as a number: a node, or past every node nothing, the empty text, or the text "BootstrapMethods": `Content`.
 const NOTHING: usize = 131072;
@@ -44,6 +55,13 @@ const NOTHING: usize = 131072;
 const EMPTY: usize = 131073;
 
 const ATTRIBUTE: usize = 131074;
+
+// A class name: none, or the bytes of the job that it is, or the text "BootstrapMethods".
+pub enum ClassName {
+    None,
+    Bytes { start: usize, size: usize },
+    Attribute,
+}
 
 // Where the record of a node's entry stands.
 fn node_at(w: &[u32], p: &[usize], k: usize) -> usize
@@ -394,5 +412,153 @@ pub fn write_pool(pool: &mut [u8], job: &[u8], w: &[u32], p: &[usize])
             held = held_slot(w, p, raws);
         }
         slot += 1;
+    }
+}
+
+// Writes the answers: `answers`.
+pub fn write_answers(answers: &mut [u16], w: &[u32], p: &[usize])
+    requires { ⌜ On (now p) (length (now w)) × (size (now p) ANSWERS ≤ length (now answers)) × ((i : ℕ) → i < size (now p) ANSWERS → getD (store (now p) (now w) ANSWERS) i 0 < 65536) ⌝ }
+    ensures { λ _. ⌜ now (answers .exit) ≡ overwrite (store (now (p .entry)) (now (w .entry)) ANSWERS) (now (answers .entry)) ⌝ }
+{
+    let n = size_of(p, ANSWERS);
+    let mut i = 0;
+    while i < n {
+        answers[i] = load(w, p, ANSWERS, i) as u16;
+        i += 1;
+    }
+}
+
+// Writes n slots of children from a place of CHILDREN on; the place behind them: `be2` of each.
+fn write_slots(
+    out: &mut [u8],
+    start: usize,
+    w: &[u32],
+    p: &[usize],
+    first: usize,
+    n: usize,
+) -> usize
+    requires { ⌜ On (now p) (length (now w)) × (first + n ≤ size (now p) CHILDREN) × ((i : ℕ) → i < n → Slotted (now p) (store (now p) (now w) GIVEN) (getD (store (now p) (now w) CHILDREN) (first + i) 0)) × (start + 2 * n ≤ length (now out)) ⌝ }
+    ensures { λ r. ⌜ Wrote (now (out .entry)) start (concat (map be2 (slotsFrom (store (now (p .entry)) (now (w .entry)) GIVEN) (store (now (p .entry)) (now (w .entry)) CHILDREN) first n))) (now (out .exit)) r ⌝ }
+{
+    let mut at = start;
+    let mut i = 0;
+    while i < n {
+        let slot = child_slot(w, p, load(w, p, CHILDREN, first + i));
+        writer::put_u16(out, at, slot as u16);
+        at += 2;
+        i += 1;
+    }
+    at
+}
+
+// Writes the row of bootstrap node k; the place behind it: `rowBytes`.
+fn write_row(out: &mut [u8], at: usize, w: &[u32], p: &[usize], k: usize) -> usize
+    requires { ⌜ On (now p) (length (now w)) × RowReady (now p) (store (now p) (now w)) k × (at + length (rowBytes (rowIn (store (now p) (now w)) k)) ≤ length (now out)) ⌝ }
+    ensures { λ r. ⌜ Wrote (now (out .entry)) at (rowBytes (rowIn (store (now (p .entry)) (now (w .entry))) k)) (now (out .exit)) r ⌝ }
+{
+    let first = first_child(w, p, k);
+    let n = child_count(w, p, k) - 1;
+    let behind = write_slots(out, at, w, p, first, 1);
+    writer::put_u16(out, behind, n as u16);
+    write_slots(out, behind + 2, w, p, first + 1, n)
+}
+
+// The text of node k, if it is one.
+fn node_text(job: &[u8], w: &[u32], p: &[usize], k: usize) -> ClassName
+    requires { ⌜ On (now p) (length (now w)) × Work (now job) (now p) × Made (now job) (store (now p) (now w)) × (k < nodeCount (store (now p) (now w))) ⌝ }
+    ensures { λ r. ⌜ NameIs (now (job .entry)) r (textOf (some (finishedIn (now (job .entry)) (store (now (p .entry)) (now (w .entry))) k))) ⌝ }
+{
+    let at = node_at(w, p, k);
+    if job::tag_at(job, at) != 1 {
+        return ClassName::None;
+    }
+    let s = job::literal_at(job, at);
+    let start = s.start;
+    ClassName::Bytes {
+        start,
+        size: s.end - start,
+    }
+}
+
+// The text that a content is, if it is one: `textIn`.
+fn text_in(job: &[u8], w: &[u32], p: &[usize], content: usize) -> ClassName
+    requires { ⌜ On (now p) (length (now w)) × Work (now job) (now p) × Made (now job) (store (now p) (now w)) × IsContent (now job) (store (now p) (now w)) content ⌝ }
+    ensures { λ r. ⌜ NameIs (now (job .entry)) r (textOf (shownIn (now (job .entry)) (store (now (p .entry)) (now (w .entry))) content)) ⌝ }
+{
+    if content < NOTHING {
+        return node_text(job, w, p, content);
+    }
+    if content == NOTHING {
+        return ClassName::None;
+    }
+    if content == EMPTY {
+        return ClassName::Bytes { start: 0, size: 0 };
+    }
+    ClassName::Attribute
+}
+
+// The class slot of record 60: `classSlotOf`.
+fn class_slot(job: &[u8], w: &[u32], p: &[usize]) -> usize
+    requires { ⌜ On (now p) (length (now w)) × ClassAt (now job) (now p) (store (now p) (now w)) ⌝ }
+    ensures { λ r. ⌜ (r ≡ classSlotIn (now (job .entry)) (store (now (p .entry)) (now (w .entry)))) × IsWord r ⌝ }
+{
+    let at = load(w, p, COUNTS, AT);
+    let n = writer::get_u16(job, at + 3) as usize;
+    if writer::get_u8(job, at + 2) == 0 {
+        return n;
+    }
+    load(w, p, ANSWERS, n)
+}
+
+// The content is a Class.
+fn is_class(job: &[u8], w: &[u32], p: &[usize], content: usize) -> bool
+    requires { ⌜ On (now p) (length (now w)) × Work (now job) (now p) × Made (now job) (store (now p) (now w)) × IsContent (now job) (store (now p) (now w)) content ⌝ }
+    ensures { λ r. ⌜ r ≡ ltb content NOTHING && eqb (finishedIn (now (job .entry)) (store (now (p .entry)) (now (w .entry))) content .tag) 7 ⌝ }
+{
+    if NOTHING <= content {
+        return false;
+    }
+    job::tag_at(job, node_at(w, p, content)) == 7
+}
+
+// The class name, if the class slot holds a Class whose slot holds a text: `className`.
+pub fn class_name(job: &[u8], w: &[u32], p: &[usize]) -> ClassName
+    requires { ⌜ On (now p) (length (now w)) × Work (now job) (now p) × Searched (now p) (store (now p) (now w)) × Owned (now job) (store (now p) (now w)) × ClassAt (now job) (now p) (store (now p) (now w)) ⌝ }
+    ensures { λ r. ⌜ NameIs (now (job .entry)) r (classIn (now (job .entry)) (store (now (p .entry)) (now (w .entry)))) ⌝ }
+{
+    let class = content_of(job, w, p, class_slot(job, w, p));
+    if !is_class(job, w, p, class) {
+        return ClassName::None;
+    }
+    let n = child_count(w, p, class);
+    let text = number_at(w, p, first_child(w, p, class), n, 0);
+    text_in(job, w, p, content_of(job, w, p, text as usize))
+}
+
+// How many bytes a class name takes: `length (classOut ..)`.
+pub fn class_length(c: ClassName) -> usize
+    ensures { λ r. ⌜ ((s : List ℕ) (o : Option (List ℕ)) → NameIs s c o → r ≡ length (classOut o)) ⌝ }
+{
+    match c {
+        ClassName::None => 0,
+        ClassName::Bytes { start: _, size } => size,
+        ClassName::Attribute => 16,
+    }
+}
+
+// Writes a class name: `classBytes`.
+pub fn write_class(out: &mut [u8], job: &[u8], c: ClassName)
+    requires { ⌜ ((o : Option (List ℕ)) × NameIs (now job) c o × (length (classOut o) ≤ length (now out))) ⌝ }
+    ensures { λ _. ⌜ ((o : Option (List ℕ)) → NameIs (now (job .entry)) c o → now (out .exit) ≡ overwrite (classOut o) (now (out .entry))) ⌝ }
+{
+    match c {
+        ClassName::None => {}
+        ClassName::Bytes { start, size } => {
+            writer::copy(job, start, out, 0, size);
+        }
+        ClassName::Attribute => {
+            let name = attribute_name();
+            writer::copy(&name, 0, out, 0, 16);
+        }
     }
 }
