@@ -6,3 +6,4 @@ pub mod Holding
 pub mod Pools
 pub mod Rowing
 pub mod Classes
+pub mod Filling

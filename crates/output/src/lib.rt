@@ -10,16 +10,21 @@ use store::GIVEN;
 use store::HALF;
 use store::HELD_COUNT;
 use store::INDEXES;
+use store::INLINE;
+use store::INLINE_COUNT;
 use store::NAME_SLOT;
 use store::NODES;
 use store::NODE_COUNT;
 use store::OFFSETS;
 use store::OWNER_HEADS;
 use store::POOL_COUNT;
+use store::RAW_COUNT;
 use store::RAW_ENTRIES;
 use store::RAW_HEADS;
 use store::RAW_KEYS;
+use store::ROW_COUNT;
 use store::SIZES;
+use store::WRITTEN_COUNT;
 use store::constants;
 use store::find_number;
 use store::load;
@@ -47,7 +52,7 @@ ghost use Rattle.interner.specs.Nodes.{nodeCount};
 ghost use Rattle.output.specs.Contents.{NOTHING, ATTRIBUTE, childSlot, childNumber, ChildThere, childCount, childAt, finishedIn, numberIn, Made, KidsNumbered, ShortChild, shownIn, wideIn, IsContent, rawWord, linkWord, linkOf, ownerIn, nameSlot, wideAt, contentIn, Searched, Owned, heldIn, HeldOrder, Sweep, OwnersMade, poolIn, Finished};
 
 ghost use Rattle.output.specs.Names.{textOf, classSlotIn, classIn, NameIs, ClassAt};
-ghost use Rattle.output.specs.Rows.{slotsFrom, rowIn, Slotted, RowReady};
+ghost use Rattle.output.specs.Rows.{slotsFrom, rowIn, Slotted, RowReady, rawRows, rawIndexIn, inlineIndexIn, rawNodeIn, rowCountIn, reachedAt, passed, rowNodeIn, rowsIn, constantsFor, RowsReady};
 
 // What a slot holds, as a number: a node, or past every node nothing, the empty text, or the text "BootstrapMethods": `Content`.
 const NOTHING: usize = 131072;
@@ -55,6 +60,9 @@ const NOTHING: usize = 131072;
 const EMPTY: usize = 131073;
 
 const ATTRIBUTE: usize = 131074;
+
+// Past every index and every slot.
+const PAST: usize = 65536;
 
 // A class name: none, or the bytes of the job that it is, or the text "BootstrapMethods".
 pub enum ClassName {
@@ -340,7 +348,7 @@ fn held_slot(w: &[u32], p: &[usize], i: usize) -> usize
     if i < load(w, p, COUNTS, HELD_COUNT) {
         return raws::raw_key(w, p, i);
     }
-    65536
+    PAST
 }
 
 // What a slot holds, where `raws` raw slots are below it, `held` is the next one, and `wide` tells of the slot before: `contentOf`.
@@ -560,5 +568,116 @@ pub fn write_class(out: &mut [u8], job: &[u8], c: ClassName)
             let name = attribute_name();
             writer::copy(&name, 0, out, 0, 16);
         }
+    }
+}
+
+// How many raw bootstraps there are: `length indexes`.
+fn raw_rows(w: &[u32], p: &[usize]) -> usize
+    requires { ⌜ On (now p) (length (now w)) × RowsReady (now p) (store (now p) (now w)) ⌝ }
+    ensures { λ r. ⌜ r ≡ rawRows (store (now (p .entry)) (now (w .entry))) ⌝ }
+{
+    load(w, p, COUNTS, RAW_COUNT) - load(w, p, COUNTS, HELD_COUNT)
+}
+
+// The index of raw bootstrap i by rising index; past every index where there is none.
+fn raw_index(w: &[u32], p: &[usize], i: usize) -> usize
+    requires { ⌜ On (now p) (length (now w)) × RowsReady (now p) (store (now p) (now w)) ⌝ }
+    ensures { λ r. ⌜ r ≡ rawIndexIn (store (now (p .entry)) (now (w .entry))) i ⌝ }
+{
+    if raw_rows(w, p) <= i {
+        return PAST;
+    }
+    raws::raw_key(w, p, load(w, p, COUNTS, HELD_COUNT) + i) - ENTRY
+}
+
+// Its node: `indexNodes`.
+fn raw_row(w: &[u32], p: &[usize], i: usize) -> usize
+    requires { ⌜ On (now p) (length (now w)) × RowsReady (now p) (store (now p) (now w)) × (i < rawRows (store (now p) (now w))) ⌝ }
+    ensures { λ r. ⌜ r ≡ rawNodeIn (store (now (p .entry)) (now (w .entry))) i ⌝ }
+{
+    resolver::node_of(w, p, raws::raw_entry(w, p, load(w, p, COUNTS, HELD_COUNT) + i))
+}
+
+// The index of inline row i; past every index where there is none.
+fn inline_index(w: &[u32], p: &[usize], i: usize) -> usize
+    requires { ⌜ On (now p) (length (now w)) × RowsReady (now p) (store (now p) (now w)) ⌝ }
+    ensures { λ r. ⌜ r ≡ inlineIndexIn (constantsFor (now (p .entry))) (store (now (p .entry)) (now (w .entry))) i ⌝ }
+{
+    if load(w, p, COUNTS, INLINE_COUNT) <= i {
+        return PAST;
+    }
+    let e = load(w, p, NODES, load(w, p, INLINE, i));
+    index_of(w, p, e, constants(p))
+}
+
+// How many rows the table has, once its holes are filled: `length (fillHoles written waiting)`.
+pub fn row_count(w: &[u32], p: &[usize]) -> usize
+    requires { ⌜ On (now p) (length (now w)) × RowsReady (now p) (store (now p) (now w)) ⌝ }
+    ensures { λ r. ⌜ r ≡ rowCountIn (store (now (p .entry)) (now (w .entry))) ⌝ }
+{
+    let n = raw_rows(w, p);
+    if load(w, p, COUNTS, WRITTEN_COUNT) < n {
+        return raw_index(w, p, n - 1) + 1;
+    }
+    load(w, p, COUNTS, ROW_COUNT)
+}
+
+// The node whose row stands at an index, `inline` inline and `raws` raw indexes being below it: `fillHoles`.
+fn row_node(w: &[u32], p: &[usize], index: usize, inline: usize, raws: usize) -> usize
+    requires { ⌜ On (now p) (length (now w)) × RowsReady (now p) (store (now p) (now w)) × (index < rowCountIn (store (now p) (now w))) × (inline ≡ passed (inlineIndexIn (constantsFor (now p)) (store (now p) (now w))) index) × (raws ≡ passed (rawIndexIn (store (now p) (now w))) index) ⌝ }
+    ensures { λ r. ⌜ r ≡ rowNodeIn (constantsFor (now (p .entry))) (store (now (p .entry)) (now (w .entry))) index ⌝ }
+{
+    if inline_index(w, p, inline) == index {
+        return load(w, p, INLINE, inline);
+    }
+    raw_row(w, p, raws)
+}
+
+// 1 if a walk is at the next place that it waits for, else 0.
+fn reached(at: usize, next: usize) -> usize
+    ensures { λ r. ⌜ (r ≡ reachedAt at next) × (r ≤ 1) ⌝ }
+{
+    if at == next {
+        return 1;
+    }
+    0
+}
+
+// How many bytes the bootstrap rows take: `length bootstraps`.
+pub fn rows_length(w: &[u32], p: &[usize]) -> usize
+    requires { ⌜ On (now p) (length (now w)) × RowsReady (now p) (store (now p) (now w)) ⌝ }
+    ensures { λ r. ⌜ r ≡ length (rowsIn (constantsFor (now (p .entry))) (store (now (p .entry)) (now (w .entry)))) ⌝ }
+{
+    let end = row_count(w, p);
+    let mut size = 0;
+    let mut inline = 0;
+    let mut raws = 0;
+    let mut index = 0;
+    while index < end {
+        let k = row_node(w, p, index, inline, raws);
+        size += raw_const::row_length(child_count(w, p, k));
+        inline += reached(index, inline_index(w, p, inline));
+        raws += reached(index, raw_index(w, p, raws));
+        index += 1;
+    }
+    size
+}
+
+// Writes the bootstrap rows: `bootstraps` of `render`.
+pub fn write_rows(bootstraps: &mut [u8], w: &[u32], p: &[usize])
+    requires { ⌜ On (now p) (length (now w)) × RowsReady (now p) (store (now p) (now w)) × (length (rowsIn (constantsFor (now p)) (store (now p) (now w))) ≤ length (now bootstraps)) ⌝ }
+    ensures { λ _. ⌜ now (bootstraps .exit) ≡ overwrite (rowsIn (constantsFor (now (p .entry))) (store (now (p .entry)) (now (w .entry)))) (now (bootstraps .entry)) ⌝ }
+{
+    let end = row_count(w, p);
+    let mut at = 0;
+    let mut inline = 0;
+    let mut raws = 0;
+    let mut index = 0;
+    while index < end {
+        let k = row_node(w, p, index, inline, raws);
+        at = write_row(bootstraps, at, w, p, k);
+        inline += reached(index, inline_index(w, p, inline));
+        raws += reached(index, raw_index(w, p, raws));
+        index += 1;
     }
 }
