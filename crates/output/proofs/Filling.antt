@@ -166,9 +166,9 @@ module _ (p : List ℕ) (t : Store) where
       pub row-written :
           {d₀ d d₁ : List ℕ} {at r : ℕ} → length (joined row index) ≤ length d₀ → Wrote d₀ 0 (joined row index) d at → Wrote d at (rowBytes (rowIn t k)) d₁ r →
           Wrote d₀ 0 (joined row (index + 1)) d₁ r
-      row-written room a b =
+      row-written {d₀} {d} {d₁} {at} {r} room a b =
           let e : joined row (index + 1) ≡ joined row index ++ row index = ap (joined row) (add-one index) ∙ joined-more row index in
-          rw e (wrote-then a (omega arith) (subst (λ x. Wrote _ _ (rowBytes (rowIn t x)) _ _) is b))
+          rw e (wrote-then a (omega arith) (subst (λ x. Wrote d at (rowBytes (rowIn t x)) d₁ r) is b))
 
   module _ (inline raws index : ℕ) (w : Filled p t inline raws index) (past : rowCountIn t ≤ index) where
     all-rows : index ≡ rowCountIn t
