@@ -4,12 +4,12 @@ use mathlib.Core.List.{List, []}
 use mathlib.Core.Logic.{_⊎_, inl, inr, ⊎-elim}
 use mathlib.Core.Option.{Option, none, some}
 use mathlib.Core.Path.{_≡_, refl, sym, ap, subst, _∙_}
-use Prim.Native.Nat.{ℕ, zero, suc, _+_, _-_, _*_, _≤_, _<_}
+use Prim.Native.Nat.{ℕ, zero, suc, _+_, _≤_, _<_}
 use native.Mathlib.Omega.{arith}
 use lib.Dec.{eqb, ltb}
 use lib.ListN.{length, getD, take, drop}
-use borrow.Author.Tests.{lt-ltb, le-ltb, eq-eqb, ne-eqb, eqb-true}
-use Rattle.definition.specs.Bytes.{Parser, return, fail, andThen, _>>=_, one, two}
+use borrow.Author.Tests.{lt-ltb, le-ltb, eq-eqb, ne-eqb}
+use Rattle.definition.specs.Bytes.{Parser, return, andThen, _>>=_, one, two}
 use Rattle.definition.specs.Shapes.{Entry}
 use Rattle.definition.specs.Job.{ClassSlot, slot, request, Build, nameForm, classForm, readBuild}
 use Rattle.definition.specs.Numbering.{attributeName}
@@ -24,7 +24,7 @@ use Rattle.job.proofs.Taking.{byte-then, two-then}
 use Rattle.store.specs.Store.{Store, size}
 use Rattle.store.specs.Regions.{Work}
 use Rattle.store.proofs.Stores.{eq-or, lt-or}
-use Rattle.output.specs.Contents.{NOTHING, EMPTY, ATTRIBUTE, textEntry, shownWord, finishedIn, shownIn, contentIn, KidsNumbered, IsContent, Searched, Owned}
+use Rattle.output.specs.Contents.{NOTHING, EMPTY, textEntry, shownWord, finishedIn, shownIn, contentIn, KidsNumbered, IsContent, Searched, Owned}
 use Rattle.output.specs.declared.ClassName.{ClassName}
 use Rattle.output.specs.declared.ClassName.the-variants as className
 use Rattle.output.specs.Names.{textOf, classOf, NameIs, shownAt, classSlotIn, classIn}
@@ -248,7 +248,7 @@ module _
       NameIs s r (textOf (shownIn s t d)) → NameIs s r (classIn s t)
   name-there h n kid d holds r name =
       let e : textOf (shownIn s t d) ≡ classIn s t =
-          ap (λ x. textOf (shownIn s t x)) (holds ∙ ap (contentIn s t) kid)
-          ∙ sym (class-some (shownAt s t) (finishedIn s t) c (sym test ∙ flip-false b h))
-          ∙ whole in
+      ap (λ x. textOf (shownIn s t x)) (holds ∙ ap (contentIn s t) kid)
+      ∙ sym (class-some (shownAt s t) (finishedIn s t) c (sym test ∙ flip-false b h))
+      ∙ whole in
       subst (NameIs s r) e name

@@ -1,21 +1,18 @@
 -- Which node has the row at an index, by the tests that the code makes, and the walk over the rows. Assumes nothing.
-use mathlib.Core.Bool.{true, false}
-use mathlib.Core.List.{List, [], _∷_, _++_}
+use mathlib.Core.List.{List, [], _++_}
 use mathlib.Core.Logic.{⊎-elim}
 use mathlib.Core.Path.{_≡_, refl, sym, ap, subst, _∙_}
 use Prim.Native.Nat.{ℕ, zero, suc, _+_, _-_, _*_, _≤_, _<_}
 use native.Mathlib.Numerals.{add-one}
 use native.Mathlib.Omega.{arith}
-use lib.Dec.{eqb, ltb}
 use lib.ListN.{length, getD, length-append}
-use lib.Seq.{paste}
 use borrow.Author.Tests.{lt-ltb, le-ltb, eq-eqb, ne-eqb}
 use Rattle.definition.specs.Basics.{from, concat}
 use Rattle.definition.specs.Run.{rowBytes, overwrite}
 use Rattle.facts.proofs.Chunks.{joined, joined-more, length-from}
 use Rattle.raw_const.specs.Entries.{Wrote, RowTakes}
 use Rattle.raw_const.proofs.Writes.{wrote-then, wrote-nothing}
-use Rattle.store.specs.Store.{Store, size, On}
+use Rattle.store.specs.Store.{Store, On}
 use Rattle.raws.specs.Raws.{heldCount}
 use Rattle.store.specs.Regions.{GIVEN, FIRSTS, SIZES, CHILDREN, ORDER, NODES}
 use Rattle.store.proofs.Stores.{lt-or, in-words}
@@ -145,14 +142,14 @@ module _ (p : List ℕ) (t : Store) where
           (sum n r : ℕ) → sum ≡ length (joined row index) → n ≡ childCount (t SIZES) (t NODES) k → RowTakes n r → sum + r ≡ length (joined row (index + 1))
       row-adds sum n r a b takes =
           let e : r ≡ length (row index) =
-              takes (rowIn t k) (length-from (λ i. childSlot (t GIVEN) (getD (t CHILDREN) (getD (t FIRSTS) (getD (t NODES) k 0) 0 + i) 0)) 0 (childCount (t SIZES) (t NODES) k) ∙ sym b)
-              ∙ ap (λ x. length (rowBytes (rowIn t x))) is in
+          takes (rowIn t k) (length-from (λ i. childSlot (t GIVEN) (getD (t CHILDREN) (getD (t FIRSTS) (getD (t NODES) k 0) 0 + i) 0)) 0 (childCount (t SIZES) (t NODES) k) ∙ sym b)
+          ∙ ap (λ x. length (rowBytes (rowIn t x))) is in
           omega (arith, a, e, joined-size index)
 
       pub row-bound : (n r : ℕ) → n ≡ childCount (t SIZES) (t NODES) k → RowTakes n r → r ≤ 131074
       row-bound n r b takes =
           let e : r ≡ length (rowBytes (rowIn t k)) =
-              takes (rowIn t k) (length-from (λ i. childSlot (t GIVEN) (getD (t CHILDREN) (getD (t FIRSTS) (getD (t NODES) k 0) 0 + i) 0)) 0 (childCount (t SIZES) (t NODES) k) ∙ sym b) in
+          takes (rowIn t k) (length-from (λ i. childSlot (t GIVEN) (getD (t CHILDREN) (getD (t FIRSTS) (getD (t NODES) k 0) 0 + i) 0)) 0 (childCount (t SIZES) (t NODES) k) ∙ sym b) in
           omega (arith, e, row-long p t k row-ready (getD (t FIRSTS) (getD (t NODES) k 0) 0) n refl b, row-ready .few, b)
 
       -- and written

@@ -1,23 +1,21 @@
 -- What a slot holds, by the tests that the code makes, and that it is a content. Assumes nothing.
 use mathlib.Core.Bool.{Bool, true, false}
 use mathlib.Core.List.{List}
-use mathlib.Core.Logic.{_⊎_, inl, inr, ⊎-elim}
+use mathlib.Core.Logic.{⊎-elim}
 use mathlib.Core.Path.{_≡_, refl, sym, ap, subst, _∙_}
 use Prim.Native.Nat.{ℕ, zero, suc, _+_, _-_, _≤_, _<_}
 use native.Mathlib.Omega.{arith}
-use lib.Dec.{eqb, ltb}
-use lib.ListN.{length, getD}
+use lib.ListN.{getD}
 use borrow.Author.Tests.{lt-ltb, le-ltb, eq-eqb, ne-eqb}
 use Rattle.definition.specs.Shapes.{Entry, isWide}
 use Rattle.store.specs.Store.{Store, size}
-use Rattle.store.specs.JobIn.{entriesIn}
-use Rattle.store.specs.Regions.{COUNTS, MARKS, GIVEN, RAW-KEYS, RAW-ENTRIES, ORDER, Work}
+use Rattle.store.specs.Regions.{MARKS, GIVEN, RAW-KEYS, RAW-ENTRIES, ORDER, Work}
 use Rattle.store.specs.Words.{HALF}
 use Rattle.store.proofs.Stores.{eq-or, lt-or}
 use Rattle.store.proofs.Bounds.{work-small}
 use Rattle.interner.specs.Nodes.{nodeCount}
 use Rattle.raws.specs.Raws.{rawCount, heldCount}
-use Rattle.output.specs.Contents.{NOTHING, EMPTY, ATTRIBUTE, wideWord, wideIn, rawWord, rawOr, linkWord, linkOf, ownerWord, ownerIn, nameSlot, wideAt, contentWord, contentIn, KidsNumbered, IsContent, Searched, Owned, heldAt, heldIn, HeldOrder, Sweep}
+use Rattle.output.specs.Contents.{NOTHING, EMPTY, ATTRIBUTE, wideWord, wideIn, rawWord, rawOr, linkWord, linkOf, ownerWord, ownerIn, nameSlot, wideAt, contentWord, contentIn, IsContent, Searched, Owned, heldAt, heldIn, HeldOrder, Sweep}
 use Rattle.output.proofs.Owners.{link-miss, link-hit, link-back}
 
 -- WORDS

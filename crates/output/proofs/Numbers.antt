@@ -1,18 +1,17 @@
 -- The slot and the number of a child, by the tests that the code makes. Assumes nothing.
 use mathlib.Core.List.{List, map}
 use mathlib.Core.Option.{some}
-use mathlib.Core.Path.{_≡_, refl, sym, _∙_}
+use mathlib.Core.Path.{_≡_, sym, _∙_}
 use Prim.Native.Nat.{ℕ, _+_, _-_, _≤_, _<_}
 use native.Mathlib.Omega.{arith}
-use lib.Dec.{ltb}
 use lib.ListN.{length, getD, getElem?, length-map, List·getD-eq-default}
 use borrow.Author.Tests.{lt-ltb, le-ltb}
 use Rattle.store.specs.Store.{Store, size}
-use Rattle.store.specs.Regions.{MARKS, GIVEN, INDEXES, NODES, Work}
+use Rattle.store.specs.Regions.{GIVEN, INDEXES, NODES, Work}
 use Rattle.store.specs.Words.{ENTRY, cut}
 use Rattle.facts.proofs.Chunks.{length-from, from-place}
 use Rattle.facts.proofs.Lists.{get-map}
-use Rattle.store.specs.JobIn.{constantsIn, entriesIn}
+use Rattle.store.specs.JobIn.{constantsIn}
 use Rattle.store.proofs.Laying.{work-sizes, entries-counted}
 use Rattle.store.proofs.Bounds.{work-constants}
 use Rattle.interner.specs.Nodes.{nodeCount}

@@ -1,15 +1,15 @@
 -- Numbers in the chains of their items: the chains of all nodes by their slots, and the one item that a search finds. Assumes nothing.
-use mathlib.Core.Bool.{Bool, true, false}
+use mathlib.Core.Bool.{Bool}
 use mathlib.Core.List.{List, [], _∷_}
 use mathlib.Core.Logic.{⊎-elim}
-use mathlib.Core.Path.{_≡_, refl, sym, ap, subst, _∙_}
+use mathlib.Core.Path.{_≡_, refl, sym, ap, _∙_}
 use Prim.Native.Nat.{ℕ, zero, suc, _+_, _-_, _≤_, _<_}
 use native.Mathlib.Omega.{arith}
 use lib.Dec.{eqb}
 use lib.ListN.{length, getD}
 use borrow.Author.Tests.{eq-eqb, ne-eqb, eqb-true}
 use Rattle.store.specs.Store.{Store, size, Kept}
-use Rattle.store.specs.Chains.{headOf, Chains, Sought, Heads, linked, NumbersIn}
+use Rattle.store.specs.Chains.{headOf, Chains, Sought, Heads, linked}
 use Rattle.store.specs.Regions.{COUNTS, GIVEN, OWNER-HEADS, OWNER-LINKS}
 use Rattle.store.proofs.Stores.{eq-or}
 use Rattle.store.proofs.Hashing.{head-lt}

@@ -1,18 +1,18 @@
 -- The walk over the slots of the pool, which both measuring and writing make: what is behind it. Assumes nothing.
-use mathlib.Core.Bool.{Bool, true, false}
-use mathlib.Core.List.{List, [], _∷_, _++_, append-assoc, append-nil}
+use mathlib.Core.Bool.{Bool, false}
+use mathlib.Core.List.{List, [], _++_, append-assoc, append-nil}
 use mathlib.Core.Path.{_≡_, refl, sym, ap, subst, _∙_}
-use Prim.Native.Nat.{ℕ, zero, suc, _+_, _-_, _*_, _≤_, _<_}
+use Prim.Native.Nat.{ℕ, zero, suc, _+_, _-_, _≤_, _<_}
 use native.Mathlib.Nat.{add-zero}
 use native.Mathlib.Omega.{arith}
-use lib.ListN.{length, getD, take, drop, length-append}
+use lib.ListN.{length, length-append}
 use lib.Seq.{paste, take-length}
 use Rattle.definition.specs.Basics.{from, concat}
 use Rattle.definition.specs.Bytes.{be2}
 use Rattle.definition.specs.Run.{slotBytes, overwrite}
 use Rattle.raw_const.specs.Entries.{Wrote}
-use Rattle.raw_const.proofs.Writes.{wrote-then, wrote-nothing, wrote-short}
-use Rattle.store.specs.Store.{Store, size}
+use Rattle.raw_const.proofs.Writes.{wrote-then, wrote-short}
+use Rattle.store.specs.Store.{Store}
 use Rattle.store.specs.Regions.{Work}
 use Rattle.store.proofs.Laying.{work-sizes}
 use Rattle.store.proofs.Bounds.{work-small}

@@ -5,7 +5,7 @@ use Prim.Native.Nat.{ℕ, zero, suc, _+_, _-_, _*_, _≤_, _<_}
 use native.Mathlib.Numerals.{add-one}
 use native.Mathlib.Omega.{arith}
 use lib.ListN.{length, getD, set, length-append}
-use lib.Seq.{paste, paste-zero, paste-suc}
+use lib.Seq.{paste, paste-suc}
 use Rattle.definition.specs.Basics.{from, concat}
 use Rattle.definition.specs.Bytes.{be2}
 use Rattle.definition.specs.Shapes.{bootstrapShape, writeFields}
@@ -53,7 +53,7 @@ module _ (given children : List ℕ) (first : ℕ) where
   slots-more i x {d} {d₁} {at = at} {m = m} room is before new =
       let z : 0 + i ≡ i = omega arith in
       let more : slotsFrom given children first (i + 1) ≡ slotsFrom given children first i ++ childSlot given (getD children (first + i) 0) ∷ [] =
-          rw z at (from-snoc (λ i. childSlot given (getD children (first + i) 0)) 0 i) in
+      rw z at (from-snoc (λ i. childSlot given (getD children (first + i) 0)) 0 i) in
       rw (more, shorts-snoc (slotsFrom given children first i) (childSlot given (getD children (first + i) 0)), ← is)
       (wrote-then before (omega (arith, slots-length i)) (wrote-short d₁ m x new))
 
@@ -80,9 +80,9 @@ slots-row given children first n =
     let g : ℕ → ℕ = λ i. childSlot given (getD children (first + i) 0) in
     let long : length (from g 1 n) ≡ n = length-from g 1 n in
     let rest : from g 1 n ≡ slotsFrom given children (first + 1) n =
-        from-shift g 0 n
-        ∙ from-same (λ i. g (suc i)) (λ i. childSlot given (getD children (first + 1 + i) 0)) 0 n
-          (λ i a b. let e : first + suc i ≡ first + 1 + i = omega arith in ap (λ k. childSlot given (getD children k 0)) e) in
+    from-shift g 0 n
+    ∙ from-same (λ i. g (suc i)) (λ i. childSlot given (getD children (first + 1 + i) 0)) 0 n
+    (λ i a b. let e : first + suc i ≡ first + 1 + i = omega arith in ap (λ k. childSlot given (getD children k 0)) e) in
     row-bytes (g 0) (from g 1 n) ∙ rw (long, rest, first-slot given children first)
 
 module _ (p : List ℕ) (t : Store) (k : ℕ) (ready : RowReady p t k) (first n : ℕ) (first-is : first ≡ getD (t FIRSTS) (getD (t NODES) k 0) 0) (size-is : n ≡ childCount (t SIZES) (t NODES) k) where
@@ -111,11 +111,12 @@ module _ (p : List ℕ) (t : Store) (k : ℕ) (ready : RowReady p t k) (first n 
       (omega (arith, ready .room, ready .some), λ i h. rw first-is (ready .kids i (omega (arith, ready .some))))
 
   pub arguments-ask : (first + 1 + (n - 1) ≤ size p CHILDREN) × ((i : ℕ) → i < n - 1 → Slotted p (t GIVEN) (getD (t CHILDREN) (first + 1 + i) 0))
-  arguments-ask =
-      (omega (arith, ready .room, ready .some),
-        λ i h.
+  arguments-ask = (
+    omega (arith, ready .room, ready .some),
+    λ i h.
         let e : first + 1 + i ≡ getD (t FIRSTS) (getD (t NODES) k 0) 0 + (1 + i) = omega arith in
-        rw e (ready .kids (1 + i) (omega arith)))
+        rw e (ready .kids (1 + i) (omega arith)),
+  )
 
   pub wrote-row :
       {d d₁ d₂ d₃ : List ℕ} {at b r : ℕ} → at + length (rowBytes (rowIn t k)) ≤ length d →

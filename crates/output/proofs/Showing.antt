@@ -1,27 +1,26 @@
 -- A node's entry as it is shown: what the code reads of it at its place in the job. Assumes nothing.
-use mathlib.Core.List.{List, [], _∷_, map, length-map}
-use mathlib.Core.Logic.{_⊎_, inl, inr, ⊎-elim}
+use mathlib.Core.List.{List, [], _∷_, map}
+use mathlib.Core.Logic.{inl, inr, ⊎-elim}
 use mathlib.Core.Option.{none, some}
 use mathlib.Core.Path.{_≡_, refl, sym, ap, subst, _∙_}
-use Prim.Native.Nat.{ℕ, zero, suc, _+_, _-_, _≤_, _<_}
+use Prim.Native.Nat.{ℕ, _+_, _-_, _≤_, _<_}
 use native.Mathlib.Omega.{arith}
-use lib.ListN.{length, getD, getElem?, drop}
+use lib.ListN.{length, getD, drop}
 use Rattle.definition.specs.Basics.{lookup}
-use Rattle.definition.specs.Shapes.{Field, text, bits, shapes, bootstrapShape, bootstrapTag, Entry, withKids}
-use Rattle.definition.specs.Job.{Reference, Definition, define, readDefinition}
+use Rattle.definition.specs.Shapes.{Field, text, bits, shapes, bootstrapTag, Entry, withKids}
+use Rattle.definition.specs.Job.{Reference, define, readDefinition}
 use Rattle.definition.specs.Run.{entryBytes}
-use Rattle.facts.proofs.Lists.{none≢some, some-inj, found-inside, found-read, place-drop}
+use Rattle.facts.proofs.Lists.{none≢some, some-inj, found-read, place-drop}
 use Rattle.facts.proofs.Each.{Each, each-from}
 use Rattle.facts.proofs.Copies.{part-length}
 use Rattle.laws.specs.Statements.{IsBytes}
 use Rattle.laws.proofs.form.EntryShapes.{HasShape}
-use Rattle.laws.proofs.form.FormedEntries.{ShapeOf, FormedEntry, FormedDefinition, yields-definition}
+use Rattle.laws.proofs.form.FormedEntries.{ShapeOf, FormedEntry, yields-definition}
 use Rattle.raw_const.specs.Entries.{LiteralFits, EntryTakes}
 use Rattle.job.specs.Stored.{Found, EntryStands, WhatEntry, Spans, anyDefinition}
 use Rattle.job.specs.declared.Stretch.{Stretch}
 use Rattle.job.proofs.Taking.{byte-then}
 use Rattle.store.specs.Store.{Store, size}
-use Rattle.store.specs.JobIn.{entriesIn}
 use Rattle.store.specs.Regions.{OFFSETS, FIRSTS, SIZES, CHILDREN, NODES, Work}
 use Rattle.store.specs.Words.{cut}
 use Rattle.store.proofs.Laying.{work-sizes, entries-counted}

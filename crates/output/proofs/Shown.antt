@@ -1,13 +1,12 @@
 -- What the code writes of a node and of a content are the bytes of what it shows. Assumes nothing.
-use mathlib.Core.List.{List, [], _∷_, _++_, map}
+use mathlib.Core.List.{List, [], _∷_, map}
 use mathlib.Core.Logic.{⊎-elim}
 use mathlib.Core.Option.{Option, none, some}
-use mathlib.Core.Path.{_≡_, refl, sym, ap, subst, _∙_}
-use Prim.Native.Nat.{ℕ, zero, suc, _+_, _-_, _≤_, _<_}
+use mathlib.Core.Path.{_≡_, refl, sym}
+use Prim.Native.Nat.{ℕ, _+_, _-_, _≤_, _<_}
 use native.Mathlib.Omega.{arith}
-use lib.Dec.{eqb, ltb}
 use lib.ListN.{length, getD, take, drop, length-append}
-use borrow.Author.Tests.{lt-ltb, le-ltb, eq-eqb, ne-eqb}
+use borrow.Author.Tests.{lt-ltb, le-ltb, ne-eqb}
 use Rattle.definition.specs.Ascii.{ascii}
 use Rattle.definition.specs.Basics.{lookup}
 use Rattle.definition.specs.Bytes.{be2}
@@ -22,16 +21,15 @@ use Rattle.raw_const.proofs.Shaped.{entry-parts}
 use Rattle.job.specs.Stored.{Spans}
 use Rattle.job.specs.declared.Stretch.{Stretch}
 use Rattle.store.specs.Store.{Store, size}
-use Rattle.store.specs.JobIn.{constantsIn}
 use Rattle.store.specs.Regions.{MARKS, GIVEN, INDEXES, OFFSETS, FIRSTS, SIZES, CHILDREN, NODES, Work}
 use Rattle.store.specs.Words.{cut}
 use Rattle.store.proofs.Laying.{work-sizes}
 use Rattle.store.proofs.Stores.{eq-or, lt-or}
 use Rattle.store.proofs.Bounds.{work-constants}
 use Rattle.interner.specs.Nodes.{nodeCount}
-use Rattle.output.specs.Contents.{NOTHING, EMPTY, ATTRIBUTE, childNumber, ShortChild, finishedIn, numberIn, Made, KidsNumbered, textEntry, shownWord, shownIn, IsContent}
+use Rattle.output.specs.Contents.{NOTHING, EMPTY, childNumber, ShortChild, finishedIn, Made, KidsNumbered, textEntry, shownWord, shownIn, IsContent}
 use Rattle.output.proofs.Numbers.{short-child}
-use Rattle.output.proofs.Showing.{entry-known, found, finished-is, shown-kids, shown-fits, has-kids, no-kids}
+use Rattle.output.proofs.Showing.{entry-known, found, shown-kids, shown-fits, has-kids, no-kids}
 
 -- an entry from its parts
 pub parts-are :
@@ -148,14 +146,43 @@ entry-bound e =
     looked-up
     (λ o. LiteralFits o (length (e .literal)) → length {A = ℕ} (elim o [ none ↦ [] | some fields ↦ e .tag ∷ writeFields fields e (e .kids) ]) ≤ 65538)
     (e .tag)
-    shapes
-    (λ f. simp length-append (omega (arith, f .asText refl)),
-      (λ f. simp length-append (omega (arith, f .asBits 4 refl)),
-      (λ f. simp length-append (omega (arith, f .asBits 4 refl)),
-      (λ f. simp length-append (omega (arith, f .asBits 8 refl)),
-      (λ f. simp length-append (omega (arith, f .asBits 8 refl)),
-      (λ f. omega arith, (λ f. omega arith, (λ f. omega arith, (λ f. omega arith, (λ f. omega arith, (λ f. omega arith, (λ f. omega arith,
-      (λ f. omega arith, (λ f. omega arith, (λ f. omega arith, (λ f. omega arith, (λ f. omega arith, λ f. omega arith)))))))))))))))))
+    shapes (
+      λ f. simp length-append (omega (arith, f .asText refl)),
+      (
+        λ f. simp length-append (omega (arith, f .asBits 4 refl)),
+        (
+          λ f. simp length-append (omega (arith, f .asBits 4 refl)),
+          (
+            λ f. simp length-append (omega (arith, f .asBits 8 refl)),
+            (
+              λ f. simp length-append (omega (arith, f .asBits 8 refl)),
+              (
+                λ f. omega arith,
+                (
+                  λ f. omega arith,
+                  (
+                    λ f. omega arith,
+                    (
+                      λ f. omega arith,
+                      (
+                        λ f. omega arith,
+                        (
+                          λ f. omega arith,
+                          (
+                            λ f. omega arith,
+                            (λ f. omega arith, (λ f. omega arith, (λ f. omega arith, (λ f. omega arith, (λ f. omega arith, λ f. omega arith))))),
+                          ),
+                        ),
+                      ),
+                    ),
+                  ),
+                ),
+              ),
+            ),
+          ),
+        ),
+      ),
+    )
 
 pub content-bound : (s : List ℕ) (t : Store) (c : ℕ) → IsBytes s → Made s t → IsContent s t c → length (slotBytes (shownIn s t c)) ≤ 65538
 content-bound s t c b made is =

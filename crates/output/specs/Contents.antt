@@ -6,7 +6,7 @@ use mathlib.Core.Option.{Option, none, some}
 use mathlib.Core.Path.{_≡_}
 use Prim.Native.Nat.{ℕ, zero, suc, _+_, _-_, _≤_, _<_}
 use lib.Dec.{eqb, ltb}
-use lib.ListN.{length, getD, getElem?}
+use lib.ListN.{getD, getElem?}
 use Rattle.definition.specs.Basics.{from, concat}
 use Rattle.definition.specs.Bytes.{be2}
 use Rattle.definition.specs.Shapes.{Entry, withKids, isWide}

@@ -4,7 +4,7 @@ use mathlib.Core.List.{List, []}
 use mathlib.Core.Option.{Option, none, some}
 use mathlib.Core.Path.{_≡_}
 use Prim.Native.Nat.{ℕ, _+_, _≤_, _<_}
-use lib.Dec.{eqb, ltb}
+use lib.Dec.{eqb}
 use lib.ListN.{length, getD, take, drop}
 use Rattle.definition.specs.Shapes.{Entry}
 use Rattle.definition.specs.Job.{request, readBuild}
@@ -15,7 +15,7 @@ use Rattle.store.specs.JobIn.{jobIn}
 use Rattle.store.specs.Regions.{COUNTS, ANSWERS, AT}
 use Rattle.output.specs.declared.ClassName.{ClassName}
 use Rattle.output.specs.declared.ClassName.the-variants as className
-use Rattle.output.specs.Contents.{NOTHING, shownIn, contentIn}
+use Rattle.output.specs.Contents.{shownIn, contentIn}
 
 -- the text that a slot shows, if it shows one
 unfoldable pub textOf : Option (Entry (List ℕ) ℕ) → Option (List ℕ)

@@ -1,19 +1,16 @@
 -- The bootstrap rows that the finished words give. Assumes nothing.
 use mathlib.Core.Bool.{true, false}
-use mathlib.Core.List.{List, map}
-use mathlib.Core.Logic.{_⊎_}
+use mathlib.Core.List.{List}
 use mathlib.Core.Path.{_≡_}
 use Prim.Native.Nat.{ℕ, zero, suc, _+_, _-_, _≤_, _<_}
 use lib.Dec.{eqb, ltb}
-use lib.ListN.{length, getD}
+use lib.ListN.{getD}
 use Rattle.definition.specs.Basics.{from, concat}
-use Rattle.definition.specs.Bytes.{be2}
 use Rattle.definition.specs.Building.{Row}
 use Rattle.definition.specs.Run.{rowBytes}
 use Rattle.store.specs.Store.{Store, size}
 use Rattle.store.specs.Regions.{COUNTS, MARKS, GIVEN, INDEXES, FIRSTS, SIZES, CHILDREN, RAW-KEYS, RAW-ENTRIES, ORDER, NODES, INLINE, ROW-COUNT, WRITTEN-COUNT, INLINE-COUNT}
 use Rattle.store.specs.Words.{ENTRY}
-use Rattle.interner.specs.Nodes.{nodeCount}
 use Rattle.raws.specs.Raws.{rawCount, heldCount}
 use Rattle.output.specs.Contents.{childSlot, childAt, childCount}
 

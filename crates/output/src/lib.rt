@@ -13,8 +13,8 @@ use store::INDEXES;
 use store::INLINE;
 use store::INLINE_COUNT;
 use store::NAME_SLOT;
-use store::NODES;
 use store::NODE_COUNT;
+use store::NODES;
 use store::OFFSETS;
 use store::OWNER_HEADS;
 use store::POOL_COUNT;
@@ -49,8 +49,7 @@ ghost use Rattle.store.specs.Regions.{COUNTS, MARKS, GIVEN, INDEXES, OWNER-HEAD
 ghost use Rattle.store.specs.Chains.{Heads};
 ghost use Rattle.store.specs.Words.{ENTRY, HALF, cut};
 ghost use Rattle.interner.specs.Nodes.{nodeCount};
-ghost use Rattle.output.specs.Contents.{NOTHING, ATTRIBUTE, childSlot, childNumber, ChildThere, childCount, childAt, finishedIn, numberIn, Made, KidsNumbered, ShortChild, shownIn, wideIn, IsContent, rawWord, linkWord, linkOf, ownerIn, nameSlot, wideAt, contentIn, Searched, Owned, heldIn, HeldOrder, Sweep, OwnersMade, poolIn, Finished};
-
+ghost use Rattle.output.specs.Contents.{NOTHING, ATTRIBUTE, childSlot, childNumber, ChildThere, childCount, finishedIn, Made, KidsNumbered, ShortChild, shownIn, wideIn, IsContent, rawWord, linkWord, linkOf, ownerIn, nameSlot, wideAt, contentIn, Searched, Owned, heldIn, HeldOrder, Sweep, OwnersMade, poolIn, Finished};
 ghost use Rattle.output.specs.Names.{textOf, classSlotIn, classIn, NameIs, ClassAt};
 ghost use Rattle.output.specs.Rows.{slotsFrom, rowIn, Slotted, RowReady, rawRows, rawIndexIn, inlineIndexIn, rawNodeIn, rowCountIn, reachedAt, passed, rowNodeIn, rowsIn, constantsFor, RowsReady};
 
@@ -412,9 +411,9 @@ pub fn write_pool(pool: &mut [u8], job: &[u8], w: &[u32], p: &[usize])
     let mut wide = false;
     let mut slot = 1;
     while slot < end {
-        let content = next_content(w, p, slot, name, raws, held, wide);
-        at = write_content(pool, at, job, w, p, content);
-        wide = is_wide(job, w, p, content);
+        let holds = next_content(w, p, slot, name, raws, held, wide);
+        at = write_content(pool, at, job, w, p, holds);
+        wide = is_wide(job, w, p, holds);
         if slot == held {
             raws += 1;
             held = held_slot(w, p, raws);
@@ -595,7 +594,11 @@ fn raw_row(w: &[u32], p: &[usize], i: usize) -> usize
     requires { ⌜ On (now p) (length (now w)) × RowsReady (now p) (store (now p) (now w)) × (i < rawRows (store (now p) (now w))) ⌝ }
     ensures { λ r. ⌜ r ≡ rawNodeIn (store (now (p .entry)) (now (w .entry))) i ⌝ }
 {
-    resolver::node_of(w, p, raws::raw_entry(w, p, load(w, p, COUNTS, HELD_COUNT) + i))
+    resolver::node_of(
+        w,
+        p,
+        raws::raw_entry(w, p, load(w, p, COUNTS, HELD_COUNT) + i),
+    )
 }
 
 // The index of inline row i; past every index where there is none.

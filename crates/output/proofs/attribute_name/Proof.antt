@@ -1,13 +1,10 @@
+-- `output::attribute_name` meets its contract. Assumes nothing.
 use mathlib.Core.Path.{refl}
 use Rattle.definition.specs.Numbering.{attributeName}
 use Rattle.definition.specs.Ascii.{ascii}
-use borrow.Author.Needs.{needs}
 use Rattle.output.proofs.attribute_name.Statement.{statement}
 use Rattle.output.proofs.attribute_name.Tie as tie
-use Rattle.output.proofs.attribute_name.Reads as reads
-use Rattle.output.proofs.attribute_name.Lts as lts
 
--- src/lib.rt:117:1
 returns : tie.Need-returns
 unfolding attributeName ascii
 returns c = refl

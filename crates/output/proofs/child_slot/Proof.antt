@@ -1,24 +1,18 @@
+-- `output::child_slot` meets its contract. Assumes nothing.
+use mathlib.Core.Path.{sym, _∙_}
+use native.Mathlib.Omega.{arith}
 use Rattle.store.specs.Regions.{GIVEN}
 use Rattle.store.specs.Store.{store}
-use native.Mathlib.Omega.{arith}
-use mathlib.Core.Path.{sym, _∙_}
 use Rattle.output.proofs.Numbers.{slot-raw, slot-node}
-use borrow.Author.Needs.{needs}
 use Rattle.output.proofs.child_slot.Statement.{statement}
 use Rattle.output.proofs.child_slot.Tie as tie
-use Rattle.output.proofs.child_slot.Reads as reads
-use Rattle.output.proofs.child_slot.Lts as lts
-use Rattle.store.proofs.load.Reads as load-reads
 
--- src/lib.rt:62:9
 returns : tie.Need-returns
 returns c = let a = c .before .before .before .args in sym (slot-raw (store (a .p .now) (a .w .now) GIVEN) (a .child) (c .if1 .taken))
 
--- src/lib.rt:64:5
 load-requires : tie.Need-load-requires
 load-requires c κs = (c .before .before .before .pre .0, omega arith)
 
--- src/lib.rt:57:1
 returns-2 : tie.Need-returns-2
 returns-2 c = let a = c .before .before .before .before .args in c .load .ensures .word ∙ sym (slot-node (store (a .p .now) (a .w .now) GIVEN) (a .child) (c .before .if1 .left))
 

@@ -1,31 +1,24 @@
-use Rattle.output.proofs.Classes.{none-length, bytes-length, attribute-long}
+-- `output::class_length` meets its contract. Assumes nothing.
 use borrow.Author.Needs.{needs}
+use Rattle.output.proofs.Classes.{none-length, bytes-length, attribute-long}
 use Rattle.output.proofs.class_length.Statement.{statement}
 use Rattle.output.proofs.class_length.Tie as tie
-use Rattle.output.proofs.class_length.Reads as reads
-use Rattle.output.proofs.class_length.Lts as lts
 
--- src/lib.rt:543:28
 enum-told : tie.Need-enum-told
 enum-told c = search needs
 
--- src/lib.rt:544:38
 enum-known-c : tie.Need-enum-known-c
 enum-known-c c = search needs
 
--- src/lib.rt:545:33
 enum-told-2 : tie.Need-enum-told-2
 enum-told-2 c = search needs
 
--- src/lib.rt:539:1
 returns : tie.Need-returns
 returns c = λ s o h. none-length s (c .before .before .args .c) o h (c .enum-told .given .1)
 
--- src/lib.rt:539:1
 returns-2 : tie.Need-returns-2
 returns-2 c = λ s o h. bytes-length s (c .before .before .before .args .c) o h (c .before .c .given .0 .0) (c .before .c .given .0 .1 .0) (c .before .c .given .1)
 
--- src/lib.rt:539:1
 returns-3 : tie.Need-returns-3
 returns-3 c = λ s o h. attribute-long s (c .before .before .args .c) o h (c .enum-told2 .given .1)
 

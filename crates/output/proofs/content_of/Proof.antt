@@ -1,29 +1,21 @@
+-- `output::content_of` meets its contract: slot 0 holds nothing, and any other what it owns. Assumes nothing.
+use mathlib.Core.Path.{sym, ap, _∙_}
+use native.Mathlib.Omega.{arith}
 use Rattle.output.specs.Contents.{ownerIn}
 use Rattle.store.specs.Store.{store}
-use native.Mathlib.Omega.{arith}
-use mathlib.Core.Path.{_≡_, sym, ap, _∙_}
 use Rattle.output.proofs.Holding.{content-zero, content-owner}
-use borrow.Author.Needs.{needs}
 use Rattle.output.proofs.content_of.Statement.{statement}
 use Rattle.output.proofs.content_of.Tie as tie
-use Rattle.output.proofs.content_of.Reads as reads
-use Rattle.output.proofs.content_of.Lts as lts
-use Rattle.output.proofs.owner_of.Reads as owner-of-reads
-use Rattle.output.proofs.wide_before.Reads as wide-before-reads
 
--- src/lib.rt:311:9
 returns : tie.Need-returns
 returns c = let a = c .before .before .before .before .args in sym (content-zero (a .job .now) (store (a .p .now) (a .w .now)) (a .slot) (c .if1 .taken))
 
--- src/lib.rt:313:26
 wide-before-requires : tie.Need-wide-before-requires
 wide-before-requires c κs = let q = c .before .before .before .before .pre in (q .0, q .1, q .2, q .3, omega arith, q .4)
 
--- src/lib.rt:313:5
 owner-of-requires : tie.Need-owner-of-requires
 owner-of-requires c κs = let q = c .before .before .before .before .before .pre in (q .0, q .2, omega arith, q .4)
 
--- src/lib.rt:306:1
 returns-2 : tie.Need-returns-2
 returns-2 c = let a = c .before .before .before .before .before .before .args in let t = store (a .p .now) (a .w .now) in c .owner-of .ensures ∙ ap (ownerIn t (a .slot)) (c .before .wide-before .ensures) ∙ sym (content-owner (a .job .now) t (a .slot) (omega arith))
 

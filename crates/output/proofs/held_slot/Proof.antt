@@ -1,30 +1,22 @@
+-- `output::held_slot` meets its contract. Assumes nothing.
+use mathlib.Core.Path.{sym, _∙_}
+use native.Mathlib.Omega.{arith}
 use Rattle.store.specs.Regions.{RAW-KEYS, ORDER}
 use Rattle.store.specs.Store.{store}
-use native.Mathlib.Omega.{arith}
-use mathlib.Core.Path.{_≡_, sym, ap, _∙_}
 use Rattle.raws.specs.Raws.{heldCount}
 use Rattle.output.proofs.Holding.{held-there, held-past}
-use borrow.Author.Needs.{needs}
 use Rattle.output.proofs.held_slot.Statement.{statement}
 use Rattle.output.proofs.held_slot.Tie as tie
-use Rattle.output.proofs.held_slot.Reads as reads
-use Rattle.output.proofs.held_slot.Lts as lts
-use Rattle.raws.proofs.raw_key.Reads as raw-key-reads
-use Rattle.store.proofs.load.Reads as load-reads
 
--- src/lib.rt:321:12
 load-requires : tie.Need-load-requires
 load-requires c κs = (c .before .before .pre .0, c .before .before .pre .1 .counted)
 
--- src/lib.rt:322:9
 raw-key-requires : tie.Need-raw-key-requires
 raw-key-requires c κs = let a = c .before .before .before .before .args in let q = c .before .before .before .before .pre in (q .0, omega (arith, q .1 .room, c .before .load .ensures .word, c .if1 .taken), omega (arith, q .1 .inside (a .i) (rw (c .before .load .ensures .word) at (c .if1 .taken)), q .1 .keysRoom))
 
--- src/lib.rt:322:9
 returns : tie.Need-returns
 returns c = let a = c .before .before .before .before .before .args in let t = store (a .p .now) (a .w .now) in c .raw-key .ensures .word ∙ sym (held-there (t RAW-KEYS) (t ORDER) (heldCount t) (a .i) (rw (c .before .before .load .ensures .word) at (c .before .if1 .taken)))
 
--- src/lib.rt:317:1
 returns-2 : tie.Need-returns-2
 returns-2 c = let a = c .before .before .before .before .args in let t = store (a .p .now) (a .w .now) in sym (held-past (t RAW-KEYS) (t ORDER) (heldCount t) (a .i) (rw (c .before .load .ensures .word) at (c .if1 .left)))
 

@@ -1,44 +1,31 @@
-use Rattle.store.specs.Store.{store}
+-- `output::inline_index` meets its contract. Assumes nothing.
+use mathlib.Core.Path.{sym, _∙_}
 use native.Mathlib.Omega.{arith}
-use mathlib.Core.Path.{_≡_, sym, ap, _∙_}
-use Prim.Native.Nat.{_+_, _<_}
+use Rattle.store.specs.Store.{store}
 use Rattle.store.specs.Regions.{INDEXES, NODES, INLINE}
 use Rattle.output.specs.Rows.{inlineCount, constantsFor}
 use Rattle.output.proofs.Filling.{inline-index-there, inline-index-past}
-use borrow.Author.Needs.{needs}
 use Rattle.output.proofs.inline_index.Statement.{statement}
 use Rattle.output.proofs.inline_index.Tie as tie
-use Rattle.output.proofs.inline_index.Reads as reads
-use Rattle.output.proofs.inline_index.Lts as lts
-use Rattle.output.proofs.index_of.Reads as index-of-reads
-use Rattle.store.proofs.constants.Reads as constants-reads
-use Rattle.store.proofs.load.Reads as load-reads
 
--- src/lib.rt:606:8
 load-requires : tie.Need-load-requires
 load-requires c κs = (c .before .before .pre .0, omega (arith, c .before .before .pre .1 .counters))
 
--- src/lib.rt:607:9
 returns : tie.Need-returns
 returns c = let a = c .before .before .before .before .args in let t = store (a .p .now) (a .w .now) in sym (inline-index-past (constantsFor (a .p .now)) (t INDEXES) (t NODES) (t INLINE) (inlineCount t) (a .i) (rw (c .before .load .ensures .word) at (c .if1 .taken)))
 
--- src/lib.rt:609:31
 load-requires-2 : tie.Need-load-requires-2
 load-requires-2 c κs = (c .before .before .before .before .pre .0, omega (arith, c .before .before .before .before .pre .1 .inlineRoom, c .before .load .ensures .word, c .if1 .left))
 
--- src/lib.rt:609:9
 load-requires-3 : tie.Need-load-requires-3
 load-requires-3 c κs = let q = c .before .before .before .before .before .pre in let r = q .1 .inline (c .before .before .before .before .before .args .i) (rw (c .before .before .load .ensures .word) at (c .before .if1 .left)) in (q .0, rw (c .load2 .ensures .word) (r .node))
 
--- src/lib.rt:610:23
 constants-requires : tie.Need-constants-requires
 constants-requires c κs = (c .before .before .before .before .before .before .pre .0 .0, c .before .before .before .before .before .before .pre .1 .fewer)
 
--- src/lib.rt:610:5
 index-of-requires : tie.Need-index-of-requires
 index-of-requires c κs = let q = c .before .before .before .before .before .before .before .pre in let r = q .1 .inline (c .before .before .before .before .before .before .before .args .i) (rw (c .before .before .before .before .load .ensures .word) at (c .before .before .before .if1 .left)) in (q .0, rw (c .constants .ensures, c .before .load3 .ensures .word, c .before .before .load2 .ensures .word) (r .behind), rw (c .constants .ensures, c .before .load3 .ensures .word, c .before .before .load2 .ensures .word) (r .inside), rw (c .constants .ensures, c .before .load3 .ensures .word, c .before .before .load2 .ensures .word) (r .indexed))
 
--- src/lib.rt:602:1
 returns-2 : tie.Need-returns-2
 returns-2 c = let a = c .before .before .before .before .before .before .before .before .args in let t = store (a .p .now) (a .w .now) in rw (c .before .constants .ensures, c .before .before .load3 .ensures .word, c .before .before .before .load2 .ensures .word) at (c .index-of .ensures) ∙ sym (inline-index-there (constantsFor (a .p .now)) (t INDEXES) (t NODES) (t INLINE) (inlineCount t) (a .i) (rw (c .before .before .before .before .before .load .ensures .word) at (c .before .before .before .before .if1 .left)))
 

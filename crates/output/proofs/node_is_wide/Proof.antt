@@ -1,29 +1,20 @@
+-- `output::node_is_wide` meets its contract. Assumes nothing.
+use mathlib.Core.Path.{ap, _∙_}
 use Rattle.definition.specs.Shapes.{isWide}
 use Rattle.store.specs.Store.{store}
-use mathlib.Core.Path.{ap, _∙_}
 use Rattle.output.proofs.Showing.{node-places, node-stands, tag-read}
-use borrow.Author.Needs.{needs}
 use Rattle.output.proofs.node_is_wide.Statement.{statement}
 use Rattle.output.proofs.node_is_wide.Tie as tie
-use Rattle.output.proofs.node_is_wide.Reads as reads
-use Rattle.output.proofs.node_is_wide.Lts as lts
-use Rattle.job.proofs.tag_at.Reads as tag-at-reads
-use Rattle.output.proofs.node_at.Reads as node-at-reads
-use Rattle.raw_const.proofs.is_long.Reads as is-long-reads
 
--- src/lib.rt:96:41
 node-at-requires : tie.Need-node-at-requires
 node-at-requires c κs = let a = c .before .before .before .args in let q = c .before .before .before .pre in let z = node-places (a .job .now) (store (a .p .now) (a .w .now)) (a .k) (q .2) (q .3) (a .p .now) (q .1) in (q .0, z .node, z .offset)
 
--- src/lib.rt:96:24
 tag-at-requires : tie.Need-tag-at-requires
 tag-at-requires c κs = let a = c .before .before .before .before .args in let q = c .before .before .before .before .pre in node-stands (a .job .now) (store (a .p .now) (a .w .now)) (a .k) (q .2) (q .3) (c .node-at .result) (c .node-at .ensures .word)
 
--- src/lib.rt:96:5
 is-long-requires : tie.Need-is-long-requires
 is-long-requires c κs = tt
 
--- src/lib.rt:92:1
 returns : tie.Need-returns
 returns c = let a = c .before .before .before .before .before .before .args in let q = c .before .before .before .before .before .before .pre in c .is-long .ensures ∙ ap isWide (tag-read (a .job .now) (store (a .p .now) (a .w .now)) (a .k) (q .2) (q .3) (c .before .before .node-at .result) (c .before .before .node-at .ensures .word) (c .before .tag-at .result) (c .before .tag-at .ensures))
 

@@ -1,54 +1,34 @@
+-- `output::node_length` meets its contract. Assumes nothing.
 use Rattle.output.specs.Contents.{finishedIn}
 use Rattle.store.specs.Store.{store}
-use native.Mathlib.Omega.{arith}
-use lib.ListN.{length}
-use Prim.Native.Nat.{_-_}
-use mathlib.Core.Path.{_≡_, sym, ap, _∙_}
 use Rattle.output.proofs.Showing.{node-places, node-stands, tag-read, literal-read, shown-fits, has-kids, length-kids, length-literal, span-length}
-use borrow.Author.Needs.{needs}
 use Rattle.output.proofs.node_length.Statement.{statement}
 use Rattle.output.proofs.node_length.Tie as tie
-use Rattle.output.proofs.node_length.Reads as reads
-use Rattle.output.proofs.node_length.Lts as lts
-use Rattle.job.proofs.literal_at.Reads as literal-at-reads
-use Rattle.job.proofs.tag_at.Reads as tag-at-reads
-use Rattle.output.proofs.child_count.Reads as child-count-reads
-use Rattle.output.proofs.node_at.Reads as node-at-reads
-use Rattle.raw_const.proofs.entry_length.Reads as entry-length-reads
 
--- src/lib.rt:104:9
 node-at-requires : tie.Need-node-at-requires
 node-at-requires c κs = let a = c .before .before .before .args in let q = c .before .before .before .pre in let z = node-places (a .job .now) (store (a .p .now) (a .w .now)) (a .k) (q .2) (q .3) (a .p .now) (q .1) in (q .0, z .node, z .offset)
 
--- src/lib.rt:105:9
 tag-at-requires : tie.Need-tag-at-requires
 tag-at-requires c κs = let a = c .before .before .before .before .args in let q = c .before .before .before .before .pre in node-stands (a .job .now) (store (a .p .now) (a .w .now)) (a .k) (q .2) (q .3) (c .node-at .result) (c .node-at .ensures .word)
 
--- src/lib.rt:106:12
 child-count-requires : tie.Need-child-count-requires
 child-count-requires c κs = let a = c .before .before .before .before .before .args in let q = c .before .before .before .before .before .pre in let z = node-places (a .job .now) (store (a .p .now) (a .w .now)) (a .k) (q .2) (q .3) (a .p .now) (q .1) in (q .0, z .node, z .count)
 
--- src/lib.rt:107:9
 entry-length-requires : tie.Need-entry-length-requires
 entry-length-requires c κs = let a = c .before .before .before .before .before .before .before .args in let q = c .before .before .before .before .before .before .before .pre in let t = store (a .p .now) (a .w .now) in rw (tag-read (a .job .now) t (a .k) (q .2) (q .3) (c .before .before .before .node-at .result) (c .before .before .before .node-at .ensures .word) (c .before .before .tag-at .result) (c .before .before .tag-at .ensures)) (rw (has-kids (a .job .now) t (a .k) (q .2) (q .3) (c .before .child-count .result) (c .before .child-count .ensures .word) (c .if1 .taken)) at (shown-fits (a .job .now) t (a .k) (q .2) (q .3) (λ i. c .before .before .before .before .before .before .shared-slice-known .given i .fits)))
 
--- src/lib.rt:107:9
 returns : tie.Need-returns
 returns c = let a = c .before .before .before .before .before .before .before .before .args in let q = c .before .before .before .before .before .before .before .before .pre in let t = store (a .p .now) (a .w .now) in length-kids (a .job .now) t (a .k) (q .2) (q .3) (c .before .before .child-count .result) (c .before .before .before .tag-at .result) (c .entry-length .result) (c .before .before .child-count .ensures .word) (c .before .if1 .taken) (tag-read (a .job .now) t (a .k) (q .2) (q .3) (c .before .before .before .before .node-at .result) (c .before .before .before .before .node-at .ensures .word) (c .before .before .before .tag-at .result) (c .before .before .before .tag-at .ensures)) (c .entry-length .ensures)
 
--- src/lib.rt:109:9
 literal-at-requires : tie.Need-literal-at-requires
 literal-at-requires c κs = let a = c .before .before .before .before .before .before .before .args in let q = c .before .before .before .before .before .before .before .pre in node-stands (a .job .now) (store (a .p .now) (a .w .now)) (a .k) (q .2) (q .3) (c .before .before .before .node-at .result) (c .before .before .before .node-at .ensures .word)
 
--- src/lib.rt:111:34
 sub-entry-length : tie.Need-sub-entry-length
 sub-entry-length c = let a = c .before .before .before .before .before .before .before .before .before .args in let q = c .before .before .before .before .before .before .before .before .before .pre in literal-read (a .job .now) (store (a .p .now) (a .w .now)) (a .k) (q .2) (q .3) (c .before .before .before .before .before .node-at .result) (c .before .before .before .before .before .node-at .ensures .word) (c .before .literal-at .result) (c .before .literal-at .ensures) .rising
 
--- src/lib.rt:111:5
 entry-length-requires-2 : tie.Need-entry-length-requires-2
 entry-length-requires-2 c κs = let a = c .before .before .before .before .before .before .before .before .before .args in let q = c .before .before .before .before .before .before .before .before .before .pre in let t = store (a .p .now) (a .w .now) in let l = literal-read (a .job .now) t (a .k) (q .2) (q .3) (c .before .before .before .before .before .node-at .result) (c .before .before .before .before .before .node-at .ensures .word) (c .before .literal-at .result) (c .before .literal-at .ensures) in rw (tag-read (a .job .now) t (a .k) (q .2) (q .3) (c .before .before .before .before .before .node-at .result) (c .before .before .before .before .before .node-at .ensures .word) (c .before .before .before .before .tag-at .result) (c .before .before .before .before .tag-at .ensures), ← span-length (a .job .now) (c .before .literal-at .result) (finishedIn (a .job .now) t (a .k) .literal) l) (shown-fits (a .job .now) t (a .k) (q .2) (q .3) (λ i. c .before .before .before .before .before .before .before .before .shared-slice-known .given i .fits))
 
--- src/lib.rt:100:1
 returns-2 : tie.Need-returns-2
 returns-2 c = let a = c .before .before .before .before .before .before .before .before .before .before .args in let q = c .before .before .before .before .before .before .before .before .before .before .pre in let t = store (a .p .now) (a .w .now) in let l = literal-read (a .job .now) t (a .k) (q .2) (q .3) (c .before .before .before .before .before .before .node-at .result) (c .before .before .before .before .before .before .node-at .ensures .word) (c .before .before .literal-at .result) (c .before .before .literal-at .ensures) in length-literal (a .job .now) t (a .k) (q .2) (q .3) (c .before .before .before .before .before .tag-at .result) (c .entry-length2 .result) (c .before .before .literal-at .result) (tag-read (a .job .now) t (a .k) (q .2) (q .3) (c .before .before .before .before .before .before .node-at .result) (c .before .before .before .before .before .before .node-at .ensures .word) (c .before .before .before .before .before .tag-at .result) (c .before .before .before .before .before .tag-at .ensures)) l (c .entry-length2 .ensures)
 

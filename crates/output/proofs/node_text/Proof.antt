@@ -1,40 +1,29 @@
-use Rattle.store.specs.Store.{store}
-use native.Mathlib.Omega.{arith}
-use mathlib.Core.Path.{_≡_, sym, ap, _∙_}
+-- `output::node_text` meets its contract. Assumes nothing.
+use mathlib.Core.Path.{sym, ap, _∙_}
 use mathlib.Core.Option.{some}
+use native.Mathlib.Omega.{arith}
+use Rattle.store.specs.Store.{store}
 use Rattle.output.specs.Contents.{finishedIn}
 use Rattle.output.proofs.Classes.{text-none, text-some}
 use Rattle.output.proofs.Showing.{node-places, node-stands, tag-read, literal-read}
-use borrow.Author.Needs.{needs}
 use Rattle.output.proofs.node_text.Statement.{statement}
 use Rattle.output.proofs.node_text.Tie as tie
-use Rattle.output.proofs.node_text.Reads as reads
-use Rattle.output.proofs.node_text.Lts as lts
-use Rattle.job.proofs.literal_at.Reads as literal-at-reads
-use Rattle.job.proofs.tag_at.Reads as tag-at-reads
-use Rattle.output.proofs.node_at.Reads as node-at-reads
 
--- src/lib.rt:471:9
 node-at-requires : tie.Need-node-at-requires
 node-at-requires c κs = let a = c .before .before .before .args in let q = c .before .before .before .pre in let z = node-places (a .job .now) (store (a .p .now) (a .w .now)) (a .k) (q .2) (q .3) (a .p .now) (q .1) in (q .0, z .node, z .offset)
 
--- src/lib.rt:472:8
 tag-at-requires : tie.Need-tag-at-requires
 tag-at-requires c κs = let a = c .before .before .before .before .args in let q = c .before .before .before .before .pre in node-stands (a .job .now) (store (a .p .now) (a .w .now)) (a .k) (q .2) (q .3) (c .node-at .result) (c .node-at .ensures .word)
 
--- src/lib.rt:473:9
 returns : tie.Need-returns
 returns c = let a = c .before .before .before .before .before .before .args in let q = c .before .before .before .before .before .before .pre in let t = store (a .p .now) (a .w .now) in let tag = tag-read (a .job .now) t (a .k) (q .2) (q .3) (c .before .before .node-at .result) (c .before .before .node-at .ensures .word) (c .before .tag-at .result) (c .before .tag-at .ensures) in text-none (finishedIn (a .job .now) t (a .k)) (λ z. c .if1 .taken (tag ∙ z))
 
--- src/lib.rt:475:9
 literal-at-requires : tie.Need-literal-at-requires
 literal-at-requires c κs = let a = c .before .before .before .before .before .before .args in let q = c .before .before .before .before .before .before .pre in node-stands (a .job .now) (store (a .p .now) (a .w .now)) (a .k) (q .2) (q .3) (c .before .before .node-at .result) (c .before .before .node-at .ensures .word)
 
--- src/lib.rt:479:15
 sub-t10 : tie.Need-sub-t10
 sub-t10 c = let a = c .before .before .before .before .before .before .before .before .args in let q = c .before .before .before .before .before .before .before .before .pre in literal-read (a .job .now) (store (a .p .now) (a .w .now)) (a .k) (q .2) (q .3) (c .before .before .before .before .node-at .result) (c .before .before .before .before .node-at .ensures .word) (c .before .literal-at .result) (c .before .literal-at .ensures) .rising
 
--- src/lib.rt:467:1
 returns-2 : tie.Need-returns-2
 returns-2 c = let a = c .before .before .before .before .before .before .before .before .args in let q = c .before .before .before .before .before .before .before .before .pre in let t = store (a .p .now) (a .w .now) in let l = literal-read (a .job .now) t (a .k) (q .2) (q .3) (c .before .before .before .before .node-at .result) (c .before .before .before .before .node-at .ensures .word) (c .before .literal-at .result) (c .before .literal-at .ensures) in let tag = tag-read (a .job .now) t (a .k) (q .2) (q .3) (c .before .before .before .before .node-at .result) (c .before .before .before .before .node-at .ensures .word) (c .before .before .before .tag-at .result) (c .before .before .before .tag-at .ensures) in (omega (arith, l .rising, l .within), text-some (finishedIn (a .job .now) t (a .k)) (sym tag ∙ c .before .before .if1 .left) ∙ ap some (sym (l .are)))
 

@@ -1,18 +1,14 @@
+-- `output::own_slots` meets its contract: the nodes behind stand in the chains of their slots. Assumes nothing.
+use mathlib.Core.Path.{_≡_, refl, _∙_}
+use Prim.Native.Nat.{_-_}
+use native.Mathlib.Omega.{arith}
+use lib.ListN.{length}
 use Rattle.store.specs.Regions.{OWNER-HEADS, OWNER-LINKS}
 use Rattle.store.specs.Store.{store}
-use lib.ListN.{length}
-use native.Mathlib.Omega.{arith}
-use Prim.Native.Nat.{_-_}
-use mathlib.Core.Path.{_≡_, refl, _∙_}
 use Rattle.store.proofs.Stores.{length-store}
 use Rattle.output.proofs.Owners.{Owning, owning-begin, owning-next, owning-end}
-use borrow.Author.Needs.{needs}
 use Rattle.output.proofs.own_slots.Statement.{statement}
 use Rattle.output.proofs.own_slots.Tie as tie
-use Rattle.output.proofs.own_slots.Reads as reads
-use Rattle.output.proofs.own_slots.Lts as lts
-use Rattle.store.proofs.load.Reads as load-reads
-use Rattle.store.proofs.push_link.Reads as push-link-reads
 
 abbrev Inv-loop : tie.InvT-loop
 Inv-loop w₀ p n k₀ w k = (length w ≡ length w₀) × Owning p (store p w₀) (store p w) n k
@@ -20,39 +16,30 @@ Inv-loop w₀ p n k₀ w k = (length w ≡ length w₀) × Owning p (store p w�
 abbrev μ-loop : tie.MeasureT-loop
 μ-loop w₀ p n k₀ w k = n - k
 
--- src/lib.rt:232:9
 load-requires : tie.Need-load-requires Inv-loop μ-loop
 load-requires c κs = (c .before .before .before .pre .0, c .before .before .before .pre .2)
 
--- src/lib.rt:234:5
 loop-holds : tie.Need-loop-holds Inv-loop μ-loop
 loop-holds c = let a = c .before .before .before .before .args in (refl, owning-begin (a .p .now) (store (a .p .now) (a .w .now)) (c .load .result) (c .before .before .before .before .pre .5))
 
--- src/lib.rt:235:13
 load-requires-2 : tie.Need-load-requires-2 Inv-loop μ-loop
 load-requires-2 c κs = let q = c .before .before .before .before .before .before .before .pre in let l = c .before .before .loop in ((q .0 .0, omega (arith, q .0 .1, l .inv .0)), omega (arith, q .3, c .before .before .before .load .ensures .word, c .before .loop-test .taken))
 
--- src/lib.rt:236:9
 push-link-requires : tie.Need-push-link-requires Inv-loop μ-loop
 push-link-requires c κs = let q = c .before .before .before .before .before .before .before .before .before .pre in let l = c .before .before .before .before .loop in ((q .0 .0, omega (arith, q .0 .1, l .inv .0)), q .1, c .before .load2 .ensures .small, omega (arith, q .4, c .before .before .before .before .before .load .ensures .word, c .before .before .before .loop-test .taken), omega (arith, c .before .before .before .before .before .load .ensures .small, c .before .before .before .loop-test .taken))
 
--- src/lib.rt:237:9
 add-k : tie.Need-add-k Inv-loop μ-loop
 add-k c = omega (arith, c .before .before .before .before .before .before .before .before .load .ensures .small, c .before .before .before .before .before .before .loop-test .taken)
 
--- src/lib.rt:234:5
 loop-less : tie.Need-loop-less Inv-loop μ-loop
 loop-less c = omega (arith, c .before .before .before .before .before .before .loop-test .taken)
 
--- src/lib.rt:234:5
 loop-again : tie.Need-loop-again Inv-loop μ-loop
 loop-again c = let a = c .before .before .before .before .before .before .before .before .before .before .before .before .args in let q = c .before .before .before .before .before .before .before .before .before .before .before .before .pre in let l = c .before .before .before .before .before .before .before .loop in (c .before .before .push-link .kept .0 ∙ l .inv .0, rw (c .before .before .push-link .ensures) (owning-next (a .p .now) (store (a .p .now) (a .w .now)) (store (a .p .now) (l .w)) (c .before .before .before .before .before .before .before .before .load .result) (l .k) (l .inv .1) (c .before .before .before .before .load2 .result) (c .before .before .before .before .load2 .ensures .word) (q .1) (c .before .before .before .before .before .before .loop-test .taken) (length-store (a .p .now) (l .w) OWNER-HEADS) (omega (arith, length-store (a .p .now) (l .w) OWNER-LINKS, q .4, c .before .before .before .before .before .before .before .before .load .ensures .word, c .before .before .before .before .before .before .loop-test .taken))))
 
--- src/lib.rt:228:1
 same-length : tie.Need-same-length Inv-loop μ-loop
 same-length c = c .before .loop .inv .0
 
--- src/lib.rt:228:1
 returns : tie.Need-returns Inv-loop μ-loop
 returns c = let a = c .before .before .before .before .before .before .args in let q = c .before .before .before .before .before .before .pre in let l = c .before .loop in owning-end (a .p .now) (store (a .p .now) (a .w .now)) (store (a .p .now) (l .w)) (c .before .before .load .result) (l .k) (l .inv .1) (c .before .before .load .ensures .word) (c .loop-test .left) (omega (arith, q .3, c .before .before .load .ensures .word)) (omega (arith, q .4, c .before .before .load .ensures .word))
 

@@ -1,24 +1,17 @@
-use Rattle.output.proofs.Pools.{held-few}
-use Rattle.store.specs.Store.{store}
-use lib.ListN.{length}
-use native.Mathlib.Omega.{arith}
-use Prim.Native.Nat.{_+_, _-_, _*_, _≤_}
-use mathlib.Core.Path.{_≡_, refl, sym, ap, _∙_}
+-- `output::pool_length` meets its contract: the loop has measured the slots behind, and goes over them as `write_pool` does. Assumes nothing.
+use mathlib.Core.Path.{_≡_}
 use mathlib.Core.Logic.{⊎-elim}
+use Prim.Native.Nat.{_+_, _-_, _*_, _≤_}
+use native.Mathlib.Omega.{arith}
+use lib.ListN.{length}
+use Rattle.store.specs.Store.{store}
 use Rattle.output.specs.Contents.{slotIn}
+use Rattle.output.proofs.Pools.{held-few}
 use Rattle.output.proofs.Shown.{content-bound}
 use Rattle.output.proofs.Holding.{sweep-low}
-use Rattle.output.proofs.Pools.{Walked, below, below-none, walked-begin, walked-slot, content-good, walked-next, size-next, size-end, sweep-hit-on, sweep-miss-on}
-use borrow.Author.Needs.{needs}
+use Rattle.output.proofs.Pools.{Walked, below, below-none, walked-begin, content-good, walked-next, size-next, size-end, sweep-hit-on, sweep-miss-on}
 use Rattle.output.proofs.pool_length.Statement.{statement}
 use Rattle.output.proofs.pool_length.Tie as tie
-use Rattle.output.proofs.pool_length.Reads as reads
-use Rattle.output.proofs.pool_length.Lts as lts
-use Rattle.output.proofs.content_length.Reads as content-length-reads
-use Rattle.output.proofs.held_slot.Reads as held-slot-reads
-use Rattle.output.proofs.is_wide.Reads as is-wide-reads
-use Rattle.output.proofs.next_content.Reads as next-content-reads
-use Rattle.store.proofs.load.Reads as load-reads
 
 abbrev Inv-loop : tie.InvT-loop
 Inv-loop job w p end name size₀ raws₀ held₀ wide₀ slot₀ size raws held wide slot = Walked job (store p w) slot raws held wide × (size ≡ 2 + length (below (slotIn job (store p w)) slot)) × (size ≤ 2 + 65538 * slot)
@@ -26,59 +19,45 @@ Inv-loop job w p end name size₀ raws₀ held₀ wide₀ slot₀ size raws held
 abbrev μ-loop : tie.MeasureT-loop
 μ-loop job w p end name size₀ raws₀ held₀ wide₀ slot₀ size raws held wide slot = end - slot
 
--- src/lib.rt:355:9
 load-requires : tie.Need-load-requires Inv-loop μ-loop
 load-requires c κs = (c .before .before .before .pre .0, c .before .before .before .pre .2 .counted)
 
--- src/lib.rt:356:9
 load-requires-2 : tie.Need-load-requires-2 Inv-loop μ-loop
 load-requires-2 c κs = (c .before .before .before .before .pre .0, c .before .before .before .before .pre .2 .sought .named)
 
--- src/lib.rt:359:9
 held-slot-requires : tie.Need-held-slot-requires Inv-loop μ-loop
 held-slot-requires c κs = (c .before .before .before .before .before .pre .0, c .before .before .before .before .before .pre .2 .order)
 
--- src/lib.rt:362:5
 loop-holds : tie.Need-loop-holds Inv-loop μ-loop
 loop-holds c = let a = c .before .before .before .before .before .before .args in let t = store (a .p .now) (a .w .now) in (walked-begin (a .job .now) (a .p .now) t (c .before .before .before .before .before .before .pre .2) (c .held-slot .result) (c .held-slot .ensures), rw (below-none (slotIn (a .job .now) t)), omega arith)
 
--- src/lib.rt:363:13
 next-content-requires : tie.Need-next-content-requires Inv-loop μ-loop
 next-content-requires c κs = let q = c .before .before .before .before .before .before .before .before .pre in let l = c .before .loop in (q .0, q .2 .sought, q .2 .order, l .inv .0 .sweep, c .before .before .before .load2 .ensures .word, l .inv .0 .low, omega (arith, q .2 .high, c .loop-test .taken, c .before .before .before .before .load .ensures .word))
 
--- src/lib.rt:364:17
 content-length-requires : tie.Need-content-length-requires Inv-loop μ-loop
 content-length-requires c κs = let a = c .before .before .before .before .before .before .before .before .before .args in let q = c .before .before .before .before .before .before .before .before .before .pre in let l = c .before .before .loop in let t = store (a .p .now) (a .w .now) in (q .0, q .1, q .2 .owned .made, content-good (a .job .now) (a .p .now) t (q .2) (q .1) (l .slot) (l .raws) (l .held) (l .wide) (l .inv .0) (rw (c .before .before .before .before .before .load .ensures .word) at (c .before .loop-test .taken)) (c .next-content .result) (c .next-content .ensures))
 
--- src/lib.rt:364:9
 add-size : tie.Need-add-size Inv-loop μ-loop
 add-size c = let a = c .before .before .before .before .before .before .before .before .before .before .args in let q = c .before .before .before .before .before .before .before .before .before .before .pre in let l = c .before .before .before .loop in let t = store (a .p .now) (a .w .now) in let good = content-good (a .job .now) (a .p .now) t (q .2) (q .1) (l .slot) (l .raws) (l .held) (l .wide) (l .inv .0) (rw (c .before .before .before .before .before .before .load .ensures .word) at (c .before .before .loop-test .taken)) (c .before .next-content .result) (c .before .next-content .ensures) in omega (arith, c .content-length .ensures, content-bound (a .job .now) t (c .before .next-content .result) (λ i. c .before .before .before .before .before .before .before .before .before .shared-slice-known .given i .fits) (q .2 .owned .made) good, l .inv .2, q .2 .high, c .before .before .loop-test .taken, c .before .before .before .before .before .before .load .ensures .word)
 
--- src/lib.rt:365:9
 is-wide-requires : tie.Need-is-wide-requires Inv-loop μ-loop
 is-wide-requires c κs = let a = c .before .before .before .before .before .before .before .before .before .before .args in let q = c .before .before .before .before .before .before .before .before .before .before .pre in let l = c .before .before .before .loop in let t = store (a .p .now) (a .w .now) in let good = content-good (a .job .now) (a .p .now) t (q .2) (q .1) (l .slot) (l .raws) (l .held) (l .wide) (l .inv .0) (rw (c .before .before .before .before .before .before .load .ensures .word) at (c .before .before .loop-test .taken)) (c .before .next-content .result) (c .before .next-content .ensures) in (q .0, q .1, q .2 .owned .made, λ h. good .1 h .0)
 
--- src/lib.rt:367:13
 add-raws : tie.Need-add-raws Inv-loop μ-loop
 add-raws c = let a = c .before .before .before .before .before .before .before .before .before .before .before .before .args in let q = c .before .before .before .before .before .before .before .before .before .before .before .before .pre in let l = c .before .before .before .before .before .loop in let t = store (a .p .now) (a .w .now) in let low = sweep-low (a .p .now) t (q .2 .order) (l .slot) (l .raws) (l .held) (l .inv .0 .sweep) (c .if1 .taken) (omega (arith, q .2 .high, c .before .before .before .before .loop-test .taken, c .before .before .before .before .before .before .before .before .load .ensures .word)) in omega (arith, low, held-few (a .job .now) (a .p .now) t (q .1) (q .2 .order))
 
--- src/lib.rt:368:13
 held-slot-requires-2 : tie.Need-held-slot-requires-2 Inv-loop μ-loop
 held-slot-requires-2 c κs = (c .before .before .before .before .before .before .before .before .before .before .before .before .pre .0, c .before .before .before .before .before .before .before .before .before .before .before .before .pre .2 .order)
 
--- src/lib.rt:370:9
 add-slot : tie.Need-add-slot Inv-loop μ-loop
 add-slot c = omega (arith, c .before .before .before .before .before .before .before .before .before .before .before .before .pre .2 .high, c .before .before .before .before .loop-test .taken, c .before .before .before .before .before .before .before .before .load .ensures .word)
 
--- src/lib.rt:362:5
 loop-less : tie.Need-loop-less Inv-loop μ-loop
 loop-less c = omega (arith, c .before .before .before .before .loop-test .taken)
 
--- src/lib.rt:362:5
 loop-again : tie.Need-loop-again Inv-loop μ-loop
 loop-again c = let a = c .before .before .before .before .before .before .before .before .before .before .before .before .args in let q = c .before .before .before .before .before .before .before .before .before .before .before .before .pre in let l = c .before .before .before .before .before .loop in let t = store (a .p .now) (a .w .now) in let inside = rw (c .before .before .before .before .before .before .before .before .load .ensures .word) at (c .before .before .before .before .loop-test .taken) in let good = content-good (a .job .now) (a .p .now) t (q .2) (q .1) (l .slot) (l .raws) (l .held) (l .wide) (l .inv .0) inside (c .before .before .before .next-content .result) (c .before .before .before .next-content .ensures) in (walked-next (a .job .now) (a .p .now) t (q .2) (q .1) (l .slot) (l .raws) (l .held) (l .wide) (l .inv .0) inside (c .before .before .before .next-content .result) (c .before .before .before .next-content .ensures) (c .if1 .raws) (c .if1 .held) (c .before .is-wide .result) (c .before .is-wide .ensures) (⊎-elim (λ w. sweep-hit-on (a .job .now) (a .p .now) t (q .2) (q .1) (l .slot) (l .raws) (l .held) (l .wide) (l .inv .0) inside (w .0 .taken) (c .if1 .raws) (c .if1 .held) (w .1 .result) (w .2) (w .3) (w .1 .ensures)) (λ w. sweep-miss-on (a .job .now) (a .p .now) t (q .2) (q .1) (l .slot) (l .raws) (l .held) (l .wide) (l .inv .0) inside (w .0 .left) (c .if1 .raws) (c .if1 .held) (w .1) (w .2)) (c .if1 .came)), size-next (a .job .now) (a .p .now) t (q .2) (q .1) (l .slot) (l .raws) (l .held) (l .wide) (l .inv .0) inside (c .before .before .before .next-content .result) (c .before .before .before .next-content .ensures) (l .size) (c .before .before .content-length .result) (l .inv .1) (c .before .before .content-length .ensures), omega (arith, c .before .before .content-length .ensures, content-bound (a .job .now) t (c .before .before .before .next-content .result) (λ i. c .before .before .before .before .before .before .before .before .before .before .before .shared-slice-known .given i .fits) (q .2 .owned .made) good, l .inv .2))
 
--- src/lib.rt:351:1
 returns : tie.Need-returns Inv-loop μ-loop
 returns c = let a = c .before .before .before .before .before .before .before .before .args in let q = c .before .before .before .before .before .before .before .before .pre in let l = c .before .loop in let t = store (a .p .now) (a .w .now) in size-end (a .job .now) (a .p .now) t (q .2) (l .slot) (l .raws) (l .held) (l .wide) (l .inv .0) (rw (c .before .before .before .before .load .ensures .word) at (c .loop-test .left)) (l .size) (l .inv .1)
 

@@ -1,25 +1,19 @@
+-- `output::raw_content` meets its contract. Assumes nothing.
+use mathlib.Core.Path.{sym}
+use mathlib.Core.Logic.{⊎-elim}
+use native.Mathlib.Omega.{arith}
 use Rattle.store.specs.Regions.{MARKS}
 use Rattle.store.specs.Store.{store}
-use native.Mathlib.Omega.{arith}
-use mathlib.Core.Path.{sym, _∙_}
-use mathlib.Core.Logic.{⊎-elim}
 use Rattle.output.proofs.Holding.{raw-half, raw-node}
-use borrow.Author.Needs.{needs}
 use Rattle.output.proofs.raw_content.Statement.{statement}
 use Rattle.output.proofs.raw_content.Tie as tie
-use Rattle.output.proofs.raw_content.Reads as reads
-use Rattle.output.proofs.raw_content.Lts as lts
-use Rattle.resolver.proofs.node_of.Reads as node-of-reads
 
--- src/lib.rt:247:9
 returns : tie.Need-returns
 returns c = let a = c .before .before .before .args in sym (raw-half (store (a .p .now) (a .w .now) MARKS) (a .e) (c .if1 .taken))
 
--- src/lib.rt:249:5
 node-of-requires : tie.Need-node-of-requires
 node-of-requires c κs = ⊎-elim (λ h. absurd (c .if1 .left h)) (λ h. (c .before .before .before .pre .0, h .0, h .1)) (c .before .before .before .pre .1)
 
--- src/lib.rt:242:1
 returns-2 : tie.Need-returns-2
 returns-2 c = let a = c .before .before .before .before .args in omega (arith, c .node-of .ensures, raw-node (store (a .p .now) (a .w .now) MARKS) (a .e) (c .before .if1 .left))
 

@@ -1,47 +1,35 @@
-use lib.ListN.{length}
-use Rattle.output.proofs.Filling.{raw-place}
-use Rattle.store.specs.Store.{store}
-use native.Mathlib.Omega.{arith}
-use mathlib.Core.Path.{_≡_, sym, ap, _∙_}
+-- `output::raw_index` meets its contract. Assumes nothing.
+use mathlib.Core.Path.{sym}
 use Prim.Native.Nat.{_+_, _<_}
+use native.Mathlib.Omega.{arith}
+use lib.ListN.{length}
+use Rattle.store.specs.Store.{store}
 use Rattle.store.specs.Regions.{RAW-KEYS, ORDER}
 use Rattle.raws.specs.Raws.{heldCount}
 use Rattle.output.specs.Rows.{rawRows}
+use Rattle.output.proofs.Filling.{raw-place}
 use Rattle.output.proofs.Filling.{raw-index-there, raw-index-past}
-use borrow.Author.Needs.{needs}
 use Rattle.output.proofs.raw_index.Statement.{statement}
 use Rattle.output.proofs.raw_index.Tie as tie
-use Rattle.output.proofs.raw_index.Reads as reads
-use Rattle.output.proofs.raw_index.Lts as lts
-use Rattle.output.proofs.raw_rows.Reads as raw-rows-reads
-use Rattle.raws.proofs.raw_key.Reads as raw-key-reads
-use Rattle.store.proofs.load.Reads as load-reads
 
--- src/lib.rt:587:8
 raw-rows-requires : tie.Need-raw-rows-requires
 raw-rows-requires c κs = c .before .before .pre
 
--- src/lib.rt:588:9
 returns : tie.Need-returns
 returns c = let a = c .before .before .before .before .args in let t = store (a .p .now) (a .w .now) in sym (raw-index-past (t RAW-KEYS) (t ORDER) (heldCount t) (rawRows t) (a .i) (rw (c .before .raw-rows .ensures) at (c .if1 .taken)))
 
--- src/lib.rt:590:25
 load-requires : tie.Need-load-requires
 load-requires c κs = (c .before .before .before .before .pre .0, omega (arith, c .before .before .before .before .pre .1 .counters))
 
--- src/lib.rt:590:25
 add-raw-key : tie.Need-add-raw-key
 add-raw-key c = let a = c .before .before .before .before .before .args in let q = c .before .before .before .before .before .pre in let t = store (a .p .now) (a .w .now) in omega (arith, raw-place (a .p .now) t (length (a .w .now)) (a .i) (q .0) (q .1) (omega (arith, c .before .before .raw-rows .ensures, c .before .if1 .left)), c .load .ensures .word)
 
--- src/lib.rt:590:5
 raw-key-requires : tie.Need-raw-key-requires
 raw-key-requires c κs = let a = c .before .before .before .before .before .args in let q = c .before .before .before .before .before .pre in let t = store (a .p .now) (a .w .now) in let low : a .i < rawRows t = omega (arith, c .before .before .raw-rows .ensures, c .before .if1 .left) in let r = q .1 .raws (heldCount t + a .i) (omega arith) (omega (arith, low)) in (q .0, omega (arith, low, q .1 .orderRoom, c .load .ensures .word), rw (c .load .ensures .word) (r .key))
 
--- src/lib.rt:590:5
 sub-result : tie.Need-sub-result
 sub-result c = let a = c .before .before .before .before .before .before .args in let q = c .before .before .before .before .before .before .pre in let t = store (a .p .now) (a .w .now) in let low : a .i < rawRows t = omega (arith, c .before .before .before .raw-rows .ensures, c .before .before .if1 .left) in let r = q .1 .raws (heldCount t + a .i) (omega arith) (omega (arith, low)) in rw (c .raw-key .ensures .word, c .before .load .ensures .word) (r .low)
 
--- src/lib.rt:583:1
 returns-2 : tie.Need-returns-2
 returns-2 c = let a = c .before .before .before .before .before .before .args in let t = store (a .p .now) (a .w .now) in let low : a .i < rawRows t = omega (arith, c .before .before .before .raw-rows .ensures, c .before .before .if1 .left) in rw (c .raw-key .ensures .word, c .before .load .ensures .word) (sym (raw-index-there (t RAW-KEYS) (t ORDER) (heldCount t) (rawRows t) (a .i) low))
 

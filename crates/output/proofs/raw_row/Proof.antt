@@ -1,39 +1,25 @@
-use lib.ListN.{length}
-use Rattle.output.proofs.Filling.{raw-place}
-use Rattle.store.specs.Store.{store}
+-- `output::raw_row` meets its contract. Assumes nothing.
+use Prim.Native.Nat.{_+_}
 use native.Mathlib.Omega.{arith}
-use mathlib.Core.Path.{_≡_, sym, ap, _∙_}
-use lib.ListN.{getD}
-use Prim.Native.Nat.{_+_, _<_}
-use Rattle.store.specs.Regions.{MARKS, RAW-ENTRIES, ORDER}
+use lib.ListN.{length}
+use Rattle.store.specs.Store.{store}
 use Rattle.raws.specs.Raws.{heldCount}
-use Rattle.output.specs.Rows.{rawRows}
-use borrow.Author.Needs.{needs}
+use Rattle.output.proofs.Filling.{raw-place}
 use Rattle.output.proofs.raw_row.Statement.{statement}
 use Rattle.output.proofs.raw_row.Tie as tie
-use Rattle.output.proofs.raw_row.Reads as reads
-use Rattle.output.proofs.raw_row.Lts as lts
-use Rattle.raws.proofs.raw_entry.Reads as raw-entry-reads
-use Rattle.resolver.proofs.node_of.Reads as node-of-reads
-use Rattle.store.proofs.load.Reads as load-reads
 
--- src/lib.rt:598:51
 load-requires : tie.Need-load-requires
 load-requires c κs = (c .before .before .pre .0, omega (arith, c .before .before .pre .1 .counters))
 
--- src/lib.rt:598:51
 add-raw-entry : tie.Need-add-raw-entry
 add-raw-entry c = let a = c .before .before .before .args in let q = c .before .before .before .pre in let t = store (a .p .now) (a .w .now) in omega (arith, raw-place (a .p .now) t (length (a .w .now)) (a .i) (q .0) (q .1) (q .2), c .load .ensures .word)
 
--- src/lib.rt:598:29
 raw-entry-requires : tie.Need-raw-entry-requires
 raw-entry-requires c κs = let a = c .before .before .before .args in let q = c .before .before .before .pre in let t = store (a .p .now) (a .w .now) in let r = q .1 .raws (heldCount t + a .i) (omega arith) (omega (arith, q .2)) in (q .0, omega (arith, q .2, q .1 .orderRoom, c .load .ensures .word), rw (c .load .ensures .word) (r .entry))
 
--- src/lib.rt:598:5
 node-of-requires : tie.Need-node-of-requires
 node-of-requires c κs = let a = c .before .before .before .before .args in let q = c .before .before .before .before .pre in let t = store (a .p .now) (a .w .now) in let r = q .1 .raws (heldCount t + a .i) (omega arith) (omega (arith, q .2)) in (q .0, rw (c .raw-entry .ensures .word, c .before .load .ensures .word) (r .inside), rw (c .raw-entry .ensures .word, c .before .load .ensures .word) (r .done))
 
--- src/lib.rt:594:1
 returns : tie.Need-returns
 returns c = let e = rw (c .before .raw-entry .ensures .word, c .before .before .load .ensures .word) at (c .node-of .ensures) in omega (arith, e)
 

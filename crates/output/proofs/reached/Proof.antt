@@ -1,16 +1,12 @@
+-- `output::reached` meets its contract. Assumes nothing.
 use native.Mathlib.Omega.{arith}
 use Rattle.output.proofs.Filling.{reached-here, reached-not}
-use borrow.Author.Needs.{needs}
 use Rattle.output.proofs.reached.Statement.{statement}
 use Rattle.output.proofs.reached.Tie as tie
-use Rattle.output.proofs.reached.Reads as reads
-use Rattle.output.proofs.reached.Lts as lts
 
--- src/lib.rt:641:9
 returns : tie.Need-returns
 returns c = (reached-here (c .before .args .at) (c .before .args .next) (c .if1 .taken), omega arith)
 
--- src/lib.rt:637:1
 returns-2 : tie.Need-returns-2
 returns-2 c = (reached-not (c .before .args .at) (c .before .args .next) (c .if1 .left), omega arith)
 

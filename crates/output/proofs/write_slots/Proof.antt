@@ -1,22 +1,17 @@
-use Rattle.store.specs.Store.{store}
-use lib.ListN.{length}
-use native.Mathlib.Omega.{arith}
+-- `output::write_slots` meets its contract: the loop has written the slots before i, and each turn writes one behind them. Assumes nothing.
+use mathlib.Core.Path.{_≡_, refl, ap, _∙_}
 use Prim.Native.Nat.{_+_, _-_, _≤_}
-use mathlib.Core.Path.{_≡_, refl, sym, ap, _∙_}
+use native.Mathlib.Omega.{arith}
+use lib.ListN.{length}
+use Rattle.store.specs.Store.{store}
 use Rattle.store.specs.Regions.{GIVEN, CHILDREN}
 use Rattle.store.proofs.Stores.{in-words}
 use Rattle.raw_const.specs.Entries.{Wrote}
 use Rattle.output.specs.Contents.{childSlot}
 use Rattle.output.specs.Rows.{slotsFrom}
 use Rattle.output.proofs.Rowing.{shorts, slots-none, slots-more, slots-length}
-use borrow.Author.Needs.{needs}
 use Rattle.output.proofs.write_slots.Statement.{statement}
 use Rattle.output.proofs.write_slots.Tie as tie
-use Rattle.output.proofs.write_slots.Reads as reads
-use Rattle.output.proofs.write_slots.Lts as lts
-use Rattle.output.proofs.child_slot.Reads as child-slot-reads
-use Rattle.store.proofs.load.Reads as load-reads
-use Rattle.writer.proofs.put_u16.Reads as put-u16-reads
 
 abbrev Inv-loop : tie.InvT-loop
 Inv-loop out₀ start w p first n at₀ i₀ out at i = (length out ≡ length out₀) × (i ≤ n) × Wrote out₀ start (shorts (slotsFrom (store p w GIVEN) (store p w CHILDREN) first i)) out at
@@ -24,51 +19,39 @@ Inv-loop out₀ start w p first n at₀ i₀ out at i = (length out ≡ length o
 abbrev μ-loop : tie.MeasureT-loop
 μ-loop out₀ start w p first n at₀ i₀ out at i = n - i
 
--- src/lib.rt:445:5
 loop-holds : tie.Need-loop-holds Inv-loop μ-loop
 loop-holds c = let a = c .before .before .before .args in let t = store (a .p .now) (a .w .now) in (refl, omega arith, slots-none (t GIVEN) (t CHILDREN) (a .first) (a .out .now) (a .start))
 
--- src/lib.rt:446:58
 add-load : tie.Need-add-load Inv-loop μ-loop
 add-load c = let a = c .before .before .before .before .before .args in omega (arith, in-words (a .p .now) (length (a .w .now)) CHILDREN (a .first + c .before .loop .i) (c .before .before .before .before .before .pre .0) (omega (arith, c .before .before .before .before .before .pre .1, c .loop-test .taken)) .1)
 
--- src/lib.rt:446:37
 load-requires : tie.Need-load-requires Inv-loop μ-loop
 load-requires c κs = (c .before .before .before .before .before .pre .0, omega (arith, c .before .before .before .before .before .pre .1, c .loop-test .taken))
 
--- src/lib.rt:446:13
 child-slot-requires : tie.Need-child-slot-requires Inv-loop μ-loop
 child-slot-requires c κs = (c .before .before .before .before .before .before .pre .0, rw (c .load .ensures .word) (c .before .before .before .before .before .before .pre .2 (c .before .before .loop .i) (c .before .loop-test .taken) .low))
 
--- src/lib.rt:447:34
 cast-put-u16 : tie.Need-cast-put-u16 Inv-loop μ-loop
 cast-put-u16 c = record { fits = rw (c .before .child-slot .ensures, c .before .before .load .ensures .word) (c .before .before .before .before .before .before .before .before .pre .2 (c .before .before .before .before .loop .i) (c .before .before .before .loop-test .taken) .small) }
 
--- src/lib.rt:447:9
 put-u16-requires : tie.Need-put-u16-requires Inv-loop μ-loop
 put-u16-requires c κs = let a = c .before .before .before .before .before .before .before .before .args in let l = c .before .before .before .before .loop in let t = store (a .p .now) (a .w .now) in omega (arith, l .inv .0, l .inv .2 .next, slots-length (t GIVEN) (t CHILDREN) (a .first) (l .i), c .before .before .before .before .before .before .before .before .pre .3, c .before .before .before .loop-test .taken)
 
--- src/lib.rt:448:9
 add-at : tie.Need-add-at Inv-loop μ-loop
 add-at c = let a = c .before .before .before .before .before .before .before .before .before .before .before .args in let l = c .before .before .before .before .before .before .before .loop in let t = store (a .p .now) (a .w .now) in omega (arith, l .inv .0, l .inv .2 .next, slots-length (t GIVEN) (t CHILDREN) (a .first) (l .i), c .before .before .before .before .before .before .before .before .before .before .before .pre .3, c .before .before .before .before .before .before .loop-test .taken)
 
--- src/lib.rt:449:9
 add-i : tie.Need-add-i Inv-loop μ-loop
 add-i c = omega (arith, c .before .before .before .before .before .before .before .before .before .before .before .pre .3, c .before .before .before .before .before .before .loop-test .taken)
 
--- src/lib.rt:445:5
 loop-less : tie.Need-loop-less Inv-loop μ-loop
 loop-less c = omega (arith, c .before .before .before .before .before .before .loop-test .taken)
 
--- src/lib.rt:445:5
 loop-again : tie.Need-loop-again Inv-loop μ-loop
 loop-again c = let a = c .before .before .before .before .before .before .before .before .before .before .before .args in let l = c .before .before .before .before .before .before .before .loop in let t = store (a .p .now) (a .w .now) in (c .before .before .put-u16 .kept .0 ∙ l .inv .0, omega (arith, c .before .before .before .before .before .before .loop-test .taken), slots-more (t GIVEN) (t CHILDREN) (a .first) (l .i) (c .before .before .before .before .child-slot .result) (omega (arith, c .before .before .before .before .before .before .before .before .before .before .before .pre .3, c .before .before .before .before .before .before .loop-test .taken)) (c .before .before .before .before .child-slot .ensures ∙ ap (childSlot (t GIVEN)) (c .before .before .before .before .before .load .ensures .word)) (l .inv .2) (c .before .before .put-u16 .ensures))
 
--- src/lib.rt:432:1
 same-length : tie.Need-same-length Inv-loop μ-loop
 same-length c = c .before .loop .inv .0
 
--- src/lib.rt:432:1
 returns : tie.Need-returns Inv-loop μ-loop
 returns c = let a = c .before .before .before .before .before .args in let l = c .before .loop in let e : l .i ≡ a .n = omega (arith, l .inv .1, c .loop-test .left) in rw (← e) (l .inv .2)
 
