@@ -7,3 +7,5 @@ pub mod Pools
 pub mod Rowing
 pub mod Classes
 pub mod Filling
+pub mod Handing
+pub mod Rendering
