@@ -1,24 +1,28 @@
 -- What the raw definitions and their order hand on to the walk over the slots. Assumes nothing.
-use mathlib.Core.List.{List, [], _∷_, map}
-use mathlib.Core.Logic.{_⊎_, ⊎-elim}
+use mathlib.Core.List.{List, [], _∷_}
+use mathlib.Core.Logic.{_⊎_, inl, inr, ⊎-elim}
 use mathlib.Core.Option.{some}
-use mathlib.Core.Path.{_≡_, refl, sym, ap, subst, _∙_}
-use Prim.Native.Nat.{ℕ, zero, suc, _+_, _-_, _≤_, _<_}
+use mathlib.Core.Path.{_≡_, sym, ap, subst, _∙_}
+use Prim.Native.Nat.{ℕ, zero, suc, _≤_, _<_}
 use native.Mathlib.Omega.{arith}
 use lib.ListN.{length, getD, getElem?, take, length-map}
 use lib.Seq.{getD-take}
-use Rattle.definition.specs.Basics.{lookup}
 use Rattle.definition.specs.Definitions.{Held}
 use Rattle.facts.specs.Lists.{Rising}
 use Rattle.facts.proofs.Lists.{none≢some, some-inj, found-inside, read-found, map-at}
 use Rattle.facts.proofs.Tables.{keys, lookup-at}
 use Rattle.store.specs.Store.{Store, size}
-use Rattle.store.specs.Regions.{COUNTS, RAW-KEYS, RAW-ENTRIES, ORDER, HELD-COUNT}
-use Rattle.store.specs.Words.{ENTRY}
+use Rattle.store.specs.Chains.{NumbersIn}
+use Rattle.store.specs.JobIn.{entriesIn}
+use Rattle.store.specs.Regions.{COUNTS, MARKS, GIVEN, OWNER-HEADS, RAW-KEYS, RAW-ENTRIES, ORDER, HELD-COUNT, Work}
+use Rattle.store.specs.Words.{HALF}
+use Rattle.store.proofs.Laying.{work-sizes, entries-counted}
+use Rattle.store.proofs.Bounds.{work-heads}
+use Rattle.interner.specs.Nodes.{nodeCount, EnteredIn, NodesIn}
 use Rattle.store.proofs.Stores.{eq-or, lt-or}
 use Rattle.raws.specs.Raws.{SlotItem, IndexItem, Raws, RawsIn, rawCount, heldCount, heldWord, slotRow, Ordered}
 use Rattle.raws.proofs.Sweeping.{rising-least}
-use Rattle.output.specs.Contents.{HeldOrder}
+use Rattle.output.specs.Contents.{Made, Searched, HeldOrder}
 
 rising-pair : (low top : ℕ) (l : List ℕ) → Rising low top l → (i j a b : ℕ) → getElem? l i ≡ some a → getElem? l j ≡ some b → i < j → a < b
 rising-pair low top [] r i j a b f g h = none≢some f
@@ -92,4 +96,37 @@ held-order p constants top held indexes t r o counted a b c =
       low = λ j l. item j l .low;
       high = λ j l. omega (arith, item j l .high, r .few);
       whole = order-whole r o;
+    }
+
+-- nodes are made from entries of the job
+pub nodes-made : (h : ℕ) (s : List ℕ) (t : Store) → EnteredIn s t → NodesIn h s t → Made s t
+nodes-made h s t entered nodes = record { entered = entered; few = nodes .few; inside = nodes .inside }
+
+-- the searches have their chains, in which a number stands once
+pub searched :
+    (s p : List ℕ) (constants top : ℕ) (held : List (ℕ × Held)) (indexes : List (ℕ × ℕ)) (t : Store) → Work s p →
+    RawsIn p constants top held indexes t → rawCount t ≤ size p RAW-KEYS →
+    ((i : ℕ) → i < rawCount t →
+    (getD (t RAW-ENTRIES) i 0 ≡ HALF) ⊎ ((getD (t RAW-ENTRIES) i 0 < entriesIn s) × (1 < getD (t MARKS) (getD (t RAW-ENTRIES) i 0) 0))) →
+    NumbersIn p t OWNER-HEADS GIVEN (nodeCount t) →
+    ((j k : ℕ) → j < k → k < nodeCount t → 0 < getD (t GIVEN) j 0 → getD (t GIVEN) j 0 ≡ getD (t GIVEN) k 0 → ⊥) → Searched p t
+searched s p constants top held indexes t work r room done owners alone =
+    let z = work-sizes s p work in
+    let c = entries-counted s in
+    let heads = work-heads s p work in
+    record {
+      named = omega (arith, z .counts);
+      rawHeads = heads .2;
+      raws = (r .chains, room, omega (arith, z .raw-keys, z .raw-links));
+      rawRoom = omega (arith, z .raw-keys, z .raw-entries);
+      rawAlone = r .unlike;
+      rawDone =
+          λ i l.
+          ⊎-elim
+          (λ (e : getD (t RAW-ENTRIES) i 0 ≡ HALF). inl e)
+          (λ (e : (getD (t RAW-ENTRIES) i 0 < entriesIn s) × (1 < getD (t MARKS) (getD (t RAW-ENTRIES) i 0) 0)). inr (omega (arith, e .0, z .marks), e .1))
+          (done i l);
+      ownerHeads = heads .4;
+      owners = owners;
+      ownerAlone = alone;
     }

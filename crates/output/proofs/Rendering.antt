@@ -17,9 +17,9 @@ use Rattle.definition.specs.Run.{shown, slotBytes, rowBytes, classBytes}
 use Rattle.facts.proofs.Chunks.{length-from, from-same}
 use Rattle.store.specs.Store.{Store}
 use Rattle.store.proofs.Stores.{from-get}
-use Rattle.output.specs.Contents.{shownIn, contentIn, slotIn, poolCount, poolIn}
+use Rattle.output.specs.Contents.{slotIn, poolCount, poolIn}
 use Rattle.output.specs.Names.{textOf, classOf, shownAt, classSlotIn, classIn}
-use Rattle.output.specs.Rows.{rowIn, rowNodeIn, rowCountIn, rowAtIn, rowsIn}
+use Rattle.output.specs.Rows.{rowIn, rowNodeIn, rowCountIn, rowsIn}
 
 map-from : {A B : Type 0} (f : A → B) (g : ℕ → A) (i n : ℕ) → map f (from g i n) ≡ from (λ j. f (g j)) i n
 unfolding from
