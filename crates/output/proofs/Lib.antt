@@ -8,4 +8,5 @@ pub mod Rowing
 pub mod Classes
 pub mod Filling
 pub mod Handing
+pub mod Owned
 pub mod Rendering
