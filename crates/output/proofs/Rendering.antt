@@ -65,13 +65,14 @@ text-rendered all (holds e) = ways (eqb (e .tag) 1)
     ways false = refl
 
 class-rendered :
-    (all : List Literal) (owned : List (ℕ × Entry ℕ ℕ)) (at : ℕ → Option (Entry (List ℕ) ℕ)) →
-    ((n : ℕ) → at n ≡ shown all (contentOf owned n)) → (c : Content) → classOf at (shown all c) ≡ classBytes all (className owned c)
+    (all : List Literal) (owned : List (ℕ × Entry ℕ ℕ)) (at : ℕ → Option (Entry (List ℕ) ℕ)) (c : Content) →
+    ((e : Entry ℕ ℕ) → c ≡ holds e → at (getD (e .kids) 0 0) ≡ shown all (contentOf owned (getD (e .kids) 0 0))) →
+    classOf at (shown all c) ≡ classBytes all (className owned c)
 unfolding classOf shown classBytes className withLiteral
-class-rendered all owned at same nothing = refl
-class-rendered all owned at same emptyText = refl
-class-rendered all owned at same (holds e) =
-    ways (eqb (e .tag) 7) (ap textOf (same (getD (e .kids) 0 0)) ∙ text-rendered all (contentOf owned (getD (e .kids) 0 0)))
+class-rendered all owned at nothing same = refl
+class-rendered all owned at emptyText same = refl
+class-rendered all owned at (holds e) same =
+    ways (eqb (e .tag) 7) (ap textOf (same e refl) ∙ text-rendered all (contentOf owned (getD (e .kids) 0 0)))
   where
     ways :
         (b : Bool) → textOf (at (getD (e .kids) 0 0)) ≡ classBytes all (textIn (contentOf owned (getD (e .kids) 0 0))) →
@@ -80,9 +81,12 @@ class-rendered all owned at same (holds e) =
     ways true h = h
     ways false h = refl
 
+-- past 65,535 the words' search would find raw bootstraps too, so that only slots of two bytes are asked for
 pub name-rendered :
     (s : List ℕ) (t : Store) (all : List Literal) (owned : List (ℕ × Entry ℕ ℕ)) →
-    ((n : ℕ) → shownAt s t n ≡ shown all (contentOf owned n)) →
+    ((n : ℕ) → n < 65536 → shownAt s t n ≡ shown all (contentOf owned n)) → classSlotIn s t < 65536 →
+    ((e : Entry ℕ ℕ) → contentOf owned (classSlotIn s t) ≡ holds e → getD (e .kids) 0 0 < 65536) →
     classIn s t ≡ classBytes all (className owned (contentOf owned (classSlotIn s t)))
-name-rendered s t all owned same =
-    ap (classOf (shownAt s t)) (same (classSlotIn s t)) ∙ class-rendered all owned (shownAt s t) same (contentOf owned (classSlotIn s t))
+name-rendered s t all owned same low kids =
+    ap (classOf (shownAt s t)) (same (classSlotIn s t) low)
+    ∙ class-rendered all owned (shownAt s t) (contentOf owned (classSlotIn s t)) (λ e h. same (getD (e .kids) 0 0) (kids e h))
