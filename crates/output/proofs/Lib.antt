@@ -1,0 +1,12 @@
+pub mod Numbers
+pub mod Showing
+pub mod Shown
+pub mod Owners
+pub mod Holding
+pub mod Pools
+pub mod Rowing
+pub mod Classes
+pub mod Filling
+pub mod Handing
+pub mod Owned
+pub mod Rendering
