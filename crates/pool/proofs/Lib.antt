@@ -1,0 +1,4 @@
+pub mod Words
+pub mod Nodal
+pub mod Within
+pub mod Taking

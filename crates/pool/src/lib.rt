@@ -1,0 +1,162 @@
+// The building pool: slots of nodes, from the gaps that the raw slots leave, and the stack of nodes that have a slot and aren't built yet.
+use slots::Allocated;
+use slots::Positions;
+use store::COUNTS;
+use store::ENTRY;
+use store::FIRSTS;
+use store::GAP_COUNT;
+use store::GIVEN;
+use store::NODES;
+use store::ODD;
+use store::OFFSETS;
+use store::PENDING;
+use store::PENDING_COUNT;
+use store::PLAIN;
+use store::SIZES;
+use store::WIDE;
+use store::load;
+use store::next_count;
+use store::save;
+ghost use mathlib.Core.Bool.{true, false};
+ghost use mathlib.Core.Path.{_≡_};
+ghost use Prim.Native.Nat.{ℕ, _+_, _-_, _<_, _≤_};
+ghost use lib.ListN.{length, getD};
+ghost use Rattle.definition.specs.Shapes.{isWide};
+ghost use Rattle.definition.specs.Definitions.{tagAt};
+ghost use Rattle.definition.specs.Building.{noSlot};
+ghost use Rattle.store.specs.Store.{size, store, put, On, IsWord, Read};
+ghost use Rattle.store.specs.Regions.{COUNTS, GIVEN, PENDING, NODES, OFFSETS, FIRSTS, SIZES, PLAIN, PENDING-COUNT, Work};
+ghost use Rattle.store.specs.Words.{ENTRY};
+ghost use Rattle.interner.specs.Nodes.{nodeCount, nodesIn};
+ghost use Rattle.pool.specs.Pooled.{childSlot, Has, Lacks, positionsIn, GapsLive, NodesThere, withPositions, pendingCount, withPending, movedTo, slotFound, Took};
+
+// The slot of a child that has one: a raw number is itself.
+pub fn child_slot(w: &[u32], p: &[usize], child: usize) -> usize
+    requires { ⌜ On (now p) (length (now w)) × (child < ENTRY + size (now p) GIVEN) ⌝ }
+    ensures { λ r. ⌜ (r ≡ childSlot (store (now (p .entry)) (now (w .entry)) GIVEN) child) × IsWord r ⌝ }
+{
+    if child < ENTRY {
+        child
+    } else {
+        load(w, p, GIVEN, child - ENTRY)
+    }
+}
+
+// Where the record of a node's entry stands.
+fn node_at(w: &[u32], p: &[usize], k: usize) -> usize
+    requires { ⌜ On (now p) (length (now w)) × (k < size (now p) NODES) × (getD (store (now p) (now w) NODES) k 0 < size (now p) OFFSETS) ⌝ }
+    ensures { λ r. ⌜ Read (store (now (p .entry)) (now (w .entry))) OFFSETS (getD (store (now (p .entry)) (now (w .entry)) NODES) k 0) r ⌝ }
+{
+    load(w, p, OFFSETS, load(w, p, NODES, k))
+}
+
+// The tag of a node is that of a wide constant.
+pub fn node_is_wide(job: &[u8], w: &[u32], p: &[usize], k: usize) -> bool
+    requires { ⌜ On (now p) (length (now w)) × NodesThere (now job) (now p) (store (now p) (now w)) × (k < nodeCount (store (now p) (now w))) ⌝ }
+    ensures { λ r. ⌜ r ≡ isWide (tagAt (nodesIn (now (job .entry)) (store (now (p .entry)) (now (w .entry)))) k) ⌝ }
+{
+    raw_const::is_long(job::tag_at(job, node_at(w, p, k)))
+}
+
+// How many children a node has.
+pub fn child_count(w: &[u32], p: &[usize], k: usize) -> usize
+    requires { ⌜ On (now p) (length (now w)) × (k < size (now p) NODES) × (getD (store (now p) (now w) NODES) k 0 < size (now p) SIZES) ⌝ }
+    ensures { λ r. ⌜ Read (store (now (p .entry)) (now (w .entry))) SIZES (getD (store (now (p .entry)) (now (w .entry)) NODES) k 0) r ⌝ }
+{
+    load(w, p, SIZES, load(w, p, NODES, k))
+}
+
+// Where in CHILDREN they begin.
+pub fn first_child(w: &[u32], p: &[usize], k: usize) -> usize
+    requires { ⌜ On (now p) (length (now w)) × (k < size (now p) NODES) × (getD (store (now p) (now w) NODES) k 0 < size (now p) FIRSTS) ⌝ }
+    ensures { λ r. ⌜ Read (store (now (p .entry)) (now (w .entry))) FIRSTS (getD (store (now (p .entry)) (now (w .entry)) NODES) k 0) r ⌝ }
+{
+    load(w, p, FIRSTS, load(w, p, NODES, k))
+}
+
+// The positions as the counters have them.
+fn load_positions(w: &[u32], p: &[usize]) -> Positions
+    requires { ⌜ On (now p) (length (now w)) × (PLAIN < size (now p) COUNTS) ⌝ }
+    ensures { λ r. ⌜ r ≡ positionsIn (store (now (p .entry)) (now (w .entry)) COUNTS) ⌝ }
+{
+    Positions {
+        odd: load(w, p, COUNTS, ODD),
+        wide: load(w, p, COUNTS, WIDE),
+        plain: load(w, p, COUNTS, PLAIN),
+    }
+}
+
+// The counters have these positions.
+fn save_positions(w: &mut [u32], p: &[usize], q: Positions)
+    requires { ⌜ On (now p) (length (now w)) × (PLAIN < size (now p) COUNTS) × IsWord (q .odd) × IsWord (q .wide) × IsWord (q .plain) ⌝ }
+    ensures { λ _. ⌜ store (now (p .entry)) (now (w .exit)) ≡ withPositions q (store (now (p .entry)) (now (w .entry))) ⌝ }
+{
+    save(w, p, COUNTS, ODD, q.odd);
+    save(w, p, COUNTS, WIDE, q.wide);
+    save(w, p, COUNTS, PLAIN, q.plain);
+}
+
+// The positions behind a request for a slot.
+fn moved(a: Allocated, before: Positions) -> Positions
+    ensures { λ r. ⌜ r ≡ movedTo a before ⌝ }
+{
+    match a {
+        Allocated::Slot { slot: _, positions } => positions,
+        Allocated::None => before,
+    }
+}
+
+// The slot found, 0 for none.
+fn slot_found(a: Allocated) -> usize
+    ensures { λ r. ⌜ (r ≡ slotFound a) × (r < 65536) ⌝ }
+{
+    match a {
+        Allocated::Slot { slot, positions: _ } => slot as usize,
+        Allocated::None => 0,
+    }
+}
+
+// One slot request: the slot, or 0 if there is none.
+fn take_slot(
+    w: &mut [u32],
+    p: &[usize],
+    gaps: &mut [[u16; 2]],
+    wide: bool,
+    ldc: bool,
+) -> usize
+    requires { ⌜ On (now p) (length (now w)) × (PLAIN < size (now p) COUNTS) × GapsLive (store (now p) (now w) COUNTS) (now gaps) ⌝ }
+    ensures { λ r. ⌜ Took wide ldc (store (now (p .entry)) (now (w .entry))) (store (now (p .entry)) (now (w .exit))) (now (gaps .entry)) (now (gaps .exit)) r ⌝ }
+{
+    let before = load_positions(w, p);
+    let count = load(w, p, COUNTS, GAP_COUNT);
+    let found = slots::slot_for(gaps, count, before, wide, ldc);
+    save_positions(w, p, moved(found, before));
+    slot_found(found)
+}
+
+// 14: no slot, ordinary request; 15: no slot, ldc request.
+fn no_slot(ldc: bool) -> usize
+    ensures { λ r. ⌜ r ≡ noSlot ldc ⌝ }
+{
+    if ldc { 15 } else { 14 }
+}
+
+// Node k goes onto the building stack.
+fn push_pending(w: &mut [u32], p: &[usize], k: usize)
+    requires { ⌜ On (now p) (length (now w)) × (PENDING-COUNT < size (now p) COUNTS) × (pendingCount (store (now p) (now w)) < size (now p) PENDING) × IsWord (size (now p) PENDING) × IsWord k ⌝ }
+    ensures { λ _. ⌜ store (now (p .entry)) (now (w .exit)) ≡ withPending k (store (now (p .entry)) (now (w .entry))) ⌝ }
+{
+    let i = next_count(w, p, PENDING_COUNT);
+    save(w, p, PENDING, i, k);
+}
+
+// A child needs no slot: it is a raw number, or a node that has one.
+fn has_slot(w: &[u32], p: &[usize], child: usize) -> bool
+    requires { ⌜ On (now p) (length (now w)) × (child < ENTRY + size (now p) GIVEN) ⌝ }
+    ensures { λ r. ⌜ (r ≡ true → Has (store (now (p .entry)) (now (w .entry)) GIVEN) child) × (r ≡ false → Lacks (store (now (p .entry)) (now (w .entry)) GIVEN) child) ⌝ }
+{
+    if child < ENTRY {
+        return true;
+    }
+    load(w, p, GIVEN, child - ENTRY) != 0
+}
