@@ -2,3 +2,5 @@ pub mod Words
 pub mod Nodal
 pub mod Within
 pub mod Taking
+pub mod Giving
+pub mod Slotting

@@ -40,11 +40,10 @@ has-kept given later child (inr (h, l)) keeps = inr (h, omega (arith, keeps (chi
 
 -- what the word of a child that isn't a raw number tells
 pub told : (given : List ℕ) (child r : ℕ) → ENTRY ≤ child → r ≡ getD given (child - ENTRY) 0 → (not (eqb r 0) ≡ true → Has given child) × (not (eqb r 0) ≡ false → Lacks given child)
-told given child r h e =
-    (
-      λ t. inr (h, let z = eqb-false r 0 (not-true (eqb r 0) t) in omega (arith, z)),
-      λ t. (h, sym e ∙ eqb-true r 0 (not-false (eqb r 0) t)),
-    )
+told given child r h e = (
+  λ t. inr (h, let z = eqb-false r 0 (not-true (eqb r 0) t) in omega (arith, z)),
+  λ t. (h, sym e ∙ eqb-true r 0 (not-false (eqb r 0) t)),
+)
 
 -- OTHERS THAN SOME
 

@@ -10,7 +10,7 @@ use lib.Dec.{ltb}
 use lib.ListN.{length, getD, take}
 use Rattle.definition.specs.Basics.{good, bad, lookup}
 use Rattle.definition.specs.Slots.{highestSlot, Gap, Slots, slotFor}
-use Rattle.definition.specs.Building.{Pool, slotOf, slotsOf, kidsOf}
+use Rattle.definition.specs.Building.{Pool, noSlot, slotOf, slotsOf, kidsOf}
 use Rattle.definition.specs.Resolving.{Node}
 use Rattle.laws.proofs.slots.Gaps.{Apart}
 use Rattle.slots.specs.declared.Positions.{Positions}
@@ -135,6 +135,11 @@ pub record Took (wide ldc : Bool) (t u : Store) (g h : List (List ℕ)) (r : ℕ
   pub long : length h ≡ length g
   pub counters : (c : ℕ) → among c (ODD ∷ WIDE ∷ PLAIN ∷ []) ≡ false → getD (u COUNTS) c 0 ≡ getD (t COUNTS) c 0
   pub kept : Kept (COUNTS ∷ []) t u
+
+-- the slot found for node k became its own, or there is none and r is the refusal's number
+abbrev pub Gave : ℕ → ℕ → Bool → Store → Store → ℕ → Type 0
+Gave k slot ldc t u r =
+    ((slot ≡ 0) × (r ≡ noSlot ldc) × (u ≡ t)) ⊎ ((0 < slot) × (r ≡ 0) × (u ≡ withPending k (put t GIVEN k slot)))
 
 -- a child has a slot from then on, or r is the refusal's number
 pub record Slotted (s : List ℕ) (ldc : Bool) (child : ℕ) (t u : Store) (g h : List (List ℕ)) (r : ℕ) : Type 0 where

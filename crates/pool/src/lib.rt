@@ -28,7 +28,7 @@ ghost use Rattle.store.specs.Store.{size, store, put, On, IsWord, Read};
 ghost use Rattle.store.specs.Regions.{COUNTS, GIVEN, PENDING, NODES, OFFSETS, FIRSTS, SIZES, PLAIN, PENDING-COUNT, Work};
 ghost use Rattle.store.specs.Words.{ENTRY};
 ghost use Rattle.interner.specs.Nodes.{nodeCount, nodesIn};
-ghost use Rattle.pool.specs.Pooled.{childSlot, Has, Lacks, positionsIn, GapsLive, NodesThere, withPositions, pendingCount, withPending, movedTo, slotFound, Took};
+ghost use Rattle.pool.specs.Pooled.{childSlot, Has, Lacks, positionsIn, GapsLive, NodesThere, withPositions, pendingCount, withPending, movedTo, slotFound, LiveIn, Took, Gave, Slotted};
 
 // The slot of a child that has one: a raw number is itself.
 pub fn child_slot(w: &[u32], p: &[usize], child: usize) -> usize
@@ -117,13 +117,7 @@ fn slot_found(a: Allocated) -> usize
 }
 
 // One slot request: the slot, or 0 if there is none.
-fn take_slot(
-    w: &mut [u32],
-    p: &[usize],
-    gaps: &mut [[u16; 2]],
-    wide: bool,
-    ldc: bool,
-) -> usize
+fn take_slot(w: &mut [u32], p: &[usize], gaps: &mut [[u16; 2]], wide: bool, ldc: bool) -> usize
     requires { ⌜ On (now p) (length (now w)) × (PLAIN < size (now p) COUNTS) × GapsLive (store (now p) (now w) COUNTS) (now gaps) ⌝ }
     ensures { λ r. ⌜ Took wide ldc (store (now (p .entry)) (now (w .entry))) (store (now (p .entry)) (now (w .exit))) (now (gaps .entry)) (now (gaps .exit)) r ⌝ }
 {
@@ -159,4 +153,38 @@ fn has_slot(w: &[u32], p: &[usize], child: usize) -> bool
         return true;
     }
     load(w, p, GIVEN, child - ENTRY) != 0
+}
+
+// The slot found for node k is its own and the node goes onto the stack, 0; 14 or 15 if none was found.
+fn give(w: &mut [u32], p: &[usize], k: usize, slot: usize, ldc: bool) -> usize
+    requires { ⌜ On (now p) (length (now w)) × (PENDING-COUNT < size (now p) COUNTS) × (k < size (now p) GIVEN) × (pendingCount (store (now p) (now w)) < size (now p) PENDING) × IsWord (size (now p) PENDING) × IsWord k × IsWord slot ⌝ }
+    ensures { λ r. ⌜ Gave k slot ldc (store (now (p .entry)) (now (w .entry))) (store (now (p .entry)) (now (w .exit))) r ⌝ }
+{
+    if slot == 0 {
+        return no_slot(ldc);
+    }
+    save(w, p, GIVEN, k, slot);
+    push_pending(w, p, k);
+    0
+}
+
+// A child has a slot from then on, 0; 14 or 15 if there is none.
+pub fn slot_of(
+    job: &[u8],
+    w: &mut [u32],
+    p: &[usize],
+    gaps: &mut [[u16; 2]],
+    child: usize,
+    ldc: bool,
+) -> usize
+    requires { ⌜ On (now p) (length (now w)) × NodesThere (now job) (now p) (store (now p) (now w)) × LiveIn (store (now p) (now w)) (now gaps) × (child < ENTRY + nodeCount (store (now p) (now w))) ⌝ }
+    ensures { λ r. ⌜ Slotted (now (job .entry)) ldc child (store (now (p .entry)) (now (w .entry))) (store (now (p .entry)) (now (w .exit))) (now (gaps .entry)) (now (gaps .exit)) r ⌝ }
+{
+    if has_slot(w, p, child) {
+        return 0;
+    }
+    let k = child - ENTRY;
+    let wide = node_is_wide(job, w, p, k);
+    let slot = take_slot(w, p, gaps, wide, ldc);
+    give(w, p, k, slot, ldc)
 }
