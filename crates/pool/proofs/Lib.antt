@@ -4,3 +4,5 @@ pub mod Within
 pub mod Taking
 pub mod Giving
 pub mod Slotting
+pub mod Children
+pub mod Popping

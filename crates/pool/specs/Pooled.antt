@@ -90,6 +90,11 @@ LiveIn t gaps = Live (t COUNTS) (t GIVEN) (t PENDING) gaps
 abbrev pub NodesThere : List ℕ → List ℕ → Store → Type 0
 NodesThere s p t = Work s p × EnteredIn s t × NodesIn (size p NODE-HEADS) s t
 
+-- the children of node k are raw numbers and nodes that are there
+abbrev pub KidsThere : List ℕ → Store → ℕ → Type 0
+KidsThere s t k =
+    (i : ℕ) → i < length (kidsOf (nodesIn s t) k) → getD (kidsOf (nodesIn s t) k) i 0 < ENTRY + getD (t COUNTS) NODE-COUNT 0
+
 -- WRITERS
 
 abbrev pub withPositions : Positions → Store → Store
@@ -160,3 +165,16 @@ pub record SlottedAll (s : List ℕ) (k : ℕ) (t u : Store) (g h : List (List �
   pub refused : (pool : Pool) → PooledIn pool t g → 0 < r → slotsOf (nodesIn s t) (kidsOf (nodesIn s t) k) pool ≡ bad r
   pub has : r ≡ 0 → (i : ℕ) → i < length (kidsOf (nodesIn s t) k) → Has (u GIVEN) (getD (kidsOf (nodesIn s t) k) i 0)
   pub goes : Goes t u g h
+
+-- node r left the building stack
+pub record Popped (t u : Store) (r : ℕ) : Type 0 where
+  pub pools :
+      (pool : Pool) (g : List (List ℕ)) → PooledIn pool t g →
+      (slot : ℕ)
+      × (rest : List (ℕ × ℕ))
+      × (pool .pending ≡ (slot, r) ∷ rest)
+      × PooledIn (record { slots = pool .slots; given = pool .given; pending = rest }) u g
+  pub live : (g : List (List ℕ)) → LiveIn t g → LiveIn u g × (r < getD (t COUNTS) NODE-COUNT 0)
+  pub fewer : pendingCount u + 1 ≡ pendingCount t
+  pub counters : (c : ℕ) → (c ≡ PENDING-COUNT → ⊥) → getD (u COUNTS) c 0 ≡ getD (t COUNTS) c 0
+  pub kept : Kept (COUNTS ∷ []) t u

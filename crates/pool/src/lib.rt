@@ -1,6 +1,7 @@
 // The building pool: slots of nodes, from the gaps that the raw slots leave, and the stack of nodes that have a slot and aren't built yet.
 use slots::Allocated;
 use slots::Positions;
+use store::CHILDREN;
 use store::COUNTS;
 use store::ENTRY;
 use store::FIRSTS;
@@ -28,7 +29,7 @@ ghost use Rattle.store.specs.Store.{size, store, put, On, IsWord, Read};
 ghost use Rattle.store.specs.Regions.{COUNTS, GIVEN, PENDING, NODES, OFFSETS, FIRSTS, SIZES, PLAIN, PENDING-COUNT, Work};
 ghost use Rattle.store.specs.Words.{ENTRY};
 ghost use Rattle.interner.specs.Nodes.{nodeCount, nodesIn};
-ghost use Rattle.pool.specs.Pooled.{childSlot, Has, Lacks, positionsIn, GapsLive, NodesThere, withPositions, pendingCount, withPending, movedTo, slotFound, LiveIn, Took, Gave, Slotted};
+ghost use Rattle.pool.specs.Pooled.{childSlot, Has, Lacks, positionsIn, GapsLive, NodesThere, withPositions, pendingCount, withPending, movedTo, slotFound, LiveIn, KidsThere, Took, Gave, Slotted, SlottedAll, Popped};
 
 // The slot of a child that has one: a raw number is itself.
 pub fn child_slot(w: &[u32], p: &[usize], child: usize) -> usize
@@ -187,4 +188,33 @@ pub fn slot_of(
     let wide = node_is_wide(job, w, p, k);
     let slot = take_slot(w, p, gaps, wide, ldc);
     give(w, p, k, slot, ldc)
+}
+
+// Node k's children have slots from then on, left to right, 0, or 14.
+pub fn slots_of(job: &[u8], w: &mut [u32], p: &[usize], gaps: &mut [[u16; 2]], k: usize) -> usize
+    requires { ⌜ On (now p) (length (now w)) × NodesThere (now job) (now p) (store (now p) (now w)) × LiveIn (store (now p) (now w)) (now gaps) × (k < nodeCount (store (now p) (now w))) × KidsThere (now job) (store (now p) (now w)) k ⌝ }
+    ensures { λ r. ⌜ SlottedAll (now (job .entry)) k (store (now (p .entry)) (now (w .entry))) (store (now (p .entry)) (now (w .exit))) (now (gaps .entry)) (now (gaps .exit)) r ⌝ }
+{
+    let first = first_child(w, p, k);
+    let n = child_count(w, p, k);
+    let mut i = 0;
+    while i < n {
+        let child = load(w, p, CHILDREN, first + i);
+        let code = slot_of(job, w, p, gaps, child, false);
+        if code != 0 {
+            return code;
+        }
+        i += 1;
+    }
+    0
+}
+
+// The node on top of the building stack, which leaves it.
+pub fn pop_pending(w: &mut [u32], p: &[usize]) -> usize
+    requires { ⌜ On (now p) (length (now w)) × (PENDING-COUNT < size (now p) COUNTS) × (0 < pendingCount (store (now p) (now w))) × (pendingCount (store (now p) (now w)) ≤ size (now p) PENDING) ⌝ }
+    ensures { λ r. ⌜ Popped (store (now (p .entry)) (now (w .entry))) (store (now (p .entry)) (now (w .exit))) r ⌝ }
+{
+    let i = load(w, p, COUNTS, PENDING_COUNT) - 1;
+    save(w, p, COUNTS, PENDING_COUNT, i);
+    load(w, p, PENDING, i)
 }
