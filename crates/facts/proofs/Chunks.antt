@@ -1,11 +1,11 @@
 -- General facts about lists made of parts: `from` and `concat`, and a list cut into parts of one length. Assumes nothing.
-use mathlib.Core.List.{List, _∷_, _++_, append-assoc, append-nil}
+use mathlib.Core.List.{List, [], _∷_, _++_, append-assoc, append-nil}
 use mathlib.Core.Option.{some}
 use mathlib.Core.Path.{_≡_, refl, sym, ap, subst, _∙_}
 use Prim.Native.Nat.{ℕ, zero, suc, _+_, _*_, _≤_, _<_}
 use native.Mathlib.Nat.{mul-zero, mul-suc, add-zero, zero-add}
 use native.Mathlib.Omega.{arith}
-use lib.ListN.{length, take, drop, getElem?, length-append}
+use lib.ListN.{length, take, drop, getD, getElem?, length-append}
 use lib.Seq.{take-at, drop-append-add, drop-drop, take-add}
 use Rattle.definition.specs.Basics.{concat, from}
 use Rattle.facts.proofs.Lists.{none≢some, inside-found}
@@ -96,3 +96,19 @@ module _ {A : Type 0} (m : ℕ) where
       let long : m * suc n ≡ m + m * n = omega (arith, mul-suc m n) in
       let far : m * suc k ≡ m * k + m = omega (arith, mul-suc m k) in
       rw (cut-join l (suc k) n, far, long, take-add, drop-drop)
+
+-- `from` by its places, and with one more at its end
+module _ {A : Type 0} where
+  pub from-get : (f : ℕ → A) (i n k : ℕ) (d : A) → k < n → getD (from f i n) k d ≡ f (i + k)
+  unfolding from
+  from-get f i zero k d h = absurd (omega arith)
+  from-get f i (suc n) zero d h = let a : i + 0 ≡ i = omega arith in rw a
+  from-get f i (suc n) (suc k) d h = let a : suc i + k ≡ i + suc k = omega arith in from-get f (suc i) n k d (omega arith) ∙ ap f a
+
+  pub from-snoc : (f : ℕ → A) (i n : ℕ) → from f i (n + 1) ≡ from f i n ++ (f (i + n) ∷ [])
+  unfolding from
+  from-snoc f i zero = let a : i + 0 ≡ i = omega arith in rw a
+  from-snoc f i (suc n) =
+      let e : suc n + 1 ≡ suc (n + 1) = omega arith in
+      let a : i + suc n ≡ suc i + n = omega arith in
+      rw (e, a, from-snoc f (suc i) n)

@@ -2,7 +2,7 @@
 -- holds of numbers in a row. Assumes nothing.
 use mathlib.Core.Bool.{Bool, true, false, _&&_, _||_, and-true, and-assoc}
 use mathlib.Core.List.{List, [], _∷_, _++_, map, reverse, reverseAux, reverse-reverse}
-use mathlib.Core.Logic.{_⊎_, inl, inr}
+use mathlib.Core.Logic.{_⊎_, inl, inr, ⊎-elim}
 use mathlib.Core.Option.{Option, none, some}
 use mathlib.Core.Path.{_≡_, refl, sym, ap, ap₂, subst, _∙_}
 use Prim.Native.Nat.{ℕ, zero, suc, _+_, _-_, _≤_, _<_}
@@ -10,6 +10,7 @@ use native.Mathlib.Nat.{zero-add, suc-add, not-suc-le-zero, le-of-suc-le-suc, su
 use native.Mathlib.Omega.{arith}
 use lib.Dec.{eqb, ltb}
 use lib.ListN.{length, drop, getD, getElem?, set, replicate, length-append, length-replicate, length-set, length-drop}
+use lib.Seq.{getD-set-same, getD-set-other}
 use borrow.Author.Tests.{eqb-true, eqb-false, eq-eqb, ltb-true, ltb-false}
 use Rattle.definition.specs.Basics.{same, position, every, only}
 use Rattle.facts.specs.Lists.{Among}
@@ -521,3 +522,17 @@ throughout P (suc n) k x low high h = ways (eqb x k) refl (λ above. throughout 
     ways : (b : Bool) → eqb x k ≡ b → (suc k ≤ x → P x) → P x
     ways true e later = rw (eqb-true x k e) (h .0)
     ways false e later = later (let differ = eqb-false x k e in omega arith)
+
+-- a fact of each number of a list, after one is set
+pub each-set :
+    (P : ℕ → ℕ → Type 0) (l : List ℕ) (i x : ℕ) →
+    i < length l →
+    P i x →
+    ((j : ℕ) → (j ≡ i → ⊥) → P j (getD l j 0)) →
+    (j : ℕ) →
+    P j (getD (set l i x) j 0)
+each-set P l i x h a b j =
+    ⊎-elim
+    (λ (e : j ≡ i). rw (e, getD-set-same l i x 0 h) a)
+    (λ (e : j ≡ i → ⊥). rw (getD-set-other l i j x 0 e) (b j e))
+    (equal j i)

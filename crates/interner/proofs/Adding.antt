@@ -12,7 +12,7 @@ use lib.Seq.{getD-set-same, getD-set-other, getD-take, length-take-le, take-suc-
 use borrow.Author.Tests.{lt-ltb, le-ltb}
 use Rattle.definition.specs.Basics.{position}
 use Rattle.definition.specs.Resolving.{Node, sameNode, intern}
-use Rattle.facts.proofs.Lists.{read-found, found-inside, some-inj, map-at, position-le, position-before, position-hit, position-passes}
+use Rattle.facts.proofs.Lists.{read-found, found-inside, some-inj, map-at, position-le, position-before, position-hit, position-passes, equal, order}
 use Rattle.laws.proofs.resolving.Interning.{sameNode-equal, intern-old, intern-new}
 use Rattle.store.specs.Store.{Store, size, store, put}
 use Rattle.store.specs.JobIn.{countsIn, entriesIn}
@@ -21,7 +21,7 @@ use Rattle.store.specs.Regions.{COUNTS, NODE-HEADS, NODE-LINKS, FIRSTS, SIZES, 
 use Rattle.store.proofs.Hashing.{head-lt}
 use Rattle.store.proofs.Keeping.{kept-put}
 use Rattle.store.proofs.Laying.{work-sizes, entries-counted}
-use Rattle.store.proofs.Stores.{eq-or, lt-or, length-store}
+use Rattle.store.proofs.Stores.{length-store}
 use Rattle.store.proofs.Walking.{both, chains-more}
 use Rattle.interner.specs.Nodes.{hashAt, nodeAt, Nodes, NodesIn, nodeCount, nodeIn, hashIn, Interned}
 use Rattle.interner.proofs.Alike.{node-same}
@@ -75,8 +75,8 @@ module _ (h : ℕ) (s firsts sizes children nodes heads links : List ℕ) (n e :
       let one : at (position (sameNode new) list) ≡ at (r - 1) = sym (sameNode-equal new (at (position (sameNode new) list)) (q .1)) ∙ sameNode-equal new (at (r - 1)) hit in
       let apart : sameNode (at (position (sameNode new) list)) (at (r - 1)) ≡ false = g .unlike (position (sameNode new) list) (r - 1) (omega arith) less in
       absurd (both (node-same (at (r - 1))) (rw one at apart)))
-      (eq-or (position (sameNode new) list) (r - 1)))
-      (lt-or (r - 1) (position (sameNode new) list))
+      (equal (position (sameNode new) list) (r - 1)))
+      (order (r - 1) (position (sameNode new) list))
 
   pub position-new : Sought (Is s firsts sizes children nodes e) n 0 → n ≡ position (sameNode new) list
   position-new sought =
@@ -86,7 +86,7 @@ module _ (h : ℕ) (s firsts sizes children nodes heads links : List ℕ) (n e :
       let q = passes-at (position (sameNode new) list) (p .0) (p .1) (p .2) in
       absurd (sought .miss refl (position (sameNode new) list) (q .0) (q .1)))
       (λ (l : length list ≤ position (sameNode new) list). omega (arith, position-le (sameNode new) list, list-length))
-      (lt-or (position (sameNode new) list) (length list))
+      (order (position (sameNode new) list) (length list))
 
   pub interned-old : (r : ℕ) → Sought (Is s firsts sizes children nodes e) n r → 0 < r → list ≡ intern new list
   interned-old r sought pos =
@@ -112,7 +112,7 @@ module _ (h : ℕ) (s firsts sizes children nodes heads links : List ℕ) (n e :
         ⊎-elim
         (λ (l : i < n). inl (l, entry-old i l))
         (λ (l : n ≤ i). let z : i ≡ n = omega arith in inr (rw z entry-new))
-        (lt-or i n)
+        (order i n)
 
     -- the new one is none of the old
     new-unlike : (i : ℕ) → i < n → sameNode (at i) new ≡ false
@@ -148,7 +148,7 @@ module _ (h : ℕ) (s firsts sizes children nodes heads links : List ℕ) (n e :
                 (λ (l : n ≤ j).
                 let z : j ≡ n = omega arith in
                 rw (z, entry-new, entry-old i (omega arith)) (new-unlike i (omega arith)))
-                (lt-or j n);
+                (order j n);
           }
 
 -- INTERNED, over the store

@@ -7,12 +7,11 @@ use native.Mathlib.Omega.{arith}
 use lib.ListN.{length, getD}
 use borrow.Author.Count.{below-more}
 use Rattle.definition.specs.Basics.{same, from}
-use Rattle.facts.proofs.Chunks.{length-from, from-same}
+use Rattle.facts.proofs.Chunks.{length-from, from-same, from-get, from-snoc}
 use Rattle.facts.proofs.Lists.{same-true, same-refl}
 use Rattle.store.specs.Store.{IsWord}
 use Rattle.store.specs.Chains.{mixed}
 use Rattle.store.specs.Words.{cut}
-use Rattle.store.proofs.Stores.{from-get, from-snoc}
 use Rattle.interner.specs.Nodes.{hashWords}
 
 pub cut-length : (l : List ℕ) (at n : ℕ) → length (cut l at n) ≡ n

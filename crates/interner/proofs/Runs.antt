@@ -92,7 +92,10 @@ module _ (s : List ℕ) (start n seed : ℕ) (fits : start + n ≤ length s) whe
   hashing-four hash i h l many new e small =
       let at = start + i in
       let rest = run s (start + (i + 4)) (n - (i + 4)) in
-      let four : hashRest hash (run s at (n - i)) ≡ hashRest (mixed hash (number4 s at)) rest = ap (hashRest hash) (run-four s at (n - i) (start + (i + 4)) (n - (i + 4)) (omega arith) (omega arith) (omega arith) (omega arith)) ∙ rest-four hash (getD s at 0) (getD s (at + 1) 0) (getD s (at + 2) 0) (getD s (at + 2 + 1) 0) rest in
+      let four : hashRest hash (run s at (n - i)) ≡ hashRest (mixed hash (number4 s at)) rest =
+      ap (hashRest hash) (run-four s at (n - i) (start + (i + 4)) (n - (i + 4)) (omega arith) (omega arith) (omega arith) (omega arith))
+      ∙ rest-four hash (getD s at 0) (getD s (at + 1) 0) (getD s (at + 2) 0) (getD s (at + 2 + 1) 0) rest
+      in
       record { low = omega arith; small = small; rest = rw e (sym four ∙ h .rest) }
 
   pub hashing-end : (hash i : ℕ) → Hashing s start n seed hash i → n ≤ i → (hash ≡ hashBytes seed (run s start n)) × IsWord hash
@@ -117,7 +120,11 @@ module _ (s : List ℕ) (a b n : ℕ) where
   module _ (fits : a + n ≤ length s) (fit : b + n ≤ length s) (i : ℕ) (l : i < n) where
     one : same (run s (a + i) (n - i)) (run s (b + i) (n - i)) ≡ (eqb (getD s (a + i) 0) (getD s (b + i) 0) && same (run s (a + (i + 1)) (n - (i + 1))) (run s (b + (i + 1)) (n - (i + 1))))
     unfolding same
-    one = rw (run-one s (a + i) (n - i) (a + (i + 1)) (n - (i + 1)) (omega arith) (omega arith) (omega arith) (omega arith), run-one s (b + i) (n - i) (b + (i + 1)) (n - (i + 1)) (omega arith) (omega arith) (omega arith) (omega arith))
+    one =
+        rw (
+          run-one s (a + i) (n - i) (a + (i + 1)) (n - (i + 1)) (omega arith) (omega arith) (omega arith) (omega arith),
+          run-one s (b + i) (n - i) (b + (i + 1)) (n - (i + 1)) (omega arith) (omega arith) (omega arith) (omega arith),
+        )
 
     pub comparing-next : Comparing s a b n i → getD s (a + i) 0 ≡ getD s (b + i) 0 → Comparing s a b n (i + 1)
     comparing-next h e = record { low = omega arith; rest = sym (rw (eq-eqb (getD s (a + i) 0) (getD s (b + i) 0) e) at one) ∙ h .rest }

@@ -187,7 +187,7 @@ table-literal s e x h =
     among a = (suc (a .0), map-at (λ x. (x .tag, x .literal)) (entries (jobIn s .definitions)) (a .0) x (a .1))
 
 -- and the numbered table has its number
-numbered-table : (s : List ℕ) → numberedIn s ≡ map (numberedEntry (literals (jobIn s))) (tableIn s)
+pub numbered-table : (s : List ℕ) → numberedIn s ≡ map (numberedEntry (literals (jobIn s))) (tableIn s)
 unfolding numberedIn tableOf definitionsIn
 numbered-table s =
     let j = jobIn s in

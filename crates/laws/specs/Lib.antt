@@ -1,3 +1,4 @@
 pub mod Starred
 pub mod Decided
 pub mod Statements
+pub mod Faithful

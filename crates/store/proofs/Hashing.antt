@@ -7,7 +7,7 @@ use native.Mathlib.Omega.{arith}
 use borrow.Author.Tests.{lt-ltb, le-ltb}
 use Rattle.store.specs.Store.{IsWord}
 use Rattle.store.specs.Chains.{headOf}
-use Rattle.store.proofs.Stores.{lt-or}
+use Rattle.facts.proofs.Lists.{order}
 
 pub head-small : (heads key : ℕ) → key < heads → headOf heads key ≡ key
 unfolding headOf
@@ -34,7 +34,7 @@ head-lt heads key h =
     ⊎-elim
     (λ (l : key < heads). rw (head-small heads key l) l)
     (λ (l : heads ≤ key). rw (head-large heads key l) (omega (arith, scaled-below (key * 0x9e3779b1) (heads - 1) (omega arith))))
-    (lt-or key heads)
+    (order key heads)
 
 -- what the code's product is at most
 pub product-fits : (hash x : ℕ) → IsWord hash → IsWord x → (hash + x) * 0x5bd1e995 < 18446744073709551616

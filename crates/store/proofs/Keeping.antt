@@ -1,5 +1,5 @@
 -- Regions left alone: a function names those that it writes, and the others are found by computing. Assumes nothing.
-use mathlib.Core.Bool.{Bool, true, false, cond, _&&_}
+use mathlib.Core.Bool.{Bool, true, false, cond}
 use mathlib.Core.List.{List, [], _∷_}
 use mathlib.Core.Path.{_≡_, refl, sym, subst, _∙_}
 use Prim.Native.Nat.{ℕ}
@@ -9,6 +9,7 @@ use borrow.Author.Tests.{eqb-true}
 use Rattle.definition.specs.Basics.{every}
 use Rattle.store.specs.Store.{Store, put}
 use Rattle.store.specs.Store.{among, Kept}
+use Rattle.facts.proofs.Lists.{both-true}
 use Rattle.store.proofs.Walking.{both}
 
 -- a region that is written is among those that are
@@ -23,10 +24,6 @@ pub kept-then : (l : List ℕ) (s t u : Store) → Kept l s t → Kept l t u →
 kept-then l s t u g h k f = h k f ∙ g k f
 
 -- a callee writes only regions that the caller lists
-both-true : (b c : Bool) → (b && c) ≡ true → (b ≡ true) × (c ≡ true)
-both-true true c e = (refl, e)
-both-true false c e = absurd (both e refl)
-
 kept-out : (k : ℕ) (m r : List ℕ) → among k m ≡ false → every (λ x. among x m) r ≡ true → among k r ≡ false
 unfolding every
 kept-out k m [] f a = refl

@@ -9,3 +9,4 @@ pub mod Bounds
 pub mod Room
 pub mod Placing
 pub mod Starting
+pub mod Goals

@@ -1,29 +1,15 @@
 -- The loop that lays out the places, and the regions that start as zeros. Assumes nothing.
 use mathlib.Core.List.{List}
-use mathlib.Core.Logic.{⊎-elim}
 use mathlib.Core.Path.{_≡_, sym, ap, _∙_}
 use Prim.Native.Nat.{ℕ, suc, _+_, _≤_, _<_}
 use native.Mathlib.Numerals.{add-one}
 use native.Mathlib.Omega.{arith}
 use lib.ListN.{length, getD, set, length-set}
-use lib.Seq.{getD-set-same, getD-set-other, ext-getD}
+use lib.Seq.{getD-set-same, ext-getD}
 use Rattle.store.specs.Regions.{placesOf}
-use Rattle.store.proofs.Stores.{eq-or, rising}
+use Rattle.store.proofs.Stores.{rising}
 use Rattle.store.proofs.Laying.{length-places, head-place, next-place, places-laid}
-
--- a fact of each word, after one is stored
-pub each-set :
-    (P : ℕ → ℕ → Type 0) (l : List ℕ) (i x : ℕ) →
-    i < length l →
-    P i x →
-    ((j : ℕ) → (j ≡ i → ⊥) → P j (getD l j 0)) →
-    (j : ℕ) →
-    P j (getD (set l i x) j 0)
-each-set P l i x h a b j =
-    ⊎-elim
-    (λ (e : j ≡ i). rw (e, getD-set-same l i x 0 h) a)
-    (λ (e : j ≡ i → ⊥). rw (getD-set-other l i j x 0 e) (b j e))
-    (eq-or j i)
+use Rattle.facts.proofs.Lists.{each-set}
 
 -- the places up to k are laid out
 pub record Laying (p sizes : List ℕ) (k : ℕ) : Type 0 where

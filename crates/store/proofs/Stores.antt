@@ -1,47 +1,18 @@
 -- Laws of the store: two regions have no word in common. Assumes nothing.
 use mathlib.Core.Bool.{Bool, true, false}
-use mathlib.Core.List.{List, [], _∷_, _++_}
-use mathlib.Core.Logic.{_⊎_, inl, inr, ⊎-elim}
-use mathlib.Core.Path.{_≡_, refl, sym, ap, subst, _∙_}
+use mathlib.Core.List.{List, [], _∷_}
+use mathlib.Core.Logic.{⊎-elim}
+use mathlib.Core.Path.{_≡_, refl, sym, subst, _∙_}
 use Prim.Native.Nat.{ℕ, zero, suc, _+_, _-_, _≤_, _<_}
 use native.Mathlib.Numerals.{add-one}
 use native.Mathlib.Omega.{arith}
-use lib.Dec.{eqb, ltb}
+use lib.Dec.{eqb}
 use lib.ListN.{length, getD, set, length-set}
 use lib.Seq.{getD-set-same, getD-set-other, ext-getD}
-use borrow.Author.Tests.{eqb-true, eqb-false, ltb-true, ltb-false}
-use Rattle.definition.specs.Basics.{from}
-use Rattle.facts.proofs.Chunks.{length-from, from-same}
+use borrow.Author.Tests.{eqb-true, eqb-false}
+use Rattle.facts.proofs.Lists.{order, equal}
+use Rattle.facts.proofs.Chunks.{length-from, from-same, from-get}
 use Rattle.store.specs.Store.{size, store, put, Laid, On}
-
-pub eq-or : (j i : ℕ) → (j ≡ i) ⊎ (j ≡ i → ⊥)
-eq-or j i = at (eqb j i) refl
-  where
-    at : (b : Bool) → eqb j i ≡ b → (j ≡ i) ⊎ (j ≡ i → ⊥)
-    at true e = inl (eqb-true j i e)
-    at false e = inr (eqb-false j i e)
-
-pub lt-or : (j i : ℕ) → (j < i) ⊎ (i ≤ j)
-lt-or j i = at (ltb j i) refl
-  where
-    at : (b : Bool) → ltb j i ≡ b → (j < i) ⊎ (i ≤ j)
-    at true e = inl (ltb-true j i e)
-    at false e = inr (ltb-false j i e)
-
-module _ {A : Type 0} where
-  pub from-get : (f : ℕ → A) (i n k : ℕ) (d : A) → k < n → getD (from f i n) k d ≡ f (i + k)
-  unfolding from
-  from-get f i zero k d h = absurd (omega arith)
-  from-get f i (suc n) zero d h = let a : i + 0 ≡ i = omega arith in rw a
-  from-get f i (suc n) (suc k) d h = let a : suc i + k ≡ i + suc k = omega arith in from-get f (suc i) n k d (omega arith) ∙ ap f a
-
-  pub from-snoc : (f : ℕ → A) (i n : ℕ) → from f i (n + 1) ≡ from f i n ++ (f (i + n) ∷ [])
-  unfolding from
-  from-snoc f i zero = let a : i + 0 ≡ i = omega arith in rw a
-  from-snoc f i (suc n) =
-      let e : suc n + 1 ≡ suc (n + 1) = omega arith in
-      let a : i + suc n ≡ suc i + n = omega arith in
-      rw (e, a, from-snoc f (suc i) n)
 
 laid-long : (p : List ℕ) → Laid p → length p ≡ 32
 unfolding Laid
@@ -71,7 +42,7 @@ module _ (p : List ℕ) (laid : Laid p) where
   -- a region with a word is one of the first 31
   pub real : (k i : ℕ) → i < size p k → k < 31
   unfolding size
-  real k i h = ⊎-elim (λ (l : k < 31). l) (λ (l : 31 ≤ k). absurd (omega (arith, past p (suc k) (omega (arith, laid-long p laid))))) (lt-or k 31)
+  real k i h = ⊎-elim (λ (l : k < 31). l) (λ (l : 31 ≤ k). absurd (omega (arith, past p (suc k) (omega (arith, laid-long p laid))))) (order k 31)
 
   -- two regions have no word in common
   pub apart : (j k i a : ℕ) → (j ≡ k → ⊥) → i < size p j → a < size p k → getD p j 0 + i ≡ getD p k 0 + a → ⊥
@@ -80,7 +51,7 @@ module _ (p : List ℕ) (laid : Laid p) where
       ⊎-elim
       (λ (q : j < k). omega (arith, rising (suc j) k (omega arith) (omega (arith, real k a l))))
       (λ (q : k ≤ j). omega (arith, rising (suc k) j (omega arith) (omega (arith, real j i h))))
-      (lt-or j k)
+      (order j k)
 
   -- a region's words lie before the end
   pub inside : (k i : ℕ) → i < size p k → getD p k 0 + i < getD p 31 0
@@ -121,7 +92,7 @@ module _ (p w : List ℕ) (k i x : ℕ) (on : On p (length w)) (h : i < size p k
           getD-set-other w (getD p k 0 + i) (getD p k 0 + a) x 0 (λ q. e (omega arith))
           ∙ sym (at-store p w k a l)
           ∙ sym (getD-set-other (store p w k) i a x 0 e))
-          (eq-or a i)
+          (equal a i)
 
   there : (j : ℕ) → (j ≡ k → ⊥) → store p (set w (getD p k 0 + i) x) j ≡ store p w j
   unfolding store

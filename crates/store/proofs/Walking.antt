@@ -11,7 +11,7 @@ use lib.ListN.{length, getD, set, length-set}
 use lib.Seq.{getD-set-same, getD-set-other}
 use borrow.Author.Tests.{eqb-true, eq-eqb, ne-eqb}
 use Rattle.store.specs.Chains.{last, Chains}
-use Rattle.store.proofs.Stores.{eq-or, lt-or}
+use Rattle.facts.proofs.Lists.{equal, order}
 
 pub both : {b : Bool} → b ≡ true → b ≡ false → ⊥
 both e f = let z : _≡_ {A = ℕ} 0 1 = cc in omega arith
@@ -31,7 +31,7 @@ module _ (q : ℕ → Bool) where
     where
       ways : (x : Bool) → q i ≡ x → cond x (suc i) (last q i) ≤ j → (last q i ≤ j → j < i → ⊥) → ⊥
       ways true e h f = omega arith
-      ways false e h f = ⊎-elim (λ k. both t (ap q k ∙ e)) (λ k. f h (omega arith)) (eq-or j i)
+      ways false e h f = ⊎-elim (λ k. both t (ap q k ∙ e)) (λ k. f h (omega arith)) (equal j i)
 
   pub last-again : (m : ℕ) → last q (last q m) ≡ last q m
   last-again zero = refl
@@ -75,7 +75,7 @@ module _ (hash : ℕ → ℕ) (hs xs : List ℕ) (n k : ℕ) (is : ℕ → Type 
             ⊎-elim
             (λ (l : j < m). last-skip (λ i. eqb (hash i) k) m j (omega arith) l (eq-eqb (hash j) k (keyed j t)))
             (λ (l : m ≤ j). f j l b t)
-            (lt-or j m);
+            (order j m);
       }
 
   pub walk-start : k < length hs → Down hash is k n (getD hs k 0)
@@ -94,7 +94,7 @@ module _ (hash : ℕ → ℕ) (hs xs : List ℕ) (n k : ℕ) (is : ℕ → Type 
       q = subst (λ (x : ℕ). getD xs (e - 1) 0 ≡ last (λ i. eqb (hash i) x) (e - 1)) g (c .next (e - 1) (omega (arith, d .below)))
 
       past : (j : ℕ) → e - 1 ≤ j → j < n → is j → ⊥
-      past j a b u = ⊎-elim (λ (z : j ≡ e - 1). t (subst is z u)) (λ (z : j ≡ e - 1 → ⊥). d .past j (omega arith) b u) (eq-or j (e - 1))
+      past j a b u = ⊎-elim (λ (z : j ≡ e - 1). t (subst is z u)) (λ (z : j ≡ e - 1 → ⊥). d .past j (omega arith) b u) (equal j (e - 1))
 
 -- ONE ITEM MORE, of hash k, at place n: hash′ is the hash with it
 module _ (hash hash′ : ℕ → ℕ) (hs xs : List ℕ) (n k : ℕ) (c : Chains hash hs xs n) (new : hash′ n ≡ k) (old : (i : ℕ) → i < n → hash′ i ≡ hash i) (inside : k < length hs) (room : n < length xs) where
@@ -116,7 +116,7 @@ module _ (hash hash′ : ℕ → ℕ) (hs xs : List ℕ) (n k : ℕ) (c : Chains
             ∙ c .first x (subst (λ (y : ℕ). x < y) (length-set hs k (n + 1)) h)
             ∙ sym (same x n (omega arith))
             ∙ sym (last-no (λ i. eqb (hash′ i) x) n (ne-eqb (hash′ n) x (λ z. e (sym z ∙ new)))))
-            (eq-or x k));
+            (equal x k));
         next =
             λ i h.
             ⊎-elim
@@ -126,5 +126,5 @@ module _ (hash hash′ : ℕ → ℕ) (hs xs : List ℕ) (n k : ℕ) (c : Chains
             (λ (e : i ≡ n → ⊥).
             rw (old i (omega arith))
             (getD-set-other xs n i (getD hs k 0) 0 e ∙ c .next i (omega arith) ∙ sym (same (hash i) i (omega arith))))
-            (eq-or i n);
+            (equal i n);
       }

@@ -12,7 +12,8 @@ use Rattle.definition.specs.Layout.{starters, Ready, nodeAt, endDefinitions}
 use Rattle.facts.specs.Lists.{Among}
 use Rattle.facts.proofs.Results.{good-inj, good-then}
 use Rattle.laws.specs.Statements.{Occurs, afterDefinitions}
-use Rattle.laws.proofs.resolving.FaithfulToEntries.{Settled, InTable, Cited, nothing-faithful, resolveAll-faithful}
+use Rattle.laws.proofs.resolving.FaithfulToEntries.{nothing-faithful, resolveAll-faithful}
+use Rattle.laws.specs.Faithful.{Settled, InTable, Cited}
 use Rattle.laws.proofs.building.AfterRequests.{Going}
 
 -- the goals that record 50 resolves: raw constants by rising slot, then raw bootstraps by rising index

@@ -21,7 +21,8 @@ use Rattle.facts.proofs.Lists.{clash, none≢some, some-inj}
 use Rattle.facts.proofs.Each.{Each, each-weaker}
 use Rattle.facts.proofs.Results.{good-inj, good-then, atRecord-good, unless-good, decided}
 use Rattle.laws.specs.Statements.{Occurs, afterRequest, moreResolved}
-use Rattle.laws.proofs.resolving.FaithfulToEntries.{Settled, InTable, Cited, Faithful, Grows, grows-refl, grows-trans, settled-grows, child-grows, resolve-faithful}
+use Rattle.laws.proofs.resolving.FaithfulToEntries.{Grows, grows-refl, grows-trans, settled-grows, child-grows, resolve-faithful}
+use Rattle.laws.specs.Faithful.{Settled, InTable, Cited, Faithful}
 use Rattle.laws.proofs.resolving.NodesAndChildren.{tag-append, Constant}
 use Rattle.laws.proofs.resolving.ResolvedNodes.{ConstantGoal, settled-child}
 use Rattle.laws.proofs.slots.SlotRequest.{Met, old, new, met}

@@ -19,7 +19,7 @@ use Rattle.facts.proofs.Each.{Each, each-from}
 use Rattle.laws.specs.Statements.{IsBytes}
 use Rattle.laws.proofs.definitions.DefinedAsPlaced.{DefinedFacts, wideAt, defined-facts, starters-start}
 use Rattle.laws.proofs.resolving.JobGoals.{jobNames, jobConstants, jobTable}
-use Rattle.laws.proofs.resolving.FaithfulToEntries.{Settled, InTable}
+use Rattle.laws.specs.Faithful.{Settled, InTable}
 use Rattle.laws.proofs.resolving.ResolvedNodes.{GoodTable}
 use Rattle.laws.proofs.resolving.JobTableGood.{good-table, asks-good, placed-good, numbered-cited, definitions-low, requests-low}
 use Rattle.laws.proofs.building.AfterRequests.{Going, Asks}

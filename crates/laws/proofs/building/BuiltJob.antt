@@ -23,7 +23,8 @@ use Rattle.laws.specs.Statements.{IsBytes}
 use Rattle.laws.proofs.definitions.RawSlotsRise.{Rises, rises}
 use Rattle.laws.proofs.definitions.DefinedAsPlaced.{DefinedFacts, wideAt, defined-facts}
 use Rattle.laws.proofs.resolving.JobGoals.{jobNames, jobConstants, jobTable, table-bootstrap}
-use Rattle.laws.proofs.resolving.FaithfulToEntries.{Settled, settled-grows}
+use Rattle.laws.proofs.resolving.FaithfulToEntries.{settled-grows}
+use Rattle.laws.specs.Faithful.{Settled}
 use Rattle.laws.proofs.resolving.NodesAndChildren.{tag-found}
 use Rattle.laws.proofs.resolving.ResolvedNodes.{child-done, GoodTable, kids-in, bootstrap-kids}
 use Rattle.laws.proofs.slots.SlotsToHold.{toHold-among}

@@ -27,7 +27,7 @@ use Rattle.facts.proofs.Results.{decided}
 use Rattle.laws.specs.Statements.{IsBytes, Finished, leadsTo, slotShows, Shows, textOf, textAt, classOf, HeldBy}
 use Rattle.laws.proofs.definitions.DefinedAsPlaced.{starters-start, start-starters}
 use Rattle.laws.proofs.resolving.JobGoals.{jobConstants}
-use Rattle.laws.proofs.resolving.FaithfulToEntries.{Settled}
+use Rattle.laws.specs.Faithful.{Settled}
 use Rattle.laws.proofs.resolving.NodesAndChildren.{tag-append, kids-append}
 use Rattle.laws.proofs.resolving.ResolvedNodes.{ConstantGoal}
 use Rattle.laws.proofs.resolving.JobTableGood.{asks-good, numbered-cited, definitions-low, requests-low}

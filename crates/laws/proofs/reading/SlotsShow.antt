@@ -31,7 +31,7 @@ use Rattle.laws.proofs.form.CitedEntries.{countIn}
 use Rattle.laws.proofs.numbering.NumberedCited.{count-numbered}
 use Rattle.laws.proofs.definitions.DefinedAsPlaced.{namings-numbered}
 use Rattle.laws.proofs.resolving.JobGoals.{jobNames, jobConstants}
-use Rattle.laws.proofs.resolving.FaithfulToEntries.{Settled}
+use Rattle.laws.specs.Faithful.{Settled}
 use Rattle.laws.proofs.resolving.NodesAndChildren.{tag-found, kids-found}
 use Rattle.laws.proofs.resolving.ResolvedNodes.{child-done, Low}
 use Rattle.laws.proofs.resolving.EntryOrigins.{Origin, origin}

@@ -16,39 +16,7 @@ use Rattle.facts.specs.Lists.{Among}
 use Rattle.facts.proofs.Lists.{clash, found-inside, found-read, read-found, inside-found, found-set, found-elsewhere, found-after-set, found-append, found-replicate, among-nil, among-cons, map-same}
 use Rattle.facts.proofs.Results.{bad≢good, good-inj}
 use Rattle.laws.proofs.resolving.Interning.{interned}
-
--- a goal is settled: a raw number, or an entry that has become a node
-abbrev pub Settled : List Mark → Goal → Type 0
-Settled marks (rawNumber n) = Unit {0}
-Settled marks (tableEntry e) = (k : ℕ) × (getElem? marks e ≡ some (done k))
-Settled marks (refusal code) = ⊥
-
--- a goal cites an entry of a table of this size, if it cites one
-abbrev pub InTable : ℕ → Goal → Type 0
-InTable size (rawNumber n) = Unit {0}
-InTable size (tableEntry e) = e < size
-InTable size (refusal code) = Unit {0}
-
--- every child of every entry does
-abbrev pub Cited : List (Entry ℕ Goal) → Type 0
-Cited table = (e : ℕ) (x : Entry ℕ Goal) → getElem? table e ≡ some x → (g : Goal) → Among g (x .kids) → InTable (length table) g
-
--- an entry is node k: that node has its tag, literal and kind byte, its children are what the entry's goals became, and these are settled
-abbrev pub IsNode : List (Entry ℕ Goal) → Resolved → ℕ → ℕ → Type 0
-IsNode table s e k =
-    (x : Entry ℕ Goal)
-    × (getElem? table e ≡ some x)
-    × (getElem? (s .nodes) k ≡ some (withKids (map (childOf (s .marks)) (x .kids)) x))
-    × ((g : Goal) → Among g (x .kids) → Settled (s .marks) g)
-
-pub record Faithful (table : List (Entry ℕ Goal)) (s : Resolved) : Type 0 where
-  pub marksLength : length (s .marks) ≡ length table
-  -- an entry that became node k is it
-  pub nodeOf : (e k : ℕ) → getElem? (s .marks) e ≡ some (done k) → IsNode table s e k
-  -- every node came from an entry
-  pub fromEntry : (k : ℕ) → k < length (s .nodes) → (e : ℕ) × (getElem? (s .marks) e ≡ some (done k))
-  -- nothing is left half done
-  pub noneUnderway : (e : ℕ) → getElem? (s .marks) e ≡ some underway → ⊥
+use Rattle.laws.specs.Faithful.{Settled, InTable, Cited, IsNode, Faithful, Partial, Underway, Stacked, Now}
 
 -- what was resolved stays as it is
 pub record Grows (s s′ : Resolved) : Type 0 where
@@ -100,16 +68,6 @@ pub node-grows : (table : List (Entry ℕ Goal)) (s s′ : Resolved) (e k : ℕ)
 node-grows table s s′ e k h n =
     node-made table s s′ e k (n .0) h (n .1) (rw (h .nodesKept .1) (found-append (s .nodes) (h .nodesKept .0) k _ (n .2))) (n .3)
 
--- while work is under way: what holds of the marks and nodes
-record Partial (table : List (Entry ℕ Goal)) (s : Resolved) : Type 0 where
-  marksLength : length (s .marks) ≡ length table
-  nodeOf : (e k : ℕ) → getElem? (s .marks) e ≡ some (done k) → IsNode table s e k
-  fromEntry : (k : ℕ) → k < length (s .nodes) → (e : ℕ) × (getElem? (s .marks) e ≡ some (done k))
-
--- an entry is still being resolved
-abbrev Underway : List Mark → ℕ → Type 0
-Underway marks e = getElem? marks e ≡ some underway
-
 -- a new mark of an entry that is no node keeps the others that are
 mark-kept :
     (marks : List Mark) (e : ℕ) (old new : Mark) →
@@ -148,12 +106,12 @@ leave-grows e n s u = record {
 
 module _ (table : List (Entry ℕ Goal)) where
   -- the children of an entry that is there
-  kidsAt-some : (e : ℕ) (x : Entry ℕ Goal) → getElem? table e ≡ some x → kidsAt table e ≡ x .kids
+  pub kidsAt-some : (e : ℕ) (x : Entry ℕ Goal) → getElem? table e ≡ some x → kidsAt table e ≡ x .kids
   unfolding kidsAt
   kidsAt-some e x at = rw (at, kidsAt)
 
   -- leaving an entry that is there
-  leaving-some :
+  pub leaving-some :
       (e : ℕ) (x : Entry ℕ Goal) (s : Resolved) →
       getElem? table e ≡ some x →
       leaving table e s ≡ leaveNode e (withKids (map (childOf (s .marks)) (x .kids)) x) s
@@ -212,16 +170,6 @@ module _ (table : List (Entry ℕ Goal)) where
       from k (inl h) = let (d, q) = p .fromEntry k h in (d, grows .marksKept d k q)
       from k (inr q) = (e, found-set (s .marks) e (done k₀) (found-inside (s .marks) e underway u) ∙ ap (λ (m : ℕ). some (done m)) (sym q))
 
--- What holds of the stack, if the entries of U are under way and the goals of P settled: each entry under way has its leaving there, once;
--- where an entry is left its children are settled, as goals are that were entered or left above; and at the end the goal is settled.
-abbrev Stacked : List (Entry ℕ Goal) → Goal → (ℕ → Type 0) → (Goal → Type 0) → List Item → Type 0
-Stacked table goal U P [] = ((e : ℕ) → U e → ⊥) × P goal
-Stacked table goal U P (enter g ∷ rest) = InTable (length table) g × Stacked table goal U (λ h. P h ⊎ (h ≡ g)) rest
-Stacked table goal U P (leave e ∷ rest) =
-    U e
-    × ((x : Entry ℕ Goal) → getElem? table e ≡ some x → (g : Goal) → Among g (x .kids) → P g)
-    × Stacked table goal (λ d. U d × (d ≡ e → ⊥)) (λ h. P h ⊎ (h ≡ tableEntry e)) rest
-
 module _ (table : List (Entry ℕ Goal)) (goal : Goal) where
   -- it holds as well with the same under way and more settled
   stacked-more :
@@ -271,18 +219,15 @@ module _ (table : List (Entry ℕ Goal)) (goal : Goal) where
       turn a (inl p) = inl (inl p)
       turn a (inr m) = first a (among-cons a g gs m)
 
-  -- what holds of the stack with these marks, and what a step leaves
-  abbrev Now : Resolved → List Item → Type 0
-  Now s stack = Stacked table goal (Underway (s .marks)) (Settled (s .marks)) stack
-
-  abbrev Kept : Resolved → List Item → Resolved → Type 0
-  Kept s stack s′ = Partial table s′ × Now s′ stack × Grows s s′
+  -- what a step leaves
+  abbrev pub Kept : Resolved → List Item → Resolved → Type 0
+  Kept s stack s′ = Partial table s′ × Now table goal s′ stack × Grows s s′
 
   -- entering what is settled
   enter-settled :
       (g : Goal) (rest : List Item) (s : Resolved) →
       Partial table s →
-      Now s (enter g ∷ rest) →
+      Now table goal s (enter g ∷ rest) →
       Settled (s .marks) g →
       Kept s rest (visited s)
   unfolding visited
@@ -300,13 +245,13 @@ module _ (table : List (Entry ℕ Goal)) (goal : Goal) where
       (e : ℕ) (rest : List Item) (s : Resolved) →
       Cited table →
       Partial table s →
-      Now s (enter (tableEntry e) ∷ rest) →
+      Now table goal s (enter (tableEntry e) ∷ rest) →
       getElem? (s .marks) e ≡ some fresh →
       Kept s (map enter (kidsAt table e) ++ leave e ∷ [] ++ rest) (begun e s)
   enter-fresh e rest s cited p h isFresh =
       let order = sym (append-assoc (map enter (kidsAt table e)) (leave e ∷ []) rest) in
       let stacked = stacked-kids U′ P′ (kidsAt table e) (leave e ∷ rest) inside (now, kids, below) in
-      (begun-partial table e s isFresh p, subst (λ (l : List Item). Now (begun e s) l) order stacked, grows)
+      (begun-partial table e s isFresh p, subst (λ (l : List Item). Now table goal (begun e s) l) order stacked, grows)
     where
       U : ℕ → Type 0
       U d = Underway (s .marks) d
@@ -356,7 +301,7 @@ module _ (table : List (Entry ℕ Goal)) (goal : Goal) where
   leave-entry :
       (e : ℕ) (rest : List Item) (s : Resolved) →
       Partial table s →
-      Now s (leave e ∷ rest) →
+      Now table goal s (leave e ∷ rest) →
       (x : Entry ℕ Goal) →
       getElem? table e ≡ some x →
       Kept s rest (leaveNode e (withKids (map (childOf (s .marks)) (x .kids)) x) s)
@@ -399,7 +344,7 @@ module _ (table : List (Entry ℕ Goal)) (goal : Goal) where
       more g (inr q) = subst (Settled (s′ .marks)) (sym q) (k₀, now)
 
   -- leaving an entry that is under way: it is one of the table
-  leave-kept : (e : ℕ) (rest : List Item) (s : Resolved) → Partial table s → Now s (leave e ∷ rest) → Kept s rest (leaving table e s)
+  leave-kept : (e : ℕ) (rest : List Item) (s : Resolved) → Partial table s → Now table goal s (leave e ∷ rest) → Kept s rest (leaving table e s)
   leave-kept e rest s p h =
       let inside = subst (λ (n : ℕ). e < n) (p .marksLength) (found-inside (s .marks) e underway (h .0)) in
       let (x, at) = inside-found table e inside in
@@ -414,11 +359,11 @@ module _ (table : List (Entry ℕ Goal)) (goal : Goal) where
   taken rest s r r′ e = subst (λ (r : List Item × Resolved). Kept s (r .0 ++ rest) (r .1)) (good-inj e)
 
   -- one step keeps what holds
-  step-kept :
+  pub step-kept :
       (item : Item) (rest : List Item) (s : Resolved) (r : List Item × Resolved) →
       Cited table →
       Partial table s →
-      Now s (item ∷ rest) →
+      Now table goal s (item ∷ rest) →
       step table item s ≡ good r →
       Kept s (r .0 ++ rest) (r .1)
   unfolding step entering
@@ -438,7 +383,7 @@ module _ (table : List (Entry ℕ Goal)) (goal : Goal) where
   Left s s′ = Faithful table s′ × Settled (s′ .marks) goal × Grows s s′
 
   -- the stack is empty
-  left-empty : (s s′ : Resolved) → Partial table s → Now s [] → _≡_ {A = Result ℕ Resolved} (good s) (good s′) → Left s s′
+  left-empty : (s s′ : Resolved) → Partial table s → Now table goal s [] → _≡_ {A = Result ℕ Resolved} (good s) (good s′) → Left s s′
   left-empty s s′ p h e =
       let faithful : Faithful table s = record { marksLength = p .marksLength; nodeOf = p .nodeOf; fromEntry = p .fromEntry; noneUnderway = h .0 } in
       subst (Left s) (good-inj e) (faithful, h .1, grows-refl s)
@@ -448,7 +393,7 @@ module _ (table : List (Entry ℕ Goal)) (goal : Goal) where
       (fuel : ℕ) (stack : List Item) (s s′ : Resolved) →
       Cited table →
       Partial table s →
-      Now s stack →
+      Now table goal s stack →
       work fuel table stack s ≡ good s′ →
       Left s s′
   unfolding work
@@ -461,7 +406,7 @@ module _ (table : List (Entry ℕ Goal)) (goal : Goal) where
           (r : Result ℕ (List Item × Resolved)) →
           step table i s ≡ r →
           (r >>= λ r. work fuel table (r .0 ++ stack) (r .1)) ≡ good s′ →
-          ((stack₁ : List Item) (s₁ : Resolved) → Partial table s₁ → Now s₁ stack₁ → work fuel table stack₁ s₁ ≡ good s′ → Left s₁ s′) →
+          ((stack₁ : List Item) (s₁ : Resolved) → Partial table s₁ → Now table goal s₁ stack₁ → work fuel table stack₁ s₁ ≡ good s′ → Left s₁ s′) →
           Left s s′
       go (bad code) q e ih = bad≢good e
       go (good r) q e ih =

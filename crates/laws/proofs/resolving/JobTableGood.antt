@@ -25,7 +25,7 @@ use Rattle.laws.proofs.numbering.NumberedCited.{cited-numbered}
 use Rattle.laws.proofs.numbering.NumberedLow.{numbered-low}
 use Rattle.laws.proofs.definitions.DefinedAsPlaced.{namingsOf}
 use Rattle.laws.proofs.resolving.JobGoals.{GoalOfKind, table-defined, jobNames, jobConstants, jobTable, linked-length, linked-at, table-constant, request-goal, placed-goal, table-kid}
-use Rattle.laws.proofs.resolving.FaithfulToEntries.{InTable}
+use Rattle.laws.specs.Faithful.{InTable}
 use Rattle.laws.proofs.resolving.OwedVisits.{GoalOk}
 use Rattle.laws.proofs.resolving.GoalsLow.{goalOf-ok}
 use Rattle.laws.proofs.resolving.ResolvedNodes.{ConstantGoal, Low, GoodTable}

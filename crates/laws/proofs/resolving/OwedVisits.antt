@@ -15,17 +15,7 @@ use Rattle.facts.proofs.Each.{Each, each-at, each-from, each-append, each-weake
 use Rattle.facts.proofs.Outcomes.{Ends, well, refused, next, weaker}
 use Rattle.laws.proofs.form.RefusalNumbers.{NonZero, nonZero}
 use Rattle.laws.proofs.resolving.Interning.{interned}
-
--- what an entry with a mark and so many children will still push: its children and its leaving
-unfoldable pub cost : Mark → ℕ → ℕ
-cost fresh n = suc n
-cost underway n = 0
-cost (done k) n = 0
-
-unfoldable pub owing : List (Entry ℕ Goal) → List Mark → ℕ
-owing table [] = 0
-owing [] (m ∷ marks) = cost m 0 + owing [] marks
-owing (x ∷ table) (m ∷ marks) = cost m (length (x .kids)) + owing table marks
+use Rattle.laws.specs.Faithful.{cost, owing}
 
 -- entering pays for what it pushes
 pub owing-enter :

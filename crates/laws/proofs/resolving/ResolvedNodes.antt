@@ -13,7 +13,7 @@ use Rattle.definition.specs.Building.{kidsOf}
 use Rattle.facts.specs.Lists.{Among}
 use Rattle.facts.proofs.Lists.{clash, found-inside, found-read, unmap}
 use Rattle.facts.proofs.Each.{Each}
-use Rattle.laws.proofs.resolving.FaithfulToEntries.{Settled, Cited, IsNode, Faithful}
+use Rattle.laws.specs.Faithful.{Settled, Cited, IsNode, Faithful}
 use Rattle.laws.proofs.resolving.NodesAndChildren.{tag-found, KidsIn, Constant, ConstantChild, BootstrapKids}
 
 -- a goal leads to no bootstrap

@@ -22,7 +22,8 @@ use Rattle.laws.specs.Statements.{Occurs, afterRequest, moreResolved, Is
 use Rattle.laws.proofs.resolving.NodesAndChildren as NodesAndChildren
 use Rattle.laws.proofs.resolving.JobGoals.{jobConstants, jobTable}
 use Rattle.laws.proofs.resolving.Interning.{interned}
-use Rattle.laws.proofs.resolving.FaithfulToEntries.{InTable, resolve-faithful}
+use Rattle.laws.proofs.resolving.FaithfulToEntries.{resolve-faithful}
+use Rattle.laws.specs.Faithful.{InTable}
 use Rattle.laws.proofs.resolving.NodesAndChildren.{KidsIn}
 use Rattle.laws.proofs.resolving.ResolvedNodes.{ConstantGoal, settled-child, GoodTable, kids-in}
 use Rattle.laws.proofs.building.AfterRequests.{Going, answer-going}

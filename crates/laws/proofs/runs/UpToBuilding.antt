@@ -23,7 +23,8 @@ use Rattle.laws.proofs.form.RefusalNumbers.{NonZero, nonZero, early-non
 use Rattle.laws.proofs.form.RawNumbersLow.{RefLow, DefLow, NameLow}
 use Rattle.laws.proofs.numbering.NumberedLow.{table-low}
 use Rattle.laws.proofs.definitions.DefinitionRefusals.{raws, defineAll-ends}
-use Rattle.laws.proofs.resolving.OwedVisits.{owing, owing-start, Fit, GoalOk, TableOk, resolve-works, resolveAll-works}
+use Rattle.laws.proofs.resolving.OwedVisits.{owing-start, Fit, GoalOk, TableOk, resolve-works, resolveAll-works}
+use Rattle.laws.specs.Faithful.{owing}
 use Rattle.laws.proofs.resolving.GoalsLow.{goalOf-ok, linked-ok}
 use Rattle.laws.proofs.runs.EntriesPriced.{priced, fuelFor-linked, table-priced}
 

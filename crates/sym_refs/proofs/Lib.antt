@@ -1,0 +1,12 @@
+pub mod Jumping
+pub mod Rounds
+pub mod Rooms
+pub mod Wording
+pub mod Namings
+pub mod Lookup
+pub mod Steps
+pub mod Adding
+pub mod Ends
+pub mod Worded
+pub mod Comparing
+pub mod Firsts
