@@ -13,11 +13,10 @@ use Rattle.definition.specs.Resolving.{Node}
 use Rattle.definition.specs.Building.{Pool, slotOf, slotsOf, kidsOf}
 use Rattle.facts.specs.Lists.{Among}
 use Rattle.facts.proofs.Lists.{order, found-inside, found-read, map-same}
-use Rattle.facts.proofs.Chunks.{length-from}
+use Rattle.facts.proofs.Chunks.{length-from, from-get}
 use Rattle.store.specs.Store.{Store, size}
 use Rattle.store.specs.Regions.{COUNTS, GIVEN, PENDING, NODE-HEADS, NODE-LINKS, OFFSETS, FIRSTS, SIZES, CHILDREN, NODES, NODE-COUNT}
 use Rattle.store.specs.Words.{ENTRY, cut}
-use Rattle.store.proofs.Stores.{from-get}
 use Rattle.interner.specs.Nodes.{nodeAt, nodeCount, nodesIn, EnteredIn, NodesIn}
 use Rattle.pool.specs.Pooled.{childSlot, Has, PooledIn, LiveIn, NodesThere, KidsThere, Goes, Slotted, SlottedAll}
 use Rattle.pool.proofs.Words.{child-kept, has-kept}
