@@ -6,3 +6,6 @@ pub mod Giving
 pub mod Slotting
 pub mod Children
 pub mod Popping
+pub mod Gapping
+pub mod Stacking
+pub mod Beginning

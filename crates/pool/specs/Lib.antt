@@ -1,1 +1,2 @@
 pub mod Pooled
+pub mod Starting

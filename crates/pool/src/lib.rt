@@ -1,4 +1,7 @@
 // The building pool: slots of nodes, from the gaps that the raw slots leave, and the stack of nodes that have a slot and aren't built yet.
+use raws::raw_entry;
+use raws::raw_key;
+use resolver::node_of;
 use slots::Allocated;
 use slots::Positions;
 use store::CHILDREN;
@@ -7,6 +10,8 @@ use store::ENTRY;
 use store::FIRSTS;
 use store::GAP_COUNT;
 use store::GIVEN;
+use store::HALF;
+use store::HELD_COUNT;
 use store::NODES;
 use store::ODD;
 use store::OFFSETS;
@@ -24,12 +29,16 @@ ghost use Prim.Native.Nat.{ℕ, _+_, _-_, _<_, _≤_};
 ghost use lib.ListN.{length, getD};
 ghost use Rattle.definition.specs.Shapes.{isWide};
 ghost use Rattle.definition.specs.Definitions.{tagAt};
+ghost use Rattle.definition.specs.Slots.{gapsFrom};
 ghost use Rattle.definition.specs.Building.{noSlot};
+ghost use Rattle.slots.specs.Gaps.{AtMost, Written};
 ghost use Rattle.store.specs.Store.{size, store, put, On, IsWord, Read};
-ghost use Rattle.store.specs.Regions.{COUNTS, GIVEN, PENDING, NODES, OFFSETS, FIRSTS, SIZES, PLAIN, PENDING-COUNT, Work};
+ghost use Rattle.store.specs.Regions.{COUNTS, GIVEN, RAW-KEYS, RAW-ENTRIES, ORDER, PENDING, NODES, OFFSETS, FIRSTS, SIZES, HELD-COUNT, PLAIN, PENDING-COUNT, Work};
 ghost use Rattle.store.specs.Words.{ENTRY};
 ghost use Rattle.interner.specs.Nodes.{nodeCount, nodesIn};
 ghost use Rattle.pool.specs.Pooled.{childSlot, Has, Lacks, positionsIn, GapsLive, NodesThere, withPositions, pendingCount, withPending, movedTo, slotFound, LiveIn, KidsThere, Took, Gave, Slotted, SlottedAll, Popped};
+ghost use Rattle.raws.specs.Raws.{heldCount};
+ghost use Rattle.pool.specs.Starting.{orderKeys, rawAt, CanPush, RawPushed, CanPushAll, RawsPushed, SomeStart, PoolStarted};
 
 // The slot of a child that has one: a raw number is itself.
 pub fn child_slot(w: &[u32], p: &[usize], child: usize) -> usize
@@ -217,4 +226,59 @@ pub fn pop_pending(w: &mut [u32], p: &[usize]) -> usize
     let i = load(w, p, COUNTS, PENDING_COUNT) - 1;
     save(w, p, COUNTS, PENDING_COUNT, i);
     load(w, p, PENDING, i)
+}
+
+// The longest free runs between the slots of the first n places of the order, which rise. How many there are.
+fn gaps_between(gaps: &mut [[u16; 2]], w: &[u32], p: &[usize], n: usize, top: usize) -> usize
+    requires { ⌜ On (now p) (length (now w)) × (n ≤ size (now p) ORDER) × ((i : ℕ) → i < n → getD (store (now p) (now w) ORDER) i 0 < size (now p) RAW-KEYS) × AtMost 65535 (orderKeys (store (now p) (now w) RAW-KEYS) (store (now p) (now w) ORDER) n) × (top ≤ 65535) ⌝ }
+    requires room { ⌜ length (gapsFrom top 1 (orderKeys (store (now p) (now w) RAW-KEYS) (store (now p) (now w) ORDER) n)) ≤ length (now gaps) ⌝ }
+    ensures { λ r. ⌜ Written (gapsFrom top 1 (orderKeys (store (now (p .entry)) (now (w .entry)) RAW-KEYS) (store (now (p .entry)) (now (w .entry)) ORDER) n)) (now (gaps .entry)) (now (gaps .exit)) r ⌝ }
+{
+    let mut count = 0;
+    let mut first = 1;
+    let mut i = 0;
+    while i < n {
+        let next = raw_key(w, p, i) as u32;
+        count = slots::push_gap(gaps, count, first, next);
+        first = next + 1;
+        i += 1;
+    }
+    slots::push_gap(gaps, count, first, top as u32 + 1)
+}
+
+// Place i of the order goes onto the building stack, unless it is a second half.
+fn push_raw(w: &mut [u32], p: &[usize], i: usize)
+    requires { ⌜ On (now p) (length (now w)) × (PENDING-COUNT < size (now p) COUNTS) × IsWord (size (now p) PENDING) × (i < size (now p) ORDER) × (getD (store (now p) (now w) ORDER) i 0 < size (now p) RAW-ENTRIES) × CanPush (now p) (store (now p) (now w)) (rawAt (store (now p) (now w) RAW-ENTRIES) (store (now p) (now w) ORDER) i) ⌝ }
+    ensures { λ _. ⌜ RawPushed (store (now (p .entry)) (now (w .entry))) (store (now (p .entry)) (now (w .exit))) (rawAt (store (now (p .entry)) (now (w .entry)) RAW-ENTRIES) (store (now (p .entry)) (now (w .entry)) ORDER) i) ⌝ }
+{
+    let e = raw_entry(w, p, i);
+    if e == HALF {
+        return;
+    }
+    let k = node_of(w, p, e);
+    push_pending(w, p, k);
+}
+
+// The raw constants go onto the building stack by rising slot.
+fn push_raws(w: &mut [u32], p: &[usize])
+    requires { ⌜ On (now p) (length (now w)) × CanPushAll (now p) (store (now p) (now w)) ⌝ }
+    ensures { λ _. ⌜ RawsPushed (store (now (p .entry)) (now (w .entry))) (store (now (p .entry)) (now (w .exit))) (heldCount (store (now (p .entry)) (now (w .entry)))) ⌝ }
+{
+    let n = load(w, p, COUNTS, HELD_COUNT);
+    let mut i = 0;
+    while i < n {
+        push_raw(w, p, i);
+        i += 1;
+    }
+}
+
+// Gaps, positions and stack before the first request.
+pub fn start_pool(w: &mut [u32], p: &[usize], gaps: &mut [[u16; 2]], top: usize)
+    requires { ⌜ On (now p) (length (now w)) × SomeStart (now p) top (store (now p) (now w)) (now gaps) ⌝ }
+    ensures { λ _. ⌜ PoolStarted (now (p .entry)) top (store (now (p .entry)) (now (w .entry))) (store (now (p .entry)) (now (w .exit))) (now (gaps .entry)) (now (gaps .exit)) ⌝ }
+{
+    let n = load(w, p, COUNTS, HELD_COUNT);
+    let count = gaps_between(gaps, w, p, n, top);
+    save(w, p, COUNTS, GAP_COUNT, count);
+    push_raws(w, p);
 }
