@@ -9,3 +9,4 @@ pub mod Popping
 pub mod Gapping
 pub mod Stacking
 pub mod Beginning
+pub mod Asked

@@ -1,2 +1,3 @@
 pub mod Pooled
 pub mod Starting
+pub mod Replying

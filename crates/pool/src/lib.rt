@@ -4,6 +4,7 @@ use raws::raw_key;
 use resolver::node_of;
 use slots::Allocated;
 use slots::Positions;
+use store::ANSWERS;
 use store::CHILDREN;
 use store::COUNTS;
 use store::ENTRY;
@@ -27,18 +28,24 @@ ghost use mathlib.Core.Bool.{true, false};
 ghost use mathlib.Core.Path.{_≡_};
 ghost use Prim.Native.Nat.{ℕ, _+_, _-_, _<_, _≤_};
 ghost use lib.ListN.{length, getD};
+ghost use Rattle.definition.specs.Basics.{good, bad};
 ghost use Rattle.definition.specs.Shapes.{isWide};
 ghost use Rattle.definition.specs.Definitions.{tagAt};
 ghost use Rattle.definition.specs.Slots.{gapsFrom};
 ghost use Rattle.definition.specs.Building.{noSlot};
+ghost use Rattle.job.specs.Stored.{Stands, WhatStands, anyRequest};
 ghost use Rattle.slots.specs.Gaps.{AtMost, Written};
 ghost use Rattle.store.specs.Store.{size, store, put, On, IsWord, Read};
-ghost use Rattle.store.specs.Regions.{COUNTS, GIVEN, RAW-KEYS, RAW-ENTRIES, ORDER, PENDING, NODES, OFFSETS, FIRSTS, SIZES, HELD-COUNT, PLAIN, PENDING-COUNT, Work};
+ghost use Rattle.store.specs.Regions.{COUNTS, GIVEN, NAME-HEADS, NAME-GOALS, RAW-KEYS, RAW-ENTRIES, ORDER, PENDING, ANSWERS, NODES, OFFSETS, FIRSTS, SIZES, HELD-COUNT, PLAIN, PENDING-COUNT, Work};
 ghost use Rattle.store.specs.Words.{ENTRY};
 ghost use Rattle.interner.specs.Nodes.{nodeCount, nodesIn};
 ghost use Rattle.pool.specs.Pooled.{childSlot, Has, Lacks, positionsIn, GapsLive, NodesThere, withPositions, pendingCount, withPending, movedTo, slotFound, LiveIn, KidsThere, Took, Gave, Slotted, SlottedAll, Popped};
 ghost use Rattle.raws.specs.Raws.{heldCount};
 ghost use Rattle.pool.specs.Starting.{orderKeys, rawAt, CanPush, RawPushed, CanPushAll, RawsPushed, SomeStart, PoolStarted};
+ghost use Rattle.sym_refs.specs.Names.{Goals};
+ghost use Rattle.sym_refs.specs.Leading.{AllNames};
+ghost use Rattle.resolver.specs.Resolved.{visitsOwed};
+ghost use Rattle.pool.specs.Replying.{RequestAt, WhatRequest, goalFor, LeadsTo, low, KeptAnswer, Asking, Replied};
 
 // The slot of a child that has one: a raw number is itself.
 pub fn child_slot(w: &[u32], p: &[usize], child: usize) -> usize
@@ -281,4 +288,41 @@ pub fn start_pool(w: &mut [u32], p: &[usize], gaps: &mut [[u16; 2]], top: usize)
     let count = gaps_between(gaps, w, p, n, top);
     save(w, p, COUNTS, GAP_COUNT, count);
     push_raws(w, p);
+}
+
+// Where the reference of the request at a place leads.
+fn request_goal(job: &[u8], w: &[u32], p: &[usize], at: usize) -> usize
+    requires { ⌜ On (now p) (length (now w)) × Work (now job) (now p) × AllNames (size (now p) NAME-HEADS) (now job) (store (now p) (now w)) × Goals (now job) (store (now p) (now w) NAME-GOALS) × RequestAt (now job) at ⌝ }
+    ensures { λ r. ⌜ WhatRequest (now (job .entry)) at (λ q. LeadsTo (now (job .entry)) (goalFor (now (job .entry)) q) r) ⌝ }
+{
+    let reference = sym_refs::reference_word(job, p, at + 1, false);
+    sym_refs::goal_of(job, w, p, reference)
+}
+
+// The request at a place is an ldc request.
+fn asks_ldc(job: &[u8], at: usize) -> bool
+    requires { ⌜ Stands anyRequest (now job) at ⌝ }
+    ensures { λ r. ⌜ WhatStands anyRequest (now (job .entry)) at (λ q next. r ≡ q .ldc) ⌝ }
+{
+    writer::get_u8(job, at) == 0x52
+}
+
+// ldc can't name the slot.
+fn too_high(ldc: bool, slot: usize) -> bool
+    ensures { λ r. ⌜ (r ≡ true → low ldc slot ≡ bad 16) × (r ≡ false → low ldc slot ≡ good tt) ⌝ }
+{
+    if ldc { 255 < slot } else { false }
+}
+
+// The slot of a child is answer i, 0; 16 if it is an ldc answer above 255.
+fn keep_answer(w: &mut [u32], p: &[usize], i: usize, child: usize, ldc: bool) -> usize
+    requires { ⌜ On (now p) (length (now w)) × (i < size (now p) ANSWERS) × (child < ENTRY + size (now p) GIVEN) ⌝ }
+    ensures { λ r. ⌜ KeptAnswer ldc (childSlot (store (now (p .entry)) (now (w .entry)) GIVEN) child) i (store (now (p .entry)) (now (w .entry))) (store (now (p .entry)) (now (w .exit))) r ⌝ }
+{
+    let slot = child_slot(w, p, child);
+    if too_high(ldc, slot) {
+        return 16;
+    }
+    save(w, p, ANSWERS, i, slot);
+    0
 }
