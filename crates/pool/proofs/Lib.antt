@@ -10,3 +10,4 @@ pub mod Gapping
 pub mod Stacking
 pub mod Beginning
 pub mod Asked
+pub mod Answering
