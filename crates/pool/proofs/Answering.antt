@@ -185,3 +185,139 @@ module _
                 found-inside (nodesIn s v) k _ (node .2),
                 nodes-most s v,
               )
+
+      -- its slot
+      module _ (ldc : Bool) (told-ldc : ldc ≡ q .ldc) (m : Store) (o : List (List ℕ)) (r : ℕ) (slotted : Slotted s ldc child v m g o r) where
+        abbrev goes : Goes v m g o
+        goes = slotted .goes
+
+        slot-counters : (c : ℕ) → among c askedCounters ≡ false → getD (m COUNTS) c 0 ≡ getD (t COUNTS) c 0
+        slot-counters c f =
+            let (_, e) = not-among c NODE-COUNT (VISITS ∷ moving) f in
+            let (_, d) = not-among c VISITS moving e in
+            goes .counters c d ∙ resolved-counters v 0 res c f
+
+        slot-kept : Kept askedRegions t m
+        unfolding every
+        slot-kept =
+            kept-then askedRegions t v m (resolved-kept v 0 res)
+            (kept-more (COUNTS ∷ GIVEN ∷ PENDING ∷ []) askedRegions v m refl (goes .kept))
+
+        slot-apart : (top : ℕ) → Apart top 1 (gapsIn (t COUNTS) g) → Apart top 1 (gapsIn (m COUNTS) o)
+        slot-apart top a = goes .apart top (rw (gap-count v 0 res) a)
+
+        slot-others : m ANSWERS ≡ t ANSWERS
+        slot-others = goes .kept ANSWERS refl ∙ res .kept ANSWERS refl
+
+        -- the definition's words for it
+        same-slot :
+            (pool : Pool) →
+            slotOf (nodesIn s v) ldc child pool ≡ slotOf (nodesIn s v) (q .ldc) (childOf (map markWord (v MARKS)) (goalFor s q)) pool
+        same-slot pool = rw (told-ldc, is, leads .word)
+
+        -- there is none
+        pub replied-unslotted : 0 < r → Replied s p q i t m g o r
+        replied-unslotted z =
+            record {
+              met = λ pool b f. absurd (omega arith);
+              refused =
+                  λ pool b f.
+                  answer-unslotted (q .ldc) (goalFor s q) (readyIn s t pool) (resolvedIn s v) is-resolved r
+                  (sym (same-slot pool) ∙ slotted .refused pool (pooled-now pool b) z);
+              again = λ f. absurd (omega arith);
+              visits = λ f. absurd (omega arith);
+              others = λ j f. rw slot-others;
+              apart = slot-apart;
+              long = goes .long;
+              counters = slot-counters;
+              kept = slot-kept;
+            }
+
+        -- there is one: what is resolved stays
+        same-resolved : resolvedIn s m ≡ resolvedIn s v
+        same-resolved =
+            λ j.
+            record {
+              marks = map markWord (goes .kept MARKS refl j);
+              nodes = nodes-stay s v m g o goes j;
+              visits = goes .counters VISITS refl j;
+            }
+
+        rests-still : AtRest h s m
+        rests-still =
+            let a = res .again refl in
+            record {
+              nodes = there-stays s v m g o goes p there-now .2;
+              made = rw (goes .kept MARKS refl, goes .kept NODES refl, count-stays s v m g o goes) (a .made);
+              room = rw (goes .kept MARKS refl, count-stays s v m g o goes) (a .room);
+              faithful = subst (Faithful (linkedIn s)) (sym same-resolved) (a .faithful);
+              owed = rw (goes .kept MARKS refl) (a .owed);
+            }
+
+        abbrev kept-answer : ℕ → Store
+        kept-answer x = put m ANSWERS i x
+
+        asking-still : (x : ℕ) → Asking s p (kept-answer x) o
+        asking-still x =
+            let a = rests-still in
+            let n = asking .names in
+            record {
+              table =
+                  record {
+                    entered = rw (slot-kept OFFSETS refl, slot-kept FIRSTS refl, slot-kept SIZES refl) (asking .table .entered);
+                    linked = rw (slot-kept FIRSTS refl, slot-kept GOALS refl) (asking .table .linked);
+                  };
+              rests = record { nodes = a .nodes; made = a .made; room = a .room; faithful = a .faithful; owed = a .owed };
+              names =
+                  rw (slot-kept NAME-PLACES refl, slot-kept NAME-HEADS refl, slot-kept NAME-LINKS refl, slot-counters NAME-COUNT refl) n;
+              goals = rw (slot-kept NAME-GOALS refl) (asking .goals);
+              live = goes .live live-now;
+            }
+
+        visits-still : (x : ℕ) → visitsOwed s (kept-answer x) ≤ visitsOwed s t + 1
+        visits-still x = rw (goes .kept MARKS refl, goes .counters VISITS refl) (res .visits refl)
+
+        pub replied-kept :
+            r ≡ 0 → i < length (m ANSWERS) → (u : Store) (r′ : ℕ) → KeptAnswer ldc (childSlot (m GIVEN) child) i m u r′ → Replied s p q i t u g o r′
+        replied-kept z inside u r′ (inl (e, fine, same)) =
+            let x = childSlot (m GIVEN) child in
+            rw same
+            (record {
+              met =
+                  λ pool b f.
+                  let (after, y, c) = slotted .met pool (pooled-now pool b) z in (
+                    after,
+                    answer-met (q .ldc) (goalFor s q) (readyIn s t pool) (resolvedIn s v) is-resolved x after (sym (same-slot pool) ∙ y) (rw (← told-ldc) fine)
+                        ∙ rw (getD-set-same (m ANSWERS) i x 0 inside, same-resolved),
+                    c,
+                  );
+              refused = λ pool b f. absurd (omega arith);
+              again = λ f. asking-still x;
+              visits = λ f. visits-still x;
+              others = λ j n. getD-set-other (m ANSWERS) i j x 0 n ∙ rw slot-others;
+              apart = slot-apart;
+              long = goes .long;
+              counters = slot-counters;
+              kept = kept-put askedRegions t m ANSWERS i x refl slot-kept;
+            })
+        replied-kept z inside u r′ (inr (e, high, same)) =
+            rw (same, e)
+            (record {
+              met = λ pool b f. absurd (omega arith);
+              refused =
+                  λ pool b f.
+                  let (after, y, c) = slotted .met pool (pooled-now pool b) z in
+                  answer-high (q .ldc) (goalFor s q) (readyIn s t pool) (resolvedIn s v) is-resolved (childSlot (m GIVEN) child) after
+                  (sym (same-slot pool) ∙ y) 16 (rw (← told-ldc) high);
+              again = λ f. absurd (omega arith);
+              visits = λ f. absurd (omega arith);
+              others = λ j f. rw slot-others;
+              apart = slot-apart;
+              long = goes .long;
+              counters = slot-counters;
+              kept = slot-kept;
+            })
+
+-- as the code has it
+pub at-zero : (h : ℕ) (s : List ℕ) (t u : Store) (goal r : ℕ) → r ≡ 0 → Resolves h s t u goal r → Resolves h s t u goal 0
+at-zero h s t u goal r e res = rw e at res

@@ -326,3 +326,29 @@ fn keep_answer(w: &mut [u32], p: &[usize], i: usize, child: usize, ldc: bool) ->
     save(w, p, ANSWERS, i, slot);
     0
 }
+
+// The request at a place becomes answer i, 0, or a refusal's number.
+fn answer(
+    job: &[u8],
+    w: &mut [u32],
+    p: &[usize],
+    gaps: &mut [[u16; 2]],
+    at: usize,
+    i: usize,
+) -> usize
+    requires { ⌜ On (now p) (length (now w)) × Work (now job) (now p) × Asking (now job) (now p) (store (now p) (now w)) (now gaps) × RequestAt (now job) at × (i < size (now p) ANSWERS) × IsWord (visitsOwed (now job) (store (now p) (now w)) + 1) ⌝ }
+    ensures { λ r. ⌜ WhatRequest (now (job .entry)) at (λ q. Replied (now (job .entry)) (now (p .entry)) q i (store (now (p .entry)) (now (w .entry))) (store (now (p .entry)) (now (w .exit))) (now (gaps .entry)) (now (gaps .exit)) r) ⌝ }
+{
+    let goal = request_goal(job, w, p, at);
+    let code = resolver::resolve(job, w, p, goal);
+    if code != 0 {
+        return code;
+    }
+    let child = resolver::child_of(w, p, goal);
+    let ldc = asks_ldc(job, at);
+    let code = slot_of(job, w, p, gaps, child, ldc);
+    if code != 0 {
+        return code;
+    }
+    keep_answer(w, p, i, child, ldc)
+}
