@@ -11,3 +11,4 @@ pub mod Stacking
 pub mod Beginning
 pub mod Asked
 pub mod Answering
+pub mod InTurn

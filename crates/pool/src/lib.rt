@@ -5,6 +5,7 @@ use resolver::node_of;
 use slots::Allocated;
 use slots::Positions;
 use store::ANSWERS;
+use store::AT;
 use store::CHILDREN;
 use store::COUNTS;
 use store::ENTRY;
@@ -18,12 +19,14 @@ use store::ODD;
 use store::OFFSETS;
 use store::PENDING;
 use store::PENDING_COUNT;
+use store::PLACE;
 use store::PLAIN;
 use store::SIZES;
 use store::WIDE;
 use store::load;
 use store::next_count;
 use store::save;
+use store::size_of;
 ghost use mathlib.Core.Bool.{true, false};
 ghost use mathlib.Core.Path.{_≡_};
 ghost use Prim.Native.Nat.{ℕ, _+_, _-_, _<_, _≤_};
@@ -36,7 +39,8 @@ ghost use Rattle.definition.specs.Building.{noSlot};
 ghost use Rattle.job.specs.Stored.{Stands, WhatStands, anyRequest};
 ghost use Rattle.slots.specs.Gaps.{AtMost, Written};
 ghost use Rattle.store.specs.Store.{size, store, put, On, IsWord, Read};
-ghost use Rattle.store.specs.Regions.{COUNTS, GIVEN, NAME-HEADS, NAME-GOALS, RAW-KEYS, RAW-ENTRIES, ORDER, PENDING, ANSWERS, NODES, OFFSETS, FIRSTS, SIZES, HELD-COUNT, PLAIN, PENDING-COUNT, Work};
+ghost use Rattle.store.specs.Regions.{COUNTS, GIVEN, NAME-HEADS, NAME-GOALS, RAW-KEYS, RAW-ENTRIES, ORDER, PENDING, ANSWERS, NODES, OFFSETS, FIRSTS, SIZES, AT, HELD-COUNT, PLAIN, PENDING-COUNT, Work};
+ghost use Rattle.store.specs.JobIn.{jobIn};
 ghost use Rattle.store.specs.Words.{ENTRY};
 ghost use Rattle.interner.specs.Nodes.{nodeCount, nodesIn};
 ghost use Rattle.pool.specs.Pooled.{childSlot, Has, Lacks, positionsIn, GapsLive, NodesThere, withPositions, pendingCount, withPending, movedTo, slotFound, LiveIn, KidsThere, Took, Gave, Slotted, SlottedAll, Popped};
@@ -45,7 +49,7 @@ ghost use Rattle.pool.specs.Starting.{orderKeys, rawAt, CanPush, RawPush
 ghost use Rattle.sym_refs.specs.Names.{Goals};
 ghost use Rattle.sym_refs.specs.Leading.{AllNames};
 ghost use Rattle.resolver.specs.Resolved.{visitsOwed};
-ghost use Rattle.pool.specs.Replying.{RequestAt, WhatRequest, goalFor, LeadsTo, low, KeptAnswer, Asking, Replied};
+ghost use Rattle.pool.specs.Replying.{RequestAt, WhatRequest, goalFor, LeadsTo, low, KeptAnswer, Asking, Replied, placeCount, RequestsAt, RepliedAll};
 
 // The slot of a child that has one: a raw number is itself.
 pub fn child_slot(w: &[u32], p: &[usize], child: usize) -> usize
@@ -351,4 +355,26 @@ fn answer(
         return code;
     }
     keep_answer(w, p, i, child, ldc)
+}
+
+// The requests in turn, 0, or a refusal's number. Then record 60 is in turn.
+pub fn answer_all(job: &[u8], w: &mut [u32], p: &[usize], gaps: &mut [[u16; 2]]) -> usize
+    requires { ⌜ On (now p) (length (now w)) × Work (now job) (now p) × Asking (now job) (now p) (store (now p) (now w)) (now gaps) × RequestsAt (now job) (getD (store (now p) (now w) COUNTS) AT 0) × IsWord (visitsOwed (now job) (store (now p) (now w)) + length (jobIn (now job) .requests) + 1) × IsWord (placeCount (store (now p) (now w)) + length (jobIn (now job) .requests) + 1) ⌝ }
+    ensures { λ r. ⌜ RepliedAll (now (job .entry)) (now (p .entry)) (store (now (p .entry)) (now (w .entry))) (store (now (p .entry)) (now (w .exit))) (now (gaps .entry)) (now (gaps .exit)) r ⌝ }
+{
+    let n = size_of(p, ANSWERS);
+    let mut at = load(w, p, COUNTS, AT);
+    let mut i = 0;
+    while i < n {
+        next_count(w, p, PLACE);
+        let code = answer(job, w, p, gaps, at, i);
+        if code != 0 {
+            return code;
+        }
+        at = job::after_reference(job, at + 1);
+        i += 1;
+    }
+    next_count(w, p, PLACE);
+    save(w, p, COUNTS, AT, at);
+    0
 }
