@@ -1,34 +1,34 @@
 -- One request against the definition: resolved, given a slot, and kept as an answer, or refused. Assumes nothing.
-use mathlib.Core.Bool.{Bool, true, false}
-use mathlib.Core.List.{List, [], _∷_, _++_, map}
-use mathlib.Core.Logic.{_⊎_, inl, inr, ⊎-elim}
+use mathlib.Core.Bool.{Bool, false}
+use mathlib.Core.List.{List, [], _∷_, map}
+use mathlib.Core.Logic.{_⊎_, inl, inr}
 use mathlib.Core.Path.{_≡_, refl, sym, ap, _∙_, subst}
-use Prim.Native.Nat.{ℕ, suc, _+_, _-_, _≤_, _<_}
+use Prim.Native.Nat.{ℕ, _+_, _-_, _≤_, _<_}
 use native.Mathlib.Omega.{arith}
-use lib.ListN.{length, getD, getElem?, take, set, length-map, length-take, length-append}
+use lib.ListN.{length, getD, take, length-map, length-take, length-append}
 use lib.Seq.{getD-set-same, getD-set-other}
-use Rattle.definition.specs.Basics.{Result, good, bad, _>>=_, unless, every}
+use Rattle.definition.specs.Basics.{Result, good, bad, _>>=_, every}
 use Rattle.definition.specs.Job.{Request}
-use Rattle.definition.specs.Resolving.{Goal, Resolved, Node, childOf, resolve}
+use Rattle.definition.specs.Resolving.{Goal, Resolved, childOf, resolve}
 use Rattle.definition.specs.Building.{Pool, slotOf}
 use Rattle.definition.specs.Layout.{Ready, answer}
 use Rattle.facts.proofs.Lists.{order, found-inside}
 use Rattle.laws.specs.Faithful.{Faithful}
 use Rattle.laws.proofs.slots.Gaps.{Apart}
-use Rattle.store.specs.Store.{Store, size, put, among, Kept, IsWord}
-use Rattle.store.specs.JobIn.{entriesIn, linkedIn}
+use Rattle.store.specs.Store.{Store, size, put, among, Kept}
+use Rattle.store.specs.JobIn.{linkedIn}
 use Rattle.store.specs.Regions.{COUNTS, MARKS, GIVEN, NAME-HEADS, NAME-LINKS, NODE-HEADS, NODE-LINKS, OFFSETS, FIRSTS, SIZES, GOALS, CHILDREN, NAME-PLACES, NAME-GOALS, NODES, STACK, PENDING, ANSWERS, NAME-COUNT, NODE-COUNT, VISITS, GAP-COUNT, ODD, WIDE, PLAIN, PENDING-COUNT, Work}
 use Rattle.store.specs.Small.{Small}
-use Rattle.store.specs.Words.{ENTRY, markWord, goalWord, IsGoal}
+use Rattle.store.specs.Words.{ENTRY, markWord, goalWord}
 use Rattle.store.proofs.Bounds.{small}
 use Rattle.store.proofs.Keeping.{kept-put, kept-then, kept-more}
 use Rattle.store.proofs.Laying.{work-sizes, work-formed, entries-counted}
-use Rattle.interner.specs.Nodes.{nodeAt, nodeIn, nodeCount, nodesIn}
+use Rattle.interner.specs.Nodes.{nodeIn, nodeCount, nodesIn}
 use Rattle.resolver.specs.Resolved.{resolvedIn, Became, Table, AtRest, visitsOwed, told, Resolves}
 use Rattle.resolver.proofs.Meanings.{child-raw, child-entry, done-found}
 use Rattle.resolver.proofs.Going.{told-good, told-bad}
 use Rattle.resolver.proofs.Handing.{resolved-became, resolved-grows}
-use Rattle.pool.specs.Pooled.{childSlot, gapsIn, Pooled, PooledIn, Live, LiveIn, NodesThere, moving, Goes, Slotted}
+use Rattle.pool.specs.Pooled.{childSlot, gapsIn, PooledIn, LiveIn, NodesThere, moving, Goes, Slotted}
 use Rattle.pool.specs.Replying.{goalFor, LeadsTo, low, KeptAnswer, readyIn, Asking, askedCounters, askedRegions, Replied}
 use Rattle.pool.proofs.Words.{not-among}
 use Rattle.pool.proofs.Giving.{SameGaps, slots-same, gaps-live-same}

@@ -1,22 +1,22 @@
 -- A request's first byte and reference, and whether its answer is low enough. Assumes nothing.
-use mathlib.Core.Bool.{Bool, true, false, not}
-use mathlib.Core.List.{List, []}
+use mathlib.Core.Bool.{Bool, true, false}
+use mathlib.Core.List.{List}
 use mathlib.Core.Option.{Option, none, some}
-use mathlib.Core.Path.{_≡_, refl, sym, ap, _∙_}
-use Prim.Native.Nat.{ℕ, _+_, _≤_, _<_}
+use mathlib.Core.Path.{_≡_, refl, ap, _∙_}
+use Prim.Native.Nat.{ℕ, _+_, _<_}
 use native.Mathlib.Omega.{arith}
-use lib.Dec.{eqb, ltb, leb}
+use lib.Dec.{eqb, ltb}
 use lib.ListN.{length, getD}
-use borrow.Author.Tests.{eqb-true, eqb-false, ne-eqb, ltb-true, ltb-false, le-leb, lt-leb}
+use borrow.Author.Tests.{eqb-true, ne-eqb, ltb-true, ltb-false, le-leb, lt-leb}
 use Rattle.definition.specs.Basics.{good, bad, unless, lookup}
 use Rattle.definition.specs.Shapes.{constant}
-use Rattle.definition.specs.Job.{Request, asks, reference}
+use Rattle.definition.specs.Job.{asks, reference}
 use Rattle.definition.specs.Resolving.{goalOf}
 use Rattle.facts.proofs.Lists.{none≢some, some-inj}
-use Rattle.job.specs.Stored.{Found, Stands, WhatStands, ReferenceStands, anyRequest}
+use Rattle.job.specs.Stored.{Stands, WhatStands, ReferenceStands, anyRequest}
 use Rattle.job.proofs.Standing.{request-there}
 use Rattle.store.specs.JobIn.{entriesIn, constantsIn, namingsIn}
-use Rattle.store.specs.Words.{referenceWord, IsReference}
+use Rattle.store.specs.Words.{IsReference}
 use Rattle.sym_refs.specs.Names.{CitedIn, Goes}
 use Rattle.sym_refs.specs.Leading.{flagged, WordFor}
 use Rattle.pool.specs.Replying.{RequestAt, WhatRequest, goalFor, LeadsTo, low}

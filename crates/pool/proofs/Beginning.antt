@@ -1,16 +1,16 @@
 -- The pool at the start is the one of `endDefinitions`. Assumes nothing.
-use mathlib.Core.Bool.{Bool, true, false}
+use mathlib.Core.Bool.{false}
 use mathlib.Core.List.{List, [], _∷_, _++_, map, map-append, map-map, reverse, reverseAux}
 use mathlib.Core.Logic.{_⊎_, inl, inr}
 use mathlib.Core.Path.{_≡_, refl, sym, ap, _∙_}
-use Prim.Native.Nat.{ℕ, zero, suc, _+_, _-_, _≤_, _<_}
+use Prim.Native.Nat.{ℕ, zero, suc, _-_, _≤_, _<_}
 use native.Mathlib.Omega.{arith}
-use lib.ListN.{length, getD, getElem?, take, set, length-map, length-take}
+use lib.ListN.{length, getD, take, length-map, length-take}
 use lib.Seq.{getD-set-same, getD-set-other, getD-take, take-suc, take-length}
 use borrow.Author.Tests.{eq-eqb, ne-eqb}
 use Rattle.definition.specs.Basics.{lookup}
 use Rattle.definition.specs.Definitions.{Held, starts, half}
-use Rattle.definition.specs.Resolving.{Mark, done, childOf, markChild}
+use Rattle.definition.specs.Resolving.{done, childOf, markChild}
 use Rattle.definition.specs.Slots.{highestSlot, Gap, gapsFrom, startSlots}
 use Rattle.definition.specs.Layout.{starters, nodeAt}
 use Rattle.facts.specs.Lists.{Rising}
@@ -23,7 +23,7 @@ use Rattle.store.specs.Store.{Store, size, put, among, Kept, IsWord}
 use Rattle.store.specs.Regions.{COUNTS, MARKS, GIVEN, RAW-KEYS, RAW-ENTRIES, ORDER, PENDING, HELD-COUNT, NODE-COUNT, GAP-COUNT, ODD, WIDE, PLAIN, PENDING-COUNT}
 use Rattle.store.specs.Words.{HALF, markWord}
 use Rattle.store.proofs.Keeping.{kept-put, kept-then}
-use Rattle.raws.specs.Raws.{heldWord, rawCount, heldCount, slotRow}
+use Rattle.raws.specs.Raws.{heldWord, heldCount, slotRow}
 use Rattle.pool.specs.Pooled.{slotWord, zeros, gapsIn, slotsIn, PooledIn, LiveIn, pendingCount}
 use Rattle.pool.specs.Starting.{startPool, orderKeys, rawAt, rawNode, rawNodes, IsDone, CanPushAll, RawsPushed, CanStart, SomeStart, PoolStarted}
 use Rattle.pool.proofs.Words.{not-among, word-none}

@@ -1,23 +1,22 @@
 -- The slots of a node's children, left to right, against the definition. Assumes nothing.
-use mathlib.Core.Bool.{Bool, true, false}
+use mathlib.Core.Bool.{false}
 use mathlib.Core.List.{List, [], _∷_, _++_, map, map-append, append-nil, append-assoc}
 use mathlib.Core.Logic.{⊎-elim}
-use mathlib.Core.Path.{_≡_, refl, sym, ap, _∙_}
-use Prim.Native.Nat.{ℕ, suc, _+_, _-_, _≤_, _<_}
+use mathlib.Core.Path.{_≡_, refl, sym, _∙_}
+use Prim.Native.Nat.{ℕ, suc, _+_, _≤_, _<_}
 use native.Mathlib.Numerals.{add-one}
 use native.Mathlib.Omega.{arith}
-use lib.ListN.{length, getD, getElem?, take, drop, length-take}
+use lib.ListN.{length, getD, take, drop, length-take}
 use lib.Seq.{take-suc, take-all, drop-cons, drop-length, getD-take}
 use Rattle.definition.specs.Basics.{Result, good, bad, _>>=_}
 use Rattle.definition.specs.Resolving.{Node}
 use Rattle.definition.specs.Building.{Pool, slotOf, slotsOf, kidsOf}
-use Rattle.facts.specs.Lists.{Among}
 use Rattle.facts.proofs.Lists.{order, found-inside, found-read, map-same}
 use Rattle.facts.proofs.Chunks.{length-from, from-get}
 use Rattle.store.specs.Store.{Store, size}
-use Rattle.store.specs.Regions.{COUNTS, GIVEN, PENDING, NODE-HEADS, NODE-LINKS, OFFSETS, FIRSTS, SIZES, CHILDREN, NODES, NODE-COUNT}
+use Rattle.store.specs.Regions.{GIVEN, NODE-HEADS, NODE-LINKS, OFFSETS, FIRSTS, SIZES, CHILDREN, NODES, NODE-COUNT}
 use Rattle.store.specs.Words.{ENTRY, cut}
-use Rattle.interner.specs.Nodes.{nodeAt, nodeCount, nodesIn, EnteredIn, NodesIn}
+use Rattle.interner.specs.Nodes.{nodeAt, nodeCount, nodesIn}
 use Rattle.pool.specs.Pooled.{childSlot, Has, PooledIn, LiveIn, NodesThere, KidsThere, Goes, Slotted, SlottedAll}
 use Rattle.pool.proofs.Words.{child-kept, has-kept}
 use Rattle.pool.proofs.Giving.{goes-not, goes-then}

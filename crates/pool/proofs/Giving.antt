@@ -1,24 +1,23 @@
 -- A slot that is given to a node, which goes onto the building stack. Assumes nothing.
 use mathlib.Core.Bool.{Bool, false}
-use mathlib.Core.List.{List, [], _∷_, _++_, map, reverse, reverse-append}
-use mathlib.Core.Logic.{_⊎_, inl, inr, ⊎-elim}
+use mathlib.Core.List.{List, [], _∷_, reverse, reverse-append}
+use mathlib.Core.Logic.{⊎-elim}
 use mathlib.Core.Path.{_≡_, refl, sym, ap, _∙_}
-use Prim.Native.Nat.{ℕ, suc, _+_, _≤_, _<_}
+use Prim.Native.Nat.{ℕ, _+_, _<_}
 use native.Mathlib.Numerals.{add-one}
 use native.Mathlib.Omega.{arith}
 use lib.ListN.{length, getD, set, take, length-set}
 use lib.Seq.{getD-set-same, getD-set-other, take-suc-set}
 use borrow.Author.Tests.{ne-eqb}
-use Rattle.definition.specs.Basics.{every, lookup}
+use Rattle.definition.specs.Basics.{every}
 use Rattle.definition.specs.Building.{Pool}
 use Rattle.facts.proofs.Lists.{equal}
 use Rattle.facts.proofs.Tables.{lookup-hit, lookup-miss}
-use Rattle.slots.specs.declared.Positions.{Positions}
-use Rattle.store.specs.Store.{Store, put, among, Kept}
+use Rattle.store.specs.Store.{Store, put, among}
 use Rattle.store.specs.Regions.{COUNTS, GIVEN, PENDING, NODE-COUNT, GAP-COUNT, ODD, WIDE, PLAIN, PENDING-COUNT}
 use Rattle.store.proofs.Keeping.{kept-put, kept-then, kept-more}
 use Rattle.interner.specs.Nodes.{nodeCount}
-use Rattle.pool.specs.Pooled.{slotWord, zeros, positionsIn, gapsIn, slotsIn, Pooled, PooledIn, GapsLive, Live, LiveIn, withPending, pendingCount, moving, Goes, Took}
+use Rattle.pool.specs.Pooled.{slotWord, slotsIn, PooledIn, GapsLive, LiveIn, withPending, pendingCount, moving, Goes, Took}
 use Rattle.pool.proofs.Words.{not-among, word-some, zeros-some, zeros-less}
 
 -- COUNTERS

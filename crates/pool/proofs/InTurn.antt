@@ -1,16 +1,15 @@
 -- The requests in turn against the definition. Assumes nothing.
-use mathlib.Core.Bool.{Bool, true, false}
+use mathlib.Core.Bool.{false}
 use mathlib.Core.List.{List, [], _∷_, _++_, map, append-nil, append-assoc}
-use mathlib.Core.Logic.{_⊎_, inl, inr}
 use mathlib.Core.Option.{some}
 use mathlib.Core.Path.{_≡_, refl, sym, ap, _∙_, subst}
-use Prim.Native.Nat.{ℕ, zero, suc, _+_, _-_, _≤_, _<_}
+use Prim.Native.Nat.{ℕ, zero, suc, _+_, _≤_, _<_}
 use native.Mathlib.Numerals.{add-one}
 use native.Mathlib.Omega.{arith}
-use lib.ListN.{length, getD, getElem?, take, drop, set}
-use lib.Seq.{getD-set-same, getD-set-other, take-suc, take-all, take-length, drop-length}
+use lib.ListN.{length, getD, getElem?, take, drop}
+use lib.Seq.{getD-set-same, getD-set-other, take-suc, take-all, drop-length}
 use Rattle.definition.specs.Basics.{Result, good, bad, _>>=_, Refusal, atRecord}
-use Rattle.definition.specs.Job.{Request, reference}
+use Rattle.definition.specs.Job.{Request}
 use Rattle.definition.specs.Building.{Pool}
 use Rattle.definition.specs.Layout.{Ready, answer, answerAll}
 use Rattle.facts.proofs.Lists.{inside-found, drop-place}
@@ -21,14 +20,14 @@ use Rattle.job.proofs.Standing.{request-there}
 use Rattle.definition.specs.Shapes.{constant}
 use Rattle.store.specs.Store.{Store, size, put, among, Kept, IsWord}
 use Rattle.store.specs.JobIn.{jobIn, countsIn, namingsIn, constantsIn, linkedIn}
-use Rattle.store.specs.Regions.{COUNTS, MARKS, FIRSTS, SIZES, CHILDREN, NODES, ANSWERS, PLACE, AT, NAME-COUNT, NODE-COUNT, VISITS, GAP-COUNT, ODD, WIDE, PLAIN, PENDING-COUNT, Work}
+use Rattle.store.specs.Regions.{COUNTS, MARKS, NODES, ANSWERS, PLACE, AT, NAME-COUNT, NODE-COUNT, VISITS, GAP-COUNT, ODD, WIDE, PLAIN, PENDING-COUNT, Work}
 use Rattle.store.specs.Words.{markWord}
 use Rattle.store.proofs.Bounds.{small}
 use Rattle.store.proofs.Keeping.{kept-put, kept-then}
 use Rattle.store.proofs.Laying.{work-sizes, work-formed}
 use Rattle.job.specs.Forms.{countsOf}
-use Rattle.interner.specs.Nodes.{nodeIn, nodeCount, nodesIn}
-use Rattle.resolver.specs.Resolved.{resolvedIn, AtRest, visitsOwed}
+use Rattle.interner.specs.Nodes.{nodeIn}
+use Rattle.resolver.specs.Resolved.{resolvedIn, visitsOwed}
 use Rattle.sym_refs.specs.Names.{CitedIn}
 use Rattle.pool.specs.Pooled.{gapsIn, PooledIn, LiveIn}
 use Rattle.pool.specs.Replying.{RequestAt, WhatRequest, goalFor, readyIn, Asking, askedCounters, askedRegions, Replied, placeCount, RequestsAt, answeredIn, RepliedAll}

@@ -1,16 +1,15 @@
 -- The node on top of the building stack leaves it. Assumes nothing.
-use mathlib.Core.List.{List, [], _∷_, _++_, map, reverse, reverse-append}
-use mathlib.Core.Path.{_≡_, refl, sym, ap, _∙_}
+use mathlib.Core.List.{List, [], _∷_, map, reverse, reverse-append}
+use mathlib.Core.Path.{_≡_, refl, _∙_}
 use Prim.Native.Nat.{ℕ, suc, _+_, _-_, _≤_, _<_}
 use native.Mathlib.Omega.{arith}
-use lib.ListN.{length, getD, set, take, length-set}
+use lib.ListN.{length, getD, take}
 use lib.Seq.{getD-set-same, getD-set-other, take-suc}
-use Rattle.definition.specs.Building.{Pool}
 use Rattle.facts.proofs.Lists.{clash}
-use Rattle.store.specs.Store.{Store, put, Kept}
-use Rattle.store.specs.Regions.{COUNTS, GIVEN, PENDING, NODE-COUNT, PENDING-COUNT}
+use Rattle.store.specs.Store.{Store, put}
+use Rattle.store.specs.Regions.{COUNTS, PENDING, NODE-COUNT, PENDING-COUNT}
 use Rattle.store.proofs.Keeping.{kept-put}
-use Rattle.pool.specs.Pooled.{slotsIn, Pooled, PooledIn, Live, LiveIn, pendingCount, Popped}
+use Rattle.pool.specs.Pooled.{pendingCount, Popped}
 use Rattle.pool.proofs.Giving.{slots-same, gaps-live-same, same-gaps}
 
 -- a list of pairs whose second parts begin with a number

@@ -1,14 +1,13 @@
 -- A child's slot against the definition: an old one, a new one, or the refusal. Assumes nothing.
 use mathlib.Core.Bool.{Bool, true, false}
-use mathlib.Core.List.{List, [], _∷_}
-use mathlib.Core.Logic.{_⊎_, inl, inr}
-use mathlib.Core.Option.{none, some}
-use mathlib.Core.Path.{_≡_, refl, sym, ap, _∙_}
-use Prim.Native.Nat.{ℕ, suc, _+_, _-_, _≤_, _<_}
+use mathlib.Core.List.{List, _∷_}
+use mathlib.Core.Logic.{inl, inr}
+use mathlib.Core.Path.{_≡_, refl, ap, _∙_}
+use Prim.Native.Nat.{ℕ, _+_, _-_, _≤_, _<_}
 use native.Mathlib.Omega.{arith}
 use lib.ListN.{length, getD}
 use borrow.Author.Tests.{lt-ltb, le-ltb}
-use Rattle.definition.specs.Basics.{Result, good, bad, lookup}
+use Rattle.definition.specs.Basics.{good}
 use Rattle.definition.specs.Shapes.{isWide}
 use Rattle.definition.specs.Definitions.{tagAt}
 use Rattle.definition.specs.Resolving.{Node, firstNode}
@@ -22,9 +21,9 @@ use Rattle.store.specs.Words.{ENTRY}
 use Rattle.store.proofs.Bounds.{small}
 use Rattle.store.proofs.Laying.{work-sizes, work-formed, entries-counted}
 use Rattle.interner.specs.Nodes.{nodeCount, nodesIn}
-use Rattle.pool.specs.Pooled.{childSlot, Has, Lacks, slotsIn, PooledIn, LiveIn, pendingCount, NodesThere, Goes, Took, Gave, Slotted}
+use Rattle.pool.specs.Pooled.{childSlot, Has, Lacks, slotsIn, PooledIn, LiveIn, pendingCount, NodesThere, Took, Gave, Slotted}
 use Rattle.pool.proofs.Words.{child-raw, child-node, word-none, word-some, zeros-some}
-use Rattle.pool.proofs.Giving.{goes-not, goes-then, goes-took, pooled-took, gave-room, goes-gave, pooled-gave, gave-slot}
+use Rattle.pool.proofs.Giving.{goes-not, goes-then, goes-took, pooled-took, goes-gave, pooled-gave, gave-slot}
 
 -- SIZES
 

@@ -1,18 +1,16 @@
 -- The raw constants go onto the building stack by the order's places. Assumes nothing.
-use mathlib.Core.Bool.{Bool, true, false}
 use mathlib.Core.List.{List, [], _∷_, _++_, append-nil}
 use mathlib.Core.Logic.{_⊎_, inl, inr, ⊎-elim}
-use mathlib.Core.Path.{_≡_, refl, sym, ap, _∙_}
+use mathlib.Core.Path.{_≡_, refl, ap, _∙_}
 use Prim.Native.Nat.{ℕ, zero, suc, _+_, _-_, _≤_, _<_}
 use native.Mathlib.Numerals.{add-one}
 use native.Mathlib.Omega.{arith}
-use lib.Dec.{eqb}
-use lib.ListN.{length, getD, take, set, length-append, length-set, List·getD-append}
-use lib.Seq.{getD-set-same, getD-set-other, take-suc-set, getD-append-add, getD-append-seam}
+use lib.ListN.{length, getD, set, length-append, length-set, List·getD-append}
+use lib.Seq.{getD-set-same, getD-set-other, take-suc-set, getD-append-seam}
 use borrow.Author.Tests.{eq-eqb, ne-eqb}
 use Rattle.facts.proofs.Lists.{order, equal}
-use Rattle.store.specs.Store.{Store, size, put, Kept, IsWord}
-use Rattle.store.specs.Regions.{COUNTS, MARKS, RAW-ENTRIES, ORDER, PENDING, NODE-COUNT, PENDING-COUNT}
+use Rattle.store.specs.Store.{Store, size, put, IsWord}
+use Rattle.store.specs.Regions.{COUNTS, MARKS, RAW-ENTRIES, ORDER, PENDING, PENDING-COUNT}
 use Rattle.store.specs.Words.{HALF}
 use Rattle.store.proofs.Keeping.{kept-put, kept-then}
 use Rattle.raws.specs.Raws.{heldCount}

@@ -1,20 +1,19 @@
 -- A slot that is asked for: what the allocator answers, with the positions kept in the counters. Assumes nothing.
 use mathlib.Core.Bool.{Bool, true, false}
 use mathlib.Core.List.{List, [], _∷_}
-use mathlib.Core.Option.{none, some}
-use mathlib.Core.Path.{_≡_, refl, sym, ap, _∙_, subst}
-use Prim.Native.Nat.{ℕ, suc, _+_, _≤_, _<_}
+use mathlib.Core.Path.{_≡_, refl, sym, ap, _∙_}
+use Prim.Native.Nat.{ℕ, _≤_, _<_}
 use native.Mathlib.Omega.{arith}
 use lib.ListN.{length, getD, set, length-set}
 use lib.Seq.{getD-set-same, getD-set-other}
-use Rattle.definition.specs.Slots.{highestSlot, Slots, slotFor}
+use Rattle.definition.specs.Slots.{highestSlot, slotFor}
 use Rattle.laws.proofs.slots.Gaps.{Apart}
 use Rattle.slots.specs.declared.Positions.{Positions}
 use Rattle.slots.specs.declared.Allocated.{Allocated}
 use Rattle.slots.specs.declared.Allocated.the-variants.{Slot, None}
 use Rattle.slots.specs.Gaps.{gapsAt, ends, AtMost, slotsAt, answerOf, Answered}
 use Rattle.slots.proofs.Rows.{gaps-length}
-use Rattle.slots.proofs.Given.{Given, apart-most, wide-given, narrow-given}
+use Rattle.slots.proofs.Given.{apart-most, wide-given, narrow-given}
 use Rattle.store.specs.Store.{Store, put, among, Kept, IsWord}
 use Rattle.store.specs.Regions.{COUNTS, GAP-COUNT, ODD, WIDE, PLAIN}
 use Rattle.store.proofs.Keeping.{kept-put}

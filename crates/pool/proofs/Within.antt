@@ -2,8 +2,8 @@
 use mathlib.Core.Bool.{Bool, true, false}
 use mathlib.Core.List.{List, [], _∷_}
 use mathlib.Core.Option.{Option, none, some}
-use mathlib.Core.Path.{_≡_, refl, sym, _∙_, subst}
-use Prim.Native.Nat.{ℕ, suc, _+_, _≤_, _<_}
+use mathlib.Core.Path.{_≡_, refl, subst}
+use Prim.Native.Nat.{ℕ, suc, _+_, _≤_}
 use native.Mathlib.Omega.{arith}
 use lib.ListN.{length, drop, set, getElem?, length-drop, length-set}
 use Rattle.definition.specs.Slots.{Gap, Slots, scan, cut, tooHigh, isOdd, plainEnds, plainSlot, narrowSlot, wideSlot, slotFor}

@@ -11,7 +11,6 @@ use lib.ListN.{length, getD, take}
 use Rattle.definition.specs.Basics.{good, bad, lookup}
 use Rattle.definition.specs.Slots.{highestSlot, Gap, Slots, slotFor}
 use Rattle.definition.specs.Building.{Pool, noSlot, slotOf, slotsOf, kidsOf}
-use Rattle.definition.specs.Resolving.{Node}
 use Rattle.laws.proofs.slots.Gaps.{Apart}
 use Rattle.slots.specs.declared.Positions.{Positions}
 use Rattle.slots.specs.declared.Allocated.{Allocated}

@@ -1,5 +1,5 @@
 -- Requests in the regions: what a request works on, and what it leaves. Assumes nothing.
-use mathlib.Core.Bool.{Bool, true, false, _||_, not}
+use mathlib.Core.Bool.{Bool, false, _||_, not}
 use mathlib.Core.List.{List, [], _∷_}
 use mathlib.Core.Logic.{_⊎_}
 use mathlib.Core.Option.{some}
@@ -15,14 +15,14 @@ use Rattle.definition.specs.Building.{Pool}
 use Rattle.definition.specs.Layout.{Ready, answer, answerAll}
 use Rattle.laws.proofs.slots.Gaps.{Apart}
 use Rattle.job.specs.Stored.{Found, InTurn, anyRequest}
-use Rattle.store.specs.Store.{Store, size, put, among, Kept, IsWord}
+use Rattle.store.specs.Store.{Store, size, put, among, Kept}
 use Rattle.store.specs.JobIn.{jobIn, entriesIn, constantsIn, namingsIn, linkedIn}
 use Rattle.store.specs.Regions.{COUNTS, MARKS, GIVEN, NAME-HEADS, NODE-HEADS, NODE-LINKS, CHILDREN, NAME-GOALS, NODES, STACK, PENDING, ANSWERS, PLACE, AT, NODE-COUNT, VISITS, ODD, WIDE, PLAIN, PENDING-COUNT}
 use Rattle.store.specs.Words.{goalWord, IsGoal}
 use Rattle.sym_refs.specs.Names.{CitedIn, Goals}
 use Rattle.sym_refs.specs.Leading.{AllNames}
 use Rattle.resolver.specs.Resolved.{resolvedIn, Table, AtRest, visitsOwed}
-use Rattle.pool.specs.Pooled.{childSlot, gapsIn, PooledIn, LiveIn}
+use Rattle.pool.specs.Pooled.{gapsIn, PooledIn, LiveIn}
 
 -- a request stands at a place, and what it cites is there
 abbrev pub RequestAt : List ℕ → ℕ → Type 0

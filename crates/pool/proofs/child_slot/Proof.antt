@@ -1,3 +1,4 @@
+-- `pool::child_slot` meets its contract. A raw number is itself, and a node's slot is its word. Assumes nothing.
 use native.Mathlib.Omega.{arith}
 use mathlib.Core.Path.{sym, _∙_}
 use Rattle.store.specs.Store.{store}
@@ -6,19 +7,13 @@ use Rattle.pool.proofs.Words.{child-raw, child-node}
 use borrow.Author.Needs.{needs}
 use Rattle.pool.proofs.child_slot.Statement.{statement}
 use Rattle.pool.proofs.child_slot.Tie as tie
-use Rattle.pool.proofs.child_slot.Reads as reads
-use Rattle.pool.proofs.child_slot.Lts as lts
-use Rattle.store.proofs.load.Reads as load-reads
 
--- src/lib.rt:41:9
 load-requires : tie.Need-load-requires
 load-requires c κs = search needs
 
--- src/lib.rt:34:1
 returns : tie.Need-returns
 returns c = let a = c .before .before .before .args in (sym (child-raw (store (a .p .now) (a .w .now) GIVEN) (a .child) (c .if1 .taken)), omega (arith, c .if1 .taken))
 
--- src/lib.rt:34:1
 returns-2 : tie.Need-returns-2
 returns-2 c = let a = c .before .before .before .before .args in (c .load .ensures .word ∙ sym (child-node (store (a .p .now) (a .w .now) GIVEN) (a .child) (c .before .if1 .left)), c .load .ensures .small)
 

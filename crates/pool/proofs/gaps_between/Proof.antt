@@ -1,4 +1,4 @@
-use mathlib.Core.Path.{sym, _∙_}
+-- `pool::gaps_between` meets its contract. The loop keeps `Between`, that what is written and what the rest will give are the whole. Assumes nothing.
 use Rattle.store.proofs.Stores.{length-store}
 use Rattle.store.specs.Store.{store}
 use Rattle.store.specs.Regions.{RAW-KEYS, ORDER}
@@ -10,10 +10,6 @@ use Prim.Native.Nat.{_-_}
 use borrow.Author.Needs.{needs}
 use Rattle.pool.proofs.gaps_between.Statement.{statement}
 use Rattle.pool.proofs.gaps_between.Tie as tie
-use Rattle.pool.proofs.gaps_between.Reads as reads
-use Rattle.pool.proofs.gaps_between.Lts as lts
-use Rattle.raws.proofs.raw_key.Reads as raw-key-reads
-use Rattle.slots.proofs.push_gap.Reads as push-gap-reads
 
 abbrev Inv-loop : tie.InvT-loop
 Inv-loop gaps₀ w p n top count₀ first₀ i₀ gaps count first i = Between (gapsFrom top 1 (orderKeys (store p w RAW-KEYS) (store p w ORDER) n)) (orderKeys (store p w RAW-KEYS) (store p w ORDER) n) top gaps₀ gaps i count first
@@ -21,55 +17,42 @@ Inv-loop gaps₀ w p n top count₀ first₀ i₀ gaps count first i = Between (
 abbrev μ-loop : tie.MeasureT-loop
 μ-loop gaps₀ w p n top count₀ first₀ i₀ gaps count first i = n - i
 
--- src/lib.rt:240:5
 loop-holds : tie.Need-loop-holds Inv-loop μ-loop
 loop-holds c = between-start _ _ _
 
--- src/lib.rt:241:20
 raw-key-requires : tie.Need-raw-key-requires Inv-loop μ-loop
 raw-key-requires c κs = let q = c .before .before .before .before .pre in (q .0 .0, omega (arith, q .0 .1, c .loop-test .taken), q .0 .2 (c .before .loop .i) (c .loop-test .taken))
 
--- src/lib.rt:241:20
 cast-next : tie.Need-cast-next Inv-loop μ-loop
 cast-next c = search needs
 
--- src/lib.rt:242:9
 push-gap-requires : tie.Need-push-gap-requires Inv-loop μ-loop
 push-gap-requires c κs = let a = c .before .before .before .before .before .before .args in let q = c .before .before .before .before .before .before .pre in let l = c .before .before .before .loop in push-asks (store (a .p .now) (a .w .now) RAW-KEYS) (store (a .p .now) (a .w .now) ORDER) (a .n) (a .top) (omega (arith, q .0 .1, length-store (a .p .now) (a .w .now) ORDER)) (q .0 .3) (a .gaps .now) (l .gaps) (l .i) (l .count) (l .first) (l .inv) (q .1) (c .before .before .loop-test .taken) (c .before .raw-key .result) (c .before .raw-key .ensures .word)
 
--- src/lib.rt:243:17
 add-first : tie.Need-add-first Inv-loop μ-loop
 add-first c = let a = c .before .before .before .before .before .before .before .before .args in let q = c .before .before .before .before .before .before .before .before .pre in let l = c .before .before .before .before .before .loop in omega (arith, key-low (store (a .p .now) (a .w .now) RAW-KEYS) (store (a .p .now) (a .w .now) ORDER) (a .n) (a .top) (omega (arith, q .0 .1, length-store (a .p .now) (a .w .now) ORDER)) (q .0 .3) (a .gaps .now) (l .gaps) (l .i) (l .count) (l .first) (l .inv) (q .1) (c .before .before .before .before .loop-test .taken) (c .before .before .before .raw-key .result) (c .before .before .before .raw-key .ensures .word))
 
--- src/lib.rt:244:9
 add-i : tie.Need-add-i Inv-loop μ-loop
 add-i c = omega (arith, c .before .before .before .before .loop-test .taken)
 
--- src/lib.rt:240:5
 loop-less : tie.Need-loop-less Inv-loop μ-loop
 loop-less c = omega (arith, c .before .before .before .before .loop-test .taken)
 
--- src/lib.rt:240:5
 loop-again : tie.Need-loop-again Inv-loop μ-loop
 loop-again c = let a = c .before .before .before .before .before .before .before .before .args in let q = c .before .before .before .before .before .before .before .before .pre in let l = c .before .before .before .before .before .loop in push-goes (store (a .p .now) (a .w .now) RAW-KEYS) (store (a .p .now) (a .w .now) ORDER) (a .n) (a .top) (omega (arith, q .0 .1, length-store (a .p .now) (a .w .now) ORDER)) (q .0 .3) (a .gaps .now) (l .gaps) (l .i) (l .count) (l .first) (l .inv) (q .1) (c .before .before .before .before .loop-test .taken) (c .before .before .before .raw-key .result) (c .before .before .before .raw-key .ensures .word) _ _ (c .before .push-gap .kept .0) (c .before .push-gap .ensures)
 
--- src/lib.rt:246:41
 cast-push-gap : tie.Need-cast-push-gap Inv-loop μ-loop
 cast-push-gap c = omega (arith, c .before .before .before .before .before .pre .0 .4)
 
--- src/lib.rt:246:41
 add-push-gap : tie.Need-add-push-gap Inv-loop μ-loop
 add-push-gap c = omega (arith, c .before .before .before .before .before .pre .0 .4)
 
--- src/lib.rt:246:5
 push-gap-requires-2 : tie.Need-push-gap-requires-2 Inv-loop μ-loop
 push-gap-requires-2 c κs = let a = c .before .before .before .before .before .args in let q = c .before .before .before .before .before .pre in let l = c .before .before .loop in last-asks (store (a .p .now) (a .w .now) RAW-KEYS) (store (a .p .now) (a .w .now) ORDER) (a .n) (a .top) (omega (arith, q .0 .1, length-store (a .p .now) (a .w .now) ORDER)) (q .0 .3) (a .gaps .now) (l .gaps) (l .i) (l .count) (l .first) (l .inv) (q .1) (c .before .loop-test .left) (q .0 .4)
 
--- src/lib.rt:232:1
 same-length : tie.Need-same-length Inv-loop μ-loop
 same-length c = search needs
 
--- src/lib.rt:232:1
 returns : tie.Need-returns Inv-loop μ-loop
 returns c = let a = c .before .before .before .before .before .before .before .args in let q = c .before .before .before .before .before .before .before .pre in let l = c .before .before .before .before .loop in last-goes (store (a .p .now) (a .w .now) RAW-KEYS) (store (a .p .now) (a .w .now) ORDER) (a .n) (a .top) (omega (arith, q .0 .1, length-store (a .p .now) (a .w .now) ORDER)) (q .0 .3) (a .gaps .now) (l .gaps) (l .i) (l .count) (l .first) (l .inv) (q .1) (c .before .before .before .loop-test .left) _ _ (c .before .push-gap2 .ensures)
 

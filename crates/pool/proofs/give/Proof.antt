@@ -1,36 +1,26 @@
+-- `pool::give` meets its contract. By the stores. Assumes nothing.
 use native.Mathlib.Omega.{arith}
 use mathlib.Core.Path.{refl}
 use mathlib.Core.Logic.{inl, inr}
 use borrow.Author.Needs.{needs}
 use Rattle.pool.proofs.give.Statement.{statement}
 use Rattle.pool.proofs.give.Tie as tie
-use Rattle.pool.proofs.give.Reads as reads
-use Rattle.pool.proofs.give.Lts as lts
-use Rattle.pool.proofs.no_slot.Reads as no-slot-reads
-use Rattle.pool.proofs.push_pending.Reads as push-pending-reads
-use Rattle.store.proofs.save.Reads as save-reads
 
--- src/lib.rt:170:9
 no-slot-requires : tie.Need-no-slot-requires
 no-slot-requires c κs = tt
 
--- src/lib.rt:170:9
 returns : tie.Need-returns
 returns c = inl (c .before .if1 .taken, c .no-slot .ensures, refl)
 
--- src/lib.rt:172:5
 save-requires : tie.Need-save-requires
 save-requires c κs = search needs
 
--- src/lib.rt:173:5
 push-pending-requires : tie.Need-push-pending-requires
 push-pending-requires c κs = (search needs, c .before .before .before .before .before .before .before .before .pre .1, rw (c .before .before .before .save .ensures) (c .before .before .before .before .before .before .before .before .pre .3), c .before .before .before .before .before .before .before .before .pre .4, c .before .before .before .before .before .before .before .before .pre .5)
 
--- src/lib.rt:165:1
 same-length : tie.Need-same-length
 same-length c = search needs
 
--- src/lib.rt:165:1
 returns-2 : tie.Need-returns-2
 returns-2 c = inr (omega (arith, c .before .before .before .before .before .before .before .before .if1 .left), refl, rw (c .before .before .push-pending .ensures, c .before .before .before .before .before .before .save .ensures))
 

@@ -1,39 +1,28 @@
+-- `pool::keep_answer` meets its contract. By the slot's word. Assumes nothing.
 use mathlib.Core.Path.{refl}
 use mathlib.Core.Logic.{inl, inr}
 use borrow.Author.Needs.{needs}
 use Rattle.pool.proofs.keep_answer.Statement.{statement}
 use Rattle.pool.proofs.keep_answer.Tie as tie
-use Rattle.pool.proofs.keep_answer.Reads as reads
-use Rattle.pool.proofs.keep_answer.Lts as lts
-use Rattle.pool.proofs.child_slot.Reads as child-slot-reads
-use Rattle.pool.proofs.too_high.Reads as too-high-reads
-use Rattle.store.proofs.save.Reads as save-reads
 
--- src/lib.rt:322:9
 child-slot-requires : tie.Need-child-slot-requires
 child-slot-requires c κs = search needs
 
--- src/lib.rt:323:8
 too-high-requires : tie.Need-too-high-requires
 too-high-requires c κs = tt
 
--- src/lib.rt:324:9
 same-length : tie.Need-same-length
 same-length c = search needs
 
--- src/lib.rt:324:9
 returns : tie.Need-returns
 returns c = inr (refl, rw (← c .before .before .child-slot .ensures .0) (c .before .too-high .ensures .0 (c .if1 .taken)), refl)
 
--- src/lib.rt:326:5
 save-requires : tie.Need-save-requires
 save-requires c κs = (search needs, c .before .before .before .before .before .before .before .pre .1, c .before .before .before .child-slot .ensures .1)
 
--- src/lib.rt:318:1
 same-length-2 : tie.Need-same-length-2
 same-length-2 c = search needs
 
--- src/lib.rt:318:1
 returns-2 : tie.Need-returns-2
 returns-2 c = inl (refl, rw (← c .before .before .before .before .before .before .child-slot .ensures .0) (c .before .before .before .before .before .too-high .ensures .1 (c .before .before .before .before .if1 .left)), rw (← c .before .before .before .before .before .before .child-slot .ensures .0) (c .before .before .save .ensures))
 

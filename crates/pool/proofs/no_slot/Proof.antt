@@ -1,16 +1,13 @@
+-- `pool::no_slot` meets its contract. By cases. Assumes nothing.
 use Rattle.definition.specs.Building.{noSlot}
 use borrow.Author.Needs.{needs}
 use Rattle.pool.proofs.no_slot.Statement.{statement}
 use Rattle.pool.proofs.no_slot.Tie as tie
-use Rattle.pool.proofs.no_slot.Reads as reads
-use Rattle.pool.proofs.no_slot.Lts as lts
 
--- src/lib.rt:120:1
 returns : tie.Need-returns
 unfolding noSlot
 returns c = search needs
 
--- src/lib.rt:120:1
 returns-2 : tie.Need-returns-2
 unfolding noSlot
 returns-2 c = search needs

@@ -1,3 +1,4 @@
+-- `pool::node_is_wide` meets its contract. The tag that stands in the job is the node's. Assumes nothing.
 use mathlib.Core.Path.{_∙_}
 use Rattle.store.specs.Store.{store}
 use Rattle.store.proofs.Stores.{length-store}
@@ -6,25 +7,16 @@ use Rattle.pool.proofs.Nodal.{node-place, entry-places, node-stands, no
 use borrow.Author.Needs.{needs}
 use Rattle.pool.proofs.node_is_wide.Statement.{statement}
 use Rattle.pool.proofs.node_is_wide.Tie as tie
-use Rattle.pool.proofs.node_is_wide.Reads as reads
-use Rattle.pool.proofs.node_is_wide.Lts as lts
-use Rattle.job.proofs.tag_at.Reads as tag-at-reads
-use Rattle.pool.proofs.node_at.Reads as node-at-reads
-use Rattle.raw_const.proofs.is_long.Reads as is-long-reads
 
--- src/lib.rt:58:41
 node-at-requires : tie.Need-node-at-requires
 node-at-requires c κs = let a = c .before .before .before .args in let q = c .before .before .before .pre in let t = store (a .p .now) (a .w .now) in (q .0, node-place (a .job .now) (a .p .now) t (q .1) (a .k) (q .2), entry-places (a .job .now) (a .p .now) t (q .1) (a .k) (q .2) .offsets)
 
--- src/lib.rt:58:24
 tag-at-requires : tie.Need-tag-at-requires
 tag-at-requires c κs = let a = c .before .before .before .before .args in let q = c .before .before .before .before .pre in let t = store (a .p .now) (a .w .now) in node-stands (a .job .now) (a .p .now) t (q .1) (a .k) (q .2) (c .node-at .result) (c .node-at .ensures .word)
 
--- src/lib.rt:58:5
 is-long-requires : tie.Need-is-long-requires
 is-long-requires c κs = search needs
 
--- src/lib.rt:54:1
 returns : tie.Need-returns
 returns c = let a = c .before .before .before .before .before .before .args in let q = c .before .before .before .before .before .before .pre in let t = store (a .p .now) (a .w .now) in c .is-long .ensures ∙ node-tag (a .job .now) (a .p .now) t (q .1) (a .k) (q .2) (length-store (a .p .now) (a .w .now) NODES) (c .before .before .node-at .result) (c .before .tag-at .result) (c .before .before .node-at .ensures .word) (c .before .tag-at .ensures)
 

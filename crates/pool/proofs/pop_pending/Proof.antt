@@ -1,3 +1,4 @@
+-- `pool::pop_pending` meets its contract. The word on top is the last that was put there. Assumes nothing.
 use native.Mathlib.Omega.{arith}
 use mathlib.Core.Path.{refl}
 use Rattle.store.proofs.Stores.{length-store}
@@ -7,32 +8,22 @@ use Rattle.pool.proofs.Popping.{popped-all}
 use borrow.Author.Needs.{needs}
 use Rattle.pool.proofs.pop_pending.Statement.{statement}
 use Rattle.pool.proofs.pop_pending.Tie as tie
-use Rattle.pool.proofs.pop_pending.Reads as reads
-use Rattle.pool.proofs.pop_pending.Lts as lts
-use Rattle.store.proofs.load.Reads as load-reads
-use Rattle.store.proofs.save.Reads as save-reads
 
--- src/lib.rt:223:13
 load-requires : tie.Need-load-requires
 load-requires c κs = search needs
 
--- src/lib.rt:223:13
 sub-i : tie.Need-sub-i
 sub-i c = omega (arith, c .load .ensures .word, c .before .before .before .before .pre .2)
 
--- src/lib.rt:224:5
 save-requires : tie.Need-save-requires
 save-requires c κs = (search needs, c .before .before .before .before .before .pre .1, omega (arith, c .before .load .ensures .small))
 
--- src/lib.rt:225:5
 load-requires-2 : tie.Need-load-requires-2
 load-requires-2 c κs = (search needs, omega (arith, c .before .before .before .before .before .load .ensures .word, c .before .before .before .before .before .before .before .before .before .pre .2, c .before .before .before .before .before .before .before .before .before .pre .3))
 
--- src/lib.rt:219:1
 same-length : tie.Need-same-length
 same-length c = search needs
 
--- src/lib.rt:219:1
 returns : tie.Need-returns
 returns c = let a = c .before .before .before .before .before .before .before .before .before .before .args in let q = c .before .before .before .before .before .before .before .before .before .before .pre in popped-all (store (a .p .now) (a .w .now)) _ _ (c .before .before .before .before .before .before .load .result) (c .load2 .result) (omega (arith, q .1, length-store (a .p .now) (a .w .now) COUNTS)) (c .before .before .before .before .before .before .load .ensures .word) (q .2) refl (omega (arith, q .3, length-store (a .p .now) (a .w .now) PENDING)) (c .before .before .before .before .save .ensures) (c .load2 .ensures .word)
 

@@ -1,3 +1,4 @@
+-- `pool::push_raw` meets its contract. By the entry's word. Assumes nothing.
 use Rattle.store.proofs.Stores.{length-store}
 use Rattle.store.specs.Store.{store}
 use Rattle.store.specs.Regions.{MARKS}
@@ -7,37 +8,25 @@ use mathlib.Core.Logic.{inl}
 use borrow.Author.Needs.{needs}
 use Rattle.pool.proofs.push_raw.Statement.{statement}
 use Rattle.pool.proofs.push_raw.Tie as tie
-use Rattle.pool.proofs.push_raw.Reads as reads
-use Rattle.pool.proofs.push_raw.Lts as lts
-use Rattle.pool.proofs.push_pending.Reads as push-pending-reads
-use Rattle.raws.proofs.raw_entry.Reads as raw-entry-reads
-use Rattle.resolver.proofs.node_of.Reads as node-of-reads
 
--- src/lib.rt:254:9
 raw-entry-requires : tie.Need-raw-entry-requires
 raw-entry-requires c κs = (search needs, c .before .before .before .pre .3, c .before .before .before .pre .4)
 
--- src/lib.rt:256:9
 same-length : tie.Need-same-length
 same-length c = search needs
 
--- src/lib.rt:256:9
 returns : tie.Need-returns
 returns c = inl (sym (c .before .raw-entry .ensures .word) ∙ c .if1 .taken, refl)
 
--- src/lib.rt:258:9
 node-of-requires : tie.Need-node-of-requires
 node-of-requires c κs = let a = c .before .before .before .before .before .before .args in let r = node-asks (a .p .now) (store (a .p .now) (a .w .now)) _ (c .before .before .raw-entry .result) (c .before .before .raw-entry .ensures .word) (c .before .before .before .before .before .before .pre .5) (c .before .if1 .left) (length-store (a .p .now) (a .w .now) MARKS) in (search needs, r .0, r .1)
 
--- src/lib.rt:259:5
 push-pending-requires : tie.Need-push-pending-requires
 push-pending-requires c κs = let a = c .before .before .before .before .before .before .before .before .args in let q = c .before .before .before .before .before .before .before .before .pre in let r = pending-asks (a .p .now) (store (a .p .now) (a .w .now)) _ (c .before .before .before .before .raw-entry .result) (c .before .before .before .before .raw-entry .ensures .word) (q .5) (c .before .before .before .if1 .left) (c .before .node-of .result) (c .before .node-of .ensures) in (search needs, q .1, r .0, q .2, r .1)
 
--- src/lib.rt:250:1
 same-length-2 : tie.Need-same-length-2
 same-length-2 c = search needs
 
--- src/lib.rt:250:1
 returns-2 : tie.Need-returns-2
 returns-2 c = let a = c .before .before .before .before .before .before .before .before .before .before .before .args in pushed-one (a .p .now) (store (a .p .now) (a .w .now)) _ (c .before .before .before .before .before .before .before .raw-entry .result) (c .before .before .before .before .before .before .before .raw-entry .ensures .word) (c .before .before .before .before .before .before .before .before .before .before .before .pre .5) (c .before .before .before .before .before .before .if1 .left) (c .before .before .before .before .node-of .result) (c .before .before .before .before .node-of .ensures) _ (c .before .before .push-pending .ensures)
 

@@ -1,28 +1,22 @@
+-- `pool::slot_found` meets its contract. By cases. Assumes nothing.
 use Rattle.pool.specs.Pooled.{slotFound}
 use borrow.Author.Needs.{needs}
 use Rattle.pool.proofs.slot_found.Statement.{statement}
 use Rattle.pool.proofs.slot_found.Tie as tie
-use Rattle.pool.proofs.slot_found.Reads as reads
-use Rattle.pool.proofs.slot_found.Lts as lts
 
--- src/lib.rt:114:27
 enum-known-a : tie.Need-enum-known-a
 enum-known-a c = search needs
 
--- src/lib.rt:114:51
 cast-result : tie.Need-cast-result
 cast-result c = search needs
 
--- src/lib.rt:115:28
 enum-told : tie.Need-enum-told
 enum-told c = search needs
 
--- src/lib.rt:110:1
 returns : tie.Need-returns
 unfolding slotFound
 returns c = search needs
 
--- src/lib.rt:110:1
 returns-2 : tie.Need-returns-2
 unfolding slotFound
 returns-2 c = search needs

@@ -1,3 +1,4 @@
+-- `pool::slots_of` meets its contract. The loop keeps that what the rest of the children gives, behind what those passed have, is the whole. Assumes nothing.
 use native.Mathlib.Omega.{arith}
 use mathlib.Core.Path.{_≡_, refl}
 use Prim.Native.Nat.{_-_}
@@ -10,12 +11,6 @@ use Rattle.pool.proofs.Nodal.{node-place, entry-places}
 use borrow.Author.Needs.{needs}
 use Rattle.pool.proofs.slots_of.Statement.{statement}
 use Rattle.pool.proofs.slots_of.Tie as tie
-use Rattle.pool.proofs.slots_of.Reads as reads
-use Rattle.pool.proofs.slots_of.Lts as lts
-use Rattle.pool.proofs.child_count.Reads as child-count-reads
-use Rattle.pool.proofs.first_child.Reads as first-child-reads
-use Rattle.pool.proofs.slot_of.Reads as slot-of-reads
-use Rattle.store.proofs.load.Reads as load-reads
 
 abbrev Inv-loop : tie.InvT-loop
 Inv-loop job w₀ p gaps₀ k first n i₀ w gaps i = (length w ≡ length w₀) × (length gaps ≡ length gaps₀) × Slotting job k (store p w₀) (store p w) gaps₀ gaps i
@@ -23,63 +18,48 @@ Inv-loop job w₀ p gaps₀ k first n i₀ w gaps i = (length w ≡ length w₀)
 abbrev μ-loop : tie.MeasureT-loop
 μ-loop job w₀ p gaps₀ k first n i₀ w gaps i = n - i
 
--- src/lib.rt:204:9
 first-child-requires : tie.Need-first-child-requires Inv-loop μ-loop
 first-child-requires c κs = let a = c .before .before .before .before .args in let q = c .before .before .before .before .pre in let t = store (a .p .now) (a .w .now) in (search needs, node-place (a .job .now) (a .p .now) t (q .1) (a .k) (q .3), entry-places (a .job .now) (a .p .now) t (q .1) (a .k) (q .3) .firsts)
 
--- src/lib.rt:205:9
 child-count-requires : tie.Need-child-count-requires Inv-loop μ-loop
 child-count-requires c κs = let a = c .before .before .before .before .before .before .args in let q = c .before .before .before .before .before .before .pre in let t = store (a .p .now) (a .w .now) in (search needs, node-place (a .job .now) (a .p .now) t (q .1) (a .k) (q .3), entry-places (a .job .now) (a .p .now) t (q .1) (a .k) (q .3) .sizes)
 
--- src/lib.rt:207:5
 loop-holds : tie.Need-loop-holds Inv-loop μ-loop
 loop-holds c = let a = c .before .before .before .before .before .before .before .args in (refl, refl, slotting-begin (a .job .now) (a .k) (store (a .p .now) (a .w .now)) (a .gaps .now))
 
--- src/lib.rt:208:42
 add-load : tie.Need-add-load Inv-loop μ-loop
 add-load c = omega (arith, c .before .before .before .before .before .first-child .ensures .small, c .before .before .before .child-count .ensures .small)
 
--- src/lib.rt:208:13
 load-requires : tie.Need-load-requires Inv-loop μ-loop
 load-requires c κs = let a = c .before .before .before .before .before .before .before .before .before .before .args in let q = c .before .before .before .before .before .before .before .before .before .before .pre in let t = store (a .p .now) (a .w .now) in let r = kids-room (a .job .now) (a .p .now) t (q .1) (a .k) (q .3) (length-store (a .p .now) (a .w .now) NODES) (c .before .before .before .before .before .first-child .result) (c .before .before .before .child-count .result) (c .before .before .before .before .before .first-child .ensures .word) (c .before .before .before .child-count .ensures .word) in (search needs, omega (arith, r, c .before .loop-test .taken))
 
--- src/lib.rt:209:13
 slot-of-requires : tie.Need-slot-of-requires Inv-loop μ-loop
 slot-of-requires c κs = let a = c .before .before .before .before .before .before .before .before .before .before .before .before .before .args in let q = c .before .before .before .before .before .before .before .before .before .before .before .before .before .pre in let t = store (a .p .now) (a .w .now) in let l = c .before .before .before .before .before .loop in let r = child-asks (a .job .now) (a .p .now) t (q .1) (a .k) (q .3) (length-store (a .p .now) (a .w .now) NODES) (c .before .before .before .before .before .before .before .before .first-child .result) (c .before .before .before .before .before .before .child-count .result) (c .before .before .before .before .before .before .before .before .first-child .ensures .word) (c .before .before .before .before .before .before .child-count .ensures .word) (q .4) (a .gaps .now) (l .gaps) (store (a .p .now) (l .w)) (l .i) (l .inv .2) (c .before .before .before .before .loop-test .taken) (c .before .before .load .result) (c .before .before .load .ensures .word) (q .2) in (search needs, r .0, r .1, r .2)
 
--- src/lib.rt:211:13
 same-length : tie.Need-same-length Inv-loop μ-loop
 same-length c = search needs
 
--- src/lib.rt:211:13
 same-length-2 : tie.Need-same-length-2 Inv-loop μ-loop
 same-length-2 c = search needs
 
--- src/lib.rt:211:13
 returns : tie.Need-returns Inv-loop μ-loop
 returns c = let a = c .before .before .before .before .before .before .before .before .before .before .before .before .before .before .before .before .before .before .args in let q = c .before .before .before .before .before .before .before .before .before .before .before .before .before .before .before .before .before .before .pre in let t = store (a .p .now) (a .w .now) in let l = c .before .before .before .before .before .before .before .before .before .before .loop in let u = store (a .p .now) (l .w) in let o = length-store (a .p .now) (a .w .now) NODES in let first = c .before .before .before .before .before .before .before .before .before .before .before .before .before .first-child in let n = c .before .before .before .before .before .before .before .before .before .before .before .child-count in slotting-refused (a .job .now) (a .k) t u (a .gaps .now) (l .gaps) (l .i) (l .inv .2) (omega (arith, c .before .before .before .before .before .before .before .before .before .loop-test .taken, kids-count (a .job .now) (a .p .now) t (q .1) (a .k) (q .3) o (first .result) (n .result) (first .ensures .word) (n .ensures .word))) (c .before .before .before .before .before .before .before .load .result) (c .before .before .before .before .slot-of .result) (child-is (a .job .now) (a .p .now) t (q .1) (a .k) (q .3) o (first .result) (n .result) (first .ensures .word) (n .ensures .word) (q .4) (a .gaps .now) (l .gaps) u (l .i) (l .inv .2) (c .before .before .before .before .before .before .before .before .before .loop-test .taken) (c .before .before .before .before .before .before .before .load .result) (c .before .before .before .before .before .before .before .load .ensures .word)) _ _ (c .before .before .before .before .slot-of .ensures) (omega (arith, c .if1 .taken))
 
--- src/lib.rt:213:9
 add-i : tie.Need-add-i Inv-loop μ-loop
 add-i c = omega (arith, c .before .before .before .before .before .before .before .before .before .loop-test .taken, c .before .before .before .before .before .before .before .before .before .before .before .child-count .ensures .small)
 
--- src/lib.rt:207:5
 loop-less : tie.Need-loop-less Inv-loop μ-loop
 loop-less c = omega (arith, c .before .before .before .before .before .before .before .before .before .loop-test .taken)
 
--- src/lib.rt:207:5
 loop-again : tie.Need-loop-again Inv-loop μ-loop
 loop-again c = let a = c .before .before .before .before .before .before .before .before .before .before .before .before .before .before .before .before .before .before .args in let q = c .before .before .before .before .before .before .before .before .before .before .before .before .before .before .before .before .before .before .pre in let t = store (a .p .now) (a .w .now) in let l = c .before .before .before .before .before .before .before .before .before .before .loop in let u = store (a .p .now) (l .w) in let o = length-store (a .p .now) (a .w .now) NODES in let first = c .before .before .before .before .before .before .before .before .before .before .before .before .before .first-child in let n = c .before .before .before .before .before .before .before .before .before .before .before .child-count in (search needs, search needs, slotting-next (a .job .now) (a .k) t u (a .gaps .now) (l .gaps) (l .i) (l .inv .2) (omega (arith, c .before .before .before .before .before .before .before .before .before .loop-test .taken, kids-count (a .job .now) (a .p .now) t (q .1) (a .k) (q .3) o (first .result) (n .result) (first .ensures .word) (n .ensures .word))) (c .before .before .before .before .before .before .before .load .result) (c .before .before .before .before .slot-of .result) (child-is (a .job .now) (a .p .now) t (q .1) (a .k) (q .3) o (first .result) (n .result) (first .ensures .word) (n .ensures .word) (q .4) (a .gaps .now) (l .gaps) u (l .i) (l .inv .2) (c .before .before .before .before .before .before .before .before .before .loop-test .taken) (c .before .before .before .before .before .before .before .load .result) (c .before .before .before .before .before .before .before .load .ensures .word)) _ _ (c .before .before .before .before .slot-of .ensures) (c .if1 .left))
 
--- src/lib.rt:194:1
 same-length-3 : tie.Need-same-length-3 Inv-loop μ-loop
 same-length-3 c = search needs
 
--- src/lib.rt:194:1
 same-length-4 : tie.Need-same-length-4 Inv-loop μ-loop
 same-length-4 c = search needs
 
--- src/lib.rt:194:1
 returns-2 : tie.Need-returns-2 Inv-loop μ-loop
 returns-2 c = let a = c .before .before .before .before .before .before .before .before .before .args in let q = c .before .before .before .before .before .before .before .before .before .pre in let t = store (a .p .now) (a .w .now) in let l = c .before .loop in let o = length-store (a .p .now) (a .w .now) NODES in let first = c .before .before .before .before .first-child in let n = c .before .before .child-count in slotting-end (a .job .now) (a .k) t (store (a .p .now) (l .w)) (a .gaps .now) (l .gaps) (l .i) (l .inv .2) (omega (arith, c .loop-test .left, kids-count (a .job .now) (a .p .now) t (q .1) (a .k) (q .3) o (first .result) (n .result) (first .ensures .word) (n .ensures .word)))
 

@@ -1,3 +1,4 @@
+-- `pool::start_pool` meets its contract. Gaps and stack are those of the raw slots in their order. Assumes nothing.
 use Rattle.store.proofs.Stores.{length-store}
 use Rattle.store.specs.Store.{store}
 use Rattle.store.specs.Regions.{COUNTS, GIVEN, ORDER, PENDING}
@@ -6,38 +7,25 @@ use native.Mathlib.Omega.{arith}
 use borrow.Author.Needs.{needs}
 use Rattle.pool.proofs.start_pool.Statement.{statement}
 use Rattle.pool.proofs.start_pool.Tie as tie
-use Rattle.pool.proofs.start_pool.Reads as reads
-use Rattle.pool.proofs.start_pool.Lts as lts
-use Rattle.pool.proofs.gaps_between.Reads as gaps-between-reads
-use Rattle.pool.proofs.push_raws.Reads as push-raws-reads
-use Rattle.store.proofs.load.Reads as load-reads
-use Rattle.store.proofs.save.Reads as save-reads
 
--- src/lib.rt:280:9
 load-requires : tie.Need-load-requires
 load-requires c κs = let a = c .before .before .before .args in (search needs, omega (arith, start-counts (a .p .now) (a .top) (store (a .p .now) (a .w .now)) (a .gaps .now) (c .before .before .before .pre .1)))
 
--- src/lib.rt:281:9
 gaps-between-requires : tie.Need-gaps-between-requires
 gaps-between-requires c κs = let a = c .before .before .before .before .before .before .args in let r = some-between (a .p .now) (a .top) (store (a .p .now) (a .w .now)) (a .gaps .now) (c .before .before .before .before .before .before .pre .1) (length-store (a .p .now) (a .w .now) ORDER) (c .before .before .load .result) (c .before .before .load .ensures .word) in ((c .before .before .before .before .before .before .pre .0, r .0, r .1, r .2, r .3), r .4)
 
--- src/lib.rt:282:5
 save-requires : tie.Need-save-requires
 save-requires c κs = let a = c .before .before .before .before .before .before .before .before .before .args in let t = store (a .p .now) (a .w .now) in (search needs, omega (arith, start-counts (a .p .now) (a .top) t (a .gaps .now) (c .before .before .before .before .before .before .before .before .before .pre .1)), some-few (a .p .now) (a .top) t (a .gaps .now) (c .before .before .before .before .before .before .before .before .before .pre .1) (length-store (a .p .now) (a .w .now) ORDER) (c .before .before .before .before .before .load .result) (c .before .before .before .before .before .load .ensures .word) _ (c .before .before .gaps-between .result) (c .before .before .gaps-between .ensures) (length-store (a .p .now) (a .w .now) COUNTS))
 
--- src/lib.rt:283:5
 push-raws-requires : tie.Need-push-raws-requires
 push-raws-requires c κs = let a = c .before .before .before .before .before .before .before .before .before .before .before .before .before .args in let t = store (a .p .now) (a .w .now) in (search needs, some-pushes (a .p .now) (a .top) t (a .gaps .now) (c .before .before .before .before .before .before .before .before .before .before .before .before .before .pre .1) (length-store (a .p .now) (a .w .now) ORDER) (c .before .before .before .before .before .before .before .before .before .load .result) (c .before .before .before .before .before .before .before .before .before .load .ensures .word) _ (c .before .before .before .before .before .before .gaps-between .result) (c .before .before .before .before .before .before .gaps-between .ensures) (length-store (a .p .now) (a .w .now) COUNTS) _ (c .before .before .before .save .ensures))
 
--- src/lib.rt:276:1
 same-length : tie.Need-same-length
 same-length c = search needs
 
--- src/lib.rt:276:1
 same-length-2 : tie.Need-same-length-2
 same-length-2 c = search needs
 
--- src/lib.rt:276:1
 returns : tie.Need-returns
 returns c = let a = c .before .before .before .before .before .before .before .before .before .before .before .before .before .before .before .before .args in let t = store (a .p .now) (a .w .now) in some-started (a .p .now) (a .top) t (a .gaps .now) (c .before .before .before .before .before .before .before .before .before .before .before .before .before .before .before .before .pre .1) (length-store (a .p .now) (a .w .now) ORDER) (c .before .before .before .before .before .before .before .before .before .before .before .before .load .result) (c .before .before .before .before .before .before .before .before .before .before .before .before .load .ensures .word) _ (c .before .before .before .before .before .before .before .before .before .gaps-between .result) (c .before .before .before .before .before .before .before .before .before .gaps-between .ensures) (length-store (a .p .now) (a .w .now) COUNTS) _ _ (c .before .before .before .before .before .before .save .ensures) (c .before .before .push-raws .ensures) (c .before .before .before .before .before .before .before .before .before .gaps-between .kept .0) (length-store (a .p .now) (a .w .now) GIVEN) (length-store (a .p .now) (a .w .now) PENDING)
 
