@@ -60,8 +60,29 @@ module _ (ldc : Bool) (goal : Goal) (w : Ready) where
 nodes-most : (s : List ℕ) (t : Store) → length (nodesIn s t) ≤ nodeCount t
 nodes-most s t = omega (arith, length-map (take (nodeCount t) (t NODES)) (nodeIn s t), length-take (nodeCount t) (t NODES))
 
-nodes-count : (s : List ℕ) (t : Store) → nodeCount t ≤ length (t NODES) → length (nodesIn s t) ≡ nodeCount t
+pub nodes-count : (s : List ℕ) (t : Store) → nodeCount t ≤ length (t NODES) → length (nodesIn s t) ≡ nodeCount t
 nodes-count s t h = length-map (take (nodeCount t) (t NODES)) (nodeIn s t) ∙ length-take (nodeCount t) (t NODES) ∙ omega arith
+
+-- what a goal became is a raw number or a node that is there
+pub became-low :
+    (h : ℕ) (s : List ℕ) (t : Store) → AtRest h s t → (goal : ℕ) → Became (t MARKS) goal → (child : ℕ) →
+    child ≡ childOf (map markWord (t MARKS)) (goalWord goal) → child < ENTRY + nodeCount t
+became-low h s t rests goal became child is = ways (order goal ENTRY)
+  where
+    ways : (goal < ENTRY) ⊎ (ENTRY ≤ goal) → child < ENTRY + nodeCount t
+    ways (inl l) = omega (arith, is, child-raw (t MARKS) goal l)
+    ways (inr l) =
+        let k = getD (t MARKS) (goal - ENTRY) 0 - 2 in
+        let ready = became .ready l in
+        let m : k + 2 ≡ getD (t MARKS) (goal - ENTRY) 0 = omega arith in
+        let node = rests .faithful .nodeOf (goal - ENTRY) k (done-found (t MARKS) (goal - ENTRY) k (sym m)) in
+        omega (
+          arith,
+          is,
+          child-entry (t MARKS) goal k l (became .low) m,
+          found-inside (nodesIn s t) k _ (node .2),
+          nodes-most s t,
+        )
 
 -- A REQUEST
 
@@ -169,22 +190,7 @@ module _
 
     module _ (child : ℕ) (is : child ≡ childOf (map markWord (v MARKS)) (goalWord goal)) where
       pub child-there : child < ENTRY + nodeCount v
-      child-there = ways (order goal ENTRY)
-        where
-          ways : (goal < ENTRY) ⊎ (ENTRY ≤ goal) → child < ENTRY + nodeCount v
-          ways (inl l) = omega (arith, is, child-raw (v MARKS) goal l)
-          ways (inr l) =
-              let k = getD (v MARKS) (goal - ENTRY) 0 - 2 in
-              let ready = became .ready l in
-              let m : k + 2 ≡ getD (v MARKS) (goal - ENTRY) 0 = omega arith in
-              let node = res .again refl .faithful .nodeOf (goal - ENTRY) k (done-found (v MARKS) (goal - ENTRY) k (sym m)) in
-              omega (
-                arith,
-                is,
-                child-entry (v MARKS) goal k l (became .low) m,
-                found-inside (nodesIn s v) k _ (node .2),
-                nodes-most s v,
-              )
+      child-there = became-low h s v (res .again refl) goal became child is
 
       -- its slot
       module _ (ldc : Bool) (told-ldc : ldc ≡ q .ldc) (m : Store) (o : List (List ℕ)) (r : ℕ) (slotted : Slotted s ldc child v m g o r) where

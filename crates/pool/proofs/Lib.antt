@@ -12,3 +12,4 @@ pub mod Beginning
 pub mod Asked
 pub mod Answering
 pub mod InTurn
+pub mod Meeting
