@@ -13,3 +13,4 @@ pub mod Asked
 pub mod Answering
 pub mod InTurn
 pub mod Meeting
+pub mod Sparing
