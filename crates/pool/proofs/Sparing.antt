@@ -1,19 +1,24 @@
 -- A second half leaves no gap before it, so there is at most one gap more than raw constants; and placing a raw constant keeps it so.
 -- Assumes nothing.
-use mathlib.Core.Bool.{Bool, true, false}
-use mathlib.Core.List.{List, [], _∷_}
+use mathlib.Core.Bool.{Bool, true, false, _||_, not}
+use mathlib.Core.List.{List, [], _∷_, _++_, map}
 use mathlib.Core.Logic.{_⊎_, inl, inr}
 use mathlib.Core.Option.{none}
 use mathlib.Core.Path.{_≡_, refl, sym, ap, _∙_}
 use Prim.Native.Nat.{ℕ, suc, _+_, _≤_, _<_}
 use native.Mathlib.Omega.{arith}
 use lib.ListN.{length}
-use Rattle.definition.specs.Basics.{lookup, insert}
-use Rattle.definition.specs.Definitions.{Held, starts, half, hold}
+use Rattle.definition.specs.Basics.{good, lookup, insert}
+use Rattle.definition.specs.Shapes.{constant, bootstrap, Entry, isWide}
+use Rattle.definition.specs.Job.{Definition, define, named, placed}
+use Rattle.definition.specs.Numbering.{Literal, numberedDefinition}
+use Rattle.definition.specs.Definitions.{Held, starts, half, Defined, tagAt, isNone, nameTarget, hold, placeConstant, placeBootstrap, defineOne, defineAll, nothingDefined}
 use Rattle.definition.specs.Slots.{Gap, gapBefore, gapsFrom}
 use Rattle.definition.specs.Layout.{starters}
 use Rattle.facts.proofs.Lists.{order, equal, none≢some}
 use Rattle.facts.proofs.Tables.{keys, lookup-hit, lookup-miss, insert-front, insert-behind}
+use Rattle.facts.proofs.Results.{good-inj, good-then, unless-first}
+use Rattle.laws.proofs.definitions.RawSlotsRise.{isNone-true, placed-constant, defined-all}
 use Rattle.laws.proofs.slots.Gaps.{gapBefore-some, gapBefore-none}
 
 -- every second half stands right behind another slot, from slot `first` on
@@ -129,3 +134,66 @@ pub hold-counted : (wide : Bool) (n e : ℕ) (held : List (ℕ × Held)) → len
 unfolding hold
 hold-counted true n e held = start-counted n e (insert (suc n) half held) ∙ ap suc (half-counted (suc n) held)
 hold-counted false n e held = start-counted n e held
+
+-- ALL DEFINITIONS
+
+-- how many raw constants are placed
+unfoldable pub placings : {L : Type 0} → List (Definition L) → ℕ
+placings [] = 0
+placings (define e ∷ ds) = placings ds
+placings (named kind s r ∷ ds) = placings ds
+placings (placed constant n e ∷ ds) = suc (placings ds)
+placings (placed bootstrap n e ∷ ds) = placings ds
+
+one-placing : (ds : List (Definition ℕ)) (x : Definition ℕ) → placings (ds ++ x ∷ []) ≡ placings ds + placings (x ∷ [])
+unfolding placings
+one-placing [] x = omega arith
+one-placing (define e ∷ ds) x = one-placing ds x
+one-placing (named kind s r ∷ ds) x = one-placing ds x
+one-placing (placed constant n e ∷ ds) x = omega (arith, one-placing ds x)
+one-placing (placed bootstrap n e ∷ ds) x = one-placing ds x
+
+pub placings-numbered : (all : List Literal) (ds : List (Definition (List ℕ))) → placings (map (numberedDefinition all) ds) ≡ placings ds
+unfolding placings numberedDefinition
+placings-numbered all [] = refl
+placings-numbered all (define e ∷ ds) = placings-numbered all ds
+placings-numbered all (named kind s r ∷ ds) = placings-numbered all ds
+placings-numbered all (placed constant n e ∷ ds) = ap suc (placings-numbered all ds)
+placings-numbered all (placed bootstrap n e ∷ ds) = placings-numbered all ds
+
+-- the raw slots after some definitions
+abbrev pub Spared : List (Definition ℕ) → Defined → Type 0
+Spared ds d = Paired 1 (d .held) × (length (starters (d .held)) ≡ placings ds)
+
+hold-paired :
+    (wide : Bool) (n e : ℕ) (held : List (ℕ × Held)) → 1 ≤ n → (not wide || isNone (lookup (suc n) held)) ≡ true → lookup n held ≡ none →
+    Paired 1 held → Paired 1 (hold wide n e held)
+unfolding hold
+hold-paired true n e held h behind here p = wide-paired 1 n e held h here (isNone-true (lookup (suc n) held) behind) p
+hold-paired false n e held h behind here p = narrow-paired 1 n e held h here p
+
+one-spared :
+    {R : Type 0} (top : ℕ) (constants : List (Entry ℕ R)) (ds : List (Definition ℕ)) (x : Definition ℕ) (d d′ : Defined) →
+    Spared ds d → defineOne top constants x d ≡ good d′ → Spared (ds ++ x ∷ []) d′
+unfolding defineOne placings
+one-spared top constants ds (define e) d d′ p h = rw (← good-inj h) (p .0, omega (arith, p .1, one-placing ds (define e)))
+one-spared top constants ds (named kind s t) d d′ p h =
+    rw (← good-inj (unless-first (isNone (nameTarget kind s (d .names))) 11 _ d′ h .1)) (p .0, omega (arith, p .1, one-placing ds (named kind s t)))
+one-spared top constants ds (placed constant n e) d d′ p h =
+    good-then (placeConstant top (isWide (tagAt constants e)) n e (d .held)) _ d′ h λ held q g.
+    let wide = isWide (tagAt constants e) in
+    let c = placed-constant top wide n e (d .held) held q in
+    rw (← good-inj g, ← c .now) (
+      hold-paired wide n e (d .held) (c .positive) (c .behind) (c .here) (p .0),
+      omega (arith, hold-counted wide n e (d .held), p .1, one-placing ds (placed constant n e)),
+    )
+one-spared top constants ds (placed bootstrap n e) d d′ p h =
+    good-then (placeBootstrap n e (d .indexes)) _ d′ h λ indexes q g.
+    rw (← good-inj g) (p .0, omega (arith, p .1, one-placing ds (placed bootstrap n e)))
+
+pub spared :
+    {R : Type 0} (top : ℕ) (constants : List (Entry ℕ R)) (definitions : List (Definition ℕ)) (d : Defined) →
+    defineAll top constants 0 definitions nothingDefined ≡ good d → Spared definitions d
+unfolding nothingDefined placings starters
+spared top constants definitions d h =
+    defined-all top constants Spared (λ ds x d d′ p e. one-spared top constants ds x d d′ p e) 0 [] definitions nothingDefined d (tt, refl) h
