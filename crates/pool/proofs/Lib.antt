@@ -14,3 +14,4 @@ pub mod Answering
 pub mod InTurn
 pub mod Meeting
 pub mod Sparing
+pub mod Fitting
