@@ -5,3 +5,4 @@ pub mod Statements
 pub mod ReaderStatements
 pub mod Faithful
 pub mod Counted
+pub mod Gaps

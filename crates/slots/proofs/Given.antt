@@ -12,7 +12,8 @@ use Rattle.definition.specs.Slots.{highestSlot, Gap, size, gapsFrom, Slots, nar
 use Rattle.facts.specs.Lists.{Among, Rising}
 use Rattle.laws.specs.Statements.{freeSlots}
 use Rattle.facts.proofs.Lists.{some-inj, order, equal, found-inside, found-set, found-elsewhere}
-use Rattle.laws.proofs.slots.Gaps.{Apart, less, cut-some, apart-start, apart-set, apart-at, apart-rise, Within, free-within, within-free}
+use Rattle.laws.proofs.slots.Gaps.{less, cut-some, apart-start, apart-set, apart-at, apart-rise, Within, free-within, within-free}
+use Rattle.laws.specs.Gaps.{Apart}
 use Rattle.laws.proofs.slots.SlotRequest.{Taken, wide-taken, narrow-taken}
 use Rattle.slots.specs.declared.Positions.{Positions}
 use Rattle.slots.specs.declared.Allocated.the-variants.{Slot}

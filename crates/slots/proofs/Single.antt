@@ -1,4 +1,4 @@
--- No second answer, and no second table, meets the contract of `slot_for`, `request_slot` or `gaps_between`. `Learnt` is the contract in
+-- No second answer, and no second table, meets the contract of `slot_for`, `request_slot` or `push_gap`. `Learnt` is the contract in
 -- src/lib.rt as it stands: what it says of the arguments a, the result r and the parameters s as they are left, where s .0 is the
 -- table. Assumes nothing.
 use mathlib.Core.List.{List, [], _∷_, _++_, map}
@@ -15,7 +15,7 @@ use Rattle.slots.specs.declared.Allocated.the-variants.{Slot, None}
 use Rattle.slots.specs.Gaps.{gapOf, rowOf, gapsAt, slotsAt, answerOf, Answered, Written}
 use Rattle.slots.proofs.slot_for.Reads as slot-for
 use Rattle.slots.proofs.request_slot.Reads as request-slot
-use Rattle.slots.proofs.gaps_between.Reads as gaps-between
+use Rattle.slots.proofs.push_gap.Reads as push-gap
 
 -- every row has two numbers, as the rows of a `[[u16; 2]]` have by their type
 abbrev pub Pairs : List (List ℕ) → Type 0
@@ -80,9 +80,9 @@ pub one-slot :
     (r ≡ r′) × (now (s .0) ≡ now (s′ .0))
 one-slot κs a r r′ s s′ = one-answer r r′
 
-pub one-gaps :
-    (κs : Lfts 2) (a : _) (r r′ : ℕ) (s s′ : _) →
-    gaps-between.Learnt κs a r s → gaps-between.Learnt κs a r′ s′ →
+pub one-push :
+    (κs : Lfts 1) (a : _) (r r′ : ℕ) (s s′ : _) →
+    push-gap.Learnt κs a r s → push-gap.Learnt κs a r′ s′ →
     Pairs (now (s .0)) → Pairs (now (s′ .0)) →
     (r ≡ r′) × (now (s .0) ≡ now (s′ .0))
-one-gaps κs a r r′ s s′ = one-writing r r′
+one-push κs a r r′ s s′ = one-writing r r′

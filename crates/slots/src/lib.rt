@@ -3,9 +3,9 @@ ghost use mathlib.Core.List.{_++_, []};
 ghost use mathlib.Core.Path.{_≡_};
 ghost use Prim.Native.Nat.{_+_, _≤_, _<_};
 ghost use lib.Dec.{leb};
-ghost use lib.ListN.{length, take, drop};
+ghost use lib.ListN.{length};
 ghost use Rattle.definition.specs.Basics.{every};
-ghost use Rattle.definition.specs.Slots.{highestSlot, size, scan, isOdd, tooHigh, plainEnds, gapBefore, gapsFrom, plainSlot, narrowSlot, wideSlot, slotFor, countFrom};
+ghost use Rattle.definition.specs.Slots.{highestSlot, size, scan, isOdd, tooHigh, plainEnds, gapBefore, plainSlot, narrowSlot, wideSlot, slotFor, countFrom};
 ghost use Rattle.facts.specs.Lists.{Rising};
 ghost use Rattle.slots.specs.Gaps.{gapOf, gapAt, gapsAt, ends, AtMost, slotsAt, rowsLess, Answered, Written, endFits, requested};
 
@@ -207,7 +207,7 @@ pub fn request_slot(gaps: &mut [[u16; 2]], p: Positions, wide: bool, ldc: bool) 
 }
 
 // Puts the gap from `first` to just before `next`, if it has a slot, behind those in use.
-fn push_gap(gaps: &mut [[u16; 2]], count: usize, first: u32, next: u32) -> usize
+pub fn push_gap(gaps: &mut [[u16; 2]], count: usize, first: u32, next: u32) -> usize
     requires { ⌜ (count ≤ length (now gaps)) × (first < next → count < length (now gaps)) × (next ≤ 65536) ⌝ }
     ensures { λ r. ⌜ Written (gapsAt (now (gaps .entry)) count ++ gapBefore first next []) (now (gaps .entry)) (now (gaps .exit)) r ⌝ }
 {
@@ -216,25 +216,6 @@ fn push_gap(gaps: &mut [[u16; 2]], count: usize, first: u32, next: u32) -> usize
     }
     gaps[count] = [first as u16, (next - 1) as u16];
     count + 1
-}
-
-// The longest free runs between the slots that are held, which stand in `n` words from `from` on.
-pub fn gaps_between(gaps: &mut [[u16; 2]], held: &[u32], from: usize, n: usize, top: u32) -> usize
-    requires { ⌜ (from + n ≤ length (now held)) × AtMost 65535 (take n (drop from (now held))) × (top ≤ 65535) ⌝ }
-    requires room { ⌜ length (gapsFrom top 1 (take n (drop from (now held)))) ≤ length (now gaps) ⌝ }
-    ensures { λ r. ⌜ Written (gapsFrom top 1 (take n (drop from (now (held .entry))))) (now (gaps .entry)) (now (gaps .exit)) r ⌝ }
-{
-    let end = from + n;
-    let mut at = from;
-    let mut count = 0;
-    let mut first = 1;
-    while at < end {
-        let next = held[at];
-        count = push_gap(gaps, count, first, next);
-        first = next + 1;
-        at += 1;
-    }
-    push_gap(gaps, count, first, top + 1)
 }
 
 fn widened(slot: u16) -> u32

@@ -14,11 +14,7 @@ use Rattle.facts.specs.Lists.{Among, Rising}
 use Rattle.facts.proofs.Lists.{none≢some, some-inj, order, equal, found-inside, missing-outside, found-set, found-elsewhere, place-drop, among-left, among-right, among-either, position-before, position-at}
 use Rattle.facts.proofs.Sums.{total, total-append, run, run-split, run-has, run-low, run-high}
 use Rattle.laws.specs.Statements.{freeSlots}
-
--- the gaps lie apart: from a slot on they rise, with a slot between any two, up to the highest slot
-abbrev pub Apart : ℕ → ℕ → List Gap → Type 0
-Apart top low [] = Unit {0}
-Apart top low (g ∷ gaps) = (low ≤ g .first) × (g .first ≤ suc (g .last)) × (g .last ≤ top) × Apart top (suc (suc (g .last))) gaps
+use Rattle.laws.specs.Gaps.{Apart}
 
 pub apart-lower : (top low low′ : ℕ) (gaps : List Gap) → low′ ≤ low → Apart top low gaps → Apart top low′ gaps
 apart-lower top low low′ [] h a = tt

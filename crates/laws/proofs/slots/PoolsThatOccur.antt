@@ -20,7 +20,8 @@ use Rattle.facts.proofs.Results.{good-inj, good-first}
 use Rattle.laws.specs.Statements.{Occurs, afterRequest, moreResolved, stackTaken, freeSlots, allSlots, givenSlots, afterDefinitions}
 use Rattle.laws.proofs.definitions.RawSlotsRise.{rises}
 use Rattle.laws.proofs.resolving.NodesAndChildren.{tag-append}
-use Rattle.laws.proofs.slots.Gaps.{Apart, total-start, apart-start, cut-some, apart-set, total-set, Under, under-set}
+use Rattle.laws.proofs.slots.Gaps.{total-start, apart-start, cut-some, apart-set, total-set, Under, under-set}
+use Rattle.laws.specs.Gaps.{Apart}
 use Rattle.laws.proofs.slots.SlotRequest.{width, slot-taken, Met, old, new, met}
 
 -- the nodes that have slots are below a number

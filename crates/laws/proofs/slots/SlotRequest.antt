@@ -17,7 +17,8 @@ use Rattle.definition.specs.Slots.{Gap, size, Slots, scan, cut, tooHigh, isOdd,
 use Rattle.definition.specs.Building.{Pool, give, allocate}
 use Rattle.facts.proofs.Lists.{none≢some, true≢false, some-inj, order}
 use Rattle.facts.proofs.Results.{bad≢good, good-inj}
-use Rattle.laws.proofs.slots.Gaps.{Apart, Under, scan-before, scan-at, scan-none, apart-firsts}
+use Rattle.laws.proofs.slots.Gaps.{Under, scan-before, scan-at, scan-none, apart-firsts}
+use Rattle.laws.specs.Gaps.{Apart}
 
 -- how many slots a request takes
 unfoldable pub width : Bool → ℕ

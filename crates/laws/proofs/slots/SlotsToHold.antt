@@ -24,7 +24,8 @@ use Rattle.facts.proofs.Sums.{run, once, times, times-cons, total-times, times-
 use Rattle.facts.proofs.Results.{decided}
 use Rattle.laws.specs.Statements.{freeSlots, allSlots, givenSlots}
 use Rattle.laws.proofs.definitions.DefinedAsPlaced.{halfSlots, times-held}
-use Rattle.laws.proofs.slots.Gaps.{Apart, within-free, apart-at}
+use Rattle.laws.proofs.slots.Gaps.{within-free, apart-at}
+use Rattle.laws.specs.Gaps.{Apart}
 use Rattle.laws.proofs.slots.PoolsThatOccur.{Sound}
 
 -- the slots that are to hold a node, with their nodes: those given out, and the raw ones

@@ -1,0 +1,17 @@
+pub mod Words
+pub mod Nodal
+pub mod Within
+pub mod Taking
+pub mod Giving
+pub mod Slotting
+pub mod Children
+pub mod Popping
+pub mod Gapping
+pub mod Stacking
+pub mod Beginning
+pub mod Asked
+pub mod Answering
+pub mod InTurn
+pub mod Meeting
+pub mod Sparing
+pub mod Fitting

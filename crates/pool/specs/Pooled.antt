@@ -1,0 +1,179 @@
+-- The pool as it stands in the regions and the gap table: slots given to nodes, the building stack, the gaps and the positions.
+-- Assumes nothing.
+use mathlib.Core.Bool.{Bool, true, false}
+use mathlib.Core.List.{List, [], _∷_, map, reverse}
+use mathlib.Core.Logic.{_⊎_}
+use mathlib.Core.Option.{Option, none, some}
+use mathlib.Core.Path.{_≡_}
+use Prim.Native.Nat.{ℕ, zero, suc, _+_, _-_, _≤_, _<_}
+use lib.Dec.{ltb}
+use lib.ListN.{length, getD, take}
+use Rattle.definition.specs.Basics.{good, bad, lookup}
+use Rattle.definition.specs.Slots.{highestSlot, Gap, Slots, slotFor}
+use Rattle.definition.specs.Building.{Pool, noSlot, slotOf, slotsOf, kidsOf}
+use Rattle.laws.specs.Gaps.{Apart}
+use Rattle.slots.specs.declared.Positions.{Positions}
+use Rattle.slots.specs.declared.Allocated.{Allocated}
+use Rattle.slots.specs.declared.Allocated.the-variants.{Slot, None}
+use Rattle.slots.specs.Gaps.{gapsAt, slotsAt}
+use Rattle.store.specs.Store.{Store, size, put, among, Kept}
+use Rattle.store.specs.Regions.{COUNTS, GIVEN, NODE-HEADS, PENDING, NODE-COUNT, GAP-COUNT, ODD, WIDE, PLAIN, PENDING-COUNT, Work}
+use Rattle.store.specs.Words.{ENTRY}
+use Rattle.interner.specs.Nodes.{EnteredIn, NodesIn, nodesIn}
+
+-- WORDS
+
+-- a node's slot as a word: 0 while it has none
+unfoldable pub slotWord : ℕ → Option ℕ
+slotWord zero = none
+slotWord (suc n) = some (suc n)
+
+-- the slot of a child: a raw number is itself
+unfoldable pub childSlot : List ℕ → ℕ → ℕ
+childSlot given child = elim (ltb child ENTRY) [ true ↦ child | false ↦ getD given (child - ENTRY) 0 ]
+
+-- a child that needs no slot: a raw number, or a node that has one
+abbrev pub Has : List ℕ → ℕ → Type 0
+Has given child = (child < ENTRY) ⊎ ((ENTRY ≤ child) × (0 < getD given (child - ENTRY) 0))
+
+-- a child that needs one
+abbrev pub Lacks : List ℕ → ℕ → Type 0
+Lacks given child = (ENTRY ≤ child) × (getD given (child - ENTRY) 0 ≡ 0)
+
+-- how many words are 0
+unfoldable pub zeros : List ℕ → ℕ
+zeros [] = 0
+zeros (zero ∷ words) = suc (zeros words)
+zeros (suc n ∷ words) = zeros words
+
+-- the positions as the counters have them
+abbrev pub positionsIn : List ℕ → Positions
+positionsIn counts = record { odd = getD counts ODD 0; wide = getD counts WIDE 0; plain = getD counts PLAIN 0 }
+
+-- the gaps in use, and the definition's allocator
+abbrev pub gapsIn : List ℕ → List (List ℕ) → List Gap
+gapsIn counts gaps = gapsAt gaps (getD counts GAP-COUNT 0)
+
+abbrev pub slotsIn : List ℕ → List (List ℕ) → Slots
+slotsIn counts gaps = slotsAt gaps (getD counts GAP-COUNT 0) (positionsIn counts)
+
+-- THE POOL
+
+-- a pool that the words are. They don't tell in which order slots were given, nor which slot a node on the stack stands there with
+pub record Pooled (pool : Pool) (counts words stack : List ℕ) (table : List (List ℕ)) : Type 0 where
+  pub slots : slotsIn counts table ≡ pool .slots
+  pub given : (k : ℕ) → lookup k (pool .given) ≡ slotWord (getD words k 0)
+  pub pending : map (λ r. r .1) (pool .pending) ≡ reverse (take (getD counts PENDING-COUNT 0) stack)
+
+abbrev pub PooledIn : Pool → Store → List (List ℕ) → Type 0
+PooledIn pool t gaps = Pooled pool (t COUNTS) (t GIVEN) (t PENDING) gaps
+
+-- what the allocator asks
+pub record GapsLive (counts : List ℕ) (table : List (List ℕ)) : Type 0 where
+  pub inside : getD counts GAP-COUNT 0 ≤ length table
+  pub apart : Apart highestSlot 1 (gapsIn counts table)
+  pub odd : getD counts ODD 0 ≤ getD counts GAP-COUNT 0
+  pub wide : getD counts WIDE 0 ≤ getD counts GAP-COUNT 0
+  pub plain : getD counts PLAIN 0 ≤ getD counts GAP-COUNT 0
+
+-- and the building stack: there is room for every node that has no slot yet, and what stands on it are nodes
+pub record Live (counts words stack : List ℕ) (table : List (List ℕ)) : Type 0 where
+  pub gaps : GapsLive counts table
+  pub room : getD counts PENDING-COUNT 0 + zeros words ≤ length stack
+  pub nodes : (i : ℕ) → i < getD counts PENDING-COUNT 0 → getD stack i 0 < getD counts NODE-COUNT 0
+
+abbrev pub LiveIn : Store → List (List ℕ) → Type 0
+LiveIn t gaps = Live (t COUNTS) (t GIVEN) (t PENDING) gaps
+
+-- the nodes of a job are there
+abbrev pub NodesThere : List ℕ → List ℕ → Store → Type 0
+NodesThere s p t = Work s p × EnteredIn s t × NodesIn (size p NODE-HEADS) s t
+
+-- the children of node k are raw numbers and nodes that are there
+abbrev pub KidsThere : List ℕ → Store → ℕ → Type 0
+KidsThere s t k =
+    (i : ℕ) → i < length (kidsOf (nodesIn s t) k) → getD (kidsOf (nodesIn s t) k) i 0 < ENTRY + getD (t COUNTS) NODE-COUNT 0
+
+-- WRITERS
+
+abbrev pub withPositions : Positions → Store → Store
+withPositions q t = put (put (put t COUNTS ODD (q .odd)) COUNTS WIDE (q .wide)) COUNTS PLAIN (q .plain)
+
+abbrev pub pendingCount : Store → ℕ
+pendingCount t = getD (t COUNTS) PENDING-COUNT 0
+
+-- node k on top of the building stack
+abbrev pub withPending : ℕ → Store → Store
+withPending k t = put (put t COUNTS PENDING-COUNT (pendingCount t + 1)) PENDING (pendingCount t) k
+
+-- what a request for a slot found
+unfoldable pub movedTo : Allocated → Positions → Positions
+movedTo (Slot n after) before = after
+movedTo None before = before
+
+unfoldable pub slotFound : Allocated → ℕ
+slotFound (Slot n after) = n
+slotFound None = 0
+
+-- the counters that change while slots are given
+abbrev pub moving : List ℕ
+moving = ODD ∷ WIDE ∷ PLAIN ∷ PENDING-COUNT ∷ []
+
+-- what stays while slots are given: t and the gap table g before, u and h after
+pub record Goes (t u : Store) (g h : List (List ℕ)) : Type 0 where
+  pub live : LiveIn t g → LiveIn u h
+  pub apart : (top : ℕ) → Apart top 1 (gapsIn (t COUNTS) g) → Apart top 1 (gapsIn (u COUNTS) h)
+  pub long : length h ≡ length g
+  -- a node that has a slot keeps it
+  pub given : (k : ℕ) → 0 < getD (t GIVEN) k 0 → getD (u GIVEN) k 0 ≡ getD (t GIVEN) k 0
+  pub counters : (c : ℕ) → among c moving ≡ false → getD (u COUNTS) c 0 ≡ getD (t COUNTS) c 0
+  pub kept : Kept (COUNTS ∷ GIVEN ∷ PENDING ∷ []) t u
+
+-- a slot was asked for: r is it, or 0
+pub record Took (wide ldc : Bool) (t u : Store) (g h : List (List ℕ)) (r : ℕ) : Type 0 where
+  pub unmet : r ≡ 0 → slotFor wide ldc (slotsIn (t COUNTS) g) ≡ none
+  pub met : 0 < r → slotFor wide ldc (slotsIn (t COUNTS) g) ≡ some (r, slotsIn (u COUNTS) h)
+  pub small : r < 65536
+  pub live : GapsLive (u COUNTS) h
+  pub apart : (top : ℕ) → Apart top 1 (gapsIn (t COUNTS) g) → Apart top 1 (gapsIn (u COUNTS) h)
+  pub long : length h ≡ length g
+  pub counters : (c : ℕ) → among c (ODD ∷ WIDE ∷ PLAIN ∷ []) ≡ false → getD (u COUNTS) c 0 ≡ getD (t COUNTS) c 0
+  pub kept : Kept (COUNTS ∷ []) t u
+
+-- the slot found for node k became its own, or there is none and r is the refusal's number
+abbrev pub Gave : ℕ → ℕ → Bool → Store → Store → ℕ → Type 0
+Gave k slot ldc t u r =
+    ((slot ≡ 0) × (r ≡ noSlot ldc) × (u ≡ t)) ⊎ ((0 < slot) × (r ≡ 0) × (u ≡ withPending k (put t GIVEN k slot)))
+
+-- a child has a slot from then on, or r is the refusal's number
+pub record Slotted (s : List ℕ) (ldc : Bool) (child : ℕ) (t u : Store) (g h : List (List ℕ)) (r : ℕ) : Type 0 where
+  pub met :
+      (pool : Pool) → PooledIn pool t g → r ≡ 0 →
+      (after : Pool) × (slotOf (nodesIn s t) ldc child pool ≡ good (childSlot (u GIVEN) child, after)) × PooledIn after u h
+  pub refused : (pool : Pool) → PooledIn pool t g → 0 < r → slotOf (nodesIn s t) ldc child pool ≡ bad r
+  pub has : r ≡ 0 → Has (u GIVEN) child
+  pub goes : Goes t u g h
+
+-- so have all children of node k
+pub record SlottedAll (s : List ℕ) (k : ℕ) (t u : Store) (g h : List (List ℕ)) (r : ℕ) : Type 0 where
+  pub met :
+      (pool : Pool) → PooledIn pool t g → r ≡ 0 →
+      (after : Pool)
+      × (slotsOf (nodesIn s t) (kidsOf (nodesIn s t) k) pool ≡ good (map (childSlot (u GIVEN)) (kidsOf (nodesIn s t) k), after))
+      × PooledIn after u h
+  pub refused : (pool : Pool) → PooledIn pool t g → 0 < r → slotsOf (nodesIn s t) (kidsOf (nodesIn s t) k) pool ≡ bad r
+  pub has : r ≡ 0 → (i : ℕ) → i < length (kidsOf (nodesIn s t) k) → Has (u GIVEN) (getD (kidsOf (nodesIn s t) k) i 0)
+  pub goes : Goes t u g h
+
+-- node r left the building stack
+pub record Popped (t u : Store) (r : ℕ) : Type 0 where
+  pub pools :
+      (pool : Pool) (g : List (List ℕ)) → PooledIn pool t g →
+      (slot : ℕ)
+      × (rest : List (ℕ × ℕ))
+      × (pool .pending ≡ (slot, r) ∷ rest)
+      × PooledIn (record { slots = pool .slots; given = pool .given; pending = rest }) u g
+  pub live : (g : List (List ℕ)) → LiveIn t g → LiveIn u g × (r < getD (t COUNTS) NODE-COUNT 0)
+  pub fewer : pendingCount u + 1 ≡ pendingCount t
+  pub counters : (c : ℕ) → (c ≡ PENDING-COUNT → ⊥) → getD (u COUNTS) c 0 ≡ getD (t COUNTS) c 0
+  pub kept : Kept (COUNTS ∷ []) t u
