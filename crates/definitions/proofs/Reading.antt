@@ -8,9 +8,9 @@ use lib.ListN.{length}
 use borrow.Author.Tests.{ne-eqb}
 use Rattle.definition.specs.Shapes.{Kind, Entry, isWide}
 use Rattle.definition.specs.Job.{Reference, define, named, shortName}
-use Rattle.job.specs.Stored.{Found, Stands, WhatStands, ReferenceStands, WhatReference, WhatEntry, anyDefinition}
+use Rattle.job.specs.Stored.{Found, Stands, WhatStands, ReferenceStands, WhatReference, WhatEntry, anyDefinition, firstPlace}
 use Rattle.job.proofs.Laws.{number}
-use Rattle.job.proofs.Endings.{firstPlace, literalEnd, literal-there, naming-there}
+use Rattle.job.proofs.Endings.{literalEnd, literal-there, naming-there}
 use Rattle.store.specs.Regions.{Work}
 use Rattle.store.specs.Words.{REFUSED}
 use Rattle.store.proofs.Laying.{work-formed}

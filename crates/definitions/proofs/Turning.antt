@@ -15,8 +15,8 @@ use Rattle.definition.specs.Shapes.{constant, bootstrap, Entry}
 use Rattle.definition.specs.Job.{Reference, define, reference}
 use Rattle.definition.specs.Form.{kindOf}
 use Rattle.facts.proofs.Lists.{some-inj, inside-found, equal}
-use Rattle.job.specs.Stored.{Found, WhatStands, ReferenceStands, WhatReference, WhatEntry, anyDefinition, kidKind, bytesBetween}
-use Rattle.job.proofs.Endings.{firstPlace, kindIf, KidsTurn, kids-there, first-kind}
+use Rattle.job.specs.Stored.{Found, WhatStands, ReferenceStands, WhatReference, WhatEntry, anyDefinition, kidKind, bytesBetween, firstPlace, KidsTurn}
+use Rattle.job.proofs.Endings.{kindIf, kids-there, first-kind}
 use Rattle.store.specs.Store.{Store, put, IsWord}
 use Rattle.store.specs.JobIn.{constantsIn, entriesIn}
 use Rattle.store.specs.Regions.{GOALS}

@@ -7,8 +7,7 @@ use Prim.Native.Nat.{ℕ, _+_, _<_, _≤_}
 use lib.ListN.{length, getD, getElem?, set, drop}
 use Rattle.definition.specs.Shapes.{Entry}
 use Rattle.definition.specs.Job.{Reference, define}
-use Rattle.job.specs.Stored.{Found, anyDefinition}
-use Rattle.job.proofs.Endings.{KidsTurn}
+use Rattle.job.specs.Stored.{Found, anyDefinition, KidsTurn}
 use Rattle.store.specs.Store.{Store, put, Kept}
 use Rattle.store.specs.JobIn.{countsIn, constantsIn, entriesIn}
 use Rattle.store.specs.Regions.{COUNTS, RECORDS, OFFSETS, FIRSTS, SIZES, GOALS, PLACE, REFERENCE-COUNT}

@@ -10,7 +10,7 @@ use lib.Dec.{eqb, ltb}
 use lib.ListN.{length}
 use borrow.Author.Tests.{eq-eqb, ne-eqb, lt-ltb, le-ltb}
 use Rattle.definition.specs.Basics.{every, lookup, insert}
-use Rattle.facts.specs.Lists.{Among, Rising}
+use Rattle.facts.specs.Lists.{Among, Rising, keys}
 use Rattle.facts.proofs.Lists.{none≢some, some-inj, order, equal, among-nil, among-cons, among-later, every-at}
 
 -- equal rows have equal keys
@@ -146,10 +146,6 @@ insert-length k a (r ∷ l) = go (ltb k (r .0)) refl (insert-length k a l)
     go false e ih = rw (e, insert) (omega arith)
 
 -- ---- keys that rise
-
--- a table's keys
-abbrev pub keys : {A : Type 0} → List (ℕ × A) → List ℕ
-keys rows = map (λ r. r .0) rows
 
 -- maps that keep the keys
 pub keys-map : {A B : Type 0} (f : ℕ × A → ℕ × B) (rows : List (ℕ × A)) → ((r : ℕ × A) → f r .0 ≡ r .0) → keys (map f rows) ≡ keys rows

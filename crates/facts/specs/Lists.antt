@@ -1,5 +1,6 @@
--- What contracts, statements and facts say of lists: that something stands in one, and that numbers rise. Assumes nothing.
-use mathlib.Core.List.{List, [], _∷_}
+-- What contracts, statements and facts say of lists: that something stands in one, that numbers rise, and a table's
+-- keys. Assumes nothing.
+use mathlib.Core.List.{List, [], _∷_, map}
 use mathlib.Core.Option.{some}
 use mathlib.Core.Path.{_≡_}
 use Prim.Native.Nat.{ℕ, suc, _≤_}
@@ -13,3 +14,7 @@ Among a l = (i : ℕ) × (getElem? l i ≡ some a)
 abbrev pub Rising : ℕ → ℕ → List ℕ → Type 0
 Rising low top [] = Unit {0}
 Rising low top (n ∷ ns) = (low ≤ n) × (n ≤ top) × Rising (suc n) top ns
+
+-- a table's keys
+abbrev pub keys : {A : Type 0} → List (ℕ × A) → List ℕ
+keys rows = map (λ r. r .0) rows

@@ -18,14 +18,10 @@ use Rattle.raw_const.specs.declared.Shape.the-variants.{Text, Bits, One, Two, D
 use Rattle.job.specs.declared.Opening.{Opening}
 use Rattle.job.specs.declared.Opening.the-variants.{Constant, Bootstrap, NamedConstant, NamedBootstrap, RawConstant, RawBootstrap}
 use Rattle.job.specs.Forms.{entryBody, bodyOf}
-use Rattle.job.specs.Stored.{Found, InTurn, anyDefinition, firstKind, kindIn, kidKind, bytesBetween}
+use Rattle.job.specs.Stored.{Found, InTurn, anyDefinition, firstKind, kindIn, kidKind, bytesBetween, KidsTurn, firstPlace}
 use Rattle.job.proofs.Laws.{number}
 use Rattle.job.proofs.Taking.{byte-then}
 use Rattle.job.proofs.Standing.{Refers, EntryIs, NamingIs, PlacingIs, DefinitionIs, tag-there, entry-there, definition-there}
-
--- the first reference of an entry with this tag stands behind the tag, or behind a method handle's kind
-unfoldable pub firstPlace : ℕ → ℕ → ℕ
-firstPlace tag at = elim (eqb tag 15) [ true ↦ at + 2 | false ↦ at + 1 ]
 
 -- a Dynamic's first reference is to a bootstrap
 unfoldable pub kindIf : Bool → Kind
@@ -39,12 +35,6 @@ literalEnd s at tag =
       | true ↦ at + 3 + number s (at + 1)
       | false ↦ elim (isWide tag) [ true ↦ at + 9 | false ↦ at + 5 ]
     ]
-
--- references from the i-th of an entry with this tag on stand one behind the other, from a place to another
-abbrev pub KidsTurn : List ℕ → ℕ → ℕ → ℕ → List Reference → ℕ → Type 0
-KidsTurn s tag i at [] end = at ≡ end
-KidsTurn s tag i at (r ∷ rest) end =
-    (behind : ℕ) × Found (reference (kidKind tag i)) s at r behind × KidsTurn s tag (suc i) (behind + bytesBetween (kindOf tag) i) rest end
 
 -- how many bytes a number with this tag has
 unfoldable bitsOf : ℕ → ℕ

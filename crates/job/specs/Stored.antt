@@ -1,8 +1,10 @@
 -- Where a job's records stand, and what stands at a stored place. Assumes nothing.
+use mathlib.Core.Bool.{true, false}
 use mathlib.Core.List.{List, [], _∷_}
 use mathlib.Core.Option.{Option, none, some}
 use mathlib.Core.Path.{_≡_}
 use Prim.Native.Nat.{ℕ, zero, suc, _+_, _-_, _≤_, _<_}
+use lib.Dec.{eqb}
 use lib.ListN.{length, take, drop, getElem?}
 use Rattle.definition.specs.Basics.{lookup}
 use Rattle.definition.specs.Bytes.{Parser, _>>=_, one}
@@ -100,6 +102,16 @@ pub record KidAt (s : List ℕ) (e : Entry (List ℕ) Reference) (i place : ℕ)
   pub found : Found (reference (kidKind (e .tag) i)) s place kid behind
   pub end : ℕ
   pub rest : InTurn (reference constant) s (behind + bytesBetween (kindOf (e .tag)) i) later end
+
+-- the first reference of an entry with this tag stands behind the tag, or behind a method handle's kind
+unfoldable pub firstPlace : ℕ → ℕ → ℕ
+firstPlace tag at = elim (eqb tag 15) [ true ↦ at + 2 | false ↦ at + 1 ]
+
+-- references from the i-th of an entry with this tag on stand one behind the other, from a place to another
+abbrev pub KidsTurn : List ℕ → ℕ → ℕ → ℕ → List Reference → ℕ → Type 0
+KidsTurn s tag i at [] end = at ≡ end
+KidsTurn s tag i at (r ∷ rest) end =
+    (behind : ℕ) × Found (reference (kidKind tag i)) s at r behind × KidsTurn s tag (suc i) (behind + bytesBetween (kindOf tag) i) rest end
 
 -- where the records of a job stand: the definitions from the start to 50, then the requests to 60, then 60's fields, and nothing more
 pub record Laid (s : List ℕ) (job : Job (List ℕ)) : Type 0 where

@@ -8,9 +8,9 @@ use native.Mathlib.Omega.{arith}
 use lib.ListN.{length, getD, getElem?, take, length-map}
 use lib.Seq.{getD-take}
 use Rattle.definition.specs.Definitions.{Held}
-use Rattle.facts.specs.Lists.{Rising}
+use Rattle.facts.specs.Lists.{Rising, keys}
 use Rattle.facts.proofs.Lists.{none≢some, some-inj, found-inside, read-found, map-at, equal, order as compare}
-use Rattle.facts.proofs.Tables.{keys, lookup-at}
+use Rattle.facts.proofs.Tables.{lookup-at}
 use Rattle.store.specs.Store.{Store, size}
 use Rattle.store.specs.Chains.{NumbersIn}
 use Rattle.store.specs.JobIn.{entriesIn}

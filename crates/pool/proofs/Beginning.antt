@@ -13,9 +13,8 @@ use Rattle.definition.specs.Definitions.{Held, starts, half}
 use Rattle.definition.specs.Resolving.{done, childOf, markChild}
 use Rattle.definition.specs.Slots.{highestSlot, Gap, gapsFrom, startSlots}
 use Rattle.definition.specs.Layout.{starters, nodeAt}
-use Rattle.facts.specs.Lists.{Rising}
+use Rattle.facts.specs.Lists.{Rising, keys}
 use Rattle.facts.proofs.Lists.{equal, read-found, get-map}
-use Rattle.facts.proofs.Tables.{keys}
 use Rattle.laws.specs.Gaps.{Apart}
 use Rattle.slots.specs.Gaps.{gapsAt, AtMost, slotsAt, Written}
 use Rattle.slots.proofs.Given.{written-apart}

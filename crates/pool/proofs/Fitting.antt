@@ -7,16 +7,15 @@ use native.Mathlib.Omega.{arith}
 use lib.ListN.{length, getD, drop}
 use Rattle.definition.specs.Basics.{good, only, lookup}
 use Rattle.definition.specs.Bytes.{_>>=_, return, two}
-use Rattle.definition.specs.Shapes.{Kind, constant, bootstrap, Entry}
+use Rattle.definition.specs.Shapes.{Kind, constant, bootstrap, Entry, readEntry}
 use Rattle.definition.specs.Job.{Definition, define, named, placed, Body, ofEntry, ofName, ofRaw, bodies, shortName, reference, readBody, readDefinition}
-use Rattle.definition.specs.Shapes.{readEntry}
 use Rattle.definition.specs.Numbering.{literals, numbered}
 use Rattle.definition.specs.Definitions.{Defined, sameKind, defineAll, nothingDefined}
 use Rattle.definition.specs.Slots.{gapsFrom}
 use Rattle.definition.specs.Layout.{starters}
 use Rattle.facts.proofs.Lists.{clash, none≢some, some-inj, found-inside}
 use Rattle.facts.proofs.Results.{some-then}
-use Rattle.facts.proofs.Tables.{keys}
+use Rattle.facts.specs.Lists.{keys}
 use Rattle.job.specs.Forms.{isPlacing, countsOf}
 use Rattle.job.specs.Stored.{Found, InTurn, anyDefinition}
 use Rattle.job.proofs.Taking.{byte-then, two-then, ends}

@@ -16,7 +16,8 @@ use Rattle.definition.specs.Definitions.{Held, starts, half, Defined, tagAt, is
 use Rattle.definition.specs.Slots.{Gap, gapBefore, gapsFrom}
 use Rattle.definition.specs.Layout.{starters}
 use Rattle.facts.proofs.Lists.{order, equal, none≢some}
-use Rattle.facts.proofs.Tables.{keys, lookup-hit, lookup-miss, insert-front, insert-behind}
+use Rattle.facts.proofs.Tables.{lookup-hit, lookup-miss, insert-front, insert-behind}
+use Rattle.facts.specs.Lists.{keys}
 use Rattle.facts.proofs.Results.{good-inj, good-then, unless-first}
 use Rattle.laws.proofs.definitions.RawSlotsRise.{isNone-true, placed-constant, defined-all}
 use Rattle.laws.proofs.slots.Gaps.{gapBefore-some, gapBefore-none}

@@ -11,8 +11,7 @@ use Rattle.definition.specs.Resolving.{Mark}
 use Rattle.definition.specs.Slots.{highestSlot, gapsFrom, startSlots}
 use Rattle.definition.specs.Building.{Pool}
 use Rattle.definition.specs.Layout.{starters, nodeAt}
-use Rattle.facts.specs.Lists.{Rising}
-use Rattle.facts.proofs.Tables.{keys}
+use Rattle.facts.specs.Lists.{Rising, keys}
 use Rattle.laws.specs.Gaps.{Apart}
 use Rattle.store.specs.Store.{Store, size, among, Kept, IsWord}
 use Rattle.store.specs.Regions.{COUNTS, MARKS, GIVEN, RAW-KEYS, RAW-ENTRIES, ORDER, PENDING, NODE-COUNT, GAP-COUNT, ODD, WIDE, PLAIN, PENDING-COUNT}

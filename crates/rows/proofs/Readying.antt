@@ -9,9 +9,8 @@ use Rattle.definition.specs.Basics.{from, lookup}
 use Rattle.definition.specs.Definitions.{Held}
 use Rattle.definition.specs.Resolving.{Mark}
 use Rattle.definition.specs.Layout.{nodeAt, indexNodes}
-use Rattle.facts.specs.Lists.{Rising}
+use Rattle.facts.specs.Lists.{Rising, keys}
 use Rattle.facts.proofs.Chunks.{from-same, from-get}
-use Rattle.facts.proofs.Tables.{keys}
 use Rattle.facts.proofs.Lists.{inside-found}
 use Rattle.interner.specs.Nodes.{nodeCount, EnteredIn, NodesIn}
 use Rattle.raws.specs.Raws.{rawCount, heldCount, indexRow, RawsIn, Ordered, IndexItem, RawRoom}

@@ -9,8 +9,7 @@ use Rattle.job.specs.Forms.{countsOf}
 use Rattle.definition.specs.Numbering.{constantsOf, bootstrapsOf}
 use Rattle.store.specs.Store.{size, Laid}
 use Rattle.store.specs.JobIn.{WellFormed, definitionsIn, countsIn, tableOf, entriesIn}
-use Rattle.store.specs.Regions.{placesOf, entriesOf, rawsOf, sizesFor, Work}
-use Rattle.store.specs.Regions.{COUNTS, MARKS, GIVEN, INDEXES, NAME-HEADS, NODE-HEADS, RAW-HEADS, ROW-HEADS, OWNER-HEADS, NAME-LINKS, NODE-LINKS, RAW-LINKS, ROW-LINKS, OWNER-LINKS, RECORDS, OFFSETS, FIRSTS, SIZES, GOALS, CHILDREN, NAME-PLACES, NAME-GOALS, RAW-KEYS, RAW-ENTRIES, ORDER, NODES, STACK, PENDING, INLINE, ANSWERS}
+use Rattle.store.specs.Regions.{placesOf, entriesOf, rawsOf, sizesFor, Work, COUNTS, MARKS, GIVEN, INDEXES, NAME-HEADS, NODE-HEADS, RAW-HEADS, ROW-HEADS, OWNER-HEADS, NAME-LINKS, NODE-LINKS, RAW-LINKS, ROW-LINKS, OWNER-LINKS, RECORDS, OFFSETS, FIRSTS, SIZES, GOALS, CHILDREN, NAME-PLACES, NAME-GOALS, RAW-KEYS, RAW-ENTRIES, ORDER, NODES, STACK, PENDING, INLINE, ANSWERS}
 
 pub length-places : (a : ℕ) (sizes : List ℕ) → length (placesOf a sizes) ≡ suc (length sizes)
 unfolding placesOf

@@ -11,9 +11,9 @@ use Rattle.definition.specs.Basics.{good, bad, lookup}
 use Rattle.definition.specs.Resolving.{Node, Mark}
 use Rattle.definition.specs.Building.{Pool, slotsOf, Row, Rows, writeRaw, indexOf, takeIndex, rowIndex, kidsOf, rawRows}
 use Rattle.definition.specs.Layout.{nodeAt, indexNodes}
-use Rattle.facts.specs.Lists.{Rising}
+use Rattle.facts.specs.Lists.{Rising, keys}
 use Rattle.facts.proofs.Lists.{order, equal}
-use Rattle.facts.proofs.Tables.{lookup-hit, lookup-miss, keys, keys-map, keys-reverse, rising-none}
+use Rattle.facts.proofs.Tables.{lookup-hit, lookup-miss, keys-map, keys-reverse, rising-none}
 use Rattle.facts.proofs.Results.{bad≢good, good-inj, good-first}
 use Rattle.laws.specs.Statements.{RowsOccur, rawOnly, afterRow}
 use Rattle.laws.proofs.definitions.RawSlotsRise.{rises}

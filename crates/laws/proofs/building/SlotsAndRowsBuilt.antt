@@ -10,9 +10,8 @@ use Rattle.definition.specs.Basics.{good, lookup}
 use Rattle.definition.specs.Shapes.{Entry}
 use Rattle.definition.specs.Resolving.{Node}
 use Rattle.definition.specs.Building.{Pool, Row, Made, kidsOf, buildAll}
-use Rattle.facts.specs.Lists.{Among, Rising}
+use Rattle.facts.specs.Lists.{Among, Rising, keys}
 use Rattle.facts.proofs.Lists.{among-nil}
-use Rattle.facts.proofs.Tables.{keys}
 use Rattle.facts.proofs.Each.{Both}
 use Rattle.laws.proofs.slots.SlotsToHold.{toHold}
 use Rattle.laws.proofs.building.ChildNumbers.{SlotFor, FinishedAt, OwnerOf, RowFrom, rowsOf, Starts, RowsKept, slots-same, finished-kept, owner-kept}

@@ -13,11 +13,9 @@ use Rattle.definition.specs.Basics.{Result, good, lookup, _>>=_}
 use Rattle.definition.specs.Shapes.{bootstrapTag, Entry, withKids}
 use Rattle.definition.specs.Definitions.{Held, tagAt}
 use Rattle.definition.specs.Resolving.{Node, firstNode}
-use Rattle.definition.specs.Building.{Pool, allocate, slotOf, slotsOf, Row, Rows, writeRaw, indexOf, takeIndex, rowIndex, fillHoles}
-use Rattle.definition.specs.Building.{Made, kidsOf, nodeNumber, childNumber, childNumbers, finish, withPending, drain, rawRows, buildAll}
-use Rattle.facts.specs.Lists.{Among, Rising}
+use Rattle.definition.specs.Building.{Pool, allocate, slotOf, slotsOf, Row, Rows, writeRaw, indexOf, takeIndex, rowIndex, fillHoles, Made, kidsOf, nodeNumber, childNumber, childNumbers, finish, withPending, drain, rawRows, buildAll}
+use Rattle.facts.specs.Lists.{Among, Rising, keys}
 use Rattle.facts.proofs.Lists.{inside-found, found-append, append-at, found-seam, found-replicate, found-filled, length-filled, among-nil, among-cons, among-later, among-left, among-right, among-either}
-use Rattle.facts.proofs.Tables.{keys}
 use Rattle.facts.proofs.Each.{Both, both-map, both-first, both-second}
 use Rattle.facts.proofs.Results.{bad≢good, good-inj, good-first}
 use Rattle.laws.specs.Statements.{Occurs, afterRequest, stackTaken}

@@ -11,9 +11,9 @@ use Rattle.definition.specs.Basics.{Result, good, atRecord, lookup, insert, _>>
 use Rattle.definition.specs.Shapes.{isWide, Entry, constant, bootstrap}
 use Rattle.definition.specs.Job.{Definition, define, named, placed}
 use Rattle.definition.specs.Definitions.{Held, starts, half, Defined, nameTarget, isNone, tagAt, startFree, lastSlot, hold, placeConstant, placeBootstrap, defineOne, defineAll, nothingDefined}
-use Rattle.facts.specs.Lists.{Rising}
+use Rattle.facts.specs.Lists.{Rising, keys}
 use Rattle.facts.proofs.Lists.{true≢false, both-true}
-use Rattle.facts.proofs.Tables.{lookup-insert-other, keys, rising-insert}
+use Rattle.facts.proofs.Tables.{lookup-insert-other, rising-insert}
 use Rattle.facts.proofs.Results.{bad≢good, good-inj, good-then, atRecord-good, unless-first}
 
 startFree-good :

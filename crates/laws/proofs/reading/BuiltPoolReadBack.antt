@@ -22,9 +22,9 @@ use Rattle.definition.specs.Building.{Pool, Row, kidsOf, attributeText, nameWan
 use Rattle.definition.specs.Layout.{starters, nodeAt, Layout, layoutOf, indexNodes, layout}
 use Rattle.definition.specs.Run.{shown, render}
 use Rattle.definition.specs.Jvms.{readPool, readBootstraps}
-use Rattle.facts.specs.Lists.{Among, Rising}
+use Rattle.facts.specs.Lists.{Among, Rising, keys}
 use Rattle.facts.proofs.Lists.{found-inside, inside-found, found-append}
-use Rattle.facts.proofs.Tables.{keys, keys-map}
+use Rattle.facts.proofs.Tables.{keys-map}
 use Rattle.facts.proofs.Each.{each-at, each-from, Both, both-length, both-each, both-nil}
 use Rattle.facts.proofs.Chunks.{length-from}
 use Rattle.facts.proofs.Sums.{times, times-reverse}

@@ -12,8 +12,7 @@ use Rattle.definition.specs.Resolving.{Goal, tableEntry, Node, resolveAll, noth
 use Rattle.definition.specs.Slots.{Gap, gapsFrom, startSlots}
 use Rattle.definition.specs.Building.{Pool}
 use Rattle.definition.specs.Layout.{starters, Ready, endDefinitions}
-use Rattle.facts.specs.Lists.{Rising}
-use Rattle.facts.proofs.Tables.{keys}
+use Rattle.facts.specs.Lists.{Rising, keys}
 use Rattle.facts.proofs.Each.{Each, each-weaker}
 use Rattle.facts.proofs.Sums.{total, total-append, run}
 use Rattle.facts.proofs.Results.{good-inj, good-first}

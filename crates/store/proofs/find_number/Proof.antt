@@ -1,10 +1,9 @@
 -- `store::find_number` meets its contract. Assumes nothing.
-use Rattle.store.proofs.Searching.{number-falls}
+use Rattle.store.proofs.Searching.{number-falls, ForNumber, sought-hit, sought-miss, number-start, number-on}
 use mathlib.Core.Path.{sym, _∙_}
 use native.Mathlib.Omega.{arith}
 use Rattle.store.specs.Store.{store}
 use Rattle.store.proofs.Stores.{length-store}
-use Rattle.store.proofs.Searching.{ForNumber, sought-hit, sought-miss, number-start, number-on}
 use borrow.Author.Needs.{needs}
 use Rattle.store.proofs.find_number.Statement.{statement}
 use Rattle.store.proofs.find_number.Tie as tie
