@@ -16,7 +16,8 @@ use Rattle.store.specs.Store.{Store, On}
 use Rattle.raws.specs.Raws.{heldCount}
 use Rattle.store.specs.Regions.{GIVEN, FIRSTS, SIZES, CHILDREN, ORDER, NODES}
 use Rattle.store.proofs.Stores.{in-words}
-use Rattle.output.specs.Contents.{childSlot, childCount}
+use Rattle.store.specs.Words.{childSlot}
+use Rattle.output.specs.Contents.{childCount}
 use Rattle.output.specs.Rows.{rowIn, RowReady, rawRows, rawIndexAt, inlineIndexAt, countRows, rawIndexIn, inlineIndexIn, rowCountIn, reachedAt, passed, nodeOr, rowNodeIn, rowAtIn, rowsIn, constantsFor, RowsReady}
 use Rattle.output.proofs.Pools.{paste-first}
 use Rattle.output.proofs.Rowing.{row-long}

@@ -8,14 +8,14 @@ use lib.ListN.{length, getD, getElem?, length-map, List·getD-eq-default}
 use borrow.Author.Tests.{lt-ltb, le-ltb}
 use Rattle.store.specs.Store.{Store, size}
 use Rattle.store.specs.Regions.{GIVEN, INDEXES, NODES, Work}
-use Rattle.store.specs.Words.{ENTRY, cut}
+use Rattle.store.specs.Words.{ENTRY, cut, childSlot}
 use Rattle.facts.proofs.Chunks.{length-from, from-place}
 use Rattle.facts.proofs.Lists.{get-map}
 use Rattle.store.specs.JobIn.{constantsIn}
 use Rattle.store.proofs.Laying.{work-sizes, entries-counted}
 use Rattle.store.proofs.Bounds.{work-constants}
 use Rattle.interner.specs.Nodes.{nodeCount}
-use Rattle.output.specs.Contents.{childSlot, childNumber, ChildThere, ShortChild, Made, Numbered}
+use Rattle.output.specs.Contents.{childNumber, ChildThere, ShortChild, Made, Numbered}
 
 pub slot-raw : (given : List ℕ) (x : ℕ) → x < ENTRY → childSlot given x ≡ x
 unfolding childSlot

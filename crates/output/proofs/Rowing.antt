@@ -15,7 +15,8 @@ use Rattle.raw_const.specs.Entries.{Wrote}
 use Rattle.raw_const.proofs.Writes.{wrote-then, wrote-nothing, wrote-short}
 use Rattle.store.specs.Store.{Store, size}
 use Rattle.store.specs.Regions.{GIVEN, FIRSTS, SIZES, CHILDREN, NODES}
-use Rattle.output.specs.Contents.{childSlot, childCount}
+use Rattle.store.specs.Words.{childSlot}
+use Rattle.output.specs.Contents.{childCount}
 use Rattle.output.specs.Rows.{slotsFrom, rowIn, Slotted, RowReady}
 use Rattle.output.proofs.Pools.{paste-first}
 

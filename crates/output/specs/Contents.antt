@@ -16,15 +16,11 @@ use Rattle.store.specs.Store.{Store, size, Kept}
 use Rattle.store.specs.Chains.{last, Heads, NumbersIn}
 use Rattle.store.specs.JobIn.{tableIn, entriesIn, constantsIn}
 use Rattle.store.specs.Regions.{COUNTS, MARKS, GIVEN, INDEXES, RAW-HEADS, OWNER-HEADS, OWNER-LINKS, FIRSTS, SIZES, CHILDREN, RAW-KEYS, RAW-ENTRIES, ORDER, NODES, HELD-COUNT, NAME-SLOT, POOL-COUNT}
-use Rattle.store.specs.Words.{ENTRY, HALF, cut}
+use Rattle.store.specs.Words.{ENTRY, HALF, cut, childSlot}
 use Rattle.interner.specs.Nodes.{nodeCount, EnteredIn}
 use Rattle.raws.specs.Raws.{rawCount, heldCount}
 
 -- CHILDREN
-
--- the slot of a child: a raw number is one, and a node has the slot that it was given
-unfoldable pub childSlot : List ℕ → ℕ → ℕ
-childSlot given x = elim (ltb x ENTRY) [ true ↦ x | false ↦ getD given (x - ENTRY) 0 ]
 
 -- the number of a child: of a bootstrap its index, of anything else its slot
 unfoldable pub childNumber : ℕ → List ℕ → List ℕ → List ℕ → ℕ → ℕ

@@ -10,9 +10,9 @@ use Rattle.definition.specs.Building.{Row}
 use Rattle.definition.specs.Run.{rowBytes}
 use Rattle.store.specs.Store.{Store, size}
 use Rattle.store.specs.Regions.{COUNTS, MARKS, GIVEN, INDEXES, FIRSTS, SIZES, CHILDREN, RAW-KEYS, RAW-ENTRIES, ORDER, NODES, INLINE, ROW-COUNT, WRITTEN-COUNT, INLINE-COUNT}
-use Rattle.store.specs.Words.{ENTRY}
+use Rattle.store.specs.Words.{ENTRY, childSlot}
 use Rattle.raws.specs.Raws.{rawCount, heldCount}
-use Rattle.output.specs.Contents.{childSlot, childAt, childCount}
+use Rattle.output.specs.Contents.{childAt, childCount}
 
 -- the slots of n children from a place on
 abbrev pub slotsFrom : List ℕ → List ℕ → ℕ → ℕ → List ℕ

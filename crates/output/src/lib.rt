@@ -47,9 +47,9 @@ ghost use Rattle.raw_const.specs.Entries.{Wrote};
 ghost use Rattle.store.specs.Store.{size, store, On, IsWord, Read};
 ghost use Rattle.store.specs.Regions.{COUNTS, MARKS, GIVEN, INDEXES, OWNER-HEADS, OWNER-LINKS, OFFSETS, FIRSTS, SIZES, CHILDREN, NODES, ANSWERS, NODE-COUNT, Work};
 ghost use Rattle.store.specs.Chains.{Heads};
-ghost use Rattle.store.specs.Words.{ENTRY, HALF, cut};
+ghost use Rattle.store.specs.Words.{ENTRY, HALF, cut, childSlot};
 ghost use Rattle.interner.specs.Nodes.{nodeCount};
-ghost use Rattle.output.specs.Contents.{NOTHING, ATTRIBUTE, childSlot, childNumber, ChildThere, childCount, finishedIn, Made, KidsNumbered, ShortChild, shownIn, wideIn, IsContent, rawWord, linkWord, linkOf, ownerIn, nameSlot, wideAt, contentIn, Searched, Owned, heldIn, HeldOrder, Sweep, OwnersMade, poolIn, Finished};
+ghost use Rattle.output.specs.Contents.{NOTHING, ATTRIBUTE, childNumber, ChildThere, childCount, finishedIn, Made, KidsNumbered, ShortChild, shownIn, wideIn, IsContent, rawWord, linkWord, linkOf, ownerIn, nameSlot, wideAt, contentIn, Searched, Owned, heldIn, HeldOrder, Sweep, OwnersMade, poolIn, Finished};
 ghost use Rattle.output.specs.Names.{textOf, classSlotIn, classIn, NameIs, ClassAt};
 ghost use Rattle.output.specs.Rows.{slotsFrom, rowIn, Slotted, RowReady, rawRows, rawIndexIn, inlineIndexIn, rawNodeIn, rowCountIn, reachedAt, passed, rowNodeIn, rowsIn, constantsFor, RowsReady};
 

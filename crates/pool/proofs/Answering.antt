@@ -19,7 +19,7 @@ use Rattle.store.specs.Store.{Store, size, put, among, Kept}
 use Rattle.store.specs.JobIn.{linkedIn}
 use Rattle.store.specs.Regions.{COUNTS, MARKS, GIVEN, NAME-HEADS, NAME-LINKS, NODE-HEADS, NODE-LINKS, OFFSETS, FIRSTS, SIZES, GOALS, CHILDREN, NAME-PLACES, NAME-GOALS, NODES, STACK, PENDING, ANSWERS, NAME-COUNT, NODE-COUNT, VISITS, GAP-COUNT, ODD, WIDE, PLAIN, PENDING-COUNT, Work}
 use Rattle.store.specs.Small.{Small}
-use Rattle.store.specs.Words.{ENTRY, markWord, goalWord}
+use Rattle.store.specs.Words.{ENTRY, markWord, goalWord, childSlot}
 use Rattle.store.proofs.Bounds.{small}
 use Rattle.store.proofs.Keeping.{kept-put, kept-then, kept-more}
 use Rattle.store.proofs.Laying.{work-sizes, work-formed, entries-counted}
@@ -28,7 +28,7 @@ use Rattle.resolver.specs.Resolved.{resolvedIn, Became, Table, AtRest, visitsOw
 use Rattle.resolver.proofs.Meanings.{child-raw, child-entry, done-found}
 use Rattle.resolver.proofs.Going.{told-good, told-bad}
 use Rattle.resolver.proofs.Handing.{resolved-became, resolved-grows}
-use Rattle.pool.specs.Pooled.{childSlot, gapsIn, PooledIn, LiveIn, NodesThere, moving, Goes, Slotted}
+use Rattle.pool.specs.Pooled.{gapsIn, PooledIn, LiveIn, NodesThere, moving, Goes, Slotted}
 use Rattle.pool.specs.Replying.{goalFor, LeadsTo, low, KeptAnswer, readyIn, Asking, askedCounters, askedRegions, Replied}
 use Rattle.pool.proofs.Words.{not-among}
 use Rattle.pool.proofs.Giving.{SameGaps, slots-same, gaps-live-same}

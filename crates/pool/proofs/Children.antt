@@ -15,9 +15,9 @@ use Rattle.facts.proofs.Lists.{order, found-inside, found-read, map-same}
 use Rattle.facts.proofs.Chunks.{length-from, from-get}
 use Rattle.store.specs.Store.{Store, size}
 use Rattle.store.specs.Regions.{GIVEN, NODE-HEADS, NODE-LINKS, OFFSETS, FIRSTS, SIZES, CHILDREN, NODES, NODE-COUNT}
-use Rattle.store.specs.Words.{ENTRY, cut}
+use Rattle.store.specs.Words.{ENTRY, cut, childSlot}
 use Rattle.interner.specs.Nodes.{nodeAt, nodeCount, nodesIn}
-use Rattle.pool.specs.Pooled.{childSlot, Has, PooledIn, LiveIn, NodesThere, KidsThere, Goes, Slotted, SlottedAll}
+use Rattle.pool.specs.Pooled.{Has, PooledIn, LiveIn, NodesThere, KidsThere, Goes, Slotted, SlottedAll}
 use Rattle.pool.proofs.Words.{child-kept, has-kept}
 use Rattle.pool.proofs.Giving.{goes-not, goes-then}
 use Rattle.pool.proofs.Nodal.{entryOf, node-kids, node-kids-fit}

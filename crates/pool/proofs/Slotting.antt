@@ -17,11 +17,11 @@ use Rattle.laws.proofs.slots.SlotRequest.{allocate-new, allocate-old}
 use Rattle.store.specs.Store.{Store, size, IsWord}
 use Rattle.store.specs.JobIn.{entriesIn}
 use Rattle.store.specs.Regions.{COUNTS, GIVEN, PENDING, NODE-COUNT, PENDING-COUNT, Work}
-use Rattle.store.specs.Words.{ENTRY}
+use Rattle.store.specs.Words.{ENTRY, childSlot}
 use Rattle.store.proofs.Bounds.{small}
 use Rattle.store.proofs.Laying.{work-sizes, work-formed, entries-counted}
 use Rattle.interner.specs.Nodes.{nodeCount, nodesIn}
-use Rattle.pool.specs.Pooled.{childSlot, Has, Lacks, slotsIn, PooledIn, LiveIn, pendingCount, NodesThere, Took, Gave, Slotted}
+use Rattle.pool.specs.Pooled.{Has, Lacks, slotsIn, PooledIn, LiveIn, pendingCount, NodesThere, Took, Gave, Slotted}
 use Rattle.pool.proofs.Words.{child-raw, child-node, word-none, word-some, zeros-some}
 use Rattle.pool.proofs.Giving.{goes-not, goes-then, goes-took, pooled-took, goes-gave, pooled-gave, gave-slot}
 

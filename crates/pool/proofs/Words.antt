@@ -11,8 +11,8 @@ use lib.Dec.{eqb}
 use borrow.Author.Tests.{lt-ltb, le-ltb, eqb-true, eqb-false, not-true, not-false}
 use Rattle.facts.proofs.Lists.{true≢false}
 use Rattle.store.specs.Store.{among}
-use Rattle.store.specs.Words.{ENTRY}
-use Rattle.pool.specs.Pooled.{slotWord, childSlot, Has, Lacks, zeros}
+use Rattle.store.specs.Words.{ENTRY, childSlot}
+use Rattle.pool.specs.Pooled.{slotWord, Has, Lacks, zeros}
 
 -- A CHILD'S SLOT
 

@@ -18,7 +18,7 @@ use Rattle.slots.specs.declared.Allocated.the-variants.{Slot, None}
 use Rattle.slots.specs.Gaps.{gapsAt, slotsAt}
 use Rattle.store.specs.Store.{Store, size, put, among, Kept}
 use Rattle.store.specs.Regions.{COUNTS, GIVEN, NODE-HEADS, PENDING, NODE-COUNT, GAP-COUNT, ODD, WIDE, PLAIN, PENDING-COUNT, Work}
-use Rattle.store.specs.Words.{ENTRY}
+use Rattle.store.specs.Words.{ENTRY, childSlot}
 use Rattle.interner.specs.Nodes.{EnteredIn, NodesIn, nodesIn}
 
 -- WORDS
@@ -27,10 +27,6 @@ use Rattle.interner.specs.Nodes.{EnteredIn, NodesIn, nodesIn}
 unfoldable pub slotWord : ℕ → Option ℕ
 slotWord zero = none
 slotWord (suc n) = some (suc n)
-
--- the slot of a child: a raw number is itself
-unfoldable pub childSlot : List ℕ → ℕ → ℕ
-childSlot given child = elim (ltb child ENTRY) [ true ↦ child | false ↦ getD given (child - ENTRY) 0 ]
 
 -- a child that needs no slot: a raw number, or a node that has one
 abbrev pub Has : List ℕ → ℕ → Type 0

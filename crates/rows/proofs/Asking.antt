@@ -17,11 +17,11 @@ use Rattle.facts.proofs.Chunks.{from-same}
 use Rattle.laws.proofs.building.ChildNumbers.{indexOf-there}
 use Rattle.laws.proofs.building.RowsThatOccur.{row-old}
 use Rattle.store.specs.Store.{Store, size}
-use Rattle.store.specs.Words.{ENTRY}
+use Rattle.store.specs.Words.{ENTRY, childSlot}
 use Rattle.store.specs.Chains.{headOf, Chains}
 use Rattle.store.specs.Regions.{GIVEN, INDEXES, ROW-HEADS, ROW-LINKS, NODES, INLINE}
 use Rattle.store.proofs.Walking.{last-ext}
-use Rattle.rows.specs.Rowed.{childSlot, rowAt, hashRow, backwards, Base, entryOf, wordOf, itemOf, Inlined, RowWords, Rowed, constantsOf, rowCount, writtenCount, inlineCount, rawRows, rawIndex, rawNode, entryRow, rowIn, baseIn, RowWordsIn, RowedIn, IsBootstrapIn, indexWord, Reached, Nth, RowRoom, KidsIn, isBootstrap, numberOf, HasNumber}
+use Rattle.rows.specs.Rowed.{rowAt, hashRow, backwards, Base, entryOf, wordOf, itemOf, Inlined, RowWords, Rowed, constantsOf, rowCount, writtenCount, inlineCount, rawRows, rawIndex, rawNode, entryRow, rowIn, baseIn, RowWordsIn, RowedIn, IsBootstrapIn, indexWord, Reached, Nth, RowRoom, KidsIn, isBootstrap, numberOf, HasNumber}
 use Rattle.rows.proofs.Listing.{backwards-same, reverse-backwards}
 use Rattle.rows.proofs.Numbers.{boot-is, number-there, number-boot, number-slot}
 use Rattle.rows.proofs.Slotting.{map-from, part-is, slotAt, row-from}

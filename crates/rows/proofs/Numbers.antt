@@ -12,8 +12,8 @@ use Rattle.facts.proofs.Lists.{both-true, order}
 use Rattle.interner.specs.Nodes.{nodeCount}
 use Rattle.store.specs.Store.{Store, size}
 use Rattle.store.specs.Regions.{GIVEN, INDEXES, NODES}
-use Rattle.store.specs.Words.{ENTRY}
-use Rattle.rows.specs.Rowed.{childSlot, constantsOf, RowRoom, KidsIn, IsBootstrapIn, indexWord, isBootstrap, numberOf, HasNumber}
+use Rattle.store.specs.Words.{ENTRY, childSlot}
+use Rattle.rows.specs.Rowed.{constantsOf, RowRoom, KidsIn, IsBootstrapIn, indexWord, isBootstrap, numberOf, HasNumber}
 use Rattle.rows.proofs.Reading.{kids-at}
 
 module _ (p : List ℕ) (t : Store) (child : ℕ) where

@@ -16,8 +16,8 @@ use Rattle.interner.specs.Nodes.{hashWords}
 use Rattle.raws.proofs.Sweeping.{cut-long}
 use Rattle.store.specs.Store.{IsWord}
 use Rattle.store.specs.Chains.{mixed}
-use Rattle.store.specs.Words.{ENTRY, cut}
-use Rattle.rows.specs.Rowed.{childSlot, rowAt, hashRow}
+use Rattle.store.specs.Words.{ENTRY, cut, childSlot}
+use Rattle.rows.specs.Rowed.{rowAt, hashRow}
 
 pub slot-raw : (given : List ℕ) (child : ℕ) → child < ENTRY → child ≡ childSlot given child
 unfolding childSlot

@@ -15,13 +15,9 @@ use Rattle.raws.specs.Raws.{rawCount, heldCount}
 use Rattle.store.specs.Store.{Store, size, put, among, Kept}
 use Rattle.store.specs.Chains.{headOf, Chains, Heads, linked}
 use Rattle.store.specs.Regions.{COUNTS, MARKS, GIVEN, INDEXES, ROW-HEADS, ROW-LINKS, FIRSTS, SIZES, CHILDREN, RAW-KEYS, RAW-ENTRIES, ORDER, NODES, INLINE, ROW-COUNT, WRITTEN-COUNT, INLINE-COUNT}
-use Rattle.store.specs.Words.{ENTRY, cut}
+use Rattle.store.specs.Words.{ENTRY, cut, childSlot}
 
 -- ROWS
-
--- the slot of a child that has one
-unfoldable pub childSlot : List ℕ → ℕ → ℕ
-childSlot given child = elim (ltb child ENTRY) [ true ↦ child | false ↦ getD given (child - ENTRY) 0 ]
 
 -- the row of an entry: its children's slots
 unfoldable pub rowAt : List ℕ → List ℕ → List ℕ → List ℕ → ℕ → Row

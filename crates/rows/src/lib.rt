@@ -35,8 +35,8 @@ ghost use Rattle.interner.specs.Nodes.{nodeCount};
 ghost use Rattle.store.specs.Store.{size, store, put, On, IsWord, Read};
 ghost use Rattle.store.specs.Chains.{Sought};
 ghost use Rattle.store.specs.Regions.{MARKS, GIVEN, INDEXES, FIRSTS, SIZES, NODES, INLINE};
-ghost use Rattle.store.specs.Words.{ENTRY};
-ghost use Rattle.rows.specs.Rowed.{childSlot, hashRow, constantsOf, rawRows, rawIndex, rawNode, rowIn, RowRoom, KidsIn, RawsReadyIn, RowWordsIn, RowedIn, IsBootstrapIn, indexWord, inlineCount, Nth, Reached, WroteRaws, withInline, withIndex, NewRow, Indexed, inlineIndex, InTable, RowNode, tableOf, isBootstrap, numberOf, HasNumber};
+ghost use Rattle.store.specs.Words.{ENTRY, childSlot};
+ghost use Rattle.rows.specs.Rowed.{hashRow, constantsOf, rawRows, rawIndex, rawNode, rowIn, RowRoom, KidsIn, RawsReadyIn, RowWordsIn, RowedIn, IsBootstrapIn, indexWord, inlineCount, Nth, Reached, WroteRaws, withInline, withIndex, NewRow, Indexed, inlineIndex, InTable, RowNode, tableOf, isBootstrap, numberOf, HasNumber};
 
 // Past every index.
 const PAST: usize = 65536;

@@ -96,3 +96,7 @@ markWord (suc (suc k)) = done k
 -- n words from a place on
 abbrev pub cut : List ℕ → ℕ → ℕ → List ℕ
 cut l at n = from (λ i. getD l (at + i) 0) 0 n
+
+-- the slot of a child: a raw number is itself, and a node has the slot that it was given, 0 while it has none
+unfoldable pub childSlot : List ℕ → ℕ → ℕ
+childSlot given child = elim (ltb child ENTRY) [ true ↦ child | false ↦ getD given (child - ENTRY) 0 ]

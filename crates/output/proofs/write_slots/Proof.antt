@@ -7,7 +7,7 @@ use Rattle.store.specs.Store.{store}
 use Rattle.store.specs.Regions.{GIVEN, CHILDREN}
 use Rattle.store.proofs.Stores.{in-words}
 use Rattle.raw_const.specs.Entries.{Wrote}
-use Rattle.output.specs.Contents.{childSlot}
+use Rattle.store.specs.Words.{childSlot}
 use Rattle.output.specs.Rows.{slotsFrom}
 use Rattle.output.proofs.Rowing.{shorts, slots-none, slots-more, slots-length}
 use Rattle.output.proofs.write_slots.Statement.{statement}
