@@ -4,7 +4,9 @@ pub mod ExactlySeventeen
 pub mod ConstantsGiven
 pub mod ChildNumbers
 pub mod WhatBuildingLeaves
+pub mod HolesFilled
 pub mod SlotsAndRowsBuilt
+pub mod ExactNumbers
 pub mod PoolOccurs
 pub mod AfterRequests
 pub mod AfterRecord50
@@ -13,3 +15,4 @@ pub mod BeforeRequests
 pub mod AfterBuilding
 pub mod AfterName
 pub mod BuiltJob
+pub mod JobNodesApart

@@ -2,6 +2,5 @@
 pub mod Numbering
 pub mod AlikeJobs
 pub mod RunsLaidOut
-pub mod Shape
 pub mod NumberedCited
 pub mod NumberedLow

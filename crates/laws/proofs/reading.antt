@@ -13,5 +13,10 @@ pub mod ConstantsAgree
 pub mod ReadersAgree
 pub mod Reads
 pub mod SlotsShow
+pub mod IndexesHeld
 pub mod JobHeld
 pub mod Holds
+pub mod GivenNumbers
+pub mod Shared
+pub mod LiteralsShown
+pub mod Shape

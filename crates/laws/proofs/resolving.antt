@@ -2,6 +2,7 @@
 pub mod NameTargets
 pub mod Followed
 pub mod JobGoals
+pub mod LeadsAsFollowed
 pub mod Interning
 pub mod FaithfulToEntries
 pub mod OwedVisits
@@ -9,5 +10,7 @@ pub mod GoalsLow
 pub mod ResolvingRefusals
 pub mod NodesAndChildren
 pub mod ResolvedNodes
+pub mod NodesApart
 pub mod JobTableGood
 pub mod EntryOrigins
+pub mod SameConstants

@@ -1,7 +1,11 @@
 pub mod Starred
+pub mod SecondTable
 pub mod Decided
 pub mod AsEntries
+pub mod LeadsStatement
 pub mod Statements
+pub mod ShapeStatement
+pub mod SharedStatement
 pub mod ReaderStatements
 pub mod Faithful
 pub mod Counted

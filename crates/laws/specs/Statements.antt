@@ -13,14 +13,14 @@ use Prim.Native.Nat.{ℕ, zero, suc, _+_, _*_, _%_, _≤_, _<_}
 use lib.Dec.{eqb}
 use lib.ListN.{length, take, getD, getElem?}
 use Rattle.definition.specs.Basics.{good, bad, Refusal, only, concat, lookup, from}
-use Rattle.definition.specs.Shapes.{Kind, bootstrapTag, Entry, withLiteral, isWide}
+use Rattle.definition.specs.Shapes.{Kind, bootstrap, bootstrapTag, Entry, withLiteral, isWide}
 use Rattle.definition.specs.Job.{Reference, entry, Definition, define, named, placed, Request, Build, Job}
 use Rattle.definition.specs.Form.{form}
 use Rattle.definition.specs.Numbering.{Literal, attributeName, entries, constantsOf, bootstrapsOf, literals, numberOf, literalOf, numbered}
 use Rattle.definition.specs.Definitions.{Held, Naming, Defined, tagAt, defineAll, nothingDefined}
 use Rattle.definition.specs.Resolving.{Goal, rawNumber, tableEntry, refusal, follow, goalOf, Node, Mark}
 use Rattle.definition.specs.Slots.{highestSlot, Gap, size}
-use Rattle.definition.specs.Building.{Pool, allocate, Row, Rows, indexOf, rowIndex, rawRows, nameWanted}
+use Rattle.definition.specs.Building.{Pool, allocate, Row, Rows, indexOf, rowIndex, rawRows}
 use Rattle.definition.specs.Layout.{Ready, endDefinitions, classSlotOf, Layout, indexNodes, layout}
 use Rattle.definition.specs.Run.{shown, Built, render, Lent, Memory, lentOf, longestJob, memoryAfter, run}
 use Rattle.definition.specs.Jvms.{Shown}
@@ -29,6 +29,7 @@ use Rattle.definition.specs.Blocks.{readBlocks, blocksFor, writeBlocks, blocksA
 use Rattle.facts.specs.Lists.{Among}
 use Rattle.jvms.specs.Pool.{Slot, BootstrapMethod, read-pool, read-bootstrap-methods}
 use Rattle.laws.specs.AsEntries.{asShown, asRow}
+use Rattle.laws.specs.LeadsStatement.{Leads}
 
 -- a byte string
 abbrev pub IsBytes : List ℕ → Type 0
@@ -69,18 +70,6 @@ pub record Alike (j₁ j₂ : Job (List ℕ)) : Type 0 where
       let at : Job (List ℕ) → ℕ → Literal → Type 0 = λ j i a. getElem? (literals j) i ≡ some a in
       (i k : ℕ) (a₁ b₁ a₂ b₂ : Literal) → at j₁ i a₁ → at j₁ k b₁ → at j₂ i a₂ → at j₂ k b₂ → a₁ .0 ≡ b₁ .0 →
       Among (a₁ .0) (1 ∷ 3 ∷ 4 ∷ 5 ∷ 6 ∷ []) → (a₁ .1 ≡ b₁ .1) ↔ (a₂ .1 ≡ b₂ .1)
-
--- SHAPE: two such jobs, not refused for length, work or room, are refused alike, or get one layout, in which each shows its own literals
--- (`render`, which uses them only in the pool's entries and the class name), and the same answers, counts, bootstrap bytes, name and visits
-abbrev pub Shape : Type 0
-Shape =
-    (bytes₁ bytes₂ : List ℕ) (j₁ j₂ : Job (List ℕ)) (lent₁ lent₂ : Lent) → form bytes₁ ≡ good j₁ → form bytes₂ ≡ good j₂ → Alike j₁ j₂ →
-    let enough : Lent → List ℕ → Type 0 = λ n job. (r : Refusal) → run n job ≡ bad r → (r .code ≢ 1) × (r .code ≢ 2) × (r .code ≢ 18) in
-    enough lent₁ bytes₁ → enough lent₂ bytes₂ →
-    ((r : Refusal) × (run lent₁ bytes₁ ≡ bad r) × (run lent₂ bytes₂ ≡ bad r))
-    ⊎ ((l : Layout) × (b₁ : Built) × (b₂ : Built) × (run lent₁ bytes₁ ≡ good b₁) × (run lent₂ bytes₂ ≡ good b₂)
-    × (b₁ ≡ render (literals j₁) l) × (b₂ ≡ render (literals j₂) l) × (b₁ .answers ≡ b₂ .answers) × (take 2 (b₁ .pool) ≡ take 2 (b₂ .pool))
-    × (b₁ .bootstrapCount ≡ b₂ .bootstrapCount) × (b₁ .bootstraps ≡ b₂ .bootstraps) × (b₁ .name ≡ b₂ .name) × (b₁ .visits ≡ b₂ .visits))
 
 -- a raw constant or a raw bootstrap
 unfoldable pub isRaw : Definition (List ℕ) → Bool
@@ -187,39 +176,58 @@ Reads =
     × (Option·map (map asRow) (read-bootstrap-methods (b .bootstrapCount) (b .bootstraps))
     ≡ some (map (λ row. record { tag = bootstrapTag; literal = []; byte = 0; kids = row }) (l .rows)))
 
--- the name records of a job
-unfoldable pub namings : List (Definition (List ℕ)) → List Naming
-namings [] = []
-namings (define e ∷ rest) = namings rest
-namings (named kind s r ∷ rest) = record { kind = kind; label = s; target = r } ∷ namings rest
-namings (placed kind at number ∷ rest) = namings rest
-
 -- what is compared: the job's definitions, and the finished pool and bootstraps as the reader shows them
 pub record Finished : Type 0 where
   pub definitions : List (Definition (List ℕ))
   pub pool : List Shown
   pub bootstraps : List (Entry (List ℕ) ℕ)
 
--- where a reference of the job leads, through names
-abbrev pub leadsTo : Finished → Reference → Goal
-leadsTo f r = goalOf (namings (f .definitions)) (length (constantsOf (f .definitions))) r
-
 -- what a slot of the finished pool shows
 unfoldable pub slotShows : Finished → ℕ → Shown
 slotShows f s = getD (none ∷ f .pool) s none
 
--- a number shows, to a depth, what a reference leads to. A raw number shows itself. An entry of the job is shown by an entry of the same
--- tag, literal and kind byte whose references in turn show its children: a constant by its slot, a bootstrap by its index
+-- entry e of a job: its constants, then its bootstraps
+abbrev pub entryAt : List (Definition (List ℕ)) → ℕ → Option (Entry (List ℕ) Reference)
+entryAt definitions e = getElem? (constantsOf definitions ++ bootstrapsOf definitions) e
+
+-- what the finished pool has at a number for an entry of a tag: a constant at its slot, a bootstrap at its index
+unfoldable pub heldFor : Finished → ℕ → ℕ → Shown
+heldFor f tag n = elim (eqb tag bootstrapTag) [ true ↦ getElem? (f .bootstraps) n | false ↦ slotShows f n ]
+
+-- a number shows, to a depth, a goal, which is where a reference leads (`Leads`). A raw number shows itself. An entry of the job is shown by
+-- an entry of the same tag, literal and kind byte whose references in turn show its children: a constant by its slot, a bootstrap by its index
 unfoldable pub Shows : ℕ → Finished → Goal → ℕ → Type 0
 Shows zero f goal n = Unit {0}
 Shows (suc depth) f (rawNumber m) n = n ≡ m
 Shows (suc depth) f (tableEntry e) n =
     (x : Entry (List ℕ) Reference) × (y : Entry (List ℕ) ℕ)
-    × (getElem? (constantsOf (f .definitions) ++ bootstrapsOf (f .definitions)) e ≡ some x)
-    × (elim (eqb (x .tag) bootstrapTag) [ true ↦ getElem? (f .bootstraps) n | false ↦ slotShows f n ] ≡ some y)
+    × (entryAt (f .definitions) e ≡ some x) × (heldFor f (x .tag) n ≡ some y)
     × (y .tag ≡ x .tag) × (y .literal ≡ x .literal) × (y .byte ≡ x .byte) × (length (y .kids) ≡ length (x .kids))
-    × ((i : ℕ) (r : Reference) (m : ℕ) → getElem? (x .kids) i ≡ some r → getElem? (y .kids) i ≡ some m → Shows depth f (leadsTo f r) m)
+    × ((i : ℕ) (r : Reference) (m : ℕ) → getElem? (x .kids) i ≡ some r → getElem? (y .kids) i ≡ some m →
+    (goal : Goal) × Leads (f .definitions) r goal × Shows depth f goal m)
 Shows (suc depth) f (refusal code) n = ⊥
+
+-- entry e cites r, and where the finished pool has e at number n, m stands in the place of r
+abbrev pub CitedAt : Finished → ℕ → ℕ → Reference → ℕ → Type 0
+CitedAt f e n r m =
+    (x : Entry (List ℕ) Reference) × (y : Entry (List ℕ) ℕ) × (i : ℕ) × (entryAt (f .definitions) e ≡ some x) × (heldFor f (x .tag) n ≡ some y)
+    × (getElem? (x .kids) i ≡ some r) × (getElem? (y .kids) i ≡ some m)
+
+-- a raw bootstrap (44) stands at an index
+abbrev pub RawIndex : Finished → ℕ → Type 0
+RawIndex f i = (k : ℕ) × (number : ℕ) × (getElem? (f .definitions) k ≡ some (placed bootstrap i number))
+
+-- an index was given: a constant that a slot shows cites a bootstrap of the job (a raw number isn't one), and the index stands in its place
+abbrev pub IndexGiven : Finished → ℕ → Type 0
+IndexGiven f i =
+    (e : ℕ) × (s : ℕ) × (r : Reference) × (cited : ℕ) × ((depth : ℕ) → Shows depth f (tableEntry e) s) × CitedAt f e s r i
+    × Leads (f .definitions) r (tableEntry cited) × (length (constantsOf (f .definitions)) ≤ cited)
+
+-- an index has the row of the least raw index above it
+abbrev pub RowOfNext : Finished → ℕ → Type 0
+RowOfNext f i =
+    (j : ℕ) × (i < j) × RawIndex f j × ((t : ℕ) → i < t → t < j → RawIndex f t → ⊥)
+    × (y : Entry (List ℕ) ℕ) × (getElem? (f .bootstraps) i ≡ some y) × (getElem? (f .bootstraps) j ≡ some y)
 
 -- the text that a shown entry is, if it is one
 unfoldable pub textOf : Shown → Option (List ℕ)
@@ -235,22 +243,29 @@ unfoldable pub classOf : Finished → Shown → Option (List ℕ)
 classOf f none = none
 classOf f (some e) = elim (eqb (e .tag) 7) [ true ↦ textAt f (getD (e .kids) 0 0) | false ↦ none ]
 
--- what is held: by answers, raw constants, raw bootstraps, class name and name slot
+-- what is held: by answers, raw constants, raw bootstraps, indexes, class name and, by the byte of 60, name slot
 pub record HeldBy (f : Finished) (requests : List Request) (build : Build) (b : Built) : Type 0 where
   pub asMany : length (b .answers) ≡ length requests
   pub answered :
       (i : ℕ) (q : Request) → getElem? requests i ≡ some q → (a : ℕ) × (getElem? (b .answers) i ≡ some a)
-      × (q .ldc ≡ true → a ≤ 255) × ((depth : ℕ) → Shows depth f (leadsTo f (q .what)) a)
+      × (q .ldc ≡ true → a ≤ 255) × (goal : Goal) × Leads (f .definitions) (q .what) goal × ((depth : ℕ) → Shows depth f goal a)
   pub placedThere :
-      (i n e : ℕ) (kind : Kind) → getElem? (f .definitions) i ≡ some (placed kind n e) → (depth : ℕ) →
-      Shows depth f (leadsTo f (entry kind e)) n
+      (i n e : ℕ) (kind : Kind) → getElem? (f .definitions) i ≡ some (placed kind n e) →
+      (goal : Goal) × Leads (f .definitions) (entry kind e) goal × ((depth : ℕ) → Shows depth f goal n)
+  -- an index at which no raw bootstrap stands was given, or is a hole
+  pub holes : (i : ℕ) → i < b .bootstrapCount → (RawIndex f i → ⊥) → IndexGiven f i ⊎ RowOfNext f i
   pub classThere : b .class ≡ classOf f (slotShows f (classSlotOf (b .answers) (build .class)))
-  pub nameThere : nameWanted (build .nameByte) (b .bootstrapCount) ≡ true → textAt f (b .name) ≡ some attributeName
-  pub noName : nameWanted (build .nameByte) (b .bootstrapCount) ≡ false → b .name ≡ 0
+  -- the byte is 0, 1 or 2. 0: the name slot shows the name; 1: so if there are bootstraps, else it is 0; 2: it is 0
+  pub byteIs : build .nameByte ≤ 2
+  pub nameAlways : build .nameByte ≡ 0 → textAt f (b .name) ≡ some attributeName
+  pub nameIfPresent :
+      build .nameByte ≡ 1 → (0 < b .bootstrapCount → textAt f (b .name) ≡ some attributeName) × (b .bootstrapCount ≡ 0 → b .name ≡ 0)
+  pub nameNever : build .nameByte ≡ 2 → b .name ≡ 0
 
 -- HOLDS: of a job of bytes, the finished pool and bootstraps read under JVMS; there are as many answers as requests, an ldc one at most 255,
--- and each shows, to any depth, the constant that was asked for; so does every raw definition at its slot or index; the class name is the one at the class slot;
--- and the name slot shows the name if it is wanted, and else is 0
+-- and each shows, to any depth, the constant that was asked for; so does every raw definition at its slot or index; any other index was given
+-- to a bootstrap that is cited, or has the row of the least raw index above it; the class name is the one at the class slot; and the name
+-- slot, by the byte of 60, shows the name or is 0
 abbrev pub Holds : Type 0
 Holds =
     (bytes : List ℕ) (job : Job (List ℕ)) (lent : Lent) (b : Built) → IsBytes bytes → form bytes ≡ good job → run lent bytes ≡ good b →

@@ -11,7 +11,7 @@ use Rattle.definition.specs.Basics.{good, position, lookup}
 use Rattle.definition.specs.Shapes.{Entry, withKids}
 use Rattle.definition.specs.Definitions.{Held, tagAt}
 use Rattle.definition.specs.Resolving.{Node, firstNode, sameNode, intern}
-use Rattle.definition.specs.Building.{Pool, allocate, Row, Made, attributeText, nameSlot}
+use Rattle.definition.specs.Building.{Pool, allocate, Made, attributeText, nameSlot}
 use Rattle.facts.specs.Lists.{Among}
 use Rattle.facts.proofs.Lists.{equal, found-inside, inside-found, found-append}
 use Rattle.facts.proofs.Tables.{some-key, lookup-hit, lookup-miss}
@@ -24,29 +24,29 @@ use Rattle.laws.proofs.slots.SlotRequest.{Met, old, new, met}
 use Rattle.laws.proofs.slots.PoolsThatOccur.{Below, sound}
 use Rattle.laws.proofs.slots.Keeps.{keeps}
 use Rattle.laws.proofs.slots.SlotsToHold.{toHold}
-use Rattle.laws.proofs.building.ChildNumbers.{SlotFor, NumberFor, OwnerOf, SlotsKept, rows-same, slots-same, given-held, owner-kept}
-use Rattle.laws.proofs.building.AfterBuilding.{Ended}
+use Rattle.laws.proofs.building.ChildNumbers.{SlotFor, Indexing, NumberBy, OwnerBy, SlotsKept, rows-same, slots-same, given-held, owner-kept}
+use Rattle.laws.proofs.building.AfterBuilding.{EndedBy}
 
 number-more :
-    (nodes more : List Node) (given : List (ℕ × ℕ)) (rows : List Row) (c n : ℕ) →
+    (nodes more : List Node) (given : List (ℕ × ℕ)) (At : Indexing) (c n : ℕ) →
     (firstNode ≤ c → c < firstNode + length nodes) →
-    NumberFor nodes given rows c n →
-    NumberFor (nodes ++ more) given rows c n
-number-more nodes more given rows c n low (inl h) = inl h
-number-more nodes more given rows c n low (inr (inl h)) =
+    NumberBy nodes given At c n →
+    NumberBy (nodes ++ more) given At c n
+number-more nodes more given At c n low (inl h) = inl h
+number-more nodes more given At c n low (inr (inl h)) =
     let k : c - firstNode < length nodes = omega (arith, low (h .0), h .0) in
     inr (inl (h .0, λ t. h .1 (sym (tag-append nodes more (c - firstNode) k) ∙ t), h .2))
-number-more nodes more given rows c n low (inr (inr h)) =
+number-more nodes more given At c n low (inr (inr h)) =
     let k : c - firstNode < length nodes = omega (arith, low (h .0), h .0) in
     inr (inr (h .0, tag-append nodes more (c - firstNode) k ∙ h .1, h .2, h .3, subst (λ cs. Both (SlotFor given) cs (h .2)) (sym (kids-append nodes more (c - firstNode) k)) (h .4)))
 
 owner-more :
-    (nodes more : List Node) (given raws : List (ℕ × ℕ)) (rows : List Row) (s : ℕ) (e : Entry ℕ ℕ) →
+    (nodes more : List Node) (given raws : List (ℕ × ℕ)) (At : Indexing) (s : ℕ) (e : Entry ℕ ℕ) →
     KidsIn nodes →
-    OwnerOf nodes given raws rows s e →
-    OwnerOf (nodes ++ more) given raws rows s e
-owner-more nodes more given raws rows s e kids (k, nd, ns, same, at, a, h) =
-    (k, nd, ns, same, found-append nodes more k nd at, a, both-among (nd .kids) ns (λ c n i. number-more nodes more given rows c n (kids k nd at c i)) h)
+    OwnerBy nodes given raws At s e →
+    OwnerBy (nodes ++ more) given raws At s e
+owner-more nodes more given raws At s e kids (k, nd, ns, same, at, a, h) =
+    (k, nd, ns, same, found-append nodes more k nd at, a, both-among (nd .kids) ns (λ c n i. number-more nodes more given At c n (kids k nd at c i)) h)
 
 -- constants stay constants
 constants-more :
@@ -55,14 +55,14 @@ constants-more nodes more [] b h = tt
 constants-more nodes more (r ∷ given) b h = (λ t. h .0 (sym (tag-append nodes more (r .0) (b .0)) ∙ t), constants-more nodes more given (b .1) (h .1))
 
 ended-more :
-    (top : ℕ) (held : List (ℕ × Held)) (raws : List (ℕ × ℕ)) (nodes more : List Node) (rows : List Row) (m : Made) →
+    (top : ℕ) (held : List (ℕ × Held)) (raws : List (ℕ × ℕ)) (nodes more : List Node) (At : Indexing) (m : Made) →
     KidsIn nodes →
-    Ended top held raws nodes rows m →
-    Ended top held raws (nodes ++ more) rows m
-ended-more top held raws nodes more rows m kids h =
+    EndedBy top held raws nodes At m →
+    EndedBy top held raws (nodes ++ more) At m
+ended-more top held raws nodes more At m kids h =
     record {
       occurs = moreResolved more (h .occurs);
-      owner = λ s e l. owner-more nodes more (m .pool .given) raws rows s e kids (h .owner s e l);
+      owner = λ s e l. owner-more nodes more (m .pool .given) raws At s e kids (h .owner s e l);
       isOwned = h .isOwned;
       constants = constants-more nodes more (m .pool .given) (sound (h .occurs) .known) (h .constants);
     }
@@ -75,7 +75,7 @@ module _
     (held : List (ℕ × Held))
     (raws : List (ℕ × ℕ))
     (nodes : List Node)
-    (rows : List Row)
+    (At : Indexing)
     (m : Made)
     (k : ℕ)
     (nd : Node)
@@ -84,7 +84,7 @@ module _
     (constant : Constant nodes k)
     (q : ℕ × Pool)
     (gave : allocate nodes false k (m .pool) ≡ good q)
-    (h : Ended top held raws nodes rows m) where
+    (h : EndedBy top held raws nodes At m) where
   abbrev after-name : Made
   after-name = record { pool = q .1; rows = m .rows; owned = (q .0, nd) ∷ m .owned }
 
@@ -113,11 +113,11 @@ module _
       go (old _ same) = subst (λ (p : Pool). Among (s, k′) (toHold (p .given) raws)) same a
       go (new slots _ _ same) = later (subst (λ (p : Pool). Among (s, k′) (toHold (p .given) raws)) same a)
 
-  name-owner : (s : ℕ) (e : Entry ℕ ℕ) → lookup s ((q .0, nd) ∷ m .owned) ≡ some e → OwnerOf nodes (q .1 .given) raws rows s e
+  name-owner : (s : ℕ) (e : Entry ℕ ℕ) → lookup s ((q .0, nd) ∷ m .owned) ≡ some e → OwnerBy nodes (q .1 .given) raws At s e
   unfolding withKids
   name-owner s e l = go (equal s (q .0))
     where
-      go : (s ≡ q .0) ⊎ (s ≡ q .0 → ⊥) → OwnerOf nodes (q .1 .given) raws rows s e
+      go : (s ≡ q .0) ⊎ (s ≡ q .0 → ⊥) → OwnerBy nodes (q .1 .given) raws At s e
       go (inl same) =
           let is : nd ≡ e = cc (lookup-hit s (q .0, nd) (m .owned) same) in (
             k,
@@ -126,10 +126,10 @@ module _
             sym is ∙ ap (λ kids. record { tag = nd .tag; literal = nd .literal; byte = nd .byte; kids = kids }) childless,
             at,
             subst (λ n. Among (n, k) (toHold (q .1 .given) raws)) (sym same) (given-held k (q .0) (q .1 .given) raws name-given),
-            subst (λ kids. Both (NumberFor nodes (q .1 .given) rows) kids []) (sym childless) tt,
+            subst (λ kids. Both (NumberBy nodes (q .1 .given) At) kids []) (sym childless) tt,
           )
       go (inr other) =
-          owner-kept nodes raws {rows = rows} s e name-kept rows-same (held-still s) (h .owner s e (sym (lookup-miss s (q .0, nd) (m .owned) other) ∙ l))
+          owner-kept nodes raws {At = At} s e name-kept rows-same (held-still s) (h .owner s e (sym (lookup-miss s (q .0, nd) (m .owned) other) ∙ l))
 
   name-owned : (s k′ : ℕ) → Among (s, k′) (toHold (q .1 .given) raws) → (e : Entry ℕ ℕ) × (lookup s ((q .0, nd) ∷ m .owned) ≡ some e)
   name-owned s k′ a = go (equal s (q .0))
@@ -147,7 +147,7 @@ module _
       go (old _ same) = subst (λ (p : Pool). Each (λ r. Constant nodes (r .0)) (p .given)) (sym same) (h .constants)
       go (new slots _ _ same) = subst (λ (p : Pool). Each (λ r. Constant nodes (r .0)) (p .given)) (sym same) (constant, h .constants)
 
-  name-ended : Ended top held raws nodes rows after-name
+  name-ended : EndedBy top held raws nodes At after-name
   name-ended =
       record {
         occurs = afterRequest false k (q .0) (q .1) (h .occurs) (found-inside nodes k nd at) gave;
@@ -187,38 +187,40 @@ other-nodes nodes more k at only k′ nd at′ = go (only k′ (found-inside (no
     go (inr same) = inr (cc (ap (getElem? (nodes ++ more)) same))
 
 -- what the name adds
-pub record Named (top : ℕ) (held : List (ℕ × Held)) (raws : List (ℕ × ℕ)) (nodes : List Node) (rows : List Row) (wanted : Bool) (m : Made) (r : ℕ × Made) : Type 0 where
+pub record Named (top : ℕ) (held : List (ℕ × Held)) (raws : List (ℕ × ℕ)) (nodes : List Node) (At : Indexing) (wanted : Bool) (m : Made) (r : ℕ × Made) : Type 0 where
   pub more : List Node
-  pub ended : Ended top held raws (nodes ++ more) rows (r .1)
+  pub ended : EndedBy top held raws (nodes ++ more) At (r .1)
   pub kept : SlotsKept (m .pool .given) (r .1 .pool .given)
+  pub heldStill : (s k : ℕ) → Among (s, k) (toHold (m .pool .given) raws) → Among (s, k) (toHold (r .1 .pool .given) raws)
   -- no other node came in than the text
   pub others : (k : ℕ) (nd : Node) → getElem? (nodes ++ more) k ≡ some nd → (getElem? nodes k ≡ some nd) ⊎ (nd ≡ attributeText)
   pub name : ((wanted ≡ false) × (r .0 ≡ 0)) ⊎ ((wanted ≡ true) × (lookup (r .0) (r .1 .owned) ≡ some attributeText))
 
 pub named :
-    (top : ℕ) (held : List (ℕ × Held)) (raws : List (ℕ × ℕ)) (nodes : List Node) (rows : List Row) (wanted : Bool) (m : Made) (r : ℕ × Made) →
+    (top : ℕ) (held : List (ℕ × Held)) (raws : List (ℕ × ℕ)) (nodes : List Node) (At : Indexing) (wanted : Bool) (m : Made) (r : ℕ × Made) →
     KidsIn nodes →
-    Ended top held raws nodes rows m →
+    EndedBy top held raws nodes At m →
     nameSlot wanted nodes m ≡ good r →
-    Named top held raws nodes rows wanted m r
+    Named top held raws nodes At wanted m r
 unfolding nameSlot
-named top held raws nodes rows false m r kids h e =
-    subst (Named top held raws nodes rows false m) (good-inj e)
-    (record { more = []; ended = ended-more top held raws nodes [] rows m kids h; kept = slots-same; others = λ k nd at. inl (subst (λ n. getElem? n k ≡ some nd) (append-nil nodes) at); name = inl (refl, refl) })
-named top held raws nodes rows true m r kids h e =
+named top held raws nodes At false m r kids h e =
+    subst (Named top held raws nodes At false m) (good-inj e)
+    (record { more = []; ended = ended-more top held raws nodes [] At m kids h; kept = slots-same; heldStill = λ s k a. a; others = λ k nd at. inl (subst (λ n. getElem? n k ≡ some nd) (append-nil nodes) at); name = inl (refl, refl) })
+named top held raws nodes At true m r kids h e =
     good-then (allocate (intern attributeText nodes) false (position (sameNode attributeText) nodes) (m .pool)) _ r e λ q gave e₁.
     let i = interned attributeText nodes in
     let more = i .kept .0 in
     let k = position (sameNode attributeText) nodes in
     let at : getElem? (nodes ++ more) k ≡ some attributeText = subst (λ n. getElem? n k ≡ some attributeText) (i .kept .1) (i .there) in
     let gave′ : allocate (nodes ++ more) false k (m .pool) ≡ good q = subst (λ n. allocate n false k (m .pool) ≡ good q) (i .kept .1) gave in
-    let before = ended-more top held raws nodes more rows m kids h in
+    let before = ended-more top held raws nodes more At m kids h in
     let constant = attribute-constant (nodes ++ more) k at in
-    subst (Named top held raws nodes rows true m) (good-inj e₁)
+    subst (Named top held raws nodes At true m) (good-inj e₁)
     (record {
       more = more;
-      ended = name-ended top held raws (nodes ++ more) rows m k attributeText at attribute-childless constant q gave′ before;
-      kept = name-kept top held raws (nodes ++ more) rows m k attributeText at attribute-childless constant q gave′ before;
+      ended = name-ended top held raws (nodes ++ more) At m k attributeText at attribute-childless constant q gave′ before;
+      kept = name-kept top held raws (nodes ++ more) At m k attributeText at attribute-childless constant q gave′ before;
+      heldStill = held-still top held raws (nodes ++ more) At m k attributeText at attribute-childless constant q gave′ before;
       others = other-nodes nodes more k at (λ k′ low. i .noOther k′ (subst (λ n. k′ < length n) (sym (i .kept .1)) low));
       name = inr (refl, lookup-hit (q .0) (q .0, attributeText) (m .owned) refl);
     })

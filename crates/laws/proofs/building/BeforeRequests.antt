@@ -41,7 +41,7 @@ module _ (bytes : List ℕ) (job : Job (List ℕ)) (are : IsBytes bytes) (formed
     begun-names = facts .allNames
 
     -- the table of the stages is the job's
-    same-table : tableIn (numbered job) d ≡ jobTable (numbered job)
+    pub same-table : tableIn (numbered job) d ≡ jobTable (numbered job)
     same-table = ap (λ names. linked names (jobConstants (numbered job)) (constantsIn (numbered job) ++ bootstrapsOf (numbered job .definitions))) begun-names
 
     -- what record 50 resolves lies in the table

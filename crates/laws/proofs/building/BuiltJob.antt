@@ -28,12 +28,12 @@ use Rattle.laws.specs.Faithful.{Settled}
 use Rattle.laws.proofs.resolving.NodesAndChildren.{tag-found}
 use Rattle.laws.proofs.resolving.ResolvedNodes.{child-done, GoodTable, kids-in, bootstrap-kids}
 use Rattle.laws.proofs.slots.SlotsToHold.{toHold-among}
-use Rattle.laws.proofs.building.ChildNumbers.{rowsOf, StackIn, Starts}
+use Rattle.laws.proofs.building.ChildNumbers.{InlineIn, rowsOf, StackIn, Starts}
 use Rattle.laws.proofs.building.AfterRequests.{Going, Answered, Further, answerAll-going}
 use Rattle.laws.proofs.building.AfterRecord50.{rawGoals, rawsOf}
 use Rattle.laws.proofs.building.LayoutStages.{Stages, stages}
 use Rattle.laws.proofs.building.BeforeRequests.{formed-table, begun, begun-asks}
-use Rattle.laws.proofs.building.AfterBuilding.{built-ended}
+use Rattle.laws.proofs.building.AfterBuilding.{built-inline}
 use Rattle.laws.proofs.building.AfterName.{Named, named}
 
 module _ (bytes : List ℕ) (job : Job (List ℕ)) (l : Layout) (are : IsBytes bytes) (formed : form bytes ≡ good job) (laid : layout highestSlot (numbered job) ≡ good l) where
@@ -168,12 +168,16 @@ module _ (bytes : List ℕ) (job : Job (List ℕ)) (l : Layout) (are : IsBytes b
   abbrev pub rows : List Row
   rows = rowsOf (st .made)
 
+  -- the inline rows, with their indexes
+  abbrev pub inline : List (Row × ℕ)
+  inline = st .made .rows .inline
+
   pub ending :
-      Named highestSlot (st .defined .held) raws nodes rows (nameWanted (numbered job .build .nameByte) (length rows)) (st .made) (st .named)
+      Named highestSlot (st .defined .held) raws nodes (InlineIn inline) (nameWanted (numbered job .build .nameByte) (length rows)) (st .made) (st .named)
   ending =
-      named highestSlot (st .defined .held) raws nodes rows (nameWanted (numbered job .build .nameByte) (length rows)) (st .made) (st .named)
+      named highestSlot (st .defined .held) raws nodes (InlineIn inline) (nameWanted (numbered job .build .nameByte) (length rows)) (st .made) (st .named)
       (starts-here .kidsIn)
-      (built-ended highestSlot (st .defined .held) raws nodes indexes (st .asked .pool) (st .made)
+      (built-inline highestSlot (st .defined .held) raws nodes indexes (st .asked .pool) (st .made)
       (asked .0 .pooled)
       starts-here
       (bootstrap-kids table good-job-table (st .asked .resolved) (asked .0 .faithful))

@@ -3,8 +3,8 @@
 use mathlib.Core.Bool.{Bool, true, false}
 use mathlib.Core.List.{List, [], _∷_, _++_}
 use mathlib.Core.Logic.{_⊎_, inl, inr}
-use mathlib.Core.Option.{some}
-use mathlib.Core.Path.{_≡_, refl, sym}
+use mathlib.Core.Option.{none, some}
+use mathlib.Core.Path.{_≡_, refl, sym, ap, _∙_}
 use Prim.Native.Nat.{ℕ, _-_, _≤_, _<_}
 use lib.Dec.{eqb, ltb}
 use lib.ListN.{length, getElem?}
@@ -15,7 +15,7 @@ use Rattle.definition.specs.Definitions.{tagAt}
 use Rattle.definition.specs.Resolving.{Node, firstNode}
 use Rattle.definition.specs.Building.{Pool, allocate, slotOf, slotsOf, Row, Rows, indexOf, rowIndex, fillHoles, Made, kidsOf, nodeNumber, childNumber, childNumbers, finish, withPending}
 use Rattle.facts.specs.Lists.{Among}
-use Rattle.facts.proofs.Lists.{clash, same-true, found-append, among-later}
+use Rattle.facts.proofs.Lists.{clash, none≢some, same-true, same-refl, found-append, among-later}
 use Rattle.facts.proofs.Each.{Both, both-map}
 use Rattle.facts.proofs.Results.{good-inj, good-first}
 use Rattle.laws.proofs.resolving.NodesAndChildren.{KidsIn}
@@ -27,36 +27,55 @@ use Rattle.laws.proofs.slots.SlotsToHold.{toHold}
 abbrev pub SlotFor : List (ℕ × ℕ) → ℕ → ℕ → Type 0
 SlotFor given child n = ((child < firstNode) × (n ≡ child)) ⊎ ((firstNode ≤ child) × (lookup (child - firstNode) given ≡ some n))
 
+-- which rows an index is of: a row that stands there, or the inline row that is found with it
+abbrev pub Indexing : Type 1
+Indexing = ℕ → Row → Type 0
+
+abbrev pub StandsIn : List Row → Indexing
+StandsIn rows i row = getElem? rows i ≡ some row
+
+abbrev pub InlineIn : List (Row × ℕ) → Indexing
+InlineIn inline i row = indexOf row inline ≡ some i
+
 -- the number that stands for any child: for a bootstrap node the index of a row that has its children's numbers
-abbrev pub NumberFor : List Node → List (ℕ × ℕ) → List Row → ℕ → ℕ → Type 0
-NumberFor nodes given rows child n =
+abbrev pub NumberBy : List Node → List (ℕ × ℕ) → Indexing → ℕ → ℕ → Type 0
+NumberBy nodes given At child n =
     ((child < firstNode) × (n ≡ child))
     ⊎ ((firstNode ≤ child) × (tagAt nodes (child - firstNode) ≡ bootstrapTag → ⊥) × (lookup (child - firstNode) given ≡ some n))
     ⊎ ((firstNode ≤ child)
     × (tagAt nodes (child - firstNode) ≡ bootstrapTag)
     × (row : Row)
-    × (getElem? rows n ≡ some row)
+    × At n row
     × Both (SlotFor given) (kidsOf nodes (child - firstNode)) row)
 
+abbrev pub NumberFor : List Node → List (ℕ × ℕ) → List Row → ℕ → ℕ → Type 0
+NumberFor nodes given rows = NumberBy nodes given (StandsIn rows)
+
 -- a slot holds a node of the list, with numbers that stand for its children
-abbrev pub FinishedAt : List Node → List (ℕ × ℕ) → List Row → List (ℕ × Entry ℕ ℕ) → ℕ → ℕ → Type 0
-FinishedAt nodes given rows owned s k =
+abbrev pub FinishedBy : List Node → List (ℕ × ℕ) → Indexing → List (ℕ × Entry ℕ ℕ) → ℕ → ℕ → Type 0
+FinishedBy nodes given At owned s k =
     (nd : Node)
     × (ns : List ℕ)
     × (getElem? nodes k ≡ some nd)
     × Among (s, withKids ns nd) owned
-    × Both (NumberFor nodes given rows) (nd .kids) ns
+    × Both (NumberBy nodes given At) (nd .kids) ns
+
+abbrev pub FinishedAt : List Node → List (ℕ × ℕ) → List Row → List (ℕ × Entry ℕ ℕ) → ℕ → ℕ → Type 0
+FinishedAt nodes given rows = FinishedBy nodes given (StandsIn rows)
 
 -- what a slot holds is such a node, and it is to hold it
-abbrev pub OwnerOf : List Node → List (ℕ × ℕ) → List (ℕ × ℕ) → List Row → ℕ → Entry ℕ ℕ → Type 0
-OwnerOf nodes given raws rows s e =
+abbrev pub OwnerBy : List Node → List (ℕ × ℕ) → List (ℕ × ℕ) → Indexing → ℕ → Entry ℕ ℕ → Type 0
+OwnerBy nodes given raws At s e =
     (k : ℕ)
     × (nd : Node)
     × (ns : List ℕ)
     × (e ≡ withKids ns nd)
     × (getElem? nodes k ≡ some nd)
     × Among (s, k) (toHold given raws)
-    × Both (NumberFor nodes given rows) (nd .kids) ns
+    × Both (NumberBy nodes given At) (nd .kids) ns
+
+abbrev pub OwnerOf : List Node → List (ℕ × ℕ) → List (ℕ × ℕ) → List Row → ℕ → Entry ℕ ℕ → Type 0
+OwnerOf nodes given raws rows = OwnerBy nodes given raws (StandsIn rows)
 
 -- a row has the slots of the children of a node, which is that of a raw bootstrap or a bootstrap that was reached
 abbrev pub RowFrom : List Node → List (ℕ × ℕ) → List (ℕ × ℕ) → Row → Type 0
@@ -81,14 +100,20 @@ pub record Starts (nodes : List Node) (raws : List (ℕ × ℕ)) (p : Pool) : Ty
 pub record SlotsKept (given given′ : List (ℕ × ℕ)) : Type 0 where
   pub slotStays : (k s : ℕ) → lookup k given ≡ some s → lookup k given′ ≡ some s
 
--- what a list has at a place, another has too
-pub record RowsKept (rows rows′ : List Row) : Type 0 where
-  pub rowStays : (i : ℕ) (row : Row) → getElem? rows i ≡ some row → getElem? rows′ i ≡ some row
+-- the row that an index is of stays that
+pub record IndexKept (At At′ : Indexing) : Type 0 where
+  pub rowStays : (i : ℕ) (row : Row) → At i row → At′ i row
 
-pub rows-same : {rows : List Row} → RowsKept rows rows
+abbrev pub RowsKept : List Row → List Row → Type 0
+RowsKept rows rows′ = IndexKept (StandsIn rows) (StandsIn rows′)
+
+abbrev pub InlineKept : List (Row × ℕ) → List (Row × ℕ) → Type 0
+InlineKept inline inline′ = IndexKept (InlineIn inline) (InlineIn inline′)
+
+pub rows-same : {At : Indexing} → IndexKept At At
 rows-same = record { rowStays = λ i row e. e }
 
-pub rows-twice : {a b c : List Row} → RowsKept a b → RowsKept b c → RowsKept a c
+pub rows-twice : {A B C : Indexing} → IndexKept A B → IndexKept B C → IndexKept A C
 rows-twice ab bc = record { rowStays = λ i row e. bc .rowStays i row (ab .rowStays i row e) }
 
 pub rows-append : (written more : List Row) → RowsKept written (written ++ more)
@@ -129,26 +154,26 @@ pub slots-kept :
 slots-kept {given} {given′} kept cs ns = both-map {R = SlotFor given} {S = SlotFor given′} cs ns (slot-kept kept)
 
 pub number-kept :
-    (nodes : List Node) {given given′ : List (ℕ × ℕ)} {rows rows′ : List Row} →
+    (nodes : List Node) {given given′ : List (ℕ × ℕ)} {At At′ : Indexing} →
     SlotsKept given given′ →
-    RowsKept rows rows′ →
+    IndexKept At At′ →
     (c n : ℕ) →
-    NumberFor nodes given rows c n →
-    NumberFor nodes given′ rows′ c n
+    NumberBy nodes given At c n →
+    NumberBy nodes given′ At′ c n
 number-kept nodes kept more c n (inl h) = inl h
 number-kept nodes kept more c n (inr (inl h)) = inr (inl (h .0, h .1, kept .slotStays (c - firstNode) n (h .2)))
 number-kept nodes kept more c n (inr (inr h)) =
     inr (inr (h .0, h .1, h .2, more .rowStays n (h .2) (h .3), slots-kept kept (kidsOf nodes (c - firstNode)) (h .2) (h .4)))
 
 pub numbers-kept :
-    (nodes : List Node) {given given′ : List (ℕ × ℕ)} {rows rows′ : List Row} →
+    (nodes : List Node) {given given′ : List (ℕ × ℕ)} {At At′ : Indexing} →
     SlotsKept given given′ →
-    RowsKept rows rows′ →
+    IndexKept At At′ →
     (cs ns : List ℕ) →
-    Both (NumberFor nodes given rows) cs ns →
-    Both (NumberFor nodes given′ rows′) cs ns
-numbers-kept nodes {given} {given′} {rows} {rows′} kept more cs ns =
-    both-map {R = NumberFor nodes given rows} {S = NumberFor nodes given′ rows′} cs ns (number-kept nodes kept more)
+    Both (NumberBy nodes given At) cs ns →
+    Both (NumberBy nodes given′ At′) cs ns
+numbers-kept nodes {given} {given′} {At} {At′} kept more cs ns =
+    both-map {R = NumberBy nodes given At} {S = NumberBy nodes given′ At′} cs ns (number-kept nodes {At = At} {At′ = At′} kept more)
 
 -- ---- branches of the definition
 
@@ -204,27 +229,58 @@ indexOf-there row (r ∷ inline) i e = go (same row (r .0)) refl (indexOf-there 
         (0, λ j. some (q j, q′ j))
     go false t rest = among-later (row, i) r inline (rest (rw (t, indexOf) at e))
 
+-- and stands at its index
+pub inline-stands : (rows : Rows) → InlineThere rows → IndexKept (InlineIn (rows .inline)) (StandsIn (rows .written))
+inline-stands rows there = record { rowStays = λ i row e. there row i (indexOf-there row (rows .inline) i e) }
+
+-- a row that isn't found comes in front: it is found, and others as before
+pub inline-first : (row : Row) (i : ℕ) (inline : List (Row × ℕ)) → indexOf row ((row, i) ∷ inline) ≡ some i
+unfolding indexOf
+inline-first row i inline = rw (same-refl row, indexOf)
+
+pub inline-more : (row : Row) (i : ℕ) (inline : List (Row × ℕ)) → indexOf row inline ≡ none → InlineKept inline ((row, i) ∷ inline)
+unfolding indexOf
+inline-more row i inline new = record { rowStays = λ j x e. go j x e (same x row) refl }
+  where
+    go : (j : ℕ) (x : Row) → indexOf x inline ≡ some j → (b : Bool) → same x row ≡ b → indexOf x ((row, i) ∷ inline) ≡ some j
+    go j x e true t =
+        let q = same-true x row t in
+        none≢some (sym new ∙ ap (λ y. indexOf y inline) (sym q) ∙ e)
+    go j x e false t = rw (t, indexOf) e
+
 -- ---- what is made while building
 
 pub finished-kept :
-    (nodes : List Node) {given given′ : List (ℕ × ℕ)} {rows rows′ : List Row} (owned owned′ : List (ℕ × Entry ℕ ℕ)) (s k : ℕ) →
+    (nodes : List Node) {given given′ : List (ℕ × ℕ)} {At At′ : Indexing} (owned owned′ : List (ℕ × Entry ℕ ℕ)) (s k : ℕ) →
     SlotsKept given given′ →
-    RowsKept rows rows′ →
+    IndexKept At At′ →
     ((e : Entry ℕ ℕ) → Among (s, e) owned → Among (s, e) owned′) →
-    FinishedAt nodes given rows owned s k →
-    FinishedAt nodes given′ rows′ owned′ s k
-finished-kept nodes owned owned′ s k kept more still f =
-    (f .0, f .1, f .2, still (withKids (f .1) (f .0)) (f .3), numbers-kept nodes kept more (f .0 .kids) (f .1) (f .4))
+    FinishedBy nodes given At owned s k →
+    FinishedBy nodes given′ At′ owned′ s k
+finished-kept nodes {At = At} {At′ = At′} owned owned′ s k kept more still f = (
+  f .0,
+  f .1,
+  f .2,
+  still (withKids (f .1) (f .0)) (f .3),
+  numbers-kept nodes {At = At} {At′ = At′} kept more (f .0 .kids) (f .1) (f .4),
+)
 
 pub owner-kept :
-    (nodes : List Node) {given given′ : List (ℕ × ℕ)} (raws : List (ℕ × ℕ)) {rows rows′ : List Row} (s : ℕ) (e : Entry ℕ ℕ) →
+    (nodes : List Node) {given given′ : List (ℕ × ℕ)} (raws : List (ℕ × ℕ)) {At At′ : Indexing} (s : ℕ) (e : Entry ℕ ℕ) →
     SlotsKept given given′ →
-    RowsKept rows rows′ →
+    IndexKept At At′ →
     ((k : ℕ) → Among (s, k) (toHold given raws) → Among (s, k) (toHold given′ raws)) →
-    OwnerOf nodes given raws rows s e →
-    OwnerOf nodes given′ raws rows′ s e
-owner-kept nodes raws s e kept more still f =
-    (f .0, f .1, f .2, f .3, f .4, still (f .0) (f .5), numbers-kept nodes kept more (f .1 .kids) (f .2) (f .6))
+    OwnerBy nodes given raws At s e →
+    OwnerBy nodes given′ raws At′ s e
+owner-kept nodes raws {At} {At′} s e kept more still f = (
+  f .0,
+  f .1,
+  f .2,
+  f .3,
+  f .4,
+  still (f .0) (f .5),
+  numbers-kept nodes {At = At} {At′ = At′} kept more (f .1 .kids) (f .2) (f .6),
+)
 
 -- while the stack is taken from: what is to be held is on the stack or finished
 pub record Building (nodes : List Node) (raws pending : List (ℕ × ℕ)) (m : Made) : Type 0 where
@@ -233,8 +289,8 @@ pub record Building (nodes : List Node) (raws pending : List (ℕ × ℕ)) (m : 
   pub done :
       (s k : ℕ) →
       Among (s, k) (toHold (m .pool .given) raws) →
-      Among (s, k) pending ⊎ FinishedAt nodes (m .pool .given) (m .rows .written) (m .owned) s k
-  pub owners : (s : ℕ) (e : Entry ℕ ℕ) → Among (s, e) (m .owned) → OwnerOf nodes (m .pool .given) raws (m .rows .written) s e
+      Among (s, k) pending ⊎ FinishedBy nodes (m .pool .given) (InlineIn (m .rows .inline)) (m .owned) s k
+  pub owners : (s : ℕ) (e : Entry ℕ ℕ) → Among (s, e) (m .owned) → OwnerBy nodes (m .pool .given) raws (InlineIn (m .rows .inline)) s e
   pub inlined : InlineThere (m .rows)
 
 -- the pool once the stack is another

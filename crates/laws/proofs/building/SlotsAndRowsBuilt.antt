@@ -14,12 +14,13 @@ use Rattle.facts.specs.Lists.{Among, Rising, keys}
 use Rattle.facts.proofs.Lists.{among-nil}
 use Rattle.facts.proofs.Each.{Both}
 use Rattle.laws.proofs.slots.SlotsToHold.{toHold}
-use Rattle.laws.proofs.building.ChildNumbers.{SlotFor, FinishedAt, OwnerOf, RowFrom, rowsOf, Starts, RowsKept, slots-same, finished-kept, owner-kept}
+use Rattle.laws.proofs.building.ChildNumbers.{SlotFor, StandsIn, InlineIn, FinishedBy, FinishedAt, OwnerBy, OwnerOf, RowFrom, rowsOf, Starts, IndexKept, rows-twice, slots-same, InlineThere, inline-stands, finished-kept, owner-kept, Building}
 use Rattle.laws.proofs.building.WhatBuildingLeaves.{Placed, filled, built}
 
--- what is written stays where it is in the rows that building ends with
-rows-end : (nodes : List Node) (indexes : List (ℕ × ℕ)) (m : Made) → RowsKept (m .rows .written) (rowsOf m)
-rows-end nodes indexes m = filled nodes indexes [] (m .rows .written) (m .rows .waiting) .0
+-- inline rows stand at their indexes in the rows that building ends with
+rows-end : (nodes : List Node) (indexes : List (ℕ × ℕ)) (m : Made) → InlineThere (m .rows) → IndexKept (InlineIn (m .rows .inline)) (StandsIn (rowsOf m))
+rows-end nodes indexes m there =
+    rows-twice (inline-stands (m .rows) there) (filled nodes indexes [] (m .rows .written) (m .rows .waiting) .0)
 
 module _
     (nodes : List Node)
@@ -28,19 +29,29 @@ module _
     (m : Made)
     (starts : Starts nodes raws p)
     (done : buildAll nodes indexes p ≡ good m) where
+  while-building : Building nodes raws [] m
+  while-building = built nodes indexes raws p m starts done .building
+
+  -- what is found among the inline rows stands in the rows at the end
+  pub inline-end : IndexKept (InlineIn (m .rows .inline)) (StandsIn (rowsOf m))
+  inline-end = rows-end nodes indexes m (while-building .inlined)
+
   -- FINISHED: every slot that is to hold a node is owned by it, with numbers that stand for its children
   pub finished : (s k : ℕ) → Among (s, k) (toHold (m .pool .given) raws) → FinishedAt nodes (m .pool .given) (rowsOf m) (m .owned) s k
-  finished s k a = go (built nodes indexes raws p m starts done .building .done s k a)
+  finished s k a = go (while-building .done s k a)
     where
       go :
-          Among {A = ℕ × ℕ} (s, k) [] ⊎ FinishedAt nodes (m .pool .given) (m .rows .written) (m .owned) s k →
+          Among {A = ℕ × ℕ} (s, k) [] ⊎ FinishedBy nodes (m .pool .given) (InlineIn (m .rows .inline)) (m .owned) s k →
           FinishedAt nodes (m .pool .given) (rowsOf m) (m .owned) s k
       go (inl b) = among-nil (s, k) b
-      go (inr f) = finished-kept nodes (m .owned) (m .owned) s k slots-same (rows-end nodes indexes m) (λ e b. b) f
+      go (inr f) = finished-kept nodes (m .owned) (m .owned) s k slots-same inline-end (λ e b. b) f
 
-  -- OWNERS: whatever is owned is such a node at a slot that is to hold it
+  -- OWNERS: whatever is owned is such a node at a slot that is to hold it; its bootstraps' indexes are those of inline rows
+  pub inlineOwners : (s : ℕ) (e : Entry ℕ ℕ) → Among (s, e) (m .owned) → OwnerBy nodes (m .pool .given) raws (InlineIn (m .rows .inline)) s e
+  inlineOwners s e a = while-building .owners s e a
+
   pub owners : (s : ℕ) (e : Entry ℕ ℕ) → Among (s, e) (m .owned) → OwnerOf nodes (m .pool .given) raws (rowsOf m) s e
-  owners s e a = owner-kept nodes raws s e slots-same (rows-end nodes indexes m) (λ k b. b) (built nodes indexes raws p m starts done .building .owners s e a)
+  owners s e a = owner-kept nodes raws s e slots-same inline-end (λ k b. b) (inlineOwners s e a)
 
   -- a slot that was given before building is still given
   pub slotsStay : (k s : ℕ) → lookup k (p .given) ≡ some s → lookup k (m .pool .given) ≡ some s

@@ -24,7 +24,7 @@ use Rattle.laws.proofs.slots.SlotRequest.{Met, old, new, met}
 use Rattle.laws.proofs.slots.Keeps.{keeps}
 use Rattle.laws.proofs.slots.SlotsToHold.{toHold}
 use Rattle.laws.proofs.building.RowsThatOccur.{write-next, write-stop, row-old, row-new, take-some, take-none}
-use Rattle.laws.proofs.building.ChildNumbers.{SlotFor, NumberFor, FinishedAt, OwnerOf, RowFrom, rowsOf, StackIn, Starts, SlotsKept, RowsKept, rows-same, rows-twice, rows-append, slots-same, slots-twice, slot-kept, slots-kept, number-kept, slotOf-raw, slotOf-node, nodeNumber-row, nodeNumber-slot, childNumber-raw, childNumber-node, InlineThere, indexOf-there, finished-kept, owner-kept, Building, takenPool, finishedMade, finish-some, startMade}
+use Rattle.laws.proofs.building.ChildNumbers.{SlotFor, InlineIn, NumberBy, FinishedBy, OwnerBy, RowFrom, rowsOf, StackIn, Starts, SlotsKept, RowsKept, InlineKept, rows-same, rows-twice, rows-append, slots-same, slots-twice, slot-kept, slots-kept, number-kept, slotOf-raw, slotOf-node, nodeNumber-row, nodeNumber-slot, childNumber-raw, childNumber-node, InlineThere, inline-first, inline-more, finished-kept, owner-kept, Building, takenPool, finishedMade, finish-some, startMade}
 
 module _ (nodes : List Node) where
   -- a pool after some requests: the slots given out and the stack have the same new ones in front, and the pool still occurs
@@ -171,7 +171,7 @@ module _ (nodes : List Node) where
   abbrev RawFrom : List (ℕ × ℕ) → List (ℕ × ℕ) → ℕ → Row → Type 0
   RawFrom given indexes i row = (k : ℕ) × Both (SlotFor given) (kidsOf nodes k) row × Among (i, k) indexes
 
-  raw-from :
+  pub raw-from :
       (given indexes : List (ℕ × ℕ)) (waiting : List (ℕ × Row)) →
       RawEach given indexes waiting →
       (i : ℕ) (row : Row) →
@@ -185,7 +185,7 @@ module _ (nodes : List Node) where
   abbrev RawMade : List (ℕ × ℕ) → Pool → List (ℕ × Row) × Pool → Type 0
   RawMade indexes p r = PoolGrows p (r .1) × RawEach (r .1 .given) indexes (r .0)
 
-  rawMade :
+  pub rawMade :
       (falling above : List (ℕ × ℕ)) (p : Pool) (rows : List (ℕ × Row)) (r : List (ℕ × Row) × Pool) →
       KidsIn nodes →
       RawEach (p .given) above rows →
@@ -356,20 +356,21 @@ module _ (nodes : List Node) where
         from i x (inl e) = h .writtenFrom i x e
         from i x (inr (j, p, q)) = rw (← found-replicate 1 j row x q) made
 
-    -- what taking an index for a row leaves: the row stands at the index, and rows stay as they are to be
+    -- what taking an index for a row leaves: the row is found with the index, and rows stay as they are to be
     abbrev Indexed : List (ℕ × ℕ) → Row → Rows → ℕ × Rows → Type 0
     Indexed given row rows r =
-        RowsKept (rows .written) (r .1 .written)
+        InlineKept (rows .inline) (r .1 .inline)
         × InlineThere (r .1)
-        × (getElem? (r .1 .written) (r .0) ≡ some row)
+        × InlineIn (r .1 .inline) (r .0) row
         × (RowFrom nodes indexes given row → Placed given (rows .written) (rows .waiting) → Placed given (r .1 .written) (r .1 .waiting))
 
     taken :
         (given : List (ℕ × ℕ)) (row : Row) (rows : Rows) (r : ℕ × Rows) →
         InlineThere rows →
+        indexOf row (rows .inline) ≡ none →
         takeIndex row (rows .inline) (writeRaw (rows .written) (rows .waiting)) ≡ good r →
         Indexed given row rows r
-    taken given row rows r there e = go (ltb (length (w .0)) 65535) refl
+    taken given row rows r there n e = go (ltb (length (w .0)) 65535) refl
       where
         w : List Row × List (ℕ × Row)
         w = writeRaw (rows .written) (rows .waiting)
@@ -392,9 +393,9 @@ module _ (nodes : List Node) where
             subst
             (λ y. Indexed given row rows y)
             (good-inj (sym (take-some row (rows .inline) w (ltb-true (length (w .0)) 65535 t)) ∙ e)) (
-              kept,
+              inline-more row (length (w .0)) (rows .inline) n,
               λ x i m. either x i (among-cons (x, i) (row, length (w .0)) (rows .inline) m),
-              found-seam (w .0) row [],
+              inline-first row (length (w .0)) (rows .inline),
               λ made h. placed-more given (w .0) (w .1) row made (ltb-true (length (w .0)) 65535 t) (before .1 h .1) (before .1 h .0),
             )
         go false t = bad≢good (sym (take-none row (rows .inline) w (ltb-false (length (w .0)) 65535 t)) ∙ e)
@@ -404,12 +405,12 @@ module _ (nodes : List Node) where
     indexed given row rows r there e = go (indexOf row (rows .inline)) refl
       where
         go : (o : Option ℕ) → indexOf row (rows .inline) ≡ o → Indexed given row rows r
-        go none n = taken given row rows r there (sym (row-new row rows n) ∙ e)
+        go none n = taken given row rows r there n (sym (row-new row rows n) ∙ e)
         go (some i) n =
             subst
             (λ y. Indexed given row rows y)
             (good-inj (sym (row-old row rows i n) ∙ e))
-            (rows-same, there, there row i (indexOf-there row (rows .inline) i n), λ made h. h)
+            (rows-same, there, n, λ made h. h)
 
     -- at the end no row waits: each stands at its index
     pub filled :
@@ -427,7 +428,7 @@ module _ (nodes : List Node) where
     -- pool and rows after some children
     pub record Stepped (p : Pool) (rows : Rows) (p′ : Pool) (rows′ : Rows) : Type 0 where
       pub pool : PoolGrows p p′
-      pub more : RowsKept (rows .written) (rows′ .written)
+      pub more : InlineKept (rows .inline) (rows′ .inline)
       pub inlined : InlineThere rows′
       pub placed : Placed (p .given) (rows .written) (rows .waiting) → Placed (p′ .given) (rows′ .written) (rows′ .waiting)
 
@@ -446,7 +447,7 @@ module _ (nodes : List Node) where
 
     -- what a child's number leaves: pool and rows have grown, and the number stands for the child
     abbrev Numbered : ℕ → Pool → Rows → ℕ × Pool × Rows → Type 0
-    Numbered c p rows r = Stepped p rows (r .1) (r .2) × NumberFor nodes (r .1 .given) (r .2 .written) c (r .0)
+    Numbered c p rows r = Stepped p rows (r .1) (r .2) × NumberBy nodes (r .1 .given) (InlineIn (r .2 .inline)) c (r .0)
 
     -- of a bootstrap node, and of another
     numbered-row :
@@ -516,7 +517,7 @@ module _ (nodes : List Node) where
         go false t = of-node (ltb-false c firstNode t) (sym (childNumber-node nodes c p rows t) ∙ e) (eqb (tagAt nodes k) bootstrapTag) refl
 
     abbrev AllNumbered : List ℕ → Pool → Rows → List ℕ × Pool × Rows → Type 0
-    AllNumbered cs p rows r = Stepped p rows (r .1) (r .2) × Both (NumberFor nodes (r .1 .given) (r .2 .written)) cs (r .0)
+    AllNumbered cs p rows r = Stepped p rows (r .1) (r .2) × Both (NumberBy nodes (r .1 .given) (InlineIn (r .2 .inline))) cs (r .0)
 
     -- one child more in front
     numbered-cons :
@@ -597,14 +598,14 @@ module _ (nodes : List Node) where
 
         -- what is to be held is new, or was on the stack, or was finished
         Now : ℕ → ℕ → Type 0
-        Now s k = Among (s, k) (r .1 .pending) ⊎ FinishedAt nodes (r .1 .given) (r .2 .written) (one ∷ m .owned) s k
+        Now s k = Among (s, k) (r .1 .pending) ⊎ FinishedBy nodes (r .1 .given) (InlineIn (r .2 .inline)) (one ∷ m .owned) s k
 
         top-or-below : (s k : ℕ) → _≡_ {A = ℕ × ℕ} (s, k) top ⊎ Among {A = ℕ × ℕ} (s, k) pending → Now s k
         top-or-below s k (inl q) =
             inr (nd, r .0, ap (λ (x : ℕ × ℕ). getElem? nodes (x .1)) q ∙ found, (0, λ j. some (sym q j .0, withKids (r .0) nd)), got .1)
         top-or-below s k (inr b) = inl (rw (got .0 .pool .stacked) (among-right (s, k) new pending b))
 
-        waits-or-done : (s k : ℕ) → Among (s, k) (top ∷ pending) ⊎ FinishedAt nodes (m .pool .given) (m .rows .written) (m .owned) s k → Now s k
+        waits-or-done : (s k : ℕ) → Among (s, k) (top ∷ pending) ⊎ FinishedBy nodes (m .pool .given) (InlineIn (m .rows .inline)) (m .owned) s k → Now s k
         waits-or-done s k (inl b) = top-or-below s k (among-cons (s, k) top pending b)
         waits-or-done s k (inr f) =
             inr (finished-kept nodes (m .owned) (one ∷ m .owned) s k (got .0 .pool .kept) (got .0 .more) (λ e b. among-later (s, e) one (m .owned) b) f)
@@ -614,7 +615,7 @@ module _ (nodes : List Node) where
         new-or-old s k (inr b) = waits-or-done s k (h .done s k b)
 
         -- what is owned is the one just finished, or was owned
-        owner : (s : ℕ) (e : Entry ℕ ℕ) → ((s, e) ≡ one) ⊎ Among (s, e) (m .owned) → OwnerOf nodes (r .1 .given) raws (r .2 .written) s e
+        owner : (s : ℕ) (e : Entry ℕ ℕ) → ((s, e) ≡ one) ⊎ Among (s, e) (m .owned) → OwnerBy nodes (r .1 .given) raws (InlineIn (r .2 .inline)) s e
         owner s e (inl q) = (
           top .1,
           nd,
@@ -644,7 +645,7 @@ module _ (nodes : List Node) where
           placed = λ p. b .placed (a .placed p);
         }
 
-    drained-one :
+    pub drained-one :
         (raws : List (ℕ × ℕ)) (top : ℕ × ℕ) (pending : List (ℕ × ℕ)) (m m′ : Made) →
         KidsIn nodes →
         Building nodes raws (top ∷ pending) m →
@@ -689,7 +690,7 @@ module _ (nodes : List Node) where
 
     -- ---- all of building
 
-    starts-building :
+    pub starts-building :
         (raws : List (ℕ × ℕ)) (p : Pool) (r : List (ℕ × Row) × Pool) →
         Starts nodes raws p →
         PoolGrows p (r .1) →
@@ -713,6 +714,7 @@ module _ (nodes : List Node) where
       pub building : Building nodes raws [] m
       pub kept : SlotsKept (p .given) (m .pool .given)
       pub occurs : (top : ℕ) (held : List (ℕ × Held)) → Occurs top held nodes p → Occurs top held nodes (m .pool)
+      pub unfilled : Rising 0 65534 (keys indexes) → Placed (m .pool .given) (m .rows .written) (m .rows .waiting)
       pub placed : Rising 0 65534 (keys indexes) → Placed (m .pool .given) (rowsOf m) []
 
     pub built : (raws : List (ℕ × ℕ)) (p : Pool) (m : Made) → Starts nodes raws p → buildAll nodes indexes p ≡ good m → Built raws p m
@@ -730,6 +732,7 @@ module _ (nodes : List Node) where
           building = d .building;
           kept = slots-twice (raw .0 .kept) (d .kept);
           occurs = λ top held o. d .occurs top held (raw .0 .occurs top held o);
+          unfilled = λ up. d .placed (placed-raw (r .1 .given) (r .0) rows up);
           placed =
               λ up.
               filled (m .pool .given) (m .rows .written) (m .rows .waiting) .1 (d .placed (placed-raw (r .1 .given) (r .0) rows up));

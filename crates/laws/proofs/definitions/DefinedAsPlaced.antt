@@ -7,18 +7,19 @@ use mathlib.Core.Option.{some}
 use mathlib.Core.Path.{_≡_, refl, sym, ap, _∙_}
 use Prim.Native.Nat.{ℕ, zero, suc, _+_}
 use native.Mathlib.Omega.{arith}
+use lib.ListN.{getElem?}
 use Rattle.definition.specs.Basics.{good, unless, insert}
-use Rattle.definition.specs.Shapes.{isWide, Entry, constant, bootstrap}
+use Rattle.definition.specs.Shapes.{Kind, isWide, Entry, constant, bootstrap}
 use Rattle.definition.specs.Job.{Definition, define, named, placed, Job}
 use Rattle.definition.specs.Numbering.{Literal, literals, numberedDefinition, numbered}
 use Rattle.definition.specs.Definitions.{Held, starts, half, Naming, Defined, nameTarget, isNone, tagAt, hold, placeConstant, placeBootstrap, defineOne, defineAll, nothingDefined}
 use Rattle.definition.specs.Layout.{starters}
 use Rattle.facts.specs.Lists.{Among}
-use Rattle.facts.proofs.Lists.{clash, among-nil, among-later, among-left, among-right, among-snoc}
+use Rattle.facts.proofs.Lists.{clash, among-nil, among-later, among-left, among-right, among-snoc, map-at, map-some}
 use Rattle.facts.proofs.Tables.{some-key, some-row, insert-new, insert-old, insert-among}
 use Rattle.facts.proofs.Sums.{times, times-cons}
 use Rattle.facts.proofs.Results.{good-then}
-use Rattle.laws.specs.Statements.{namings}
+use Rattle.laws.specs.LeadsStatement.{namings}
 use Rattle.laws.proofs.definitions.RawSlotsRise.{placed-constant, placed-bootstrap, defined-all}
 
 -- the name records in turn
@@ -192,7 +193,7 @@ pub record DefinedFacts (wide : ℕ → Bool) (ds : List (Definition ℕ)) (d : 
   pub allHeld : HeldFacts wide ds (d .held)
   pub allIndexes : IndexFacts ds (d .indexes)
 
-nothing-facts : (wide : ℕ → Bool) → DefinedFacts wide [] nothingDefined
+pub nothing-facts : (wide : ℕ → Bool) → DefinedFacts wide [] nothingDefined
 unfolding nothingDefined namingsOf
 nothing-facts wide =
     record {
@@ -215,7 +216,7 @@ abbrev pub wideAt : {R : Type 0} → List (Entry ℕ R) → ℕ → Bool
 wideAt constants e = isWide (tagAt constants e)
 
 module _ {R : Type 0} (top : ℕ) (constants : List (Entry ℕ R)) where
-  one-defined :
+  pub one-defined :
       (ds : List (Definition ℕ)) (x : Definition ℕ) (d d′ : Defined) →
       DefinedFacts (wideAt constants) ds d →
       defineOne top constants x d ≡ good d′ →
@@ -267,7 +268,7 @@ module _ {R : Type 0} (top : ℕ) (constants : List (Entry ℕ R)) where
   defined-facts ds d e = defined-all top constants (DefinedFacts (wideAt constants)) one-defined 0 [] ds nothingDefined d (nothing-facts (wideAt constants)) e
 
 -- the names are the same
-all-namings : (all : List Literal) (ds : List (Definition (List ℕ))) → namingsOf (map (numberedDefinition all) ds) ≡ namings ds
+pub all-namings : (all : List Literal) (ds : List (Definition (List ℕ))) → namingsOf (map (numberedDefinition all) ds) ≡ namings ds
 unfolding namingsOf numberedDefinition namings
 all-namings all [] = refl
 all-namings all (define e ∷ ds) = all-namings all ds
@@ -277,6 +278,27 @@ all-namings all (placed kind at n ∷ ds) = all-namings all ds
 pub namings-numbered : (job : Job (List ℕ)) → namingsOf (numbered job .definitions) ≡ namings (job .definitions)
 unfolding numbered
 namings-numbered job = all-namings (literals job) (job .definitions)
+
+-- and so is what is placed
+numbered-placed : (all : List Literal) (x : Definition (List ℕ)) (kind : Kind) (n e : ℕ) → numberedDefinition all x ≡ placed kind n e → x ≡ placed kind n e
+unfolding numberedDefinition
+numbered-placed all (define y) kind n e h = clash (cc)
+numbered-placed all (named kind′ s r) kind n e h = clash (cc)
+numbered-placed all (placed kind′ n′ e′) kind n e h =
+    let k : kind′ ≡ kind = cc in
+    let p : n′ ≡ n = cc in
+    let q : e′ ≡ e = cc in
+    λ i. placed (k i) (p i) (q i)
+
+pub placed-forth : (job : Job (List ℕ)) (i n e : ℕ) (kind : Kind) → getElem? (job .definitions) i ≡ some (placed kind n e) → Among (placed kind n e) (numbered job .definitions)
+unfolding numbered numberedDefinition
+placed-forth job i n e kind h = (i, map-at (numberedDefinition (literals job)) (job .definitions) i (placed kind n e) h)
+
+pub placed-back : (job : Job (List ℕ)) (n e : ℕ) (kind : Kind) → Among (placed kind n e) (numbered job .definitions) → Among (placed kind n e) (job .definitions)
+unfolding numbered
+placed-back job n e kind (i, h) =
+    let (x, at, is) = map-some (numberedDefinition (literals job)) (job .definitions) i (placed kind n e) h in
+    (i, at ∙ ap some (numbered-placed (literals job) x kind n e is))
 
 -- the starters are the starts
 pub starters-start : (held : List (ℕ × Held)) (n e : ℕ) → Among (n, e) (starters held) → Among (n, starts e) held

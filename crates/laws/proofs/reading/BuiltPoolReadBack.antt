@@ -40,11 +40,11 @@ use Rattle.laws.proofs.resolving.JobTableGood.{numbered-cited}
 use Rattle.laws.proofs.resolving.EntryOrigins.{Origin, origin}
 use Rattle.laws.proofs.slots.PoolsThatOccur.{Sound, sound}
 use Rattle.laws.proofs.slots.SlotsToHold.{toHold, toHold-among, count-range, start-in, wide-in, wide-apart}
-use Rattle.laws.proofs.building.ChildNumbers.{SlotFor, NumberFor, given-held, slots-kept}
-use Rattle.laws.proofs.building.SlotsAndRowsBuilt.{rowsFrom, rowsFit}
+use Rattle.laws.proofs.building.ChildNumbers.{SlotFor, StandsIn, InlineIn, IndexKept, NumberFor, OwnerOf, slots-same, given-held, slots-kept, owner-kept}
+use Rattle.laws.proofs.building.SlotsAndRowsBuilt.{inline-end, rowsFrom, rowsFit}
 use Rattle.laws.proofs.building.LayoutStages.{Stages}
 use Rattle.laws.proofs.building.AfterName.{Named}
-use Rattle.laws.proofs.building.BuiltJob.{st, table, facts, rising, good-job-table, raws, asked, nodes, marks, raw-node, indexes, node-tag, indexes-are, starts-here, rows, ending}
+use Rattle.laws.proofs.building.BuiltJob.{st, table, facts, rising, good-job-table, raws, asked, nodes, marks, raw-node, indexes, node-tag, indexes-are, starts-here, rows, inline, ending}
 use Rattle.laws.proofs.reading.EntriesReadBack.{IsFor}
 use Rattle.laws.proofs.reading.PoolReadBack.{rowShown, Fits, LaidBehind, Laid, fits-text, reads-layout}
 use Rattle.laws.proofs.reading.BuiltEntriesFit.{fits-formed, isFor-formed, attribute-bytes}
@@ -54,7 +54,7 @@ module _ (bytes : List ℕ) (job : Job (List ℕ)) (l : Layout) (are : IsBytes b
   abbrev pub stg : Stages highestSlot (numbered job) l
   stg = st bytes job l are formed laid
 
-  abbrev pub end : Named highestSlot (stg .defined .held) (raws bytes job l are formed laid) (nodes bytes job l are formed laid) (rows bytes job l are formed laid) (nameWanted (numbered job .build .nameByte) (length (rows bytes job l are formed laid))) (stg .made) (stg .named)
+  abbrev pub end : Named highestSlot (stg .defined .held) (raws bytes job l are formed laid) (nodes bytes job l are formed laid) (InlineIn (inline bytes job l are formed laid)) (nameWanted (numbered job .build .nameByte) (length (rows bytes job l are formed laid))) (stg .made) (stg .named)
   end = ending bytes job l are formed laid
 
   abbrev pub allNodes : List Node
@@ -68,6 +68,15 @@ module _ (bytes : List ℕ) (job : Job (List ℕ)) (l : Layout) (are : IsBytes b
 
   abbrev pub owned : List (ℕ × Entry ℕ ℕ)
   owned = stg .named .1 .owned
+
+  -- inline rows stand at their indexes
+  pub inline-rows : IndexKept (InlineIn (inline bytes job l are formed laid)) (StandsIn (rows bytes job l are formed laid))
+  inline-rows =
+      inline-end (nodes bytes job l are formed laid) (indexes bytes job l are formed laid) raw (stg .asked .pool) (stg .made) (starts-here bytes job l are formed laid) (stg .isMade)
+
+  -- whatever is owned is a node with numbers that stand for its children
+  pub owner-here : (n : ℕ) (e : Entry ℕ ℕ) → lookup n owned ≡ some e → OwnerOf allNodes (pool .given) raw (rows bytes job l are formed laid) n e
+  owner-here n e h = owner-kept allNodes raw n e slots-same inline-rows (λ k b. b) (end .ended .owner n e h)
 
   pub soundly : Sound highestSlot (stg .defined .held) allNodes pool
   soundly = sound (end .ended .occurs)
@@ -189,7 +198,7 @@ module _ (bytes : List ℕ) (job : Job (List ℕ)) (l : Layout) (are : IsBytes b
   -- whatever a slot holds fits its shape
   pub owner-fits : (n : ℕ) (e : Entry ℕ ℕ) → lookup n owned ≡ some e → Fits (spelled (literals job) e)
   owner-fits n e h =
-      let (k, nd, ns, same, at, a, nums) = end .ended .owner n e h in
+      let (k, nd, ns, same, at, a, nums) = owner-here n e h in
       subst (λ e. Fits (spelled (literals job) e)) (sym same) (go k nd ns at a nums (end .others k nd at))
     where
       go :
@@ -206,7 +215,7 @@ module _ (bytes : List ℕ) (job : Job (List ℕ)) (l : Layout) (are : IsBytes b
   pub owner-tag : (n : ℕ) (e : Entry ℕ ℕ) → lookup n owned ≡ some e → (k : ℕ) × Among (n, k) (toHold (pool .given) raw) × (tagAt allNodes k ≡ e .tag)
   unfolding withKids
   owner-tag n e h =
-      let (k, nd, ns, same, at, a, nums) = end .ended .owner n e h in
+      let (k, nd, ns, same, at, a, nums) = owner-here n e h in
       (k, a, tag-found allNodes k nd at ∙ ap (λ (y : Entry ℕ ℕ). y .tag) (sym same))
 
   -- no entry starts behind a wide one

@@ -8,15 +8,16 @@ use Prim.Native.Nat.{ℕ, zero, suc, _+_, _≤_, _<_}
 use native.Mathlib.Omega.{arith}
 use lib.Dec.{eqb}
 use lib.ListN.{length, getD, getElem?, length-map, List·getD-eq-default}
+use borrow.Author.Tests.{lt-ltb, le-ltb}
 use Rattle.definition.specs.Basics.{good, lookup}
 use Rattle.definition.specs.Shapes.{Kind, bootstrapTag, isWide, Entry, withLiteral, constant, bootstrap}
 use Rattle.definition.specs.Job.{entry, placed, Job}
 use Rattle.definition.specs.Form.{form}
-use Rattle.definition.specs.Numbering.{Literal, attributeName, literals, literalOf, numberedDefinition, numbered}
+use Rattle.definition.specs.Numbering.{Literal, attributeName, literals, literalOf, numbered}
 use Rattle.definition.specs.Definitions.{starts, tagAt}
 use Rattle.definition.specs.Resolving.{Goal, rawNumber, tableEntry, refusal, placeOf, follow, goalOf, done, childOf}
 use Rattle.definition.specs.Slots.{highestSlot}
-use Rattle.definition.specs.Building.{kidsOf, attributeText, nameWanted, Content, nothing, emptyText, holds, behind, contentOf, textIn, className}
+use Rattle.definition.specs.Building.{Row, kidsOf, attributeText, nameWanted, Content, nothing, emptyText, holds, behind, contentOf, textIn, className}
 use Rattle.definition.specs.Layout.{starters, nodeAt, classSlotOf, Layout, layoutOf, indexNodes, layout}
 use Rattle.definition.specs.Run.{shown, classBytes, render}
 use Rattle.facts.specs.Lists.{Among}
@@ -24,10 +25,12 @@ use Rattle.facts.proofs.Lists.{true≢false, some-inj, order, found-inside, fou
 use Rattle.facts.proofs.Tables.{rising-lookup}
 use Rattle.facts.proofs.Each.{each-at, Both}
 use Rattle.facts.proofs.Results.{decided}
-use Rattle.laws.specs.Statements.{IsBytes, Finished, leadsTo, slotShows, Shows, textOf, textAt, classOf, HeldBy}
-use Rattle.laws.proofs.definitions.DefinedAsPlaced.{starters-start, start-starters}
+use Rattle.laws.specs.Statements.{IsBytes, Finished, slotShows, Shows, textOf, textAt, classOf, HeldBy}
+use Rattle.laws.proofs.definitions.DefinedAsPlaced.{placed-forth, starters-start, start-starters}
 use Rattle.laws.proofs.resolving.JobGoals.{jobConstants}
 use Rattle.laws.specs.Faithful.{Settled}
+use Rattle.laws.proofs.form.FormedJobs.{form-formed}
+use Rattle.laws.proofs.resolving.LeadsAsFollowed.{entry-leads, settled-leads}
 use Rattle.laws.proofs.resolving.NodesAndChildren.{tag-append, kids-append}
 use Rattle.laws.proofs.resolving.ResolvedNodes.{ConstantGoal}
 use Rattle.laws.proofs.resolving.JobTableGood.{asks-good, numbered-cited, definitions-low, requests-low}
@@ -38,7 +41,8 @@ use Rattle.laws.proofs.building.AfterRequests.{Answered, answers-many, 
 use Rattle.laws.proofs.building.BuiltJob.{table, facts, rising, asked, nodes, marks, node-at, raw-node, index-node, indexes, indexes-are, starts-here, rows}
 use Rattle.laws.proofs.reading.PoolContents.{content-holds, content-behind}
 use Rattle.laws.proofs.reading.BuiltPoolReadBack.{stg, end, allNodes, raw, pool, owned, soundly, raw-keys, raw-wide, count, starts-at, index-rises, owner-tag}
-use Rattle.laws.proofs.reading.SlotsShow.{finished, isOf, same-goal, pool-length, slot-shown, slot-shows, all-show}
+use Rattle.laws.proofs.reading.IndexesHeld.{index-held}
+use Rattle.laws.proofs.reading.SlotsShow.{leadsTo, finished, isOf, same-goal, pool-length, slot-shown, slot-shows, all-show}
 
 starts-inj : {a b : ℕ} → starts a ≡ starts b → a ≡ b
 starts-inj e = cc
@@ -161,7 +165,7 @@ module _ (bytes : List ℕ) (job : Job (List ℕ)) (l : Layout) (are : IsBytes b
       ∙ ap textOf (slot-shown bytes job l are formed laid n (range .2) ∙ ap (shown (literals job)) (content-holds own n attributeText h))
 
   -- what has a slot before building has it in the end
-  stays : SlotsKept (stg bytes job l are formed laid .asked .pool .given) (pool bytes job l are formed laid .given)
+  pub stays : SlotsKept (stg bytes job l are formed laid .asked .pool .given) (pool bytes job l are formed laid .given)
   stays =
       slots-twice
       (record { slotStays = slotsStay (nodes bytes job l are formed laid) (indexes bytes job l are formed laid) (raw bytes job l are formed laid) (stg bytes job l are formed laid .asked .pool) (stg bytes job l are formed laid .made) (starts-here bytes job l are formed laid) (stg bytes job l are formed laid .isMade) })
@@ -186,12 +190,11 @@ module _ (bytes : List ℕ) (job : Job (List ℕ)) (l : Layout) (are : IsBytes b
       go (refusal code) c s slot = absurd s
 
   -- a definition of the job that places something is one of the numbered job
-  placed-there : (i n e : ℕ) (kind : Kind) → getElem? (job .definitions) i ≡ some (placed kind n e) → Among (placed kind n e) (numbered job .definitions)
-  unfolding numbered numberedDefinition
-  placed-there i n e kind h = (i, map-at (numberedDefinition (literals job)) (job .definitions) i (placed kind n e) h)
+  pub placed-there : (i n e : ℕ) (kind : Kind) → getElem? (job .definitions) i ≡ some (placed kind n e) → Among (placed kind n e) (numbered job .definitions)
+  placed-there = placed-forth job
 
   -- a raw constant's slot is to hold the node that its entry became
-  constant-held : (n e : ℕ) → Among (placed constant n e) (numbered job .definitions) → (k : ℕ) × (getElem? (marks bytes job l are formed laid) e ≡ some (done k)) × Among (n, k) (raw bytes job l are formed laid)
+  pub constant-held : (n e : ℕ) → Among (placed constant n e) (numbered job .definitions) → (k : ℕ) × (getElem? (marks bytes job l are formed laid) e ≡ some (done k)) × Among (n, k) (raw bytes job l are formed laid)
   constant-held n e a =
       let facts′ = facts bytes job l are formed laid .allHeld in
       let ready = stg bytes job l are formed laid .ready .resolved .marks in
@@ -215,10 +218,18 @@ module _ (bytes : List ℕ) (job : Job (List ℕ)) (l : Layout) (are : IsBytes b
       all-show bytes job l are formed laid depth .0 e (h .0) n (h .1)
       (among-right (n, h .0) (map (λ r. (r .1, r .0)) (pool bytes job l are formed laid .given)) (raw bytes job l are formed laid) (h .2))
 
-  -- a raw bootstrap's row stands at its index
-  index-shows-there : (depth n e : ℕ) → Among (placed bootstrap n e) (numbered job .definitions) → Shows depth f (tableEntry (jobConstants (numbered job) + e)) n
+  -- a raw bootstrap's row stands at its index, with the slots of its node's children
+  pub index-row :
+      (n e : ℕ) →
+      Among (placed bootstrap n e) (numbered job .definitions) →
+      (k : ℕ)
+      × (getElem? (marks bytes job l are formed laid) (jobConstants (numbered job) + e) ≡ some (done k))
+      × (tagAt (allNodes bytes job l are formed laid) k ≡ bootstrapTag)
+      × (row : Row)
+      × (getElem? (rows bytes job l are formed laid) n ≡ some row)
+      × Both (SlotFor (pool bytes job l are formed laid .given)) (kidsOf (allNodes bytes job l are formed laid) k) row
   unfolding indexNodes
-  index-shows-there depth n e a =
+  index-row n e a =
       let nd = nodes bytes job l are formed laid in
       let more = end bytes job l are formed laid .more in
       let at = facts bytes job l are formed laid .allIndexes .indexHeld n e a in
@@ -231,14 +242,22 @@ module _ (bytes : List ℕ) (job : Job (List ℕ)) (l : Layout) (are : IsBytes b
       ) in
       let (row, found, slots) =
       rawRowsThere nd (indexes bytes job l are formed laid) (raw bytes job l are formed laid) (stg bytes job l are formed laid .asked .pool) (stg bytes job l are formed laid .made) (starts-here bytes job l are formed laid) (stg bytes job l are formed laid .isMade) (index-rises bytes job l are formed laid) n k here in
-      let tag = each-at (λ (x : ℕ × ℕ). tagAt nd (x .1) ≡ bootstrapTag) (indexes bytes job l are formed laid) (here .0) (n, k) (indexes-are bytes job l are formed laid) (here .1) in
-      all-show bytes job l are formed laid depth .1 (jobConstants (numbered job) + e) k n row mark
-      (tag-append nd more k inside ∙ tag)
-      found
-      (subst (λ cs. Both (SlotFor (pool bytes job l are formed laid .given)) cs row) (sym (kids-append nd more k inside)) (slots-kept (end bytes job l are formed laid .kept) (kidsOf nd k) row slots))
+      let tag = each-at (λ (x : ℕ × ℕ). tagAt nd (x .1) ≡ bootstrapTag) (indexes bytes job l are formed laid) (here .0) (n, k) (indexes-are bytes job l are formed laid) (here .1) in (
+        k,
+        mark,
+        tag-append nd more k inside ∙ tag,
+        row,
+        found,
+        subst (λ cs. Both (SlotFor (pool bytes job l are formed laid .given)) cs row) (sym (kids-append nd more k inside)) (slots-kept (end bytes job l are formed laid .kept) (kidsOf nd k) row slots),
+      )
+
+  index-shows-there : (depth n e : ℕ) → Among (placed bootstrap n e) (numbered job .definitions) → Shows depth f (tableEntry (jobConstants (numbered job) + e)) n
+  index-shows-there depth n e a =
+      let (k, mark, tag, row, found, slots) = index-row n e a in
+      all-show bytes job l are formed laid depth .1 (jobConstants (numbered job) + e) k n row mark tag found slots
 
   -- where an entry's reference leads
-  entry-goal-is : (kind : Kind) (e : ℕ) → isOf bytes job l are formed laid (entry kind e) ≡ tableEntry (placeOf (jobConstants (numbered job)) kind e)
+  pub entry-goal-is : (kind : Kind) (e : ℕ) → isOf bytes job l are formed laid (entry kind e) ≡ tableEntry (placeOf (jobConstants (numbered job)) kind e)
   unfolding goalOf follow
   entry-goal-is kind e = refl
 
@@ -255,7 +274,7 @@ module _ (bytes : List ℕ) (job : Job (List ℕ)) (l : Layout) (are : IsBytes b
 
   -- all of it
   pub held-by : HeldBy f (job .requests) (job .build) (render (literals job) (layoutOf highestSlot (stg bytes job l are formed laid .answers) (stg bytes job l are formed laid .asked .resolved .visits) (numbered job .build .class) (rows bytes job l are formed laid) (stg bytes job l are formed laid .named)))
-  unfolding render layoutOf numbered
+  unfolding render layoutOf numbered nameWanted goalOf follow
   held-by =
       record {
         asMany = answers-many (stg bytes job l are formed laid .defined .names) _ _ (job .requests) (stg bytes job l are formed laid .ready) (stg bytes job l are formed laid .answers, stg bytes job l are formed laid .asked) (stg bytes job l are formed laid .isAsked);
@@ -264,13 +283,30 @@ module _ (bytes : List ℕ) (job : Job (List ℕ)) (l : Layout) (are : IsBytes b
             let (a, there, h) = asked bytes job l are formed laid .2 i q at in
             let good = asks-good (numbered job) (numbered-cited bytes job are formed) (definitions-low bytes job are formed) (requests-low bytes job are formed) i q at in
             let low = answers-low (stg bytes job l are formed laid .defined .names) _ _ (job .requests) (stg bytes job l are formed laid .ready) (stg bytes job l are formed laid .answers, stg bytes job l are formed laid .asked) (stg bytes job l are formed laid .isAsked) in
-            (a, there, low i q a at there, λ depth. subst (λ g. Shows depth f g a) (same-goal bytes job l are formed laid (q .what)) (answer-shows depth (isOf bytes job l are formed laid (q .what)) a (good .1) h));
-        placedThere = λ i n e kind at depth. placed-shows depth n e kind (placed-there i n e kind at);
+            let to = same-goal bytes job l are formed laid (q .what) in (
+              a,
+              there,
+              low i q a at there,
+              leadsTo f (q .what),
+              settled-leads (job .definitions) (marks bytes job l are formed laid) (q .what) (subst (Settled (marks bytes job l are formed laid)) to (h .settled)),
+              λ depth. subst (λ g. Shows depth f g a) to (answer-shows depth (isOf bytes job l are formed laid (q .what)) a (good .1) h),
+            );
+        placedThere = λ i n e kind at. (leadsTo f (entry kind e), entry-leads (job .definitions) kind e, λ depth. placed-shows depth n e kind (placed-there i n e kind at));
+        holes = index-held bytes job l are formed laid;
         classThere = class-at (classSlotOf (stg bytes job l are formed laid .answers) (job .build .class));
-        nameThere = λ wanted. named-there wanted (end bytes job l are formed laid .name);
-        noName = λ unwanted. no-name unwanted (end bytes job l are formed laid .name);
+        byteIs = let h = form-formed bytes job are formed .build .nameByte in omega (arith, h);
+        nameAlways = λ e. named-there (ap (λ n. nameWanted n count) e) (end bytes job l are formed laid .name);
+        nameIfPresent =
+            λ e. (
+              λ there. named-there (ap (λ n. nameWanted n count) e ∙ lt-ltb 0 count there) (end bytes job l are formed laid .name),
+              λ zero. no-name (ap (λ n. nameWanted n count) e ∙ le-ltb 0 count (omega (arith, zero))) (end bytes job l are formed laid .name),
+            );
+        nameNever = λ e. no-name (ap (λ n. nameWanted n count) e) (end bytes job l are formed laid .name);
       }
     where
+      count : ℕ
+      count = length (rows bytes job l are formed laid)
+
       named-there : nameWanted (job .build .nameByte) (length (rows bytes job l are formed laid)) ≡ true → Ways → textAt f (stg bytes job l are formed laid .named .0) ≡ some attributeName
       named-there wanted (inl h) = true≢false (sym wanted ∙ h .0)
       named-there wanted (inr h) = name-shows (stg bytes job l are formed laid .named .0) (h .1)

@@ -1,60 +1,55 @@
 -- In the finished pool, as the reader shows it, every slot that is to hold a node shows the entry that became it, to any depth. Assumes nothing.
-use mathlib.Core.Bool.{true, false}
 use mathlib.Core.List.{List, [], _∷_, map}
 use mathlib.Core.Logic.{inl, inr}
 use mathlib.Core.Option.{none, some}
 use mathlib.Core.Path.{_≡_, refl, sym, ap, subst, _∙_}
 use Prim.Native.Nat.{ℕ, zero, suc, _+_, _-_, _≤_, _<_}
 use native.Mathlib.Omega.{arith}
-use lib.Dec.{eqb}
 use lib.ListN.{length, getD, getElem?, length-map}
 use borrow.Author.Tests.{eq-eqb, ne-eqb}
 use Rattle.definition.specs.Basics.{good, lookup, from}
-use Rattle.definition.specs.Shapes.{bootstrapTag, Entry, withKids, withLiteral, constant}
+use Rattle.definition.specs.Shapes.{bootstrapTag, Entry, withKids, withLiteral}
 use Rattle.definition.specs.Job.{Reference, Job}
 use Rattle.definition.specs.Form.{form}
-use Rattle.definition.specs.Numbering.{literals, literalOf, numbered}
+use Rattle.definition.specs.Numbering.{literals, numbered}
 use Rattle.definition.specs.Definitions.{tagAt}
 use Rattle.definition.specs.Resolving.{Goal, rawNumber, tableEntry, refusal, goalOf, Node, firstNode, done, childOf}
 use Rattle.definition.specs.Slots.{highestSlot}
 use Rattle.definition.specs.Building.{Row, kidsOf, contentOf}
 use Rattle.definition.specs.Layout.{Layout, layout}
 use Rattle.definition.specs.Run.{shown}
-use Rattle.definition.specs.Jvms.{Shown}
 use Rattle.facts.specs.Lists.{Among}
 use Rattle.facts.proofs.Lists.{some-inj, found-read, found-append, map-at}
 use Rattle.facts.proofs.Each.{Both, both-length, both-at}
 use Rattle.facts.proofs.Chunks.{length-from, from-place}
 use Rattle.facts.proofs.Sums.{once-same}
-use Rattle.laws.specs.Statements.{IsBytes, namings, Finished, leadsTo, slotShows, Shows}
-use Rattle.laws.specs.Counted.{countIn}
-use Rattle.laws.proofs.numbering.NumberedCited.{count-numbered}
-use Rattle.laws.proofs.definitions.DefinedAsPlaced.{namings-numbered}
+use Rattle.laws.specs.LeadsStatement.{Leads, goalIn}
+use Rattle.laws.specs.Statements.{IsBytes, Finished, slotShows, heldFor, Shows}
 use Rattle.laws.proofs.resolving.JobGoals.{jobNames, jobConstants}
-use Rattle.laws.specs.Faithful.{Settled}
+use Rattle.laws.proofs.resolving.LeadsAsFollowed.{settled-leads}
 use Rattle.laws.proofs.resolving.NodesAndChildren.{tag-found, kids-found}
-use Rattle.laws.proofs.resolving.ResolvedNodes.{child-done, Low}
-use Rattle.laws.proofs.resolving.EntryOrigins.{Origin, origin}
+use Rattle.laws.proofs.resolving.ResolvedNodes.{child-done}
+use Rattle.laws.proofs.resolving.SameConstants.{goal-numbered, FineIn, Became, became}
 use Rattle.laws.proofs.slots.SlotsToHold.{toHold, starts-once}
-use Rattle.laws.proofs.building.ChildNumbers.{SlotFor, NumberFor, given-held}
-use Rattle.laws.proofs.building.BuiltJob.{good-job-table, asked, nodes, marks, rows}
+use Rattle.laws.proofs.building.ChildNumbers.{SlotFor, InlineIn, NumberBy, NumberFor, slots-same, given-held, numbers-kept}
+use Rattle.laws.proofs.building.BuiltJob.{good-job-table, asked, nodes, marks, rows, inline}
 use Rattle.laws.proofs.reading.PoolReadBack.{rowShown}
 use Rattle.laws.proofs.reading.BuiltEntriesFit.{row-plain}
 use Rattle.laws.proofs.reading.PoolContents.{spelled, content-holds}
-use Rattle.laws.proofs.reading.BuiltPoolReadBack.{stg, end, allNodes, raw, pool, owned, soundly, raw-keys, raw-wide, count, starts-at, held-constant}
+use Rattle.laws.proofs.reading.BuiltPoolReadBack.{stg, end, allNodes, raw, pool, owned, inline-rows, soundly, raw-keys, raw-wide, count, starts-at, held-constant}
 
--- what an index of the bootstraps shows, and what a slot does
-unfoldable numberShows : Finished → ℕ → ℕ → Shown
-numberShows f tag n = elim (eqb tag bootstrapTag) [ true ↦ getElem? (f .bootstraps) n | false ↦ slotShows f n ]
+-- where the definition follows a reference of the job
+abbrev pub leadsTo : Finished → Reference → Goal
+leadsTo f r = goalIn (f .definitions) r
 
 -- a number that doesn't name a bootstrap is a slot; one that does is an index
-number-slot : (f : Finished) (tag n : ℕ) → (tag ≡ bootstrapTag → ⊥) → numberShows f tag n ≡ slotShows f n
-unfolding numberShows
-number-slot f tag n h = rw (ne-eqb tag bootstrapTag h, numberShows)
+pub number-slot : (f : Finished) (tag n : ℕ) → (tag ≡ bootstrapTag → ⊥) → heldFor f tag n ≡ slotShows f n
+unfolding heldFor
+number-slot f tag n h = rw (ne-eqb tag bootstrapTag h, heldFor)
 
-number-index : (f : Finished) (tag n : ℕ) → tag ≡ bootstrapTag → numberShows f tag n ≡ getElem? (f .bootstraps) n
-unfolding numberShows
-number-index f tag n h = rw (eq-eqb tag bootstrapTag h, numberShows)
+pub number-index : (f : Finished) (tag n : ℕ) → tag ≡ bootstrapTag → heldFor f tag n ≡ getElem? (f .bootstraps) n
+unfolding heldFor
+number-index f tag n h = rw (eq-eqb tag bootstrapTag h, heldFor)
 
 module _ (bytes : List ℕ) (job : Job (List ℕ)) (l : Layout) (are : IsBytes bytes) (formed : form bytes ≡ good job) (laid : layout highestSlot (numbered job) ≡ good l) where
   -- the finished pool and bootstraps, as the reader shows them
@@ -71,10 +66,7 @@ module _ (bytes : List ℕ) (job : Job (List ℕ)) (l : Layout) (are : IsBytes b
 
   -- where a reference of the job leads is where it leads once literals are numbered
   pub same-goal : (r : Reference) → isOf r ≡ leadsTo finished r
-  unfolding countIn
-  same-goal r =
-      ap (λ names. goalOf names (jobConstants (numbered job)) r) (namings-numbered job)
-      ∙ ap (λ n. goalOf (namings (job .definitions)) n r) (count-numbered job constant)
+  same-goal r = goal-numbered job r
 
   pub pool-length : length (finished .pool) ≡ count bytes job l are formed laid - 1
   pool-length =
@@ -127,9 +119,8 @@ module _ (bytes : List ℕ) (job : Job (List ℕ)) (l : Layout) (are : IsBytes b
   unfolding childOf
   raw-high v low high = omega (arith, low, high)
 
-  -- what a goal's number is to be
-  abbrev pub Fine : Goal → Type 0
-  Fine g = Low g × Settled (marks bytes job l are formed laid) g
+  abbrev Fine : Goal → Type 0
+  Fine g = FineIn (marks bytes job l are formed laid) g
 
   module _ (depth : ℕ) (heldShow : HeldShow depth) (rowShow : RowShow depth) where
     -- a slot shows what its goal leads to
@@ -172,23 +163,21 @@ module _ (bytes : List ℕ) (job : Job (List ℕ)) (l : Layout) (are : IsBytes b
 
     -- a number shows what a reference leads to
     abbrev KidShows : Reference → ℕ → Type 0
-    KidShows r m = Shows depth finished (leadsTo finished r) m
+    KidShows r m = (goal : Goal) × Leads (job .definitions) r goal × Shows depth finished goal m
 
     -- all of an entry's do
     kids-show :
         (R : ℕ → ℕ → Type 0) →
         ((g : Goal) (n : ℕ) → Fine g → R (childOf (marks bytes job l are formed laid) g) n → Shows depth finished g n) →
         (rs : List Reference) (ns : List ℕ) →
-        ((g : Goal) → Among g (map isOf rs) → Fine g) →
-        Both R (map (childOf (marks bytes job l are formed laid)) (map isOf rs)) ns →
+        ((i : ℕ) (r : Reference) → getElem? rs i ≡ some r → Fine (leadsTo finished r)) →
+        Both R (map (λ r. childOf (marks bytes job l are formed laid) (leadsTo finished r)) rs) ns →
         Both KidShows rs ns
     kids-show R f [] [] fine h = tt
     kids-show R f [] (n ∷ ns) fine h = h
     kids-show R f (r ∷ rs) [] fine h = h
-    kids-show R f (r ∷ rs) (n ∷ ns) fine h = (
-      subst (λ g. Shows depth finished g n) (same-goal r) (f (isOf r) n (fine (isOf r) (0, refl)) (h .0)),
-      kids-show R f rs ns (λ g a. fine g (suc (a .0), a .1)) (h .1),
-    )
+    kids-show R f (r ∷ rs) (n ∷ ns) fine h =
+        ((leadsTo finished r, settled-leads (job .definitions) (marks bytes job l are formed laid) r (fine 0 r refl .1), f (leadsTo finished r) n (fine 0 r refl) (h .0)), kids-show R f rs ns (λ i r e. fine (suc i) r e) (h .1))
 
     -- which is what is asked of them: as many, and each at its place
     kids-there :
@@ -198,38 +187,24 @@ module _ (bytes : List ℕ) (job : Job (List ℕ)) (l : Layout) (are : IsBytes b
         × ((i : ℕ) (r : Reference) (m : ℕ) → getElem? rs i ≡ some r → getElem? ns i ≡ some m → KidShows r m)
     kids-there rs ns h = (both-length KidShows rs ns h, λ i r m p q. both-at KidShows rs ns h i r m p q)
 
-  -- what an entry became, where it comes from, and that its children's goals are fine
-  record Became (e k : ℕ) : Type 0 where
-    x : Entry ℕ Goal
-    from-job : Origin job e x
-    node : getElem? (allNodes bytes job l are formed laid) k ≡ some (withKids (map (childOf (marks bytes job l are formed laid)) (x .kids)) x)
-    fine : (g : Goal) → Among g (map isOf (from-job .entry .kids)) → Fine g
-    kids : map (childOf (marks bytes job l are formed laid)) (x .kids) ≡ map (childOf (marks bytes job l are formed laid)) (map isOf (from-job .entry .kids))
-    tag : tagAt (allNodes bytes job l are formed laid) k ≡ from-job .entry .tag
+  -- what an entry became, and that it is there among all nodes
+  pub entry-became : (e k : ℕ) → getElem? (marks bytes job l are formed laid) e ≡ some (done k) → Became job (marks bytes job l are formed laid) (nodes bytes job l are formed laid) e k
+  entry-became = became bytes job are formed (good-job-table bytes job l are formed laid) (stg bytes job l are formed laid .asked .resolved) (asked bytes job l are formed laid .0 .faithful)
 
-  became : (e k : ℕ) → getElem? (marks bytes job l are formed laid) e ≡ some (done k) → Became e k
-  unfolding withKids
-  became e k mark =
-      let n = asked bytes job l are formed laid .0 .faithful .nodeOf e k mark in
-      let o = origin bytes job are formed e (n .0) (n .1) in
-      let at = found-append (nodes bytes job l are formed laid) (end bytes job l are formed laid .more) k _ (n .2) in
-      record {
-        x = n .0;
-        from-job = o;
-        node = at;
-        fine =
-            λ g a.
-            let b = subst (Among g) (sym (o .kidsAre)) a in
-            (good-job-table bytes job l are formed laid .low e (n .0) g (n .1) b, n .3 g b);
-        kids = ap (map (childOf (marks bytes job l are formed laid))) (o .kidsAre);
-        tag = tag-found (allNodes bytes job l are formed laid) k _ at ∙ o .sameTag;
-      }
+  pub among-all : (e k : ℕ) (b : Became job (marks bytes job l are formed laid) (nodes bytes job l are formed laid) e k) → getElem? (allNodes bytes job l are formed laid) k ≡ some (b .node)
+  among-all e k b = found-append (nodes bytes job l are formed laid) (end bytes job l are formed laid .more) k (b .node) (b .isNode)
 
-  held-step : (depth : ℕ) → HeldShow depth → RowShow depth → HeldShow (suc depth)
-  unfolding Shows withKids withLiteral numberShows
-  held-step depth heldShow rowShow e k n mark a =
-      let b = became e k mark in
-      let z = b .from-job .entry in
+  pub tag-of : (e k : ℕ) (b : Became job (marks bytes job l are formed laid) (nodes bytes job l are formed laid) e k) → tagAt (allNodes bytes job l are formed laid) k ≡ b .entry .tag
+  tag-of e k b = tag-found (allNodes bytes job l are formed laid) k (b .node) (among-all e k b) ∙ b .tagIs
+
+  -- a slot that is to hold the node that an entry became: it shows the node, with the numbers of its children, and is no bootstrap's
+  pub held-there :
+      (e k n : ℕ) (b : Became job (marks bytes job l are formed laid) (nodes bytes job l are formed laid) e k) →
+      Among (n, k) (toHold (pool bytes job l are formed laid .given) (raw bytes job l are formed laid)) →
+      (ns : List ℕ)
+      × Both (NumberBy (allNodes bytes job l are formed laid) (pool bytes job l are formed laid .given) (InlineIn (inline bytes job l are formed laid))) (b .node .kids) ns
+      × ((tag : ℕ) → tag ≡ b .entry .tag → heldFor finished tag n ≡ some (spelled (literals job) (withKids ns (b .node))))
+  held-there e k n b a =
       let own = end bytes job l are formed laid .ended .isOwned n k a in
       let (k′, nd, ns, same, at, a′, nums) = end bytes job l are formed laid .ended .owner n (own .0) (own .1) in
       let one : k′ ≡ k =
@@ -237,35 +212,38 @@ module _ (bytes : List ℕ) (job : Job (List ℕ)) (l : Layout) (are : IsBytes b
       (starts-once highestSlot (stg bytes job l are formed laid .defined .held) (allNodes bytes job l are formed laid) (pool bytes job l are formed laid) (raw bytes job l are formed laid) (soundly bytes job l are formed laid) (raw-keys bytes job l are formed laid) (raw-wide bytes job l are formed laid) n)
       a′
       a in
-      let is : nd ≡ withKids (map (childOf (marks bytes job l are formed laid)) (b .x .kids)) (b .x) =
-      some-inj (sym (subst (λ i. getElem? (allNodes bytes job l are formed laid) i ≡ some nd) one at) ∙ b .node) in
+      let is : nd ≡ b .node = some-inj (sym (subst (λ i. getElem? (allNodes bytes job l are formed laid) i ≡ some nd) one at) ∙ among-all e k b) in
       let range = starts-at bytes job l are formed laid n k a in
-      let shows = owner-shown n (withKids ns nd) (range .0) (range .2) (own .1 ∙ ap some same) in
-      let kids = subst (λ cs. Both (NumberFor (allNodes bytes job l are formed laid) (pool bytes job l are formed laid .given) (rows bytes job l are formed laid)) cs ns) (ap (λ (y : Node). y .kids) is ∙ b .kids) nums in
-      let there = kids-there depth heldShow rowShow (z .kids) ns (kids-show depth heldShow rowShow (NumberFor (allNodes bytes job l are formed laid) (pool bytes job l are formed laid .given) (rows bytes job l are formed laid)) (number-shows depth heldShow rowShow) (z .kids) ns (b .fine) kids) in (
-        z,
-        spelled (literals job) (withKids ns nd),
-        b .from-job .there,
-        number-slot finished (z .tag) n (λ t. held-constant bytes job l are formed laid n k a (b .tag ∙ t)) ∙ shows,
-        ap (λ (y : Node). y .tag) is ∙ b .from-job .sameTag,
-        ap (λ (y : Node). literalOf (literals job) (y .literal)) is ∙ b .from-job .literalIs,
-        ap (λ (y : Node). y .byte) is ∙ b .from-job .sameByte,
-        there .0,
-        there .1,
+      let shows = owner-shown n (withKids ns (b .node)) (range .0) (range .2) (own .1 ∙ ap some (same ∙ ap (withKids ns) is)) in (
+        ns,
+        subst (λ (y : Node). Both (NumberBy (allNodes bytes job l are formed laid) (pool bytes job l are formed laid .given) (InlineIn (inline bytes job l are formed laid))) (y .kids) ns) is nums,
+        λ tag t. number-slot finished tag n (λ u. held-constant bytes job l are formed laid n k a (tag-of e k b ∙ sym t ∙ u)) ∙ shows,
       )
 
+  held-step : (depth : ℕ) → HeldShow depth → RowShow depth → HeldShow (suc depth)
+  unfolding Shows withKids withLiteral heldFor
+  held-step depth heldShow rowShow e k n mark a =
+      let b = entry-became e k mark in
+      let z = b .entry in
+      let (ns, nums, shows) = held-there e k n b a in
+      let kids : Both (NumberFor (allNodes bytes job l are formed laid) (pool bytes job l are formed laid .given) (rows bytes job l are formed laid)) (map (λ r. childOf (marks bytes job l are formed laid) (leadsTo finished r)) (z .kids)) ns =
+      subst (λ cs. Both (NumberFor (allNodes bytes job l are formed laid) (pool bytes job l are formed laid .given) (rows bytes job l are formed laid)) cs ns) (b .kidsAre)
+      (numbers-kept (allNodes bytes job l are formed laid) slots-same (inline-rows bytes job l are formed laid) (b .node .kids) ns nums) in
+      let there = kids-there depth heldShow rowShow (z .kids) ns (kids-show depth heldShow rowShow (NumberFor (allNodes bytes job l are formed laid) (pool bytes job l are formed laid .given) (rows bytes job l are formed laid)) (number-shows depth heldShow rowShow) (z .kids) ns (b .fine) kids) in
+      (z, spelled (literals job) (withKids ns (b .node)), b .isEntry, shows (z .tag) refl, b .tagIs, b .literalIs, b .byteIs, there .0, there .1)
+
   row-step : (depth : ℕ) → HeldShow depth → RowShow depth → RowShow (suc depth)
-  unfolding Shows withKids numberShows
+  unfolding Shows heldFor
   row-step depth heldShow rowShow e k n row mark t at slots =
-      let b = became e k mark in
-      let z = b .from-job .entry in
-      let tag : z .tag ≡ bootstrapTag = sym (b .tag) ∙ t in
-      let plain = row-plain z (b .from-job .formed) tag in
-      let kids = subst (λ cs. Both (SlotFor (pool bytes job l are formed laid .given)) cs row) (kids-found (allNodes bytes job l are formed laid) k _ (b .node) ∙ b .kids) slots in
+      let b = entry-became e k mark in
+      let z = b .entry in
+      let tag : z .tag ≡ bootstrapTag = sym (tag-of e k b) ∙ t in
+      let plain = row-plain z (b .wellFormed) tag in
+      let kids = subst (λ cs. Both (SlotFor (pool bytes job l are formed laid .given)) cs row) (kids-found (allNodes bytes job l are formed laid) k (b .node) (among-all e k b) ∙ b .kidsAre) slots in
       let there = kids-there depth heldShow rowShow (z .kids) row (kids-show depth heldShow rowShow (SlotFor (pool bytes job l are formed laid .given)) (slot-shows depth heldShow rowShow) (z .kids) row (b .fine) kids) in (
         z,
         rowShown row,
-        b .from-job .there,
+        b .isEntry,
         number-index finished (z .tag) n tag ∙ map-at rowShown (rows bytes job l are formed laid) n row at,
         sym tag,
         sym (plain .0),

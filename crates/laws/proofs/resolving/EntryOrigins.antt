@@ -8,7 +8,7 @@ use Rattle.definition.specs.Basics.{good}
 use Rattle.definition.specs.Shapes.{Entry, withKids, withLiteral}
 use Rattle.definition.specs.Job.{Reference, Definition, define, named, placed, Job}
 use Rattle.definition.specs.Form.{form}
-use Rattle.definition.specs.Numbering.{entries, constantsOf, bootstrapsOf, literals, literalOf, numberedEntry, numbered}
+use Rattle.definition.specs.Numbering.{entries, constantsOf, bootstrapsOf, literals, numberOf, literalOf, numberedEntry, numbered}
 use Rattle.definition.specs.Resolving.{Goal, goalOf, linked}
 use Rattle.facts.specs.Lists.{Among}
 use Rattle.facts.proofs.Lists.{clash, map-at, map-some}
@@ -16,7 +16,7 @@ use Rattle.facts.proofs.Each.{each-at}
 use Rattle.laws.specs.Statements.{IsBytes}
 use Rattle.laws.proofs.form.FormedEntries.{FormedEntry, FormedDefinition}
 use Rattle.laws.proofs.form.FormedJobs.{form-formed, formed-definitions-each}
-use Rattle.laws.proofs.numbering.Numbering.{literalOf-numberOf}
+use Rattle.laws.proofs.numbering.Numbering.{numberOf-at, literalOf-numberOf}
 use Rattle.laws.proofs.numbering.NumberedCited.{constants-numbered, bootstraps-numbered}
 use Rattle.laws.proofs.resolving.JobGoals.{table-defined, jobNames, jobConstants, jobTable}
 
@@ -50,7 +50,9 @@ pub record Origin (job : Job (List ℕ)) (e : ℕ) (x : Entry ℕ Goal) : Type 0
   pub formed : FormedEntry entry
   pub sameTag : x .tag ≡ entry .tag
   pub sameByte : x .byte ≡ entry .byte
+  pub numberIs : x .literal ≡ numberOf (literals job) (entry .tag, entry .literal)
   pub literalIs : literalOf (literals job) (x .literal) ≡ entry .literal
+  pub literalAt : getElem? (literals job) (x .literal) ≡ some (entry .tag, entry .literal)
   pub kidsAre : x .kids ≡ map (goalOf (jobNames (numbered job)) (jobConstants (numbered job))) (entry .kids)
 
 pub origin : (bytes : List ℕ) (job : Job (List ℕ)) → IsBytes bytes → form bytes ≡ good job → (e : ℕ) (x : Entry ℕ Goal) → getElem? (jobTable (numbered job)) e ≡ some x → Origin job e x
@@ -74,6 +76,8 @@ origin bytes job are form e x at =
       formed = each-at FormedDefinition (job .definitions) (defined .0) (define z) (formed-definitions-each job (form-formed bytes job are form)) (defined .1);
       sameTag = ap (λ (y : Entry ℕ Goal). y .tag) (sym is);
       sameByte = ap (λ (y : Entry ℕ Goal). y .byte) (sym is);
+      numberIs = ap (λ (y : Entry ℕ Goal). y .literal) (sym is);
       literalIs = ap (λ (y : Entry ℕ Goal). literalOf all (y .literal)) (sym is) ∙ literalOf-numberOf all (z .tag, z .literal) (literal-among job z defined);
+      literalAt = ap (λ (y : Entry ℕ Goal). getElem? all (y .literal)) (sym is) ∙ numberOf-at all (z .tag, z .literal) (literal-among job z defined);
       kidsAre = ap (λ (y : Entry ℕ Goal). y .kids) (sym is);
     }

@@ -39,7 +39,7 @@ follow-none :
 unfolding follow
 follow-none steps names constants kind s e = rw (e, follow)
 
-follow-some :
+pub follow-some :
     (steps : ℕ) (names : List Naming) (constants : ℕ) (kind : Kind) (s : List ℕ) (r : Reference) →
     nameTarget kind s names ≡ some r →
     follow (suc steps) names constants (name kind s) ≡ follow steps names constants r

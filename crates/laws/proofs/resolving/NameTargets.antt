@@ -14,14 +14,14 @@ use Rattle.facts.proofs.Each.{Each, each-at}
 use Rattle.laws.proofs.form.CitedEntries.{sameKind-true}
 
 -- a name past a naming of it, and past another
-target-here :
+pub target-here :
     (kind : Kind) (s : List ℕ) (n : Naming) (names : List Naming) →
     (sameKind kind (n .kind) && same s (n .label)) ≡ true →
     nameTarget kind s (n ∷ names) ≡ some (n .target)
 unfolding nameTarget
 target-here kind s n names e = rw (e, nameTarget)
 
-target-later :
+pub target-later :
     (kind : Kind) (s : List ℕ) (n : Naming) (names : List Naming) →
     (sameKind kind (n .kind) && same s (n .label)) ≡ false →
     nameTarget kind s (n ∷ names) ≡ nameTarget kind s names

@@ -17,7 +17,7 @@ use Rattle.definition.specs.Resolving.{Node}
 use Rattle.definition.specs.Slots.{Gap, countFrom}
 use Rattle.definition.specs.Building.{Pool}
 use Rattle.definition.specs.Layout.{starters}
-use Rattle.facts.specs.Lists.{Among}
+use Rattle.facts.specs.Lists.{Among, keys}
 use Rattle.facts.proofs.Lists.{clash, order, map-at}
 use Rattle.facts.proofs.Tables.{some-key, some-row}
 use Rattle.facts.proofs.Sums.{run, once, times, times-cons, total-times, times-append, among-times, times-low, times-high, times-run}
@@ -75,6 +75,17 @@ half-given nodes (r ∷ given) k s (suc i, h) w = go (isWide (tagAt nodes (r .0)
         1 ≤ times (suc s) (elim b [ true ↦ suc (r .1) ∷ givenHalves nodes given | false ↦ givenHalves nodes given ])
     go true rest = omega (arith, rest, times-cons (suc s) (suc (r .1)) (givenHalves nodes given))
     go false rest = rest
+
+-- a node at a slot takes it, and the next if it is wide
+abbrev pub NodeTakes : List Node → ℕ → ℕ → ℕ → Type 0
+NodeTakes nodes k s t = (t ≡ s) ⊎ ((isWide (tagAt nodes k) ≡ true) × (t ≡ suc s))
+
+-- what it takes is counted among the slots given out
+given-counted : (nodes : List Node) (given : List (ℕ × ℕ)) (k s t : ℕ) → Among (k, s) given → NodeTakes nodes k s t → 1 ≤ times t (givenSlots nodes given)
+given-counted nodes given k s t a (inl e) =
+    let here = among-times s (map (λ r. r .1) given) (a .0, map-at (λ (r : ℕ × ℕ). r .1) given (a .0) (k, s) (a .1)) in
+    rw e (omega (arith, times-given s nodes given, here))
+given-counted nodes given k s t a (inr (w, e)) = rw e (omega (arith, times-given (suc s) nodes given, half-given nodes given k s a w))
 
 -- what is to hold a node was given a slot, or is raw
 pub toHold-among : (r : ℕ × ℕ) (given raws : List (ℕ × ℕ)) → Among r (toHold given raws) → Among (r .1, r .0) given ⊎ Among r raws
@@ -190,6 +201,20 @@ module _
       low : (t < 1) ⊎ (1 ≤ t) → (times t (run 1 top) ≤ 1) × (1 ≤ times t (run 1 top) → (1 ≤ t) × (t ≤ top))
       low (inl h) = (omega (arith, times-low t 1 top h), λ z. absurd (omega (arith, times-low t 1 top h)))
       low (inr h) = high h (order t (1 + top))
+
+  -- no slot that was given out, whole or second half, is raw-held
+  pub raw-not-given : (k s t : ℕ) → Among t (keys held) → Among (k, s) (p .given) → NodeTakes nodes k s t → ⊥
+  unfolding allSlots
+  raw-not-given k s t a g takes =
+      omega (
+        arith,
+        sym (total-times t (allSlots held nodes p)) ∙ sound .counted (once t) ∙ total-times t (run 1 top),
+        times-append t (map (λ h. h .0) held) (givenSlots nodes (p .given) ++ freeSlots (p .slots .gaps)),
+        times-append t (givenSlots nodes (p .given)) (freeSlots (p .slots .gaps)),
+        among-times t (keys held) a,
+        given-counted nodes (p .given) k s t g takes,
+        run-once t .0,
+      )
 
   -- no slot is to hold two nodes
   pub starts-once : (t : ℕ) → times t (map (λ r. r .0) (toHold (p .given) raws)) ≤ 1

@@ -1,0 +1,407 @@
+-- The cause of 3, 4 and 5: the records before stand, and the one in turn can't. Assumes nothing.
+use mathlib.Core.Bool.{Bool, true, false, _&&_, not}
+use mathlib.Core.List.{List, [], _∷_, _++_, append-assoc, append-nil}
+use mathlib.Core.Logic.{_⊎_, inl, inr, _≢_}
+use mathlib.Core.Option.{Option, none, some}
+use mathlib.Core.Path.{_≡_, refl, sym, ap, subst, _∙_}
+use Prim.Native.Nat.{ℕ, zero, suc, _+_, _≤_, _<_}
+use native.Mathlib.Omega.{arith}
+use lib.Dec.{eqb}
+use lib.ListN.{length, length-append}
+use borrow.Author.Tests.{eqb-true, eqb-false, ltb-true, ltb-false}
+use Rattle.definition.specs.Basics.{Refusal, every, only, lookup}
+use Rattle.definition.specs.Bytes.{Parser, andThen}
+use Rattle.definition.specs.Shapes.{Kind, constant, bootstrap, bootstrapTag, Entry}
+use Rattle.definition.specs.Job.{Reference, raw, entry, name, Definition, define, named, placed, Request, ClassSlot, slot, request, Build, Job}
+use Rattle.definition.specs.Job.{Body, bodies, readBody, readDefinition, asks, reference, readRequest, readBuild}
+use Rattle.definition.specs.Form.{Counts, countOf, kindOf, oneMore, counted, hasRoom, cites, citesEarlier, citesRequest, formDefinition, Definitions, formDefinitions, formRequest, nothingBehind, formBuild, Requests, formRequests, form}
+use Rattle.definition.specs.Numbering.{entries, isBootstrap, constantsOf, bootstrapsOf}
+use Rattle.facts.specs.Lists.{Among}
+use Rattle.facts.proofs.Lists.{clash, none≢some, true≢false, among-later, every-at, only-here, only-later, only-more}
+use Rattle.facts.proofs.Each.{Each}
+use Rattle.facts.proofs.Outcomes.{Ends, well, refused, next}
+use Rattle.laws.specs.Statements.{IsBytes}
+use Rattle.laws.specs.Counted.{countIn}
+use Rattle.causes.specs.CauseStatement as CauseStatement
+use Rattle.causes.specs.CauseStatement.{CitesEntry, HasPlace, Stand, noneYet, StandAsked, noneAsked, oneAsked, FormCause, unreadDefinition, tableFull, noEntry, unreadRequest, noEntryAsked, unreadBuild, noRequestCited, bytesBehind}
+use Rattle.laws.proofs.form.ParsersYield.{Byte, each-byte, Yields, yields-fail, yields-return, yields-bind}
+use Rattle.laws.proofs.form.FormedEntries.{OfKind, yields-reference, yields-definition}
+use Rattle.laws.proofs.form.DefinitionsRead.{noEntries}
+use Rattle.causes.proofs.CauseSteps.{unless-cause, whole-cause, at-place}
+
+-- ---- counts are those of the definitions before
+
+only-snoc : {A : Type 0} (p : A → Bool) (l : List A) (x : A) → length (only p (l ++ x ∷ [])) ≡ length (only p l) + length (only p (x ∷ []))
+unfolding only
+only-snoc p [] x = omega arith
+only-snoc p (y ∷ l) x = omega (arith, only-more p y (l ++ x ∷ []), only-more p y l, only-snoc p l x)
+
+entries-snoc : (ds : List (Definition (List ℕ))) (x : Definition (List ℕ)) → entries (ds ++ x ∷ []) ≡ entries ds ++ entries (x ∷ [])
+unfolding entries
+entries-snoc [] x = refl
+entries-snoc (define e ∷ ds) x = ap (λ l. e ∷ l) (entries-snoc ds x)
+entries-snoc (named k s r ∷ ds) x = entries-snoc ds x
+entries-snoc (placed k a m ∷ ds) x = entries-snoc ds x
+
+count-snoc-entry :
+    (kind : Kind) (ds : List (Definition (List ℕ))) (e : Entry (List ℕ) Reference) →
+    countIn kind (ds ++ define e ∷ []) ≡ countIn kind ds + countIn kind (define e ∷ [])
+unfolding countIn constantsOf bootstrapsOf entries
+count-snoc-entry constant ds e = rw (entries-snoc ds (define e)) (only-snoc (λ e. not (isBootstrap e)) (entries ds) e)
+count-snoc-entry bootstrap ds e = rw (entries-snoc ds (define e)) (only-snoc isBootstrap (entries ds) e)
+
+count-same : (kind : Kind) (ds es : List (Definition (List ℕ))) → entries ds ≡ entries es → countIn kind ds ≡ countIn kind es
+unfolding countIn constantsOf bootstrapsOf
+count-same constant ds es q = ap (λ l. length (only (λ e. not (isBootstrap e)) l)) q
+count-same bootstrap ds es q = ap (λ l. length (only isBootstrap l)) q
+
+abbrev pub Counted : Counts → List (Definition (List ℕ)) → Type 0
+Counted n ds = (kind : Kind) → countOf kind n ≡ countIn kind ds
+
+-- an entry alone counts as one of its kind
+kind-true : (tag : ℕ) → eqb tag bootstrapTag ≡ true → kindOf tag ≡ bootstrap
+unfolding kindOf
+kind-true tag t = rw (t, kindOf) refl
+
+kind-false : (tag : ℕ) → eqb tag bootstrapTag ≡ false → kindOf tag ≡ constant
+unfolding kindOf
+kind-false tag t = rw (t, kindOf) refl
+
+alone : (e : Entry (List ℕ) Reference) → (countIn constant (define e ∷ []) ≡ length (only (λ e. not (isBootstrap e)) (e ∷ []))) × (countIn bootstrap (define e ∷ []) ≡ length (only isBootstrap (e ∷ [])))
+unfolding countIn constantsOf bootstrapsOf entries
+alone e = (refl, refl)
+
+counted-entry :
+    (n : Counts) (e : Entry (List ℕ) Reference) (kind : Kind) → countOf kind (oneMore (kindOf (e .tag)) n) ≡ countOf kind n + countIn kind (define e ∷ [])
+unfolding isBootstrap oneMore countOf only
+counted-entry n e kind = go (eqb (e .tag) bootstrapTag) refl kind
+  where
+    Goal : Kind → Type 0
+    Goal kind = countOf kind (oneMore (kindOf (e .tag)) n) ≡ countOf kind n + countIn kind (define e ∷ [])
+
+    go : (b : Bool) → eqb (e .tag) bootstrapTag ≡ b → (kind : Kind) → Goal kind
+    go true t constant = rw (kind-true (e .tag) t, alone e .0, only-later (λ e. not (isBootstrap e)) e [] (ap not t)) (omega arith)
+    go true t bootstrap = rw (kind-true (e .tag) t, alone e .1, only-here isBootstrap e [] t) (omega arith)
+    go false t constant = rw (kind-false (e .tag) t, alone e .0, only-here (λ e. not (isBootstrap e)) e [] (ap not t)) (omega arith)
+    go false t bootstrap = rw (kind-false (e .tag) t, alone e .1, only-later isBootstrap e [] t) (omega arith)
+
+pub counted-snoc : (n : Counts) (ds : List (Definition (List ℕ))) (x : Definition (List ℕ)) → Counted n ds → Counted (counted x n) (ds ++ x ∷ [])
+unfolding counted entries
+counted-snoc n ds (define e) h kind = omega (arith, h kind, counted-entry n e kind, count-snoc-entry kind ds e)
+counted-snoc n ds (named k s r) h kind = h kind ∙ count-same kind ds (ds ++ named k s r ∷ []) (sym (entries-snoc ds (named k s r) ∙ append-nil (entries ds)))
+counted-snoc n ds (placed k a m) h kind = h kind ∙ count-same kind ds (ds ++ placed k a m ∷ []) (sym (entries-snoc ds (placed k a m) ∙ append-nil (entries ds)))
+
+pub nothing-counted : Counted noEntries []
+unfolding countOf countIn constantsOf bootstrapsOf entries only
+nothing-counted constant = refl
+nothing-counted bootstrap = refl
+
+-- a request that can't be read has a reference that can't be
+andThen-none : {A B : Type 0} (o : Option (A × List ℕ)) (f : A → Parser B) → ((a : A) (rest : List ℕ) → f a rest ≡ none → ⊥) → andThen o f ≡ none → o ≡ none
+andThen-none none f h e = refl
+andThen-none (some r) f h e = absurd (h (r .0) (r .1) e)
+
+request-unread : (ldc : Bool) (left : List ℕ) → readRequest (some ldc) left ≡ none → reference constant left ≡ none
+unfolding readRequest
+request-unread ldc left e = andThen-none (reference constant left) _ (λ r rest q. none≢some (sym q)) e
+
+-- ---- records that stand take a byte each
+
+pub snoc-length : {A : Type 0} (l : List A) (x : A) → length (l ++ x ∷ []) ≡ suc (length l)
+snoc-length l x = length-append l (x ∷ []) ∙ omega arith
+
+module _ (bytes : List ℕ) (are : Each Byte bytes) where
+  pub stand-length : {ds : List (Definition (List ℕ))} {left : List ℕ} → Stand bytes ds left → (length ds + length left ≤ length bytes) × Each Byte left
+  stand-length noneYet = (omega arith, are)
+  stand-length (CauseStatement.oneMore ds first left x rest st ne read place cited) =
+      let h = stand-length st in
+      let g = yields-definition first left (h .1 .1) x rest read in
+      (omega (arith, snoc-length ds x, h .0, g .fewer), g .bytes)
+
+  yields-asked : (o : Option Bool) → Yields (λ q. Unit {0}) (readRequest o)
+  unfolding readRequest
+  yields-asked none = yields-fail (λ q. Unit {0})
+  yields-asked (some ldc) =
+      yields-bind (OfKind constant) _ (reference constant) _ (yields-reference constant) λ r h. yields-return (λ q. Unit {0}) (record { ldc = ldc; what = r }) tt
+
+  pub asked-length :
+      {ds : List (Definition (List ℕ))} {qs : List Request} {left : List ℕ} →
+      StandAsked bytes ds qs left →
+      (suc (length ds) + length qs + length left ≤ length bytes) × Each Byte left
+  asked-length (noneAsked left st) = let h = stand-length st in (omega (arith, h .0), h .1 .1)
+  asked-length (oneAsked qs first left q rest st ne read cited) =
+      let h = asked-length st in
+      let g = yields-asked (lookup first asks) left (h .1 .1) q rest read in
+      (omega (arith, snoc-length qs q, h .0, g .fewer), g .bytes)
+
+  -- ---- what is cited, behind definitions
+
+  module _ (n : Counts) (ds : List (Definition (List ℕ))) (count : Counted n ds) where
+    -- a reference that isn't there, and one that is
+    uncited : (r : Reference) → cites n r ≡ false → (kind : Kind) × (m : ℕ) × (r ≡ entry kind m) × (countIn kind ds ≤ m)
+    unfolding cites
+    uncited (raw m) t = true≢false t
+    uncited (entry kind m) t = (kind, m, refl, omega (arith, ltb-false m (countOf kind n) t, count kind))
+    uncited (name kind s) t = true≢false t
+
+    pub cited-there : (r : Reference) (kind : Kind) (m : ℕ) → cites n r ≡ true → r ≡ entry kind m → m < countIn kind ds
+    unfolding cites
+    cited-there (raw k) kind m t q = clash (cc)
+    cited-there (entry kind′ k) kind m t q =
+        let q₁ : kind′ ≡ kind = cc in
+        let q₂ : k ≡ m = cc in
+        subst (λ kind. m < countIn kind ds) q₁ (omega (arith, ltb-true k (countOf kind′ n) t, count kind′, q₂))
+    cited-there (name kind′ s) kind m t q = clash (cc)
+
+    some-uncited : (l : List Reference) → every (cites n) l ≡ false → (kind : Kind) × (m : ℕ) × Among (entry kind m) l × (countIn kind ds ≤ m)
+    unfolding every
+    some-uncited [] t = true≢false t
+    some-uncited (r ∷ l) t = go (cites n r) refl t (some-uncited l)
+      where
+        go :
+            (b : Bool) → cites n r ≡ b → (b && every (cites n) l) ≡ false →
+            (every (cites n) l ≡ false → (kind : Kind) × (m : ℕ) × Among (entry kind m) l × (countIn kind ds ≤ m)) →
+            (kind : Kind) × (m : ℕ) × Among (entry kind m) (r ∷ l) × (countIn kind ds ≤ m)
+        go true q t later = let h = later t in (h .0, h .1, among-later (entry (h .0) (h .1)) r l (h .2), h .3)
+        go false q t later = let h = uncited r q in (h .0, h .1, (0, ap some (h .2)), h .3)
+
+  -- ---- a definition in turn
+
+  module _
+      (n : Counts)
+      (ds : List (Definition (List ℕ)))
+      (count : Counted n ds)
+      (first : ℕ)
+      (left : List ℕ)
+      (st : Stand bytes ds (first ∷ left))
+      (ne : first ≢ 0x50) where
+    abbrev Z : ℕ → Type 0
+    Z code = FormCause bytes code (length ds)
+
+    three : readDefinition first left ≡ none → Z 3
+    unfolding readDefinition
+    three e = unreadDefinition ds (first ∷ left) st (ne, go (lookup first bodies) refl)
+      where
+        go :
+            (o : Option Body) → lookup first bodies ≡ o →
+            (lookup first bodies ≡ none) ⊎ ((b : Body) × (lookup first bodies ≡ some b) × (readBody first (some b) left ≡ none))
+        go none q = inl q
+        go (some b) q = inr (b, q, subst (λ o. readBody first o left ≡ none) q e)
+
+    five : (x : Definition (List ℕ)) (rest : List ℕ) → readDefinition first left ≡ some (x, rest) → hasRoom n x ≡ false → Z 5
+    unfolding hasRoom
+    five (define e) rest read t =
+        tableFull ds first left e rest st ne read (omega (arith, ltb-false (countOf (kindOf (e .tag)) n) 65536 t, count (kindOf (e .tag))))
+    five (named k s r) rest read t = true≢false t
+    five (placed k a m) rest read t = true≢false t
+
+    has-place : (x : Definition (List ℕ)) → hasRoom n x ≡ true → HasPlace ds x
+    unfolding hasRoom
+    has-place (define e) t e′ q =
+        let same : e ≡ e′ = cc in
+        subst (λ (y : Entry (List ℕ) Reference). countIn (kindOf (y .tag)) ds < 65536) same
+        (omega (arith, ltb-true (countOf (kindOf (e .tag)) n) 65536 t, count (kindOf (e .tag))))
+    has-place (named k s r) t e′ q = clash (cc)
+    has-place (placed k a m) t e′ q = clash (cc)
+
+    four : (x : Definition (List ℕ)) (rest : List ℕ) → readDefinition first left ≡ some (x, rest) → HasPlace ds x → citesEarlier n x ≡ false → Z 4
+    unfolding citesEarlier
+    four (define e) rest read place t =
+        let h = some-uncited n ds count (e .kids) t in
+        noEntry ds first left (define e) rest (h .0) (h .1) st ne read place (h .2) (h .3)
+    four (named k s r) rest read place t =
+        let h = uncited n ds count r t in
+        noEntry ds first left (named k s r) rest (h .0) (h .1) st ne read place (h .2) (h .3)
+    four (placed k a m) rest read place t =
+        noEntry ds first left (placed k a m) rest k m st ne read place (refl, refl) (omega (arith, ltb-false m (countOf k n) t, count k))
+
+    pub all-cited : (x : Definition (List ℕ)) → citesEarlier n x ≡ true → (kind : Kind) (m : ℕ) → CitesEntry x kind m → m < countIn kind ds
+    unfolding citesEarlier
+    all-cited (define e) t kind m c = cited-there n ds count (entry kind m) kind m (every-at (cites n) (e .kids) t (c .0) (entry kind m) (c .1)) refl
+    all-cited (named k s r) t kind m c = cited-there n ds count r kind m t c
+    all-cited (placed k a j) t kind m c = subst (λ kind. m < countIn kind ds) (c .0) (omega (arith, ltb-true j (countOf k n) t, count k, c .1))
+
+    definition-cause : Ends Z (λ r. Stand bytes (ds ++ r .0 ∷ []) (r .1)) (formDefinition n first left)
+    unfolding formDefinition
+    definition-cause =
+        next _ (whole-cause (readDefinition first left) three) λ r read.
+        next _ (unless-cause (hasRoom n (r .0)) 5 (five (r .0) (r .1) read)) λ _ room.
+        next _ (unless-cause (citesEarlier n (r .0)) 4 (four (r .0) (r .1) read (has-place (r .0) room))) λ _ cited.
+        well {a = r} (CauseStatement.oneMore ds first left (r .0) (r .1) st ne read (has-place (r .0) room) (all-cited (r .0) cited))
+
+  -- ---- the definitions
+
+  -- what they leave: 50 stands behind them
+  record Ended (ds : List (Definition (List ℕ))) (d : Definitions) : Type 0 where
+    stands : Stand bytes (ds ++ d .list) (0x50 ∷ d .rest)
+    counts : Counted (d .counts) (ds ++ d .list)
+
+  abbrev Z₀ : Refusal → Type 0
+  Z₀ e = FormCause bytes (e .code) (e .place)
+
+  definitions-cause :
+      (fuel : ℕ) (n : Counts) (ds : List (Definition (List ℕ))) (left : List ℕ) →
+      length bytes ≤ fuel + length ds →
+      Counted n ds →
+      Stand bytes ds left →
+      Ends Z₀ (Ended ds) (formDefinitions fuel n (length ds) left)
+  unfolding formDefinitions
+  definitions-cause zero n ds [] enough count st = refused (unreadDefinition ds [] st tt)
+  definitions-cause zero n ds (first ∷ left) enough count st = absurd (omega (arith, stand-length st .0))
+  definitions-cause (suc fuel) n ds [] enough count st = refused (unreadDefinition ds [] st tt)
+  definitions-cause (suc fuel) n ds (first ∷ left) enough count st = go (eqb first 0x50) refl (definitions-cause fuel)
+    where
+      go :
+          (b : Bool) →
+          eqb first 0x50 ≡ b →
+          ((n : Counts) (ds : List (Definition (List ℕ))) (left : List ℕ) → length bytes ≤ fuel + length ds → Counted n ds → Stand bytes ds left →
+          Ends Z₀ (Ended ds) (formDefinitions fuel n (length ds) left)) →
+          Ends Z₀ (Ended ds) (formDefinitions (suc fuel) n (length ds) (first ∷ left))
+      go true t rest =
+          rw (t, formDefinitions)
+          (well
+          (record {
+            stands = subst (λ l. Stand bytes l (0x50 ∷ left)) (sym (append-nil ds)) (subst (λ f. Stand bytes ds (f ∷ left)) (eqb-true first 0x50 t) st);
+            counts = subst (Counted n) (sym (append-nil ds)) count;
+          }))
+      go false t rest =
+          rw (t, formDefinitions)
+          (next _ (at-place (FormCause bytes) (length ds) (definition-cause n ds count first left st (eqb-false first 0x50 t))) λ r st₁.
+          let longer : length (ds ++ r .0 ∷ []) ≡ suc (length ds) = snoc-length ds (r .0) in
+          next _
+          (subst (λ p. Ends Z₀ (Ended (ds ++ r .0 ∷ [])) (formDefinitions fuel (counted (r .0) n) p (r .1))) longer
+          (rest (counted (r .0) n) (ds ++ r .0 ∷ []) (r .1) (omega (arith, longer, enough)) (counted-snoc n ds (r .0) count) st₁)) λ d h.
+          well
+          (record {
+            stands = subst (λ l. Stand bytes l (0x50 ∷ d .rest)) (append-assoc ds (r .0 ∷ []) (d .list)) (h .stands);
+            counts = subst (Counted (d .counts)) (append-assoc ds (r .0 ∷ []) (d .list)) (h .counts);
+          }))
+
+  -- ---- requests and the build record
+
+  module _ (n : Counts) (ds : List (Definition (List ℕ))) (count : Counted n ds) where
+    abbrev placeAt : List Request → ℕ
+    placeAt qs = suc (length ds) + length qs
+
+    request-cause :
+        (qs : List Request) (first : ℕ) (left : List ℕ) →
+        StandAsked bytes ds qs (first ∷ left) →
+        first ≢ 0x60 →
+        Ends (λ code. FormCause bytes code (placeAt qs)) (λ r. StandAsked bytes ds (qs ++ r .0 ∷ []) (r .1)) (formRequest n first left)
+    unfolding formRequest
+    request-cause qs first left st ne =
+        next _ (whole-cause (readRequest (lookup first asks) left) three-asked) λ r read.
+        next _ (unless-cause (cites n (r .0 .what)) 4 (four-asked r read)) λ _ cited.
+        well {a = r} (oneAsked qs first left (r .0) (r .1) st ne read (λ kind m q. cited-there n ds count (r .0 .what) kind m cited q))
+      where
+        go :
+            (o : Option Bool) → lookup first asks ≡ o → readRequest o left ≡ none →
+            (lookup first asks ≡ none) ⊎ ((ldc : Bool) × (lookup first asks ≡ some ldc) × (reference constant left ≡ none))
+        go none q e = inl q
+        go (some ldc) q e = inr (ldc, q, request-unread ldc left e)
+
+        three-asked : readRequest (lookup first asks) left ≡ none → FormCause bytes 3 (placeAt qs)
+        three-asked e = unreadRequest ds qs (first ∷ left) st (ne, go (lookup first asks) refl e)
+
+        four-asked : (r : Request × List ℕ) → readRequest (lookup first asks) left ≡ some r → cites n (r .0 .what) ≡ false → FormCause bytes 4 (placeAt qs)
+        four-asked r read t =
+            let h = uncited n ds count (r .0 .what) t in
+            noEntryAsked ds qs first left (r .0) (r .1) (h .0) (h .1) st ne read (h .2) (h .3)
+
+    -- the class slot's request
+    class-uncited : (k : ℕ) (c : ClassSlot) → citesRequest k c ≡ false → (m : ℕ) × (c ≡ request m) × (k ≤ m)
+    unfolding citesRequest
+    class-uncited k (slot m) t = true≢false t
+    class-uncited k (request m) t = (m, refl, ltb-false m k t)
+
+    pub class-cited : (k : ℕ) (c : ClassSlot) (m : ℕ) → citesRequest k c ≡ true → c ≡ request m → m < k
+    unfolding citesRequest
+    class-cited k (slot j) m t q = clash (cc)
+    class-cited k (request j) m t q =
+        let same : j ≡ m = cc in
+        omega (arith, ltb-true j k t)
+
+    build-cause :
+        (qs : List Request) (left : List ℕ) → StandAsked bytes ds qs (0x60 ∷ left) → Ends Z₀ (λ b. Unit {0}) (formBuild (length qs) (placeAt qs) left)
+    unfolding formBuild nothingBehind
+    build-cause qs left st =
+        next _ (at-place (FormCause bytes) (placeAt qs) (whole-cause (readBuild left) (λ e. unreadBuild ds qs left st e))) λ r read.
+        next _ (at-place (FormCause bytes) (placeAt qs) (unless-cause (citesRequest (length qs) (r .0 .class)) 4 (four-built r read))) λ _ cited.
+        next _ (at-place (FormCause bytes) (suc (placeAt qs)) (unless-cause (nothingBehind (r .1)) 3 (behind (r .0) (r .1) read cited))) λ _ _.
+        well tt
+      where
+        four-built : (r : Build × List ℕ) → readBuild left ≡ some r → citesRequest (length qs) (r .0 .class) ≡ false → FormCause bytes 4 (placeAt qs)
+        four-built r read t =
+            let h = class-uncited (length qs) (r .0 .class) t in
+            noRequestCited ds qs left (r .0) (r .1) (h .0) st read (h .1) (h .2)
+
+        behind :
+            (b : Build) (rest : List ℕ) → readBuild left ≡ some (b, rest) → citesRequest (length qs) (b .class) ≡ true → nothingBehind rest ≡ false → FormCause bytes 3 (suc (placeAt qs))
+        behind b [] read cited t = true≢false t
+        behind b (more ∷ rest) read cited t = bytesBehind ds qs left b more rest st read (λ m q. class-cited (length qs) (b .class) m cited q)
+
+    -- what they leave: 60 stands behind them
+    abbrev Built : List Request → Requests → Type 0
+    Built qs r = (left : List ℕ) × StandAsked bytes ds (qs ++ r .list) (0x60 ∷ left)
+
+    requests-cause :
+        (fuel : ℕ) (qs : List Request) (left : List ℕ) →
+        length bytes ≤ fuel + length qs →
+        StandAsked bytes ds qs left →
+        Ends Z₀ (Built qs) (formRequests fuel n (length qs) (placeAt qs) left)
+    unfolding formRequests
+    requests-cause zero qs [] enough st = refused (unreadRequest ds qs [] st tt)
+    requests-cause zero qs (first ∷ left) enough st = absurd (omega (arith, asked-length st .0))
+    requests-cause (suc fuel) qs [] enough st = refused (unreadRequest ds qs [] st tt)
+    requests-cause (suc fuel) qs (first ∷ left) enough st = go (eqb first 0x60) refl (requests-cause fuel)
+      where
+        go :
+            (b : Bool) →
+            eqb first 0x60 ≡ b →
+            ((qs : List Request) (left : List ℕ) → length bytes ≤ fuel + length qs → StandAsked bytes ds qs left → Ends Z₀ (Built qs) (formRequests fuel n (length qs) (placeAt qs) left)) →
+            Ends Z₀ (Built qs) (formRequests (suc fuel) n (length qs) (placeAt qs) (first ∷ left))
+        go true t rest =
+            let sixty = subst (λ f. StandAsked bytes ds qs (f ∷ left)) (eqb-true first 0x60 t) st in
+            rw (t, formRequests)
+            (next _ (build-cause qs left sixty) λ b _. well (left, subst (λ l. StandAsked bytes ds l (0x60 ∷ left)) (sym (append-nil qs)) sixty))
+        go false t rest =
+            rw (t, formRequests)
+            (next _ (at-place (FormCause bytes) (placeAt qs) (request-cause qs first left st (eqb-false first 0x60 t))) λ r st₁.
+            let longer : length (qs ++ r .0 ∷ []) ≡ suc (length qs) = snoc-length qs (r .0) in
+            let later : placeAt (qs ++ r .0 ∷ []) ≡ suc (placeAt qs) = omega (arith, longer) in
+            next _
+            (subst (λ p. Ends Z₀ (Built (qs ++ r .0 ∷ [])) (formRequests fuel n (suc (length qs)) p (r .1))) later
+            (subst (λ k. Ends Z₀ (Built (qs ++ r .0 ∷ [])) (formRequests fuel n k (placeAt (qs ++ r .0 ∷ [])) (r .1))) longer
+            (rest (qs ++ r .0 ∷ []) (r .1) (omega (arith, longer, enough)) st₁))) λ d h.
+            well (h .0, subst (λ l. StandAsked bytes ds l (0x60 ∷ h .0)) (append-assoc qs (r .0 ∷ []) (d .list)) (h .1)))
+
+-- a well-formed job's records stand in the bytes, so they are no more than these
+abbrev pub Standing : List ℕ → Job (List ℕ) → Type 0
+Standing bytes job = (left : List ℕ) × StandAsked bytes (job .definitions) (job .requests) (0x60 ∷ left)
+
+-- CAUSE of 3, 4 and 5: what the form pass is refused for
+pub causeOfForm : (bytes : List ℕ) → IsBytes bytes → Ends (λ e. FormCause bytes (e .code) (e .place)) (Standing bytes) (form bytes)
+unfolding form
+causeOfForm bytes are =
+    let b = each-byte bytes are in
+    next _ (definitions-cause bytes b (length bytes) noEntries [] bytes (omega arith) nothing-counted noneYet) λ d h.
+    let place : suc (length (d .list)) + 0 ≡ suc (length (d .list)) = omega arith in
+    next _
+    (subst (λ p. Ends (λ e. FormCause bytes (e .code) (e .place)) (Built bytes b (d .counts) (d .list) (h .counts) []) (formRequests (length bytes) (d .counts) 0 p (d .rest))) place
+    (requests-cause bytes b (d .counts) (d .list) (h .counts) (length bytes) [] (d .rest) (omega arith) (noneAsked (d .rest) (h .stands)))) λ r k.
+    well k
+
+-- ---- numbers and places
+
+pub records-fit : (bytes : List ℕ) (job : Job (List ℕ)) → IsBytes bytes → Standing bytes job → suc (suc (length (job .definitions)) + length (job .requests)) ≤ length bytes
+records-fit bytes job are st = omega (arith, asked-length bytes (each-byte bytes are) (st .1) .0)
+
+pub form-bounds : (bytes : List ℕ) → IsBytes bytes → {code place : ℕ} → FormCause bytes code place → (3 ≤ code) × (code ≤ 5) × (place ≤ length bytes)
+form-bounds bytes are (unreadDefinition ds left st h) = (omega arith, omega arith, omega (arith, stand-length bytes (each-byte bytes are) st .0))
+form-bounds bytes are (tableFull ds first left e rest st ne read full) = (omega arith, omega arith, omega (arith, stand-length bytes (each-byte bytes are) st .0))
+form-bounds bytes are (noEntry ds first left x rest kind n st ne read place c l) = (omega arith, omega arith, omega (arith, stand-length bytes (each-byte bytes are) st .0))
+form-bounds bytes are (unreadRequest ds qs left st h) = (omega arith, omega arith, omega (arith, asked-length bytes (each-byte bytes are) st .0))
+form-bounds bytes are (noEntryAsked ds qs first left q rest kind n st ne read c l) = (omega arith, omega arith, omega (arith, asked-length bytes (each-byte bytes are) st .0))
+form-bounds bytes are (unreadBuild ds qs left st read) = (omega arith, omega arith, omega (arith, asked-length bytes (each-byte bytes are) st .0))
+form-bounds bytes are (noRequestCited ds qs left b rest n st read c l) = (omega arith, omega arith, omega (arith, asked-length bytes (each-byte bytes are) st .0))
+form-bounds bytes are (bytesBehind ds qs left b more rest st read c) = (omega arith, omega arith, omega (arith, asked-length bytes (each-byte bytes are) st .0))

@@ -1,0 +1,222 @@
+-- NO CAUSE: a job of bytes is built exactly if there is no cause of a refusal. Assumes nothing.
+use mathlib.Core.Bool.{true, _&&_}
+use mathlib.Core.List.{List, _++_, map}
+use mathlib.Core.Logic.{_⊎_, inl, inr}
+use mathlib.Core.Option.{some}
+use mathlib.Core.Path.{_≡_, refl, sym, ap, subst, _∙_}
+use Prim.Native.Nat.{ℕ, suc, _+_, _*_, _/_, _<_}
+use native.Mathlib.Omega.{arith}
+use lib.Dec.{leb}
+use lib.ListN.{length, getElem?}
+use borrow.Author.Tests.{leb-true}
+use Rattle.definition.specs.Basics.{Result, good, bad, Refusal, atRecord, unless}
+use Rattle.definition.specs.Shapes.{Kind, constant, bootstrap, Entry}
+use Rattle.definition.specs.Job.{Reference, placed, Request, Job}
+use Rattle.definition.specs.Form.{form}
+use Rattle.definition.specs.Numbering.{bootstrapsOf, literals, numbered}
+use Rattle.definition.specs.Definitions.{Defined}
+use Rattle.definition.specs.Resolving.{Goal, tableEntry, placeOf, follow, goalOf, linked, Resolved}
+use Rattle.definition.specs.Slots.{highestSlot}
+use Rattle.definition.specs.Layout.{starters, endDefinitions, answerAll, Layout, layout}
+use Rattle.definition.specs.Run.{Built, render, Placed, build, Lent, longestJob, enough, classOut, fits, run}
+use Rattle.facts.specs.Lists.{Among}
+use Rattle.facts.proofs.Lists.{both-true, among-left, among-right, map-at}
+use Rattle.facts.proofs.Results.{good-inj, good-then, atRecord-good, unless-good}
+use Rattle.facts.proofs.Outcomes.{whenGood}
+use Rattle.laws.specs.Statements.{IsBytes}
+use Rattle.laws.specs.Faithful.{Settled}
+use Rattle.causes.specs.CauseStatement.{Resolves, byRaw, byRequest, Short, CauseOf, tooLong, tooLittle, notFormed, defining, resolving, slots, noRoom, ResolvingCause, NoCause}
+use Rattle.laws.proofs.definitions.DefinedAsPlaced.{DefinedFacts, wideAt, defined-facts, start-starters}
+use Rattle.laws.proofs.resolving.FaithfulToEntries.{settled-grows}
+use Rattle.laws.proofs.resolving.JobGoals.{jobNames, jobConstants, jobTable}
+use Rattle.laws.proofs.resolving.ResolvedNodes.{GoodTable}
+use Rattle.laws.proofs.building.LayoutStages.{constantsIn, tableIn, Stages, stages}
+use Rattle.laws.proofs.building.AfterRecord50.{rawGoals}
+use Rattle.laws.proofs.building.AfterRequests.{Going, Answered, Further, answerAll-going}
+use Rattle.laws.proofs.building.BeforeRequests.{formed-table, begun-names, begunRaws, begun, begun-asks}
+use Rattle.causes.proofs.CauseDefinitions.{placed-forth}
+use Rattle.causes.proofs.Cause.{cause}
+use Rattle.causes.proofs.CausedForm.{formRefuted}
+use Rattle.causes.proofs.CausedDefinitions.{definitionRefuted}
+use Rattle.causes.proofs.CausedRanks.{Ranked, fifty-ranked, answerAll-ranked}
+use Rattle.causes.proofs.CausedReached.{resolvingRefuted}
+use Rattle.causes.proofs.CausedSlots.{slotRefuted}
+
+-- ---- what a job that is laid out resolved
+
+module _ (bytes : List ℕ) (job : Job (List ℕ)) (are : IsBytes bytes) (formed : form bytes ≡ good job) (l : Layout) (laid : layout 65534 (numbered job) ≡ good l) where
+  abbrev stg : Stages 65534 (numbered job) l
+  stg = stages 65534 (numbered job) l laid
+
+  abbrev d : Defined
+  d = stg .defined
+
+  abbrev size : ℕ
+  size = jobConstants (numbered job)
+
+  abbrev table : List (Entry ℕ Goal)
+  table = jobTable (numbered job)
+
+  fine : GoodTable table
+  fine = formed-table bytes job are formed
+
+  same-names : d .names ≡ jobNames (numbered job)
+  same-names = begun-names bytes job are formed d (stg .isDefined)
+
+  same-table : tableIn (numbered job) d ≡ table
+  same-table = ap (λ names. linked names size (constantsIn (numbered job) ++ bootstrapsOf (numbered job .definitions))) same-names
+
+  asked-all : answerAll (jobNames (numbered job)) size (suc (length (numbered job .definitions))) (numbered job .requests) (stg .ready) ≡ good (stg .answers, stg .asked)
+  asked-all = subst (λ names. answerAll names size (suc (length (numbered job .definitions))) (numbered job .requests) (stg .ready) ≡ good (stg .answers, stg .asked)) same-names (stg .isAsked)
+
+  abbrev raws : List (ℕ × ℕ)
+  raws = begunRaws bytes job are formed d (stg .isDefined) (stg .ready) (stg .isReady)
+
+  abbrev s : Resolved
+  s = stg .asked .resolved
+
+  -- the requests kept all that record 50 resolved, and resolved what they asked for
+  abbrev Through : Type 0
+  Through =
+      Going table highestSlot (d .held) raws (stg .asked)
+      × Further (stg .ready) (stg .asked)
+      × ((i : ℕ) (q : Request) → getElem? (numbered job .requests) i ≡ some q →
+      (a : ℕ) × (getElem? (stg .answers) i ≡ some a) × Answered (goalOf (jobNames (numbered job)) size (q .what)) a (stg .asked))
+
+  through : Through
+  through =
+      answerAll-going table (fine .cited) highestSlot (d .held) raws (jobNames (numbered job)) size (suc (length (numbered job .definitions))) (numbered job .requests) (stg .ready) (stg .answers, stg .asked)
+      (begun-asks bytes job are formed d (stg .isDefined) (stg .ready) (stg .isReady))
+      asked-all
+      (begun bytes job are formed d (stg .isDefined) (stg .ready) (stg .isReady) .0)
+
+  ranked : Ranked table fine s
+  ranked =
+      let r = whenGood (fifty-ranked table fine 65534 size d) (subst (λ t. endDefinitions 65534 t size d ≡ good (stg .ready)) same-table (stg .isReady)) in
+      whenGood (answerAll-ranked table fine (jobNames (numbered job)) size (suc (length (numbered job .definitions))) (numbered job .requests) (stg .ready) r) asked-all .0
+
+  raw-settled : (kind : Kind) (n e : ℕ) → Among (placed kind n e) (numbered job .definitions) → Settled (s .marks) (tableEntry (placeOf size kind e))
+  unfolding placeOf
+  raw-settled kind n e a =
+      settled-grows (stg .ready .resolved) s (tableEntry (placeOf size kind e)) (through .1 .grows)
+      (begun bytes job are formed d (stg .isDefined) (stg .ready) (stg .isReady) .1 (tableEntry (placeOf size kind e)) (go kind a))
+    where
+      facts : DefinedFacts (wideAt (constantsIn (numbered job))) (numbered job .definitions) d
+      facts = defined-facts 65534 (constantsIn (numbered job)) (numbered job .definitions) d (stg .isDefined)
+
+      go : (kind : Kind) → Among (placed kind n e) (numbered job .definitions) → Among (tableEntry (placeOf size kind e)) (rawGoals size d)
+      go constant a =
+          let h = start-starters (d .held) n e (facts .allHeld .startHeld n e a) in
+          among-left (tableEntry e) (map (λ r. tableEntry (r .1)) (starters (d .held))) (map (λ r. tableEntry (size + r .1)) (d .indexes))
+          (h .0, map-at (λ (r : ℕ × ℕ). tableEntry (r .1)) (starters (d .held)) (h .0) (n, e) (h .1))
+      go bootstrap a =
+          let h = facts .allIndexes .indexHeld n e a in
+          among-right (tableEntry (size + e)) (map (λ r. tableEntry (r .1)) (starters (d .held))) (map (λ r. tableEntry (size + r .1)) (d .indexes))
+          (h .0, map-at (λ (r : ℕ × ℕ). tableEntry (size + r .1)) (d .indexes) (h .0) (n, e) (h .1))
+
+  settled : (place : ℕ) (r : Reference) → Resolves job place r → Settled (s .marks) (goalOf (jobNames (numbered job)) size r)
+  unfolding goalOf follow numbered
+  settled place r₀ (byRaw i kind n e at) = raw-settled kind n e (i, placed-forth job i kind n e at)
+  settled place r₀ (byRequest j q at) = through .2 j q at .2 .settled
+
+  resolving-refuted : {code place : ℕ} → ResolvingCause job code place → ⊥
+  resolving-refuted c = resolvingRefuted job d (stg .isDefined) fine s (through .0 .faithful) ranked settled c
+
+-- ---- a run that ends well
+
+-- no output is short
+long-enough : (lent : Lent) (b : Built) → fits b lent ≡ true → Short lent b → ⊥
+unfolding fits
+long-enough lent b t short =
+    let x₁ = leb (length (b .answers)) (lent .answers) in
+    let x₂ = leb (length (b .pool)) (lent .pool) in
+    let x₃ = leb (length (b .bootstraps)) (lent .bootstraps) in
+    let x₄ = leb (length (classOut (b .class))) (lent .class) in
+    let (t₁, u₁) = both-true x₁ (x₂ && (x₃ && x₄)) t in
+    let (t₂, u₂) = both-true x₂ (x₃ && x₄) u₁ in
+    let (t₃, t₄) = both-true x₃ x₄ u₂ in
+    go t₁ t₂ t₃ t₄ short
+  where
+    go :
+        leb (length (b .answers)) (lent .answers) ≡ true →
+        leb (length (b .pool)) (lent .pool) ≡ true →
+        leb (length (b .bootstraps)) (lent .bootstraps) ≡ true →
+        leb (length (classOut (b .class))) (lent .class) ≡ true →
+        Short lent b →
+        ⊥
+    go t₁ t₂ t₃ t₄ (inl h) = omega (arith, h, leb-true (length (b .answers)) (lent .answers) t₁)
+    go t₁ t₂ t₃ t₄ (inr (inl h)) = omega (arith, h, leb-true (length (b .pool)) (lent .pool) t₂)
+    go t₁ t₂ t₃ t₄ (inr (inr (inl h))) = omega (arith, h, leb-true (length (b .bootstraps)) (lent .bootstraps) t₃)
+    go t₁ t₂ t₃ t₄ (inr (inr (inr h))) = omega (arith, h, leb-true (length (classOut (b .class))) (lent .class) t₄)
+
+much-lent : (lent : Lent) (n : ℕ) → enough n lent ≡ true → (lent .work < 6 * n + 1024) ⊎ (lent .gaps < n / 5 + 2) → ⊥
+unfolding enough
+much-lent lent n t short =
+    let (t₁, t₂) = both-true (leb (6 * n + 1024) (lent .work)) (leb (n / 5 + 2) (lent .gaps)) t in
+    go t₁ t₂ short
+  where
+    go : leb (6 * n + 1024) (lent .work) ≡ true → leb (n / 5 + 2) (lent .gaps) ≡ true → (lent .work < 6 * n + 1024) ⊎ (lent .gaps < n / 5 + 2) → ⊥
+    go t₁ t₂ (inl h) = omega (arith, h, leb-true (6 * n + 1024) (lent .work) t₁)
+    go t₁ t₂ (inr h) = omega (arith, h, leb-true (n / 5 + 2) (lent .gaps) t₂)
+
+-- what a run that ends well passed
+record Passed (lent : Lent) (bytes : List ℕ) : Type 0 where
+  short-job : leb (length bytes) longestJob ≡ true
+  lent-enough : enough (length bytes) lent ≡ true
+  job : Job (List ℕ)
+  formed : form bytes ≡ good job
+  laid-out : Layout
+  laid : layout 65534 (numbered job) ≡ good laid-out
+  room : fits (render (literals job) laid-out) lent ≡ true
+
+passed : (lent : Lent) (bytes : List ℕ) (b : Built) → run lent bytes ≡ good b → Passed lent bytes
+unfolding run build
+passed lent bytes b e =
+    good-then (atRecord 0 (unless (leb (length bytes) longestJob) 1)) _ b e λ u₁ h₁ e₁.
+    good-then (atRecord 0 (unless (enough (length bytes) lent) 2)) _ b e₁ λ u₂ h₂ e₂.
+    good-then (build bytes) _ b e₂ λ r h₃ e₃.
+    good-then (form bytes) _ r h₃ λ job formed f₁.
+    good-then (layout 65534 (numbered job)) _ r f₁ λ l laid f₂.
+    good-then (atRecord (r .0) (unless (fits (r .1) lent) 18)) _ b e₃ λ u₃ h₄ e₄.
+    let is : (suc (length (job .definitions) + length (job .requests)), render (literals job) l) ≡ r = good-inj f₂ in
+    let t : fits (r .1) lent ≡ true = unless-good (fits (r .1) lent) 18 u₃ (atRecord-good (r .0) (unless (fits (r .1) lent) 18) u₃ h₄) in
+    record {
+      short-job = unless-good (leb (length bytes) longestJob) 1 u₁ (atRecord-good 0 (unless (leb (length bytes) longestJob) 1) u₁ h₁);
+      lent-enough = unless-good (enough (length bytes) lent) 2 u₂ (atRecord-good 0 (unless (enough (length bytes) lent) 2) u₂ h₂);
+      job = job;
+      formed = formed;
+      laid-out = l;
+      laid = laid;
+      room = subst (λ (x : Placed). fits (x .1) lent ≡ true) (sym is) t;
+    }
+
+module _ (lent : Lent) (bytes : List ℕ) (are : IsBytes bytes) (p : Passed lent bytes) where
+  -- the job of a cause is the job
+  same-job : (job : Job (List ℕ)) → form bytes ≡ good job → p .job ≡ job
+  same-job job f = good-inj (sym (p .formed) ∙ f)
+
+  uncaused : (code place : ℕ) → CauseOf lent bytes code place → ⊥
+  uncaused code place (tooLong h) = omega (arith, h, leb-true (length bytes) longestJob (p .short-job))
+  uncaused code place (tooLittle h) = much-lent lent (length bytes) (p .lent-enough) h
+  uncaused code place (notFormed c) = formRefuted bytes (p .job) are (p .formed) c
+  uncaused code place (defining job f c) =
+      let laid = subst (λ j. layout 65534 (numbered j) ≡ good (p .laid-out)) (same-job job f) (p .laid) in
+      let stg = stages 65534 (numbered job) (p .laid-out) laid in
+      definitionRefuted job (stg .defined) (stg .isDefined) c
+  uncaused code place (resolving job f c) =
+      resolving-refuted bytes job are f (p .laid-out) (subst (λ j. layout 65534 (numbered j) ≡ good (p .laid-out)) (same-job job f) (p .laid)) c
+  uncaused code place (slots job f c) =
+      slotRefuted bytes job are f (p .laid-out) (subst (λ j. layout 65534 (numbered j) ≡ good (p .laid-out)) (same-job job f) (p .laid)) c
+  uncaused code place (noRoom job l f laid short) =
+      let same : p .laid-out ≡ l = good-inj (sym (subst (λ j. layout 65534 (numbered j) ≡ good (p .laid-out)) (same-job job f) (p .laid)) ∙ laid) in
+      let room : fits (render (literals job) l) lent ≡ true =
+      subst (λ l. fits (render (literals job) l) lent ≡ true) same (subst (λ (j : Job (List ℕ)). fits (render (literals j) (p .laid-out)) lent ≡ true) (same-job job f) (p .room)) in
+      long-enough lent (render (literals job) l) room short
+
+-- NO CAUSE: a job of bytes is built exactly if there is no cause of a refusal
+pub noCause : NoCause
+noCause lent bytes are = (λ built. uncaused lent bytes are (passed lent bytes (built .0) (built .1)), λ gone. go gone (run lent bytes) refl)
+  where
+    go : ((code place : ℕ) → CauseOf lent bytes code place → ⊥) → (o : Result Refusal Built) → run lent bytes ≡ o → (b : Built) × (run lent bytes ≡ good b)
+    go gone (good b) e = (b, e)
+    go gone (bad r) e = absurd (gone (r .code) (r .place) (cause lent bytes r are e))

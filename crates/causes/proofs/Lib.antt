@@ -1,0 +1,16 @@
+pub mod CauseSteps
+pub mod CauseDefinitions
+pub mod CauseForm
+pub mod CauseStack
+pub mod CauseReached
+pub mod CauseNoSlot
+pub mod CauseBuilding
+pub mod CauseRecords
+pub mod Cause
+pub mod CausedForm
+pub mod CausedDefinitions
+pub mod CausedRanks
+pub mod CausedReached
+pub mod CausedBuilding
+pub mod CausedSlots
+pub mod CausedRuns

@@ -1,0 +1,478 @@
+-- CAUSE, as a statement: a run that is refused says why and where. For each number of document 01 ("Refusal numbers") what must be so of the
+-- job's bytes or records, and of which record; Statements says how to read it. Assumes nothing.
+use mathlib.Core.Bool.{Bool, true, false}
+use mathlib.Core.List.{List, [], _∷_, _++_, reverse}
+use mathlib.Core.Logic.{_↔_, _⊎_, _≢_}
+use mathlib.Core.Option.{none, some}
+use mathlib.Core.Path.{_≡_}
+use Prim.Native.Nat.{ℕ, suc, _+_, _*_, _/_, _≤_, _<_}
+use lib.ListN.{length, getElem?}
+use Rattle.definition.specs.Basics.{good, bad, Refusal, position, lookup}
+use Rattle.definition.specs.Shapes.{Kind, constant, bootstrap, Entry, isWide}
+use Rattle.definition.specs.Job.{Reference, raw, entry, name, Definition, define, named, placed, Request, request, Build, Job}
+use Rattle.definition.specs.Job.{Body, bodies, readBody, readDefinition, asks, reference, readRequest, readBuild}
+use Rattle.definition.specs.Form.{kindOf, form}
+use Rattle.definition.specs.Numbering.{constantsOf, bootstrapsOf, literals, numbered}
+use Rattle.definition.specs.Definitions.{Defined, tagAt, defineAll, nothingDefined}
+use Rattle.definition.specs.Resolving.{Goal, goalOf, linked, Node, Resolved, sameNode, intern, childOf, resolve}
+use Rattle.definition.specs.Building.{Pool, slotsOf, Row, Rows, indexOf, fillHoles, Made, kidsOf, childNumbers, finish, withPending, rawRows, buildAll, attributeText, nameWanted}
+use Rattle.definition.specs.Layout.{Ready, endDefinitions, answer, indexNodes, Layout, layout}
+use Rattle.definition.specs.Run.{Built, render, Lent, classOut, run}
+use Rattle.facts.specs.Lists.{Among}
+use Rattle.laws.specs.Counted.{countIn}
+use Rattle.laws.specs.Statements.{IsBytes, freeSlots}
+
+-- ---- 3, 4, 5: the form, over the bytes
+
+-- a definition cites entry n of a kind by its number
+abbrev pub CitesEntry : Definition (List ℕ) → Kind → ℕ → Type 0
+CitesEntry (define e) kind n = Among (entry kind n) (e .kids)
+CitesEntry (named k s r) kind n = r ≡ entry kind n
+CitesEntry (placed k at m) kind n = (k ≡ kind) × (m ≡ n)
+
+-- behind other definitions: an entry's table has room for it
+abbrev pub HasPlace : List (Definition (List ℕ)) → Definition (List ℕ) → Type 0
+HasPlace ds x = (e : Entry (List ℕ) Reference) → x ≡ define e → countIn (kindOf (e .tag)) ds < 65536
+
+-- the bytes begin with these definitions, each well formed behind those before it, and then these bytes are left
+pub data Stand (bytes : List ℕ) : List (Definition (List ℕ)) → List ℕ → Type 0 where
+  noneYet : Stand bytes [] bytes
+  oneMore :
+      (ds : List (Definition (List ℕ))) (first : ℕ) (left : List ℕ) (x : Definition (List ℕ)) (rest : List ℕ) →
+      Stand bytes ds (first ∷ left) →
+      first ≢ 0x50 →
+      readDefinition first left ≡ some (x, rest) →
+      HasPlace ds x →
+      ((kind : Kind) (n : ℕ) → CitesEntry x kind n → n < countIn kind ds) →
+      Stand bytes (ds ++ x ∷ []) rest
+
+-- the bytes begin with these definitions, 50 and these requests, each well formed, and then these bytes are left
+pub data StandAsked (bytes : List ℕ) (ds : List (Definition (List ℕ))) : List Request → List ℕ → Type 0 where
+  noneAsked : (left : List ℕ) → Stand bytes ds (0x50 ∷ left) → StandAsked bytes ds [] left
+  oneAsked :
+      (qs : List Request) (first : ℕ) (left : List ℕ) (q : Request) (rest : List ℕ) →
+      StandAsked bytes ds qs (first ∷ left) →
+      first ≢ 0x60 →
+      readRequest (lookup first asks) left ≡ some (q, rest) →
+      ((kind : Kind) (n : ℕ) → q .what ≡ entry kind n → n < countIn kind ds) →
+      StandAsked bytes ds (qs ++ q ∷ []) rest
+
+-- no definition can be read where these bytes begin: there is none, its kind is unknown or out of place, or it is cut or has a byte that is
+-- none of its forms
+abbrev pub NoDefinition : List ℕ → Type 0
+NoDefinition [] = Unit {0}
+NoDefinition (first ∷ left) =
+    (first ≢ 0x50)
+    × ((lookup first bodies ≡ none) ⊎ ((b : Body) × (lookup first bodies ≡ some b) × (readBody first (some b) left ≡ none)))
+
+-- nor a request
+abbrev pub NoRequest : List ℕ → Type 0
+NoRequest [] = Unit {0}
+NoRequest (first ∷ left) =
+    (first ≢ 0x60)
+    × ((lookup first asks ≡ none) ⊎ ((ldc : Bool) × (lookup first asks ≡ some ldc) × (reference constant left ≡ none)))
+
+-- the bytes aren't well formed: the number, and the record, behind all those that are
+pub data FormCause (bytes : List ℕ) : ℕ → ℕ → Type 0 where
+  -- 3, where a definition or 50 must come
+  unreadDefinition :
+      (ds : List (Definition (List ℕ))) (left : List ℕ) → Stand bytes ds left → NoDefinition left → FormCause bytes 3 (length ds)
+  -- 5: the table has 65,536 entries
+  tableFull :
+      (ds : List (Definition (List ℕ))) (first : ℕ) (left : List ℕ) (e : Entry (List ℕ) Reference) (rest : List ℕ) →
+      Stand bytes ds (first ∷ left) →
+      first ≢ 0x50 →
+      readDefinition first left ≡ some (define e, rest) →
+      65536 ≤ countIn (kindOf (e .tag)) ds →
+      FormCause bytes 5 (length ds)
+  -- 4: a definition cites an entry that isn't there
+  noEntry :
+      (ds : List (Definition (List ℕ))) (first : ℕ) (left : List ℕ) (x : Definition (List ℕ)) (rest : List ℕ) (kind : Kind) (n : ℕ) →
+      Stand bytes ds (first ∷ left) →
+      first ≢ 0x50 →
+      readDefinition first left ≡ some (x, rest) →
+      HasPlace ds x →
+      CitesEntry x kind n →
+      countIn kind ds ≤ n →
+      FormCause bytes 4 (length ds)
+  -- 3, where a request or 60 must come
+  unreadRequest :
+      (ds : List (Definition (List ℕ))) (qs : List Request) (left : List ℕ) →
+      StandAsked bytes ds qs left →
+      NoRequest left →
+      FormCause bytes 3 (suc (length ds) + length qs)
+  -- 4: a request cites an entry that isn't there
+  noEntryAsked :
+      (ds : List (Definition (List ℕ))) (qs : List Request) (first : ℕ) (left : List ℕ) (q : Request) (rest : List ℕ) (kind : Kind) (n : ℕ) →
+      StandAsked bytes ds qs (first ∷ left) →
+      first ≢ 0x60 →
+      readRequest (lookup first asks) left ≡ some (q, rest) →
+      q .what ≡ entry kind n →
+      countIn kind ds ≤ n →
+      FormCause bytes 4 (suc (length ds) + length qs)
+  -- 3: 60 is cut, or has a byte that is none of its forms
+  unreadBuild :
+      (ds : List (Definition (List ℕ))) (qs : List Request) (left : List ℕ) →
+      StandAsked bytes ds qs (0x60 ∷ left) →
+      readBuild left ≡ none →
+      FormCause bytes 3 (suc (length ds) + length qs)
+  -- 4: 60 cites a request that isn't there
+  noRequestCited :
+      (ds : List (Definition (List ℕ))) (qs : List Request) (left : List ℕ) (b : Build) (rest : List ℕ) (n : ℕ) →
+      StandAsked bytes ds qs (0x60 ∷ left) →
+      readBuild left ≡ some (b, rest) →
+      b .class ≡ request n →
+      length qs ≤ n →
+      FormCause bytes 4 (suc (length ds) + length qs)
+  -- 3: bytes after 60, at the number that the next record would have
+  bytesBehind :
+      (ds : List (Definition (List ℕ))) (qs : List Request) (left : List ℕ) (b : Build) (more : ℕ) (rest : List ℕ) →
+      StandAsked bytes ds qs (0x60 ∷ left) →
+      readBuild left ≡ some (b, more ∷ rest) →
+      ((n : ℕ) → b .class ≡ request n → n < length qs) →
+      FormCause bytes 3 (suc (suc (length ds) + length qs))
+
+-- ---- 6 to 11: the definitions, over the job's records
+
+-- record i of a job is this definition
+abbrev pub At : Job (List ℕ) → ℕ → Definition (List ℕ) → Type 0
+At job i x = getElem? (job .definitions) i ≡ some x
+
+-- entry e of the constants is a Long or a Double
+abbrev pub Wide : Job (List ℕ) → ℕ → Type 0
+Wide job e = (x : Entry (List ℕ) Reference) × (getElem? (constantsOf (job .definitions)) e ≡ some x) × ((x .tag ≡ 5) ⊎ (x .tag ≡ 6))
+
+-- a raw constant before this record takes slot s
+abbrev pub Taken : Job (List ℕ) → ℕ → ℕ → Type 0
+Taken job place s =
+    (i : ℕ) × (m : ℕ) × (k : ℕ) × (i < place) × At job i (placed constant m k) × ((s ≡ m) ⊎ (Wide job k × (s ≡ suc m)))
+
+-- a wide one at n finds slot n + 1 free
+abbrev pub SecondFree : Job (List ℕ) → ℕ → ℕ → ℕ → Type 0
+SecondFree job place n e = Wide job e → Taken job place (suc n) → ⊥
+
+pub data DefinitionCause (job : Job (List ℕ)) : ℕ → ℕ → Type 0 where
+  -- 6: at 0 or 65535, or a wide one at 65534
+  outside :
+      (place n e : ℕ) →
+      At job place (placed constant n e) →
+      (n ≡ 0) ⊎ ((n ≡ 65535) ⊎ ((n ≡ 65534) × Wide job e)) →
+      DefinitionCause job 6 place
+  -- 7: slot n + 1 of a wide one is taken
+  secondTaken : (place n e : ℕ) → At job place (placed constant n e) → Wide job e → Taken job place (suc n) → DefinitionCause job 7 place
+  -- 7: slot n is the second half of an earlier wide one
+  onSecond :
+      (place n e i m k : ℕ) →
+      At job place (placed constant n e) →
+      SecondFree job place n e →
+      i < place →
+      At job i (placed constant m k) →
+      Wide job k →
+      n ≡ suc m →
+      DefinitionCause job 7 place
+  -- 8: an earlier one starts at slot n
+  sameSlot :
+      (place n e i k : ℕ) →
+      At job place (placed constant n e) →
+      SecondFree job place n e →
+      i < place →
+      At job i (placed constant n k) →
+      DefinitionCause job 8 place
+  -- 9: raw bootstrap 65535
+  lastIndex : (place e : ℕ) → At job place (placed bootstrap 65535 e) → DefinitionCause job 9 place
+  -- 10: an earlier one has the index
+  sameIndex :
+      (place n e i k : ℕ) → At job place (placed bootstrap n e) → i < place → At job i (placed bootstrap n k) → DefinitionCause job 10 place
+  -- 11: an earlier record names the same kind alike
+  sameName :
+      (place i : ℕ) (kind : Kind) (s : List ℕ) (r t : Reference) →
+      At job place (named kind s r) →
+      i < place →
+      At job i (named kind s t) →
+      DefinitionCause job 11 place
+
+-- ---- 12 and 13: what is reached
+
+-- the entries of a kind
+abbrev pub tableOf : Kind → Job (List ℕ) → List (Entry (List ℕ) Reference)
+tableOf constant job = constantsOf (job .definitions)
+tableOf bootstrap job = bootstrapsOf (job .definitions)
+
+-- a name leads to what a record says that it names; an entry leads to each of its references
+pub data Leads (job : Job (List ℕ)) : Reference → Reference → Type 0 where
+  byName : (i : ℕ) (kind : Kind) (s : List ℕ) (r : Reference) → At job i (named kind s r) → Leads job (name kind s) r
+  toChild :
+      (kind : Kind) (n : ℕ) (e : Entry (List ℕ) Reference) (r : Reference) →
+      getElem? (tableOf kind job) n ≡ some e →
+      Among r (e .kids) →
+      Leads job (entry kind n) r
+
+-- in no step or more
+pub data Reaches (job : Job (List ℕ)) : Reference → Reference → Type 0 where
+  there : (r : Reference) → Reaches job r r
+  further : (r s t : Reference) → Leads job r s → Reaches job s t → Reaches job r t
+
+-- a reference is a raw number, or a name that leads to it through names alone
+pub data LeadsRaw (job : Job (List ℕ)) : Reference → ℕ → Type 0 where
+  rawItself : (n : ℕ) → LeadsRaw job (raw n) n
+  rawNamed : (i : ℕ) (kind : Kind) (s : List ℕ) (r : Reference) (n : ℕ) → At job i (named kind s r) → LeadsRaw job r n → LeadsRaw job (name kind s) n
+
+-- what a record resolves: 50 each raw definition's entry, a request what it asks for
+pub data Resolves (job : Job (List ℕ)) : ℕ → Reference → Type 0 where
+  byRaw : (i : ℕ) (kind : Kind) (n e : ℕ) → At job i (placed kind n e) → Resolves job (length (job .definitions)) (entry kind e)
+  byRequest :
+      (j : ℕ) (q : Request) → getElem? (job .requests) j ≡ some q → Resolves job (suc (length (job .definitions)) + j) (q .what)
+
+pub data ResolvingCause (job : Job (List ℕ)) : ℕ → ℕ → Type 0 where
+  -- 12: a name is reached that no record names
+  undefined :
+      (place : ℕ) (r : Reference) (kind : Kind) (s : List ℕ) →
+      Resolves job place r →
+      Reaches job r (name kind s) →
+      ((i : ℕ) (t : Reference) → At job i (named kind s t) → ⊥) →
+      ResolvingCause job 12 place
+  -- 13: an entry or a name is reached that leads back to itself
+  circular :
+      (place : ℕ) (r t u : Reference) →
+      Resolves job place r →
+      Reaches job r t →
+      Leads job t u →
+      Reaches job u t →
+      ResolvingCause job 13 place
+
+-- ---- 14 to 17: slots and indexes, over what the definition has when the record is in turn
+
+-- the constants of a job, literals being numbers
+abbrev pub constantsNumbered : Job (List ℕ) → List (Entry ℕ Reference)
+constantsNumbered job = constantsOf (numbered job .definitions)
+
+-- where a request leads
+abbrev pub goalIn : Job (List ℕ) → Defined → Request → Goal
+goalIn job d q = goalOf (d .names) (length (constantsNumbered job)) (q .what)
+
+-- what the run works on behind record 50 and so many requests, all of them answered
+pub data Behind (job : Job (List ℕ)) (d : Defined) : ℕ → Ready → Type 0 where
+  behind50 :
+      (w : Ready) →
+      defineAll 65534 (constantsNumbered job) 0 (numbered job .definitions) nothingDefined ≡ good d →
+      endDefinitions
+      65534
+      (linked (d .names) (length (constantsNumbered job)) (constantsNumbered job ++ bootstrapsOf (numbered job .definitions)))
+      (length (constantsNumbered job))
+      d ≡ good w →
+      Behind job d 0 w
+  behindRequest :
+      (j : ℕ) (q : Request) (w w′ : Ready) (a : ℕ) →
+      Behind job d j w →
+      getElem? (job .requests) j ≡ some q →
+      answer (q .ldc) (goalIn job d q) w ≡ good (a, w′) →
+      Behind job d (suc j) w′
+
+-- request j, ldc or not, asks for a constant, which resolving made node k
+pub record Asks (job : Job (List ℕ)) (j : ℕ) (ldc : Bool) : Type 0 where
+  pub defined : Defined
+  pub state : Ready
+  pub what : Request
+  pub resolved : Resolved
+  pub node : ℕ
+  pub isBehind : Behind job defined j state
+  pub isWhat : getElem? (job .requests) j ≡ some what
+  pub isLdc : what .ldc ≡ ldc
+  pub isResolved : resolve (state .table) (goalIn job defined what) (state .resolved) ≡ good resolved
+  pub isNode : childOf (resolved .marks) (goalIn job defined what) ≡ 65536 + node
+
+abbrev pub Free : Pool → ℕ → Type 0
+Free p s = Among s (freeSlots (p .slots .gaps))
+
+-- a pool has no slot: a wide constant needs two neighbours, a narrow one for ldc a slot up to 255, any other any
+abbrev pub NoSlot : Bool → Bool → Pool → Type 0
+NoSlot true ldc p = (s : ℕ) → Free p s → Free p (suc s) → ⊥
+NoSlot false true p = (s : ℕ) → Free p s → s ≤ 255 → ⊥
+NoSlot false false p = (s : ℕ) → Free p s → ⊥
+
+-- a node has no slot yet and gets none
+abbrev pub Lacks : List Node → Bool → ℕ → Pool → Type 0
+Lacks nodes ldc k p = (lookup k (p .given) ≡ none) × NoSlot (isWide (tagAt nodes k)) ldc p
+
+-- BUILDING asks in turn (document 01, "Building"), over the nodes, from the pool that requests left. In each list of children a number below
+-- 65,536 is a raw one, and 65536 + k is node k
+
+-- of children, which get slots left to right, those before have theirs, and node k is next
+pub record NextChild (nodes : List Node) (kids : List ℕ) (start : Pool) : Type 0 where
+  pub before : List ℕ
+  pub node : ℕ
+  pub after : List ℕ
+  pub slots : List ℕ
+  pub pool : Pool
+  pub isKids : kids ≡ before ++ (65536 + node) ∷ after
+  pub isPool : slotsOf nodes before start ≡ good (slots, pool)
+
+-- of the raw bootstraps, by falling index, those before have their rows, and this one is next
+pub record NextRaw (nodes : List Node) (indexes : List (ℕ × ℕ)) (start : Pool) : Type 0 where
+  pub before : List (ℕ × ℕ)
+  pub index : ℕ
+  pub node : ℕ
+  pub after : List (ℕ × ℕ)
+  pub rows : List (ℕ × Row)
+  pub pool : Pool
+  pub isFalling : reverse indexes ≡ before ++ (index, node) ∷ after
+  pub isPool : rawRows nodes before start [] ≡ good (rows, pool)
+
+-- the stack, once all raw bootstraps have their rows and then after each node that is taken from it, and what is made by then
+pub data Stack (nodes : List Node) (indexes : List (ℕ × ℕ)) (start : Pool) : List (ℕ × ℕ) → Made → Type 0 where
+  noneTaken :
+      (waiting : List (ℕ × Row)) (p : Pool) →
+      rawRows nodes (reverse indexes) start [] ≡ good (waiting, p) →
+      Stack nodes indexes start (p .pending) (record { pool = p; rows = record { written = []; waiting = waiting; inline = [] }; owned = [] })
+  oneTaken :
+      (slot owner : ℕ) (pending : List (ℕ × ℕ)) (m m′ : Made) →
+      Stack nodes indexes start ((slot, owner) ∷ pending) m →
+      finish nodes slot (withPending pending m) (getElem? nodes owner) ≡ good m′ →
+      Stack nodes indexes start (m′ .pool .pending) m′
+
+-- of the children of the node that is taken from the stack, in field order, those before have their numbers, and node k is next
+pub record NextNumber (nodes : List Node) (indexes : List (ℕ × ℕ)) (start : Pool) : Type 0 where
+  pub slot : ℕ
+  pub owner : ℕ
+  pub pending : List (ℕ × ℕ)
+  pub made : Made
+  pub parent : Node
+  pub before : List ℕ
+  pub node : ℕ
+  pub after : List ℕ
+  pub numbers : List ℕ
+  pub pool : Pool
+  pub rows : Rows
+  pub isStack : Stack nodes indexes start ((slot, owner) ∷ pending) made
+  pub isParent : getElem? nodes owner ≡ some parent
+  pub isKids : parent .kids ≡ before ++ (65536 + node) ∷ after
+  pub isPool : childNumbers nodes before (withPending pending made .pool) (made .rows) ≡ good (numbers, pool, rows)
+
+-- the nodes of the raw bootstraps
+abbrev pub rawIndexes : Job (List ℕ) → Defined → Ready → List (ℕ × ℕ)
+rawIndexes job d w = indexNodes (length (constantsNumbered job)) (w .resolved .marks) (d .indexes)
+
+-- the number of the build record
+abbrev pub buildPlace : Job (List ℕ) → ℕ
+buildPlace job = suc (length (job .definitions)) + length (job .requests)
+
+pub data SlotCause (job : Job (List ℕ)) : ℕ → ℕ → Type 0 where
+  -- 14, 15: a request
+  noSlotAsked :
+      (j : ℕ) (a : Asks job j false) →
+      Lacks (a .resolved .nodes) false (a .node) (a .state .pool) →
+      SlotCause job 14 (suc (length (job .definitions)) + j)
+  noLdcSlotAsked :
+      (j : ℕ) (a : Asks job j true) →
+      Lacks (a .resolved .nodes) true (a .node) (a .state .pool) →
+      SlotCause job 15 (suc (length (job .definitions)) + j)
+  -- 16: an ldc request that leads to a raw number above 255
+  rawAbove :
+      (j n : ℕ) (d : Defined) (w : Ready) (q : Request) →
+      Behind job d j w →
+      getElem? (job .requests) j ≡ some q →
+      q .ldc ≡ true →
+      LeadsRaw job (q .what) n →
+      255 < n →
+      SlotCause job 16 (suc (length (job .definitions)) + j)
+  -- 16: or to a constant that has a slot above 255
+  slotAbove :
+      (j s : ℕ) (a : Asks job j true) →
+      lookup (a .node) (a .state .pool .given) ≡ some s →
+      255 < s →
+      SlotCause job 16 (suc (length (job .definitions)) + j)
+  -- 16: or to a wide one that has none, where the first two neighbours that are free lie above 255
+  pairAbove :
+      (j s : ℕ) (a : Asks job j true) →
+      lookup (a .node) (a .state .pool .given) ≡ none →
+      isWide (tagAt (a .resolved .nodes) (a .node)) ≡ true →
+      255 < s →
+      Free (a .state .pool) s →
+      Free (a .state .pool) (suc s) →
+      ((t : ℕ) → Free (a .state .pool) t → Free (a .state .pool) (suc t) → s ≤ t) →
+      SlotCause job 16 (suc (length (job .definitions)) + j)
+  -- 14 at the build: a child of a raw bootstrap
+  rawLacks :
+      (d : Defined) (w : Ready) →
+      Behind job d (length (job .requests)) w →
+      (r : NextRaw (w .resolved .nodes) (rawIndexes job d w) (w .pool)) (c : NextChild (w .resolved .nodes) (kidsOf (w .resolved .nodes) (r .node)) (r .pool)) →
+      Lacks (w .resolved .nodes) false (c .node) (c .pool) →
+      SlotCause job 14 (buildPlace job)
+  -- 14 at the build: a constant that is a child of one from the stack
+  childLacks :
+      (d : Defined) (w : Ready) →
+      Behind job d (length (job .requests)) w →
+      (n : NextNumber (w .resolved .nodes) (rawIndexes job d w) (w .pool)) →
+      tagAt (w .resolved .nodes) (n .node) ≢ 0x40 →
+      Lacks (w .resolved .nodes) false (n .node) (n .pool) →
+      SlotCause job 14 (buildPlace job)
+  -- 14 at the build: a child of a bootstrap that one from the stack cites
+  bootstrapLacks :
+      (d : Defined) (w : Ready) →
+      Behind job d (length (job .requests)) w →
+      (n : NextNumber (w .resolved .nodes) (rawIndexes job d w) (w .pool)) →
+      tagAt (w .resolved .nodes) (n .node) ≡ 0x40 →
+      (c : NextChild (w .resolved .nodes) (kidsOf (w .resolved .nodes) (n .node)) (n .pool)) →
+      Lacks (w .resolved .nodes) false (c .node) (c .pool) →
+      SlotCause job 14 (buildPlace job)
+  -- 14 at the build: the name, which is wanted and comes last
+  nameLacks :
+      (d : Defined) (w : Ready) (m : Made) →
+      Behind job d (length (job .requests)) w →
+      buildAll (w .resolved .nodes) (rawIndexes job d w) (w .pool) ≡ good m →
+      nameWanted (job .build .nameByte) (length (fillHoles (m .rows .written) (m .rows .waiting))) ≡ true →
+      Lacks (intern attributeText (w .resolved .nodes)) false (position (sameNode attributeText) (w .resolved .nodes)) (m .pool) →
+      SlotCause job 14 (buildPlace job)
+  -- 17: a bootstrap that one from the stack cites shares no index, and all 65,535 are used: written, or kept by a raw bootstrap
+  noIndex :
+      (d : Defined) (w : Ready) →
+      Behind job d (length (job .requests)) w →
+      (n : NextNumber (w .resolved .nodes) (rawIndexes job d w) (w .pool)) (row : Row) (p : Pool) →
+      tagAt (w .resolved .nodes) (n .node) ≡ 0x40 →
+      slotsOf (w .resolved .nodes) (kidsOf (w .resolved .nodes) (n .node)) (n .pool) ≡ good (row, p) →
+      indexOf row (n .rows .inline) ≡ none →
+      ((i : ℕ) → i < 65535 → (i < length (n .rows .written)) ⊎ ((r : Row) × (lookup i (n .rows .waiting) ≡ some r))) →
+      SlotCause job 17 (buildPlace job)
+
+-- ---- all of them
+
+-- an output is shorter than what is to be written
+abbrev pub Short : Lent → Built → Type 0
+Short lent b =
+    (lent .answers < length (b .answers))
+    ⊎ ((lent .pool < length (b .pool)) ⊎ ((lent .bootstraps < length (b .bootstraps)) ⊎ (lent .class < length (classOut (b .class)))))
+
+-- the causes: a number, and the record
+pub data CauseOf (lent : Lent) (bytes : List ℕ) : ℕ → ℕ → Type 0 where
+  tooLong : 1048576 < length bytes → CauseOf lent bytes 1 0
+  tooLittle : (lent .work < 6 * length bytes + 1024) ⊎ (lent .gaps < length bytes / 5 + 2) → CauseOf lent bytes 2 0
+  notFormed : {code place : ℕ} → FormCause bytes code place → CauseOf lent bytes code place
+  defining : {code place : ℕ} (job : Job (List ℕ)) → form bytes ≡ good job → DefinitionCause job code place → CauseOf lent bytes code place
+  resolving : {code place : ℕ} (job : Job (List ℕ)) → form bytes ≡ good job → ResolvingCause job code place → CauseOf lent bytes code place
+  slots : {code place : ℕ} (job : Job (List ℕ)) → form bytes ≡ good job → SlotCause job code place → CauseOf lent bytes code place
+  noRoom :
+      (job : Job (List ℕ)) (l : Layout) →
+      form bytes ≡ good job →
+      layout 65534 (numbered job) ≡ good l →
+      Short lent (render (literals job) l) →
+      CauseOf lent bytes 18 (buildPlace job)
+
+-- CAUSE: a run over bytes that is refused has the cause of its number, at its place
+abbrev pub Cause : Type 0
+Cause = (lent : Lent) (bytes : List ℕ) (r : Refusal) → IsBytes bytes → run lent bytes ≡ bad r → CauseOf lent bytes (r .code) (r .place)
+
+-- how many records a job has: definitions, 50, requests, 60
+abbrev pub records : Job (List ℕ) → ℕ
+records job = suc (buildPlace job)
+
+-- CAUSE PLACED: the number lies from 1 to 18, and the place is at most the number of bytes, and the number of a record if the job is well formed
+abbrev pub CausePlaced : Type 0
+CausePlaced =
+    (lent : Lent) (bytes : List ℕ) (r : Refusal) → IsBytes bytes → run lent bytes ≡ bad r → (1 ≤ r .code) × (r .code ≤ 18)
+    × (r .place ≤ length bytes) × ((job : Job (List ℕ)) → form bytes ≡ good job → r .place < records job)
+
+-- NO CAUSE: a job of bytes is built exactly if there is no cause of a refusal
+abbrev pub NoCause : Type 0
+NoCause =
+    (lent : Lent) (bytes : List ℕ) → IsBytes bytes →
+    ((b : Built) × (run lent bytes ≡ good b)) ↔ ((code place : ℕ) → CauseOf lent bytes code place → ⊥)
