@@ -1,20 +1,19 @@
 -- What the stages around record 50 hand on: the start leaves nothing resolved, and record 50 is the definition's. Assumes nothing.
-use mathlib.Core.List.{List, _++_}
+use mathlib.Core.List.{List}
 use mathlib.Core.Path.{_≡_, refl, ap, _∙_}
 use Prim.Native.Nat.{ℕ, zero, suc, _<_}
 use native.Mathlib.Omega.{arith}
 use lib.ListN.{length, length-map}
 use Rattle.definition.specs.Basics.{good, bad, _>>=_}
-use Rattle.definition.specs.Numbering.{constantsOf, bootstrapsOf, literals, numberedEntry}
+use Rattle.definition.specs.Numbering.{constantsOf, literals, numberedEntry}
 use Rattle.definition.specs.Definitions.{Defined}
-use Rattle.definition.specs.Resolving.{linked}
 use Rattle.definition.specs.Layout.{endDefinitions}
 use Rattle.laws.proofs.numbering.NumberedCited.{constants-numbered}
 use Rattle.store.specs.Store.{Store}
-use Rattle.store.specs.JobIn.{jobIn, definitionsIn, tableOf, numberedIn, constantsIn, linkedIn}
+use Rattle.store.specs.JobIn.{jobIn, definitionsIn, constantsIn, linkedIn}
 use Rattle.store.specs.Regions.{MARKS, NODE-HEADS, COUNTS, NODE-COUNT, VISITS, Work}
 use Rattle.resolver.specs.Resolved.{resolvedIn, told}
-use Rattle.definitions.specs.Defining.{recordsIn, DefinedAll, Defines, Zeros}
+use Rattle.definitions.specs.Defining.{recordsIn, Defines, Zeros}
 use Rattle.definitions.specs.Ending.{goalsOf, Fresh, Ended}
 use Rattle.definitions.specs.Begun.{readyFrom}
 use Rattle.definitions.proofs.Rooms.{room}
@@ -34,13 +33,6 @@ fresh-still p top s t u r work zeros done =
 pub constants-many : (s : List ℕ) → length (constantsOf (recordsIn s)) ≡ constantsIn s
 unfolding recordsIn definitionsIn
 constants-many s = ap length (constants-numbered (jobIn s)) ∙ length-map (constantsOf (jobIn s .definitions)) (numberedEntry (literals (jobIn s)))
-
--- the table that the definition links is the job's
-pub linked-is :
-    (p : List ℕ) (top : ℕ) (s : List ℕ) (t : Store) (d : Defined) → DefinedAll p top s t d →
-    linked (d .names) (length (constantsOf (recordsIn s))) (constantsOf (recordsIn s) ++ bootstrapsOf (recordsIn s)) ≡ linkedIn s
-unfolding linkedIn numberedIn tableOf recordsIn
-linked-is p top s t d all = rw (all .naming, constants-many s)
 
 -- record 50, as the definition ends the definitions
 module _ (p : List ℕ) (top : ℕ) (s : List ℕ) (t u : Store) (d : Defined) (r : ℕ) (ended : Ended p top s t u d r) where

@@ -2,7 +2,6 @@
 use mathlib.Core.Bool.{Bool, true, false}
 use mathlib.Core.List.{List, [], _∷_, _++_, map, append-assoc}
 use mathlib.Core.Logic.{⊎-elim}
-use mathlib.Core.Option.{some}
 use mathlib.Core.Path.{_≡_, refl, sym, ap, _∙_}
 use Prim.Native.Nat.{ℕ, zero, suc, _+_, _-_, _≤_, _<_}
 use native.Mathlib.Omega.{arith}
@@ -10,13 +9,14 @@ use lib.Dec.{eqb}
 use lib.ListN.{length, getD, take, drop, length-append}
 use lib.Seq.{drop-cons}
 use borrow.Author.Tests.{ne-eqb}
-use Rattle.definition.specs.Basics.{good, from, lookup}
+use Rattle.definition.specs.Basics.{good, from}
 use Rattle.definition.specs.Shapes.{constant, bootstrap}
 use Rattle.definition.specs.Numbering.{constantsOf, bootstrapsOf, numbered}
 use Rattle.definition.specs.Definitions.{Held, starts, half, Defined}
 use Rattle.definition.specs.Resolving.{tableEntry}
 use Rattle.definition.specs.Layout.{starters}
 use Rattle.laws.specs.Statements.{IsBytes}
+use Rattle.facts.specs.Lists.{Among}
 use Rattle.facts.proofs.Tables.{lookup-at}
 use Rattle.laws.proofs.form.FormedJobs.{form-formed}
 use Rattle.laws.proofs.definitions.DefinedAsPlaced.{defined-facts}
@@ -97,29 +97,29 @@ module _ (s : List ℕ) (well : WellFormed s) (bytes : IsBytes s) (top : ℕ) (d
   cited : Citing.Cited ℕ (numbered (jobIn s))
   cited = Numbered.cited-numbered (jobIn s) (Citing.formed-cited (jobIn s) (form-formed s (jobIn s) bytes (formed-job s well)))
 
-  start-low : (k e : ℕ) → lookup k (d .held) ≡ some (starts e) → e < constantsIn s
+  pub start-low : (k e : ℕ) → Among (k, starts e) (d .held) → e < constantsIn s
   unfolding recordsIn definitionsIn Counted.countIn
   start-low k e h =
       let f = defined-facts top (constantsOf (recordsIn s)) (recordsIn s) d run in
-      let c = Citing.placed-cited (numbered (jobIn s)) cited constant k e (f .allHeld .startPlaced k e (lookup-at k (starts e) (d .held) h)) in
+      let c = Citing.placed-cited (numbered (jobIn s)) cited constant k e (f .allHeld .startPlaced k e h) in
       rw (Numbered.count-numbered (jobIn s) constant) at c
 
-  index-low : (k e : ℕ) → lookup k (d .indexes) ≡ some e → constantsIn s + e < entriesIn s
+  pub index-low : (k e : ℕ) → Among (k, e) (d .indexes) → constantsIn s + e < entriesIn s
   unfolding recordsIn definitionsIn Counted.countIn tableOf
   index-low k e h =
       let f = defined-facts top (constantsOf (recordsIn s)) (recordsIn s) d run in
-      let c = Citing.placed-cited (numbered (jobIn s)) cited bootstrap k e (f .allIndexes .indexPlaced k e (lookup-at k e (d .indexes) h)) in
+      let c = Citing.placed-cited (numbered (jobIn s)) cited bootstrap k e (f .allIndexes .indexPlaced k e h) in
       let b = rw (Numbered.count-numbered (jobIn s) bootstrap) at c in
       omega (arith, b, length-append (constantsOf (jobIn s .definitions)) (bootstrapsOf (jobIn s .definitions)))
 
   slot-raw : (key e : ℕ) → SlotItem top (d .held) key e → IsRaw s e
   unfolding heldWord tableOf
   slot-raw key e item other =
-      let low = start-low key e (rw (ne-eqb e HALF other, heldWord) at (item .row)) in
+      let low = start-low key e (lookup-at key (starts e) (d .held) (rw (ne-eqb e HALF other, heldWord) at (item .row))) in
       omega (arith, low, length-append (constantsOf (definitionsIn s)) (bootstrapsOf (definitionsIn s)))
 
   index-raw : (key e : ℕ) → IndexItem (constantsIn s) (d .indexes) key e → IsRaw s e
-  index-raw key e item other = omega (arith, index-low (key - ENTRY) (e - constantsIn s) (item .row), item .behind)
+  index-raw key e item other = omega (arith, index-low (key - ENTRY) (e - constantsIn s) (lookup-at (key - ENTRY) (e - constantsIn s) (d .indexes) (item .row)), item .behind)
 
   pub order-raws :
       (itemKeys entries order : List ℕ) (n : ℕ) → Ordered (constantsIn s) top (d .held) (d .indexes) itemKeys entries order n →

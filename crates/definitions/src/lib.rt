@@ -214,7 +214,7 @@ fn define_one(job: &[u8], w: &mut [u32], p: &[usize], at: usize, top: usize) -> 
 }
 
 // The n definitions in turn, 0, or a refusal's number: `defineAll`. Then record 50 is in turn, and AT is behind it.
-pub fn define_all(job: &[u8], w: &mut [u32], p: &[usize], n: usize, top: usize) -> usize
+fn define_all(job: &[u8], w: &mut [u32], p: &[usize], n: usize, top: usize) -> usize
     requires { ⌜ On (now p) (length (now w)) × Work (now job) (now p) × Zeros (now p) (store (now p) (now w)) × (n ≡ length (definitionsIn (now job))) × (top < 65535) ⌝ }
     ensures { λ r. ⌜ Defines (now (p .entry)) top (now (job .entry)) (store (now (p .entry)) (now (w .entry))) (store (now (p .entry)) (now (w .exit))) r ⌝ }
 {
@@ -264,7 +264,7 @@ fn resolve_raws(job: &[u8], w: &mut [u32], p: &[usize]) -> usize
 
 // Record 50: names and references are linked, raw constants resolved by rising slot, then raw bootstraps by rising index:
 // `endDefinitions`, but for gaps and stack.
-pub fn end_definitions(job: &[u8], w: &mut [u32], p: &[usize]) -> usize
+fn end_definitions(job: &[u8], w: &mut [u32], p: &[usize]) -> usize
     requires { ⌜ On (now p) (length (now w)) × Work (now job) (now p) × ((top : ℕ) × (d : Defined) × DefinedAll (now p) top (now job) (store (now p) (now w)) d) × Fresh (now p) (store (now p) (now w)) ⌝ }
     ensures { λ r. ⌜ ((top : ℕ) (d : Defined) → DefinedAll (now (p .entry)) top (now (job .entry)) (store (now (p .entry)) (now (w .entry))) d → Ended (now (p .entry)) top (now (job .entry)) (store (now (p .entry)) (now (w .entry))) (store (now (p .entry)) (now (w .exit))) d r) ⌝ }
 {

@@ -1,3 +1,4 @@
 pub mod Pooled
 pub mod Starting
 pub mod Replying
+pub mod Owning

@@ -1,6 +1,7 @@
 -- `definitions::begin` meets its contract. Assumes nothing.
 use mathlib.Core.Path.{_∙_}
 use native.Mathlib.Omega.{arith}
+use Rattle.store.proofs.Stores.{length-store}
 use Rattle.store.proofs.Starting.{start-asks, start-leaves}
 use Rattle.definitions.proofs.Handing.{fresh-still}
 use Rattle.definitions.proofs.Beginning.{start-zeros, counted, on-kept, begun-refused, begun-fifty}
@@ -32,7 +33,7 @@ same-length-4 : tie.Need-same-length-4
 same-length-4 c = c .before .before .before .before .before .before .before .before .before .before .before .before .before .before .before .start .kept .1 .0
 
 returns-2 : tie.Need-returns-2
-returns-2 c = let a = c .before .before .before .before .before .before .before .before .before .before .before .before .before .before .before .before .before .before .before .before .before .args in let q = c .before .before .before .before .before .before .before .before .before .before .before .before .before .before .before .before .before .before .before .before .before .pre in let l = start-leaves (a .job .now) (a .c) (q .0) (q .1) _ _ _ (c .before .before .before .before .before .before .before .before .before .before .before .before .before .before .before .start .ensures) in let g = c .before .before .before .before .before .before .before .before .define-all .ensures in let d = g .through (c .before .before .before .before .before .if1 .left) .0 in begun-fifty _ _ (a .top) (a .job .now) _ _ (l .0, on-kept _ (c .before .before .before .before .before .before .before .before .before .before .before .before .before .before .before .start .last .0) (c .before .before .end-definitions .last .1 .0) (c .before .before .end-definitions .kept .1 .0 ∙ c .before .before .before .before .before .before .before .before .define-all .kept .1 .0) (l .1)) _ (d .0) _ _ (c .before .before .before .before .before .if1 .left) g (d .1) (c .before .before .end-definitions .ensures (a .top) (d .0) (d .1))
+returns-2 c = let a = c .before .before .before .before .before .before .before .before .before .before .before .before .before .before .before .before .before .before .before .before .before .args in let q = c .before .before .before .before .before .before .before .before .before .before .before .before .before .before .before .before .before .before .before .before .before .pre in let l = start-leaves (a .job .now) (a .c) (q .0) (q .1) _ _ _ (c .before .before .before .before .before .before .before .before .before .before .before .before .before .before .before .start .ensures) in let g = c .before .before .before .before .before .before .before .before .define-all .ensures in let d = g .through (c .before .before .before .before .before .if1 .left) .0 in begun-fifty _ _ (a .top) (a .job .now) _ _ (l .0, on-kept _ (c .before .before .before .before .before .before .before .before .before .before .before .before .before .before .before .start .last .0) (c .before .before .end-definitions .last .1 .0) (c .before .before .end-definitions .kept .1 .0 ∙ c .before .before .before .before .before .before .before .before .define-all .kept .1 .0) (l .1)) _ (d .0) _ _ (c .before .before .before .before .before .if1 .left) g (d .1) (c .before .before .end-definitions .ensures (a .top) (d .0) (d .1)) (start-zeros (a .c) _ _ _ (c .before .before .before .before .before .before .before .before .before .before .before .before .before .before .before .start .ensures)) (length-store _ (c .before .before .before .before .before .before .before .before .before .before .before .before .before .before .before .start .last .0))
 
 pub begin-spec : {M : Type 1} → statement M
 begin-spec =
