@@ -69,6 +69,7 @@ module _ (p : List ℕ) (k : ℕ) (t u : Store) (w : WroteRaws p t u) where
         words = w .words;
         index = λ z. absurd (omega arith);
         stays = λ e low there. indexes-same e;
+        others = λ i f. ap (λ (z : List ℕ). getD z i 0) (w .kept INDEXES refl);
         counters = same-all;
         kept = kept-all;
       }
@@ -168,6 +169,10 @@ module _ (p : List ℕ) (k : ℕ) (t u : Store) (w : WroteRaws p t u) where
                 word-stays (baseIn p u) (u INDEXES) (u INLINE) (u ROW-HEADS) (u ROW-LINKS) (rowCount u) (inlineCount u) k (w .words .inlined) is fresh
                 space link (headOf (size p ROW-HEADS) hash) head-is head-there e less (rw (indexes-same e) there)
                 ∙ indexes-same e;
+            others =
+                λ i f.
+                getD-set-other (u INDEXES) (getD (u NODES) k 0 - constantsOf p) i (rowCount u + 1) 0 (rw (w .kept NODES refl) f)
+                ∙ ap (λ (z : List ℕ). getD z i 0) (w .kept INDEXES refl);
             counters = λ c other. same-after c other ∙ same-all c other;
             kept = kept-then written t u after kept-all kept-after;
           }
@@ -196,6 +201,7 @@ module _ (p : List ℕ) (k : ℕ) (t : Store) where
         words = g .words;
         index = g .index;
         stays = g .stays;
+        others = g .others;
         counters = g .counters;
         kept = g .kept;
       }
@@ -254,6 +260,7 @@ module _ (p : List ℕ) (k : ℕ) (t : Store) where
           stays =
               still-stays (baseIn p t) (t INDEXES) (t INLINE) (t ROW-HEADS) (t ROW-LINKS) (rowCount t) (writtenCount t) (inlineCount t) k
               words is (r - 1) old-there old-row;
+          others = λ i f. getD-set-other (t INDEXES) (getD (t NODES) k 0 - constantsOf p) i word 0 f;
           counters = λ c other. refl;
           kept = kept-shares;
         }

@@ -265,6 +265,8 @@ pub record Indexed (found : Rows → Result ℕ (ℕ × Rows)) (p : List ℕ) (k
   pub stays :
       (e : ℕ) → constantsOf p ≤ e → 0 < getD (t INDEXES) (e - constantsOf p) 0 →
       getD (u INDEXES) (e - constantsOf p) 0 ≡ getD (t INDEXES) (e - constantsOf p) 0
+  -- and no other than node k's gets one
+  pub others : (i : ℕ) → (i ≡ getD (t NODES) k 0 - constantsOf p → ⊥) → getD (u INDEXES) i 0 ≡ getD (t INDEXES) i 0
   pub counters : SameBut (ROW-COUNT ∷ WRITTEN-COUNT ∷ INLINE-COUNT ∷ []) (t COUNTS) (u COUNTS)
   pub kept : Kept written t u
 

@@ -1,0 +1,9 @@
+pub mod Paying
+pub mod Tagging
+pub mod Lasting
+pub mod Kids
+pub mod Stepping
+pub mod Fields
+pub mod Falling
+pub mod Emptying
+pub mod Whole

@@ -1,0 +1,127 @@
+// Building: children get their numbers, in field order, until the building stack is empty.
+use pool::child_count;
+use pool::first_child;
+use pool::pop_pending;
+use pool::slot_of;
+use pool::slots_of;
+use rows::index_of;
+use rows::is_bootstrap;
+use rows::raw_row;
+use rows::raw_rows;
+use rows::row_index;
+use store::CHILDREN;
+use store::COUNTS;
+use store::ENTRY;
+use store::PENDING_COUNT;
+use store::load;
+ghost use Prim.Native.Nat.{_+_, _<_};
+ghost use lib.ListN.{length};
+ghost use Rattle.store.specs.Store.{store, On};
+ghost use Rattle.store.specs.Regions.{Work};
+ghost use Rattle.store.specs.Words.{ENTRY};
+ghost use Rattle.interner.specs.Nodes.{nodeCount};
+ghost use Rattle.rows.specs.Rowed.{IsBootstrapIn};
+ghost use Rattle.pool.specs.Pooled.{LiveIn};
+ghost use Rattle.building.specs.Built.{CanBuild, BuiltAll};
+ghost use Rattle.building.specs.Working.{Standing, Working, Owners, RawsSlotted, RowNumbered, Numbered, Finished, Drained};
+
+// The raw bootstraps' children have slots from then on, by falling index, 0, or 14: `rawRows`.
+fn slot_raw_rows(job: &[u8], w: &mut [u32], p: &[usize], gaps: &mut [[u16; 2]]) -> usize
+    requires { ⌜ On (now p) (length (now w)) × Work (now job) (now p) × Standing (now job) (now p) (store (now p) (now w)) × LiveIn (store (now p) (now w)) (now gaps) ⌝ }
+    ensures { λ r. ⌜ RawsSlotted (now (job .entry)) (store (now (p .entry)) (now (w .entry))) (store (now (p .entry)) (now (w .exit))) (now (gaps .entry)) (now (gaps .exit)) r ⌝ }
+{
+    let mut i = raw_rows(w, p);
+    while 0 < i {
+        i -= 1;
+        let k = raw_row(w, p, i);
+        let code = slots_of(job, w, p, gaps, k);
+        if code != 0 {
+            return code;
+        }
+    }
+    0
+}
+
+// Bootstrap node k has an index from then on, its children having slots, 0, or 14 or 17: `nodeNumber`.
+fn number_bootstrap(
+    job: &[u8],
+    w: &mut [u32],
+    p: &[usize],
+    gaps: &mut [[u16; 2]],
+    k: usize,
+) -> usize
+    requires { ⌜ On (now p) (length (now w)) × Work (now job) (now p) × Working (now job) (now p) (store (now p) (now w)) (now gaps) × IsBootstrapIn (now p) (store (now p) (now w)) k ⌝ }
+    ensures { λ r. ⌜ RowNumbered (now (job .entry)) (now (p .entry)) k (store (now (p .entry)) (now (w .entry))) (store (now (p .entry)) (now (w .exit))) (now (gaps .entry)) (now (gaps .exit)) r ⌝ }
+{
+    if index_of(w, p, k) != 0 {
+        return 0;
+    }
+    let code = slots_of(job, w, p, gaps, k);
+    if code != 0 {
+        return code;
+    }
+    row_index(w, p, k)
+}
+
+// A child has its number from then on, 0, or 14 or 17: `childNumber`.
+fn number_child(
+    job: &[u8],
+    w: &mut [u32],
+    p: &[usize],
+    gaps: &mut [[u16; 2]],
+    child: usize,
+) -> usize
+    requires { ⌜ On (now p) (length (now w)) × Work (now job) (now p) × Working (now job) (now p) (store (now p) (now w)) (now gaps) × (child < ENTRY + nodeCount (store (now p) (now w))) ⌝ }
+    ensures { λ r. ⌜ Numbered (now (job .entry)) (now (p .entry)) child (store (now (p .entry)) (now (w .entry))) (store (now (p .entry)) (now (w .exit))) (now (gaps .entry)) (now (gaps .exit)) r ⌝ }
+{
+    if is_bootstrap(w, p, child) {
+        return number_bootstrap(job, w, p, gaps, child - ENTRY);
+    }
+    slot_of(job, w, p, gaps, child, false)
+}
+
+// Node k's children have their numbers from then on, in field order, 0, or 14 or 17: `childNumbers`.
+fn finish(job: &[u8], w: &mut [u32], p: &[usize], gaps: &mut [[u16; 2]], k: usize) -> usize
+    requires { ⌜ On (now p) (length (now w)) × Work (now job) (now p) × Working (now job) (now p) (store (now p) (now w)) (now gaps) × (k < nodeCount (store (now p) (now w))) ⌝ }
+    ensures { λ r. ⌜ Finished (now (job .entry)) (now (p .entry)) k (store (now (p .entry)) (now (w .entry))) (store (now (p .entry)) (now (w .exit))) (now (gaps .entry)) (now (gaps .exit)) r ⌝ }
+{
+    let first = first_child(w, p, k);
+    let n = child_count(w, p, k);
+    let mut i = 0;
+    while i < n {
+        let child = load(w, p, CHILDREN, first + i);
+        let code = number_child(job, w, p, gaps, child);
+        if code != 0 {
+            return code;
+        }
+        i += 1;
+    }
+    0
+}
+
+// Takes from the building stack until it is empty, 0, or 14 or 17: `drain`.
+fn drain(job: &[u8], w: &mut [u32], p: &[usize], gaps: &mut [[u16; 2]]) -> usize
+    requires { ⌜ On (now p) (length (now w)) × Work (now job) (now p) × Working (now job) (now p) (store (now p) (now w)) (now gaps) × Owners (now job) (now p) (store (now p) (now w)) ⌝ }
+    ensures { λ r. ⌜ Drained (now (job .entry)) (now (p .entry)) (store (now (p .entry)) (now (w .entry))) (store (now (p .entry)) (now (w .exit))) (now (gaps .entry)) (now (gaps .exit)) r ⌝ }
+{
+    while 0 < load(w, p, COUNTS, PENDING_COUNT) {
+        let k = pop_pending(w, p);
+        let code = finish(job, w, p, gaps, k);
+        if code != 0 {
+            return code;
+        }
+    }
+    0
+}
+
+// Raw bootstraps, then the stack, 0, or 14 or 17: `buildAll`.
+pub fn build_all(job: &[u8], w: &mut [u32], p: &[usize], gaps: &mut [[u16; 2]]) -> usize
+    requires { ⌜ On (now p) (length (now w)) × Work (now job) (now p) × CanBuild (now job) (now p) (store (now p) (now w)) (now gaps) ⌝ }
+    ensures { λ r. ⌜ BuiltAll (now (job .entry)) (now (p .entry)) (store (now (p .entry)) (now (w .entry))) (store (now (p .entry)) (now (w .exit))) (now (gaps .entry)) (now (gaps .exit)) r ⌝ }
+{
+    let code = slot_raw_rows(job, w, p, gaps);
+    if code != 0 {
+        return code;
+    }
+    drain(job, w, p, gaps)
+}
