@@ -2,17 +2,16 @@
 use mathlib.Core.Bool.{Bool, true, false}
 use mathlib.Core.List.{List, [], _∷_, map, map-append}
 use mathlib.Core.Logic.{_⊎_, inl, inr, ⊎-elim}
-use mathlib.Core.Option.{some}
 use mathlib.Core.Path.{_≡_, refl, sym, ap, _∙_}
 use Prim.Native.Nat.{ℕ, _+_, _-_, _≤_, _<_}
 use native.Mathlib.Numerals.{add-one}
 use native.Mathlib.Omega.{arith}
-use lib.ListN.{length, getD, getElem?, set, take, length-map}
-use lib.Seq.{getD-set-same, getD-set-other, getD-take, length-take-le, take-suc-set}
+use lib.ListN.{length, getD, set, take}
+use lib.Seq.{getD-set-same, getD-set-other, take-suc-set}
 use borrow.Author.Tests.{lt-ltb, le-ltb}
 use Rattle.definition.specs.Basics.{position}
 use Rattle.definition.specs.Resolving.{Node, sameNode, intern}
-use Rattle.facts.proofs.Lists.{read-found, found-inside, some-inj, map-at, position-le, position-before, position-hit, position-passes, equal, order}
+use Rattle.facts.proofs.Lists.{order}
 use Rattle.laws.proofs.resolving.Interning.{sameNode-equal, intern-old, intern-new}
 use Rattle.store.specs.Store.{Store, size, store, put}
 use Rattle.store.specs.JobIn.{countsIn, entriesIn}
@@ -22,16 +21,13 @@ use Rattle.store.proofs.Hashing.{head-lt}
 use Rattle.store.proofs.Keeping.{kept-put}
 use Rattle.store.proofs.Laying.{work-sizes, entries-counted}
 use Rattle.store.proofs.Stores.{length-store}
-use Rattle.store.proofs.Walking.{both, chains-more}
+use Rattle.store.proofs.Walking.{chains-more}
 use Rattle.interner.specs.Nodes.{hashAt, nodeAt, Nodes, NodesIn, nodeCount, nodeIn, hashIn, Interned}
 use Rattle.interner.proofs.Alike.{node-same}
+use Rattle.interner.proofs.Listed.{Is, list-length, position-old, position-new}
 use Rattle.interner.proofs.Reading.{node-heads, counter-there}
 
--- THE NODES as a list
-
--- node i is what entry e would be
-abbrev pub Is : List ℕ → List ℕ → List ℕ → List ℕ → List ℕ → ℕ → ℕ → Type 0
-Is s firsts sizes children nodes e i = sameNode (nodeAt s firsts sizes children e) (nodeAt s firsts sizes children (getD nodes i 0)) ≡ true
+-- THE NODES with one more
 
 module _ (h : ℕ) (s firsts sizes children nodes heads links : List ℕ) (n e : ℕ) (g : Nodes h s firsts sizes children nodes heads links n) (room : n ≤ length nodes) where
   abbrev list : List Node
@@ -43,63 +39,27 @@ module _ (h : ℕ) (s firsts sizes children nodes heads links : List ℕ) (n e :
   abbrev at : ℕ → Node
   at i = nodeAt s firsts sizes children (getD nodes i 0)
 
-  list-length : length list ≡ n
-  list-length = length-map (take n nodes) (nodeAt s firsts sizes children) ∙ length-take-le n nodes room
+  long : length list ≡ n
+  long = list-length h s firsts sizes children nodes heads links n new g room
 
-  list-at : (i : ℕ) → i < n → getElem? list i ≡ some (at i)
-  list-at i less =
-      let q : getElem? (take n nodes) i ≡ some (getD nodes i 0) = read-found (take n nodes) i 0 (omega (arith, length-take-le n nodes room)) ∙ ap some (getD-take n nodes i 0 less) in
-      map-at (nodeAt s firsts sizes children) (take n nodes) i (getD nodes i 0) q
+  is-old : (r : ℕ) → Sought (Is s firsts sizes children nodes new) n r → 0 < r → r - 1 ≡ position (sameNode new) list
+  is-old = position-old h s firsts sizes children nodes heads links n new g room
 
-  -- what stands at a place of the list that passes
-  passes-at : (i : ℕ) (b : Node) → getElem? list i ≡ some b → sameNode new b ≡ true → (i < n) × Is s firsts sizes children nodes e i
-  passes-at i b q p =
-      let less : i < n = omega (arith, found-inside list i b q, list-length) in
-      let same : b ≡ at i = some-inj (sym q ∙ list-at i less) in
-      (less, rw same at p)
+  is-new : Sought (Is s firsts sizes children nodes new) n 0 → n ≡ position (sameNode new) list
+  is-new = position-new h s firsts sizes children nodes heads links n new g room
 
-  -- no two are the same, so that an equal one is the first
-  pub position-old : (r : ℕ) → Sought (Is s firsts sizes children nodes e) n r → 0 < r → r - 1 ≡ position (sameNode new) list
-  position-old r sought pos =
-      let less : r - 1 < n = omega (arith, sought .low) in
-      let hit = sought .hit pos in
-      let p = position-hit (sameNode new) list (r - 1) (at (r - 1)) (list-at (r - 1) less) hit in
-      let q = passes-at (position (sameNode new) list) (p .0) (p .1) (p .2) in
-      ⊎-elim
-      (λ (l : r - 1 < position (sameNode new) list).
-      absurd (both hit (position-before (sameNode new) list (r - 1) (at (r - 1)) (list-at (r - 1) less) l)))
-      (λ (l : position (sameNode new) list ≤ r - 1).
-      ⊎-elim
-      (λ (z : position (sameNode new) list ≡ r - 1). sym z)
-      (λ (z : position (sameNode new) list ≡ r - 1 → ⊥).
-      let one : at (position (sameNode new) list) ≡ at (r - 1) = sym (sameNode-equal new (at (position (sameNode new) list)) (q .1)) ∙ sameNode-equal new (at (r - 1)) hit in
-      let apart : sameNode (at (position (sameNode new) list)) (at (r - 1)) ≡ false = g .unlike (position (sameNode new) list) (r - 1) (omega arith) less in
-      absurd (both (node-same (at (r - 1))) (rw one at apart)))
-      (equal (position (sameNode new) list) (r - 1)))
-      (order (r - 1) (position (sameNode new) list))
-
-  pub position-new : Sought (Is s firsts sizes children nodes e) n 0 → n ≡ position (sameNode new) list
-  position-new sought =
-      ⊎-elim
-      (λ (l : position (sameNode new) list < length list).
-      let p = position-passes (sameNode new) list l in
-      let q = passes-at (position (sameNode new) list) (p .0) (p .1) (p .2) in
-      absurd (sought .miss refl (position (sameNode new) list) (q .0) (q .1)))
-      (λ (l : length list ≤ position (sameNode new) list). omega (arith, position-le (sameNode new) list, list-length))
-      (order (position (sameNode new) list) (length list))
-
-  pub interned-old : (r : ℕ) → Sought (Is s firsts sizes children nodes e) n r → 0 < r → list ≡ intern new list
+  pub interned-old : (r : ℕ) → Sought (Is s firsts sizes children nodes new) n r → 0 < r → list ≡ intern new list
   interned-old r sought pos =
-      sym (intern-old new list (lt-ltb (position (sameNode new) list) (length list) (omega (arith, position-old r sought pos, list-length, sought .low))))
+      sym (intern-old new list (lt-ltb (position (sameNode new) list) (length list) (omega (arith, is-old r sought pos, long, sought .low))))
 
   -- ONE MORE
 
-  module _ (inside : e < entriesIn s) (few : n < entriesIn s) (space : n < length nodes) (miss : Sought (Is s firsts sizes children nodes e) n 0) where
+  module _ (inside : e < entriesIn s) (few : n < entriesIn s) (space : n < length nodes) (miss : Sought (Is s firsts sizes children nodes new) n 0) where
     pub list-more : map (nodeAt s firsts sizes children) (take (n + 1) (set nodes n e)) ≡ intern new list
     list-more =
         rw (add-one n, take-suc-set nodes n e space)
         (map-append (nodeAt s firsts sizes children) (take n nodes) (e ∷ [])
-        ∙ sym (intern-new new list (le-ltb (position (sameNode new) list) (length list) (omega (arith, position-new miss, list-length)))))
+        ∙ sym (intern-new new list (le-ltb (position (sameNode new) list) (length list) (omega (arith, is-new miss, long)))))
 
     entry-new : getD (set nodes n e) n 0 ≡ e
     entry-new = getD-set-same nodes n e 0 space
@@ -157,10 +117,10 @@ module _ (h : ℕ) (s : List ℕ) (t : Store) (e : ℕ) (g : NodesIn h s t) (roo
   fits : nodeCount t ≤ length (t NODES)
   fits = omega (arith, g .few)
 
-  pub became-old : (r : ℕ) → Sought (Is s (t FIRSTS) (t SIZES) (t CHILDREN) (t NODES) e) (nodeCount t) r → 0 < r → Interned h s t t e (r - 1)
+  pub became-old : (r : ℕ) → Sought (Is s (t FIRSTS) (t SIZES) (t CHILDREN) (t NODES) (nodeIn s t e)) (nodeCount t) r → 0 < r → Interned h s t t e (r - 1)
   became-old r sought pos =
       record {
-        node = position-old h s (t FIRSTS) (t SIZES) (t CHILDREN) (t NODES) (t NODE-HEADS) (t NODE-LINKS) (nodeCount t) e g fits r sought pos;
+        node = position-old h s (t FIRSTS) (t SIZES) (t CHILDREN) (t NODES) (t NODE-HEADS) (t NODE-LINKS) (nodeCount t) (nodeIn s t e) g fits r sought pos;
         nodes = interned-old h s (t FIRSTS) (t SIZES) (t CHILDREN) (t NODES) (t NODE-HEADS) (t NODE-LINKS) (nodeCount t) e g fits r sought pos;
         again = g;
         low = omega (arith, sought .low);
@@ -173,7 +133,7 @@ module _ (h : ℕ) (s : List ℕ) (t : Store) (e : ℕ) (g : NodesIn h s t) (roo
   module _
       (p : List ℕ) (heads : h ≡ size p NODE-HEADS) (two : 1 < h) (all : length (t NODE-HEADS) ≡ h) (links : entriesIn s ≤ length (t NODE-LINKS))
       (counter : NODE-COUNT < length (t COUNTS)) (inside : e < entriesIn s) (few : nodeCount t < entriesIn s)
-      (miss : Sought (Is s (t FIRSTS) (t SIZES) (t CHILDREN) (t NODES) e) (nodeCount t) 0) where
+      (miss : Sought (Is s (t FIRSTS) (t SIZES) (t CHILDREN) (t NODES) (nodeIn s t e)) (nodeCount t) 0) where
     abbrev after : Store
     after = linked (put (put t COUNTS NODE-COUNT (nodeCount t + 1)) NODES (nodeCount t) e) p NODE-HEADS (hashIn s t e) (nodeCount t)
 
@@ -192,7 +152,7 @@ module _ (h : ℕ) (s : List ℕ) (t : Store) (e : ℕ) (g : NodesIn h s t) (roo
     became-after : Interned h s t after e (nodeCount t)
     became-after =
         record {
-          node = position-new h s (t FIRSTS) (t SIZES) (t CHILDREN) (t NODES) (t NODE-HEADS) (t NODE-LINKS) (nodeCount t) e g fits miss;
+          node = position-new h s (t FIRSTS) (t SIZES) (t CHILDREN) (t NODES) (t NODE-HEADS) (t NODE-LINKS) (nodeCount t) (nodeIn s t e) g fits miss;
           nodes =
               rw counted
               (list-more h s (t FIRSTS) (t SIZES) (t CHILDREN) (t NODES) (t NODE-HEADS) (t NODE-LINKS) (nodeCount t) e g fits inside few (omega arith) miss);

@@ -3,5 +3,7 @@ pub mod Children
 pub mod Shaped
 pub mod Alike
 pub mod Reading
+pub mod Listed
 pub mod Finding
 pub mod Adding
+pub mod Attribute

@@ -105,51 +105,51 @@ module _ (s : List ℕ) (start n seed : ℕ) (fits : start + n ≤ length s) whe
 -- COMPARISONS
 
 -- what the loop keeps: the bytes that are left are the same just where all are
-pub record Comparing (s : List ℕ) (a b n i : ℕ) : Type 0 where
+pub record Comparing (s t : List ℕ) (a b n i : ℕ) : Type 0 where
   pub low : i ≤ n
-  pub rest : same (run s (a + i) (n - i)) (run s (b + i) (n - i)) ≡ same (run s a n) (run s b n)
+  pub rest : same (run s (a + i) (n - i)) (run t (b + i) (n - i)) ≡ same (run s a n) (run t b n)
 
-module _ (s : List ℕ) (a b n : ℕ) where
-  pub comparing-begin : Comparing s a b n 0
+module _ (s t : List ℕ) (a b n : ℕ) where
+  pub comparing-begin : Comparing s t a b n 0
   comparing-begin =
       let e : a + 0 ≡ a = omega arith in
       let f : b + 0 ≡ b = omega arith in
       let g : n - 0 ≡ n = omega arith in
       record { low = omega arith; rest = rw (e, f, g) }
 
-  module _ (fits : a + n ≤ length s) (fit : b + n ≤ length s) (i : ℕ) (l : i < n) where
-    one : same (run s (a + i) (n - i)) (run s (b + i) (n - i)) ≡ (eqb (getD s (a + i) 0) (getD s (b + i) 0) && same (run s (a + (i + 1)) (n - (i + 1))) (run s (b + (i + 1)) (n - (i + 1))))
+  module _ (fits : a + n ≤ length s) (fit : b + n ≤ length t) (i : ℕ) (l : i < n) where
+    one : same (run s (a + i) (n - i)) (run t (b + i) (n - i)) ≡ (eqb (getD s (a + i) 0) (getD t (b + i) 0) && same (run s (a + (i + 1)) (n - (i + 1))) (run t (b + (i + 1)) (n - (i + 1))))
     unfolding same
     one =
         rw (
           run-one s (a + i) (n - i) (a + (i + 1)) (n - (i + 1)) (omega arith) (omega arith) (omega arith) (omega arith),
-          run-one s (b + i) (n - i) (b + (i + 1)) (n - (i + 1)) (omega arith) (omega arith) (omega arith) (omega arith),
+          run-one t (b + i) (n - i) (b + (i + 1)) (n - (i + 1)) (omega arith) (omega arith) (omega arith) (omega arith),
         )
 
-    pub comparing-next : Comparing s a b n i → getD s (a + i) 0 ≡ getD s (b + i) 0 → Comparing s a b n (i + 1)
-    comparing-next h e = record { low = omega arith; rest = sym (rw (eq-eqb (getD s (a + i) 0) (getD s (b + i) 0) e) at one) ∙ h .rest }
+    pub comparing-next : Comparing s t a b n i → getD s (a + i) 0 ≡ getD t (b + i) 0 → Comparing s t a b n (i + 1)
+    comparing-next h e = record { low = omega arith; rest = sym (rw (eq-eqb (getD s (a + i) 0) (getD t (b + i) 0) e) at one) ∙ h .rest }
 
-    pub comparing-not : Comparing s a b n i → (getD s (a + i) 0 ≡ getD s (b + i) 0 → ⊥) → false ≡ same (run s a n) (run s b n)
-    comparing-not h e = sym (rw (ne-eqb (getD s (a + i) 0) (getD s (b + i) 0) e) at one) ∙ h .rest
+    pub comparing-not : Comparing s t a b n i → (getD s (a + i) 0 ≡ getD t (b + i) 0 → ⊥) → false ≡ same (run s a n) (run t b n)
+    comparing-not h e = sym (rw (ne-eqb (getD s (a + i) 0) (getD t (b + i) 0) e) at one) ∙ h .rest
 
-  pub comparing-end : (i : ℕ) → Comparing s a b n i → n ≤ i → true ≡ same (run s a n) (run s b n)
+  pub comparing-end : (i : ℕ) → Comparing s t a b n i → n ≤ i → true ≡ same (run s a n) (run t b n)
   unfolding same
   comparing-end i h l = let e : n - i ≡ 0 = omega arith in rw e at (h .rest)
 
--- LITERALS at two stretches of the job
+-- LITERALS at stretches of the job
+
+pub spans-long : (s : List ℕ) (t : Stretch) (l : List ℕ) → Spans s t l → length l ≡ t .end - t .start
+spans-long s t l h = sym (ap length (h .are)) ∙ run-length s (t .start) (t .end - t .start) (omega (arith, h .rising, h .within))
 
 module _ (s : List ℕ) (a b : Stretch) (x y : List ℕ) (there : Spans s a x) (other : Spans s b y) where
   pub spans-fit : (b .end - b .start ≡ a .end - a .start) → (a .start + (a .end - a .start) ≤ length s) × (b .start + (a .end - a .start) ≤ length s)
   spans-fit e = (omega (arith, there .rising, there .within), omega (arith, other .rising, other .within))
 
-  spans-long : (t : Stretch) (l : List ℕ) → Spans s t l → length l ≡ t .end - t .start
-  spans-long t l h = sym (ap length (h .are)) ∙ run-length s (t .start) (t .end - t .start) (omega (arith, h .rising, h .within))
-
   pub spans-differ : (b .end - b .start ≡ a .end - a .start → ⊥) → false ≡ same x y
   spans-differ e = ways (same x y) refl
     where
       ways : (t : Bool) → same x y ≡ t → false ≡ t
-      ways true h = absurd (e (sym (spans-long b y other) ∙ sym (ap length (same-true x y h)) ∙ spans-long a x there))
+      ways true h = absurd (e (sym (spans-long s b y other) ∙ sym (ap length (same-true x y h)) ∙ spans-long s a x there))
       ways false h = refl
 
   pub spans-same :

@@ -1,6 +1,7 @@
 // Krakatau's interner.rs: equal entries become one node. A node is kept as the entry that it was made from, whose children stand in
 // CHILDREN.
 use store::CHILDREN;
+use store::COUNTS;
 use store::FIRSTS;
 use store::NODE_COUNT;
 use store::NODE_HEADS;
@@ -18,15 +19,17 @@ ghost use mathlib.Core.Bool.{true};
 ghost use mathlib.Core.Path.{_≡_};
 ghost use Prim.Native.Nat.{_+_, _<_, _≤_};
 ghost use lib.ListN.{length, getD, take, drop};
-ghost use Rattle.definition.specs.Basics.{same};
+ghost use Rattle.definition.specs.Basics.{same, position};
+ghost use Rattle.definition.specs.Numbering.{attributeName, sameLiteral};
 ghost use Rattle.definition.specs.Resolving.{sameNode};
+ghost use Rattle.definition.specs.Building.{attributeText};
 ghost use Rattle.job.specs.Stored.{EntryStands, WhatEntry};
 ghost use Rattle.store.specs.Store.{size, store, On, IsWord};
 ghost use Rattle.store.specs.Chains.{Sought};
 ghost use Rattle.store.specs.JobIn.{entriesIn};
 ghost use Rattle.store.specs.Regions.{NODE-HEADS, CHILDREN, NODES, Work};
 ghost use Rattle.store.specs.Words.{cut};
-ghost use Rattle.interner.specs.Nodes.{hashBytes, hashWords, hashIn, nodeIn, nodeCount, EnteredIn, NodesIn, Interned};
+ghost use Rattle.interner.specs.Nodes.{hashBytes, hashWords, hashIn, nodeIn, nodeCount, nodesIn, EnteredIn, NodesIn, Interned};
 
 // A hash of n bytes behind a seed, four at a time, then one at a time.
 pub fn hash_bytes(s: &[u8], start: usize, n: usize, seed: usize) -> usize
@@ -47,19 +50,27 @@ pub fn hash_bytes(s: &[u8], start: usize, n: usize, seed: usize) -> usize
     hash
 }
 
-// The n bytes at two places of the job are the same.
-pub fn same_bytes(job: &[u8], a: usize, b: usize, n: usize) -> bool
-    requires { ⌜ (a + n ≤ length (now job)) × (b + n ≤ length (now job)) ⌝ }
-    ensures { λ r. ⌜ r ≡ same (take n (drop a (now (job .entry)))) (take n (drop b (now (job .entry)))) ⌝ }
+// The n bytes at a place of s and at one of t are the same.
+fn same_runs(s: &[u8], a: usize, t: &[u8], b: usize, n: usize) -> bool
+    requires { ⌜ (a + n ≤ length (now s)) × (b + n ≤ length (now t)) ⌝ }
+    ensures { λ r. ⌜ r ≡ same (take n (drop a (now (s .entry)))) (take n (drop b (now (t .entry)))) ⌝ }
 {
     let mut i = 0;
     while i < n {
-        if job[a + i] != job[b + i] {
+        if s[a + i] != t[b + i] {
             return false;
         }
         i += 1;
     }
     true
+}
+
+// The n bytes at two places of the job are the same.
+pub fn same_bytes(job: &[u8], a: usize, b: usize, n: usize) -> bool
+    requires { ⌜ (a + n ≤ length (now job)) × (b + n ≤ length (now job)) ⌝ }
+    ensures { λ r. ⌜ r ≡ same (take n (drop a (now (job .entry)))) (take n (drop b (now (job .entry)))) ⌝ }
+{
+    same_runs(job, a, job, b, n)
 }
 
 // A hash of the n children from a place on, behind a seed.
@@ -181,4 +192,46 @@ pub fn intern(job: &[u8], w: &mut [u32], p: &[usize], e: usize) -> usize
     save(w, p, NODES, k, e);
     push_link(w, p, NODE_HEADS, hash, k);
     k
+}
+
+// The text that the bootstrap attribute's name needs.
+pub fn attribute_name() -> [u8; 16]
+    ensures { λ r. ⌜ r ≡ attributeName ⌝ }
+{
+    *b"BootstrapMethods"
+}
+
+// The entry at a place is the text "BootstrapMethods".
+fn is_attribute(job: &[u8], at: usize) -> bool
+    requires { ⌜ EntryStands (now job) at ⌝ }
+    ensures { λ r. ⌜ WhatEntry (now (job .entry)) at (λ x. r ≡ sameLiteral (x .tag, x .literal) (1, attributeName)) ⌝ }
+{
+    if job::tag_at(job, at) != 1 {
+        return false;
+    }
+    let s = job::literal_at(job, at);
+    let start = s.start;
+    if s.end - start != 16 {
+        return false;
+    }
+    let name = attribute_name();
+    same_runs(job, start, &name, 0, 16)
+}
+
+// The node of the text "BootstrapMethods", the number of nodes if there is none.
+pub fn find_attribute(job: &[u8], w: &[u32], p: &[usize]) -> usize
+    requires { ⌜ On (now p) (length (now w)) × Work (now job) (now p) × EnteredIn (now job) (store (now p) (now w)) × NodesIn (size (now p) NODE-HEADS) (now job) (store (now p) (now w)) ⌝ }
+    ensures { λ r. ⌜ r ≡ position (sameNode attributeText) (nodesIn (now (job .entry)) (store (now (p .entry)) (now (w .entry)))) ⌝ }
+{
+    let name = attribute_name();
+    let hash = hash_bytes(&name, 0, 16, 1);
+    let mut link = first_link(w, p, NODE_HEADS, hash);
+    while 0 < link {
+        let e = load(w, p, NODES, link - 1);
+        if is_attribute(job, load(w, p, OFFSETS, e)) {
+            return link - 1;
+        }
+        link = load(w, p, NODE_LINKS, link - 1);
+    }
+    load(w, p, COUNTS, NODE_COUNT)
 }

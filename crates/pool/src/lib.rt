@@ -138,7 +138,7 @@ fn slot_found(a: Allocated) -> usize
 }
 
 // One slot request: the slot, or 0 if there is none.
-fn take_slot(w: &mut [u32], p: &[usize], gaps: &mut [[u16; 2]], wide: bool, ldc: bool) -> usize
+pub fn take_slot(w: &mut [u32], p: &[usize], gaps: &mut [[u16; 2]], wide: bool, ldc: bool) -> usize
     requires { ⌜ On (now p) (length (now w)) × (PLAIN < size (now p) COUNTS) × GapsLive (store (now p) (now w) COUNTS) (now gaps) ⌝ }
     ensures { λ r. ⌜ Took wide ldc (store (now (p .entry)) (now (w .entry))) (store (now (p .entry)) (now (w .exit))) (now (gaps .entry)) (now (gaps .exit)) r ⌝ }
 {

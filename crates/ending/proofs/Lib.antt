@@ -1,0 +1,5 @@
+pub mod Wanting
+pub mod Finding
+pub mod Counters
+pub mod Naming
+pub mod Counting
