@@ -1,0 +1,126 @@
+-- The numbers that refusals have: at most 18, and behind refusals 1 and 2 neither of these. Assumes nothing.
+use mathlib.Core.Bool.{true, false}
+use mathlib.Core.List.{List}
+use mathlib.Core.Logic.{_⊎_, inl, inr, ⊎-elim}
+use mathlib.Core.Path.{_≡_, refl, _∙_}
+use Prim.Native.Nat.{ℕ, _+_, _*_, _/_, _≤_, _<_}
+use native.Mathlib.Omega.{arith}
+use borrow.Author.Tests.{leb-true, le-leb, ne-eqb}
+use lib.ListN.{length}
+use Rattle.definition.specs.Basics.{Result, good, bad, Refusal}
+use Rattle.definition.specs.Job.{Job}
+use Rattle.definition.specs.Numbering.{numbered}
+use Rattle.definition.specs.Slots.{highestSlot}
+use Rattle.definition.specs.Layout.{layout}
+use Rattle.definition.specs.Run.{Built, Lent, longestJob, enough, run, untouched}
+use Rattle.facts.proofs.Lists.{both-true}
+use Rattle.laws.specs.Statements.{IsBytes}
+use Rattle.causes.specs.CauseStatement.{CauseOf, tooLong, tooLittle, notFormed, defining, resolving, slots, noRoom}
+use Rattle.causes.specs.CauseStatement.{FormCause, unreadDefinition, tableFull, noEntry, unreadRequest, noEntryAsked, unreadBuild, noRequestCited, bytesBehind}
+use Rattle.causes.specs.CauseStatement.{DefinitionCause, secondTaken, onSecond, sameSlot, lastIndex, sameIndex, sameName}
+use Rattle.causes.specs.CauseStatement as cause-of
+use Rattle.causes.specs.CauseStatement.{ResolvingCause, undefined, circular}
+use Rattle.causes.specs.CauseStatement.{SlotCause, noSlotAsked, noLdcSlotAsked, rawAbove, slotAbove, pairAbove, rawLacks, childLacks, bootstrapLacks, nameLacks, noIndex}
+use Rattle.causes.proofs.Cause.{cause}
+use Rattle.laws.proofs.runs.StepsOfRuns.{LayoutRefused, early, sixteen, atSlot, atRow}
+use Rattle.laws.proofs.runs.StepRefusals.{allocate-refused, noSlot-low, rowIndex-refused}
+use Rattle.laws.proofs.runs.RunRefused.{RunRefused, outside, inLayout, runRefused}
+use Rattle.store.specs.JobIn.{WellFormed, jobIn}
+use Rattle.store.proofs.Bounds.{formed-job, formed-short}
+use Rattle.cpool.proofs.Running.{goes-on, not-laid}
+
+-- a refusal's number is at most 18
+pub code-high : (lent : Lent) (bytes : List ℕ) (q : Refusal) → run lent bytes ≡ bad q → q .code ≤ 18
+code-high lent bytes q e = ways (runRefused lent bytes q e)
+  where
+    laid : (job : Job ℕ) → LayoutRefused highestSlot job (q .code) → q .code ≤ 18
+    laid job (early h) = omega arith
+    laid job (sixteen h) = omega arith
+    laid job (atSlot nodes ldc k p asks refusal) = omega (arith, allocate-refused nodes ldc k (q .code) p refusal .1, noSlot-low ldc)
+    laid job (atRow row rows asks refusal) = omega (arith, rowIndex-refused row (q .code) rows refusal)
+
+    ways : RunRefused bytes (q .code) → q .code ≤ 18
+    ways (outside (inl h)) = omega arith
+    ways (outside (inr h)) = omega arith
+    ways (inLayout job formed h) = laid (numbered job) h
+
+-- so that of a record fits a word
+just-enough : ℕ → Lent
+just-enough n = record { work = 6 * n + 1024; gaps = n / 5 + 2; answers = 0; pool = 0; bootstraps = 0; class = 0 }
+
+is-enough : (n : ℕ) → enough n (just-enough n) ≡ true
+unfolding enough just-enough
+is-enough n = rw (le-leb (6 * n + 1024) (6 * n + 1024) (omega arith)) (le-leb (n / 5 + 2) (n / 5 + 2) (omega arith))
+
+pub layout-word : (s : List ℕ) → WellFormed s → (r : Refusal) → layout highestSlot (numbered (jobIn s)) ≡ bad r → r .code ≤ 18
+layout-word s well r e =
+    let lent = just-enough (length s) in
+    code-high lent s r (goes-on lent s (formed-short s well) (is-enough (length s)) ∙ not-laid lent s (jobIn s) r (formed-job s well) e)
+
+-- work and gaps are cleared after every number from 3 on
+pub late-cleared : (q : Refusal) → 3 ≤ q .code → untouched (bad q) ≡ false
+unfolding untouched
+late-cleared q low = rw (ne-eqb (q .code) 1 (λ e. omega (arith, e)), ne-eqb (q .code) 2 (λ e. omega (arith, e)))
+
+-- no cause behind those of 1 and 2 has these numbers
+late-form : {bytes : List ℕ} {code place : ℕ} → FormCause bytes code place → 2 < code
+late-form (unreadDefinition _ _ _ _) = omega arith
+late-form (tableFull _ _ _ _ _ _ _ _ _) = omega arith
+late-form (noEntry _ _ _ _ _ _ _ _ _ _ _ _ _) = omega arith
+late-form (unreadRequest _ _ _ _ _) = omega arith
+late-form (noEntryAsked _ _ _ _ _ _ _ _ _ _ _ _ _) = omega arith
+late-form (unreadBuild _ _ _ _ _) = omega arith
+late-form (noRequestCited _ _ _ _ _ _ _ _ _ _) = omega arith
+late-form (bytesBehind _ _ _ _ _ _ _ _ _) = omega arith
+
+late-definition : {job : Job (List ℕ)} {code place : ℕ} → DefinitionCause job code place → 2 < code
+late-definition (cause-of.outside _ _ _ _ _) = omega arith
+late-definition (secondTaken _ _ _ _ _ _) = omega arith
+late-definition (onSecond _ _ _ _ _ _ _ _ _ _ _ _) = omega arith
+late-definition (sameSlot _ _ _ _ _ _ _ _ _) = omega arith
+late-definition (lastIndex _ _ _) = omega arith
+late-definition (sameIndex _ _ _ _ _ _ _ _) = omega arith
+late-definition (sameName _ _ _ _ _ _ _ _ _) = omega arith
+
+late-resolving : {job : Job (List ℕ)} {code place : ℕ} → ResolvingCause job code place → 2 < code
+late-resolving (undefined _ _ _ _ _ _ _) = omega arith
+late-resolving (circular _ _ _ _ _ _ _ _) = omega arith
+
+late-slot : {job : Job (List ℕ)} {code place : ℕ} → SlotCause job code place → 2 < code
+late-slot (noSlotAsked _ _ _) = omega arith
+late-slot (noLdcSlotAsked _ _ _) = omega arith
+late-slot (rawAbove _ _ _ _ _ _ _ _ _ _) = omega arith
+late-slot (slotAbove _ _ _ _ _) = omega arith
+late-slot (pairAbove _ _ _ _ _ _ _ _ _) = omega arith
+late-slot (rawLacks _ _ _ _ _ _) = omega arith
+late-slot (childLacks _ _ _ _ _ _) = omega arith
+late-slot (bootstrapLacks _ _ _ _ _ _ _) = omega arith
+late-slot (nameLacks _ _ _ _ _ _ _) = omega arith
+late-slot (noIndex _ _ _ _ _ _ _ _ _ _) = omega arith
+
+module _ (lent : Lent) (s : List ℕ) (are : IsBytes s) (short : length s ≤ longestJob) (has : enough (length s) lent ≡ true) where
+  little : (lent .work < 6 * length s + 1024) ⊎ (lent .gaps < length s / 5 + 2) → ⊥
+  unfolding enough
+  little h =
+      let both = both-true _ _ has in
+      let words = leb-true (6 * length s + 1024) (lent .work) (both .0) in
+      let gaps = leb-true (length s / 5 + 2) (lent .gaps) (both .1) in
+      ⊎-elim (λ (l : lent .work < 6 * length s + 1024). omega (arith, l, words)) (λ (l : lent .gaps < length s / 5 + 2). omega (arith, l, gaps)) h
+
+  late : {code place : ℕ} → CauseOf lent s code place → 2 < code
+  late (tooLong h) = omega (arith, h, short)
+  late (tooLittle h) = absurd (little h)
+  late (notFormed f) = late-form f
+  late (defining _ _ f) = late-definition f
+  late (resolving _ _ f) = late-resolving f
+  late (slots _ _ f) = late-slot f
+  late (noRoom _ _ _ _ _) = omega arith
+
+  -- so work and gaps are cleared
+  clears-go : (o : Result Refusal Built) → run lent s ≡ o → untouched o ≡ false
+  unfolding untouched
+  clears-go (good b) e = refl
+  clears-go (bad r) e = late-cleared r (late (cause lent s r are e))
+
+  pub clears : untouched (run lent s) ≡ false
+  clears = clears-go (run lent s) refl
