@@ -1,5 +1,6 @@
 //! A job and the Rust's answer as a claim about the definition, in antt.
 
+use driver::end_of_definitions::faults;
 use driver::form::decode;
 use driver::outcome::push_hex;
 use driver::{Outcome, run_job};
@@ -36,15 +37,30 @@ pub fn lending(index: usize) -> Lending {
     }
 }
 
-/// The claim's statement: what `run` is of this job.
-pub fn statement(job: &[u8], lending: Lending) -> String {
+/// What `run` is of a job.
+pub struct Claim {
+    pub text: String,
+    pub end: End,
+}
+
+/// Whether the claim tells a refusal at record 50, and which numbers the Rust may give there.
+#[derive(Clone, Copy, Debug, PartialEq, Eq)]
+pub enum End {
+    Elsewhere,
+    OneNumber,
+    BothNumbers,
+}
+
+pub fn claim(job: &[u8], lending: Lending) -> Claim {
     let outcome = run_job(job);
     let lent = lent(job, &outcome, lending);
     let run = format!("run {} ({})", lent_text(&lent), packed(job));
-    match refused_for_room(job, &outcome, lending) {
-        Some((code, place)) => format!("{run} ≡ {}", refused(code, place)),
-        None => answered(&run, job, &outcome),
-    }
+    let (answer, end) = match refused_for_room(job, &outcome, lending) {
+        Some((code, place)) => (refused(code, place), End::Elsewhere),
+        None => answer(job, &outcome),
+    };
+    let text = format!("{run} ≡ {answer}");
+    Claim { text, end }
 }
 
 fn needs(outcome: &Outcome) -> [usize; 4] {
@@ -110,23 +126,31 @@ fn records(job: &[u8]) -> Vec<Record> {
     decode(job).expect("a built job is well formed")
 }
 
-fn answered(run: &str, job: &[u8], outcome: &Outcome) -> String {
+fn answer(job: &[u8], outcome: &Outcome) -> (String, End) {
     match outcome {
-        Outcome::Refused {
-            code: 12 | 13,
-            place,
-        } if is_end_of_definitions(job, *place) => {
-            // Which of several faults at record 50 is met first is a hash map's choice in the Rust.
-            format!("refusedAsUnresolved ({run}) ≡ some {place}")
+        Outcome::Refused { code, place } => {
+            let (code, end) = number(job, *code, *place);
+            (refused(code, *place), end)
         }
-        Outcome::Refused { code, place } => format!("{run} ≡ {}", refused(*code, *place)),
-        Outcome::Built { .. } => format!("{run} ≡ {}", built(outcome)),
+        Outcome::Built { .. } => (built(outcome), End::Elsewhere),
         _ => panic!("the Rust has no answer: {}", outcome.line()),
     }
 }
 
-fn is_end_of_definitions(job: &[u8], place: usize) -> bool {
-    decode(job).is_ok_and(|records| records[place] == Record::EndOfDefinitions)
+/// The refusal's number. Which of several faults at record 50 is met first is a hash map's choice in the Rust; where they
+/// have different numbers, it is the first's by document 01's order.
+fn number(job: &[u8], code: u8, place: usize) -> (u8, End) {
+    let records = match decode(job) {
+        Ok(records) if records[place] == Record::EndOfDefinitions => records,
+        _ => return (code, End::Elsewhere),
+    };
+    let faults = faults(&records);
+    assert!(faults.contains(&code), "{code} is none of {faults:?}");
+    if faults.iter().all(|fault| *fault == code) {
+        (code, End::OneNumber)
+    } else {
+        (faults[0], End::BothNumbers)
+    }
 }
 
 fn refused(code: u8, place: usize) -> String {
@@ -210,5 +234,29 @@ fn hex(bytes: &[u8]) -> String {
         "[]".into()
     } else {
         texts.join(" ∷ ")
+    }
+}
+
+#[cfg(test)]
+mod tests {
+    use super::*;
+    use crate::directed::{BOTH_NUMBERS, bytes};
+
+    #[test]
+    fn with_both_numbers_possible_the_lower_slot_decides() {
+        for (job, code, place) in BOTH_NUMBERS {
+            let claim = claim(&bytes(job), Lending::Plenty);
+            assert_eq!(claim.end, End::BothNumbers);
+            let answer = format!("≡ {}", refused(*code, *place));
+            assert!(claim.text.ends_with(&answer), "{}", claim.text);
+        }
+    }
+
+    #[test]
+    fn with_one_number_possible_it_is_the_rusts() {
+        let job = bytes("07020178 07020179 4300010000 4300020001 50 600200 0000");
+        let claim = claim(&job, Lending::Plenty);
+        assert_eq!(claim.end, End::OneNumber);
+        assert!(claim.text.ends_with(&refused(12, 4)), "{}", claim.text);
     }
 }

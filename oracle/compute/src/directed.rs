@@ -43,13 +43,24 @@ const JOBS: &[&str] = &[
     // Two undefined or circular names in one constant: the left one is met first.
     "410161020161 0902017802 0161 50 51010000 600200 0000",
     "410161020161 0902016102 0178 50 51010000 600200 0000",
+    X_BEFORE_Y,
+    Y_BEFORE_X,
 ];
+
+/// Jobs whose raw constants fail at record 50, one with 12 and one with 13, and the answer by document 01's order: the
+/// lower slot's.
+#[cfg(test)]
+pub const BOTH_NUMBERS: &[(&str, u8, usize)] = &[(X_BEFORE_Y, 12, 5), (Y_BEFORE_X, 13, 5)];
+
+/// A Class of x, which nothing has for its name, and a Class of y, which is the name of that Class; raw at 1 and 2.
+const X_BEFORE_Y: &str = "07020178 07020179 410179010001 4300010000 4300020001 50 600200 0000";
+const Y_BEFORE_X: &str = "07020178 07020179 410179010001 4300020000 4300010001 50 600200 0000";
 
 pub fn jobs() -> Vec<Vec<u8>> {
     JOBS.iter().map(|text| bytes(text)).collect()
 }
 
-fn bytes(text: &str) -> Vec<u8> {
+pub fn bytes(text: &str) -> Vec<u8> {
     let digits: Vec<u8> = text
         .chars()
         .filter(|c| *c != ' ')

@@ -1,35 +1,41 @@
 //! Has the checker compute the definition on generated jobs and holds it to the Rust's answers.
 //!
-//! `compute agree DEFINITION` computes every set of `AGREE`; `compute wrong DEFINITION [NAME]` sees that each wrong
-//! version of the definition, or those whose name has NAME in it, is noticed. DEFINITION is the folder crates/definition.
+//! `compute agree DEFINITION [KIND [BATCH]]` computes every set of `AGREE`, or that of one kind, or one batch of it;
+//! `compute wrong DEFINITION [NAME..]` sees that each wrong version of the definition, or those whose name has a NAME in it,
+//! is noticed, and tells which of the tables of crates/laws fail under it. DEFINITION is the folder crates/definition.
 
 mod claim;
 mod directed;
 mod scratch;
+mod tables;
 mod wrong;
 
-use claim::Lending;
+use claim::{Claim, End, Lending};
 use driver::{Outcome, run_job};
 use jobs::random::Random;
 use jobs::record::encode;
 use jobs::{damaged, pairs, small};
-use scratch::Scratch;
+use scratch::{BATCH, Scratch, Verdict};
 use std::error::Error;
+use std::ops::Range;
 use std::path::Path;
 use std::process::ExitCode;
 use wrong::Wrong;
 
-const USAGE: &str = "usage: compute agree DEFINITION | compute wrong DEFINITION [NAME]";
+const USAGE: &str =
+    "usage: compute agree DEFINITION [KIND [BATCH]] | compute wrong DEFINITION [NAME..]";
 
 type Make = fn(&mut Random) -> Vec<Vec<u8>>;
 
-/// A kind of job, a seed, how many times to make it, and how much the n-th claim lends.
+/// A kind of job, a seed, how many times to make it, how much the n-th claim lends, and the numbers of the claims that
+/// take the checker more steps than it has.
 struct Set {
     kind: &'static str,
     make: Make,
     seed: u64,
     count: usize,
     lending: fn(usize) -> Lending,
+    too_long: &'static [usize],
 }
 
 const fn set(kind: &'static str, make: Make, seed: u64, count: usize) -> Set {
@@ -39,6 +45,7 @@ const fn set(kind: &'static str, make: Make, seed: u64, count: usize) -> Set {
         seed,
         count,
         lending: claim::lending,
+        too_long: &[],
     }
 }
 
@@ -49,11 +56,18 @@ const DIRECTED: Set = Set {
     seed: 0,
     count: 1,
     lending: |_| Lending::Plenty,
+    too_long: &[],
 };
+
+/// Slots near 65534 are owned in these, so that a pool has as many entries.
+const SMALL_TOO_LONG: &[usize] = &[481, 1139];
 
 const AGREE: &[Set] = &[
     DIRECTED,
-    set("small", small_job, 101, 1700),
+    Set {
+        too_long: SMALL_TOO_LONG,
+        ..set("small", small_job, 101, 1700)
+    },
     set("damaged", damaged_job, 102, 1000),
     set("pairs", literal_pair, 103, 250),
     set("orders", order_pair, 104, 100),
@@ -73,9 +87,13 @@ fn main() -> ExitCode {
     let arguments: Vec<String> = std::env::args().skip(1).collect();
     let arguments: Vec<&str> = arguments.iter().map(String::as_str).collect();
     let ended = match arguments[..] {
-        ["agree", definition] => agree(Path::new(definition)),
-        ["wrong", definition] => all_noticed(Path::new(definition), ""),
-        ["wrong", definition, name] => all_noticed(Path::new(definition), name),
+        ["agree", definition] => agree(Path::new(definition), None, None),
+        ["agree", definition, kind] => agree(Path::new(definition), Some(kind), None),
+        ["agree", definition, kind, batch] => match batch.parse() {
+            Ok(batch) => agree(Path::new(definition), Some(kind), Some(batch)),
+            Err(_) => Err(USAGE.into()),
+        },
+        ["wrong", definition, ref names @ ..] => all_noticed(Path::new(definition), names),
         _ => Err(USAGE.into()),
     };
     match ended {
@@ -88,76 +106,142 @@ fn main() -> ExitCode {
     }
 }
 
-/// Every set agrees with the Rust.
-fn agree(definition: &Path) -> Result<bool, Box<dyn Error>> {
+/// Every set agrees with the Rust, or those of a kind, or one batch of these.
+fn agree(
+    definition: &Path,
+    kind: Option<&str>,
+    batch: Option<usize>,
+) -> Result<bool, Box<dyn Error>> {
+    let is_picked = |set: &&Set| kind.is_none_or(|kind| kind == set.kind);
+    let picked: Vec<&Set> = AGREE.iter().filter(is_picked).collect();
+    if picked.is_empty() {
+        return Err("there is no set of this kind".into());
+    }
     let mut all = true;
-    for set in AGREE {
-        let claims = claims(set, |_| true);
-        let verdict = Scratch::new(definition, set.kind)?.check(&claims)?;
-        println!(
-            "{} seed {}: {} claims, {} differ, {} took too long to compute",
-            set.kind,
-            set.seed,
-            claims.len(),
-            verdict.failed.len(),
-            verdict.stopped.len()
-        );
-        for claim in &verdict.failed {
-            println!("  {}", claims[*claim]);
-        }
-        if !verdict.proved && verdict.failed.is_empty() && verdict.stopped.is_empty() {
-            return Err(verdict.output.into());
-        }
-        all &= verdict.failed.is_empty();
+    for set in picked {
+        all &= set_agrees(definition, set, batch)?;
     }
     Ok(all)
+}
+
+/// Every claim holds but those that are listed as taking too long, and these do.
+fn set_agrees(definition: &Path, set: &Set, batch: Option<usize>) -> Result<bool, Box<dyn Error>> {
+    let claims = claims(set, |_| true);
+    let texts: Vec<String> = claims.iter().map(|claim| claim.text.clone()).collect();
+    let range = batch.map_or(0..claims.len(), |batch| part(batch, claims.len()));
+    if range.is_empty() {
+        return Err("there is no such batch".into());
+    }
+    let verdicts =
+        Scratch::new(definition, set.kind)?.judge(&texts, range.clone(), set.too_long)?;
+    let count = |verdict| verdicts.values().filter(|v| **v == verdict).count();
+    let ended = |end| {
+        claims[range.clone()]
+            .iter()
+            .filter(|c| c.end == end)
+            .count()
+    };
+    println!(
+        "{} seed {}: {} claims, {} hold, {} differ, {} took too long to compute; {} refused at record 50, and {} where \
+         both 12 and 13 are possible",
+        set.kind,
+        set.seed,
+        verdicts.len(),
+        count(Verdict::Holds),
+        count(Verdict::Differs),
+        count(Verdict::TooLong),
+        ended(End::OneNumber),
+        ended(End::BothNumbers),
+    );
+    let mut all = true;
+    for (number, verdict) in verdicts {
+        let expected = if set.too_long.contains(&number) {
+            Verdict::TooLong
+        } else {
+            Verdict::Holds
+        };
+        if verdict != expected {
+            println!(
+                "  claim {number}: {verdict:?}, not {expected:?}: {}",
+                texts[number]
+            );
+            all = false;
+        }
+    }
+    Ok(all)
+}
+
+/// The numbers of a batch's claims, of so many in all.
+fn part(batch: usize, count: usize) -> Range<usize> {
+    let end = |batch: usize| count.min(batch.saturating_mul(BATCH));
+    end(batch)..end(batch.saturating_add(1))
 }
 
 /// Every wrong version fails some claim that the definition meets.
-fn all_noticed(definition: &Path, name: &str) -> Result<bool, Box<dyn Error>> {
+fn all_noticed(definition: &Path, names: &[&str]) -> Result<bool, Box<dyn Error>> {
+    let is_picked = |w: &&Wrong| names.is_empty() || names.iter().any(|name| w.name.contains(name));
+    let picked: Vec<&Wrong> = wrong::LIST.iter().filter(is_picked).collect();
+    if picked.is_empty() {
+        return Err("no wrong version has such a name".into());
+    }
     let claims: Vec<String> = NOTICE
         .iter()
         .flat_map(|set| claims(set, is_quick))
+        .map(|claim| claim.text)
         .collect();
-    if !Scratch::new(definition, "right")?.check(&claims)?.proved {
+    let batches: Vec<Vec<usize>> = (0..claims.len().div_ceil(BATCH))
+        .map(|batch| part(batch, claims.len()).collect())
+        .collect();
+    let right = Scratch::new(definition, "right")?.judge(&claims, 0..claims.len(), &[])?;
+    if right.values().any(|verdict| *verdict != Verdict::Holds) {
         return Err("the definition itself fails a claim".into());
     }
+    let right = Scratch::new(definition, "right")?;
+    for table in tables::ALL {
+        if !table.holds(&right, definition)? {
+            return Err(format!("the definition itself fails {}", table.theorem).into());
+        }
+    }
     let mut all = true;
-    for wrong in wrong::LIST.iter().filter(|w| w.name.contains(name)) {
-        all &= noticed(definition, wrong, &claims)?;
+    for wrong in picked {
+        all &= noticed(definition, wrong, &claims, &batches)?;
     }
     Ok(all)
 }
 
-fn noticed(definition: &Path, wrong: &Wrong, claims: &[String]) -> Result<bool, Box<dyn Error>> {
+fn noticed(
+    definition: &Path,
+    wrong: &Wrong,
+    claims: &[String],
+    batches: &[Vec<usize>],
+) -> Result<bool, Box<dyn Error>> {
     let scratch = Scratch::new(definition, "wrong")?;
     for edit in wrong.edits {
         scratch.edit(edit.file, edit.old, edit.new)?;
     }
-    let verdict = scratch.check(claims)?;
-    if !verdict.judged {
-        return Err(format!(
-            "{}: the edited definition isn't one:\n{}",
-            wrong.name, verdict.output
-        )
-        .into());
+    let named = |error| format!("{}: {error}", wrong.name);
+    let verdicts = scratch.round(claims, batches).map_err(named)?;
+    let failed = verdicts
+        .values()
+        .filter(|verdict| **verdict == Verdict::Differs)
+        .count();
+    print!("{}: {failed} of {} claims fail", wrong.name, claims.len());
+    for table in tables::ALL {
+        let holds = table.holds(&scratch, definition).map_err(named)?;
+        let told = if holds { "holds" } else { "fails" };
+        print!(", {} {told}", table.theorem);
     }
-    println!(
-        "{}: {} of {} claims fail",
-        wrong.name,
-        verdict.failed.len(),
-        claims.len()
-    );
-    Ok(!verdict.failed.is_empty())
+    println!();
+    Ok(failed > 0)
 }
 
 /// The claims of a set, for those jobs that pass.
-fn claims(set: &Set, passes: fn(&[u8]) -> bool) -> Vec<String> {
+fn claims(set: &Set, passes: fn(&[u8]) -> bool) -> Vec<Claim> {
     let jobs = jobs_of(set)
         .into_iter()
         .filter(|job| passes(job))
         .enumerate();
-    jobs.map(|(index, job)| claim::statement(&job, (set.lending)(index)))
+    jobs.map(|(index, job)| claim::claim(&job, (set.lending)(index)))
         .collect()
 }
 

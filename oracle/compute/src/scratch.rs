@@ -1,11 +1,14 @@
 //! A scratch repository in a temporary folder, in which the checker computes claims about the definition.
 
+use std::collections::BTreeMap;
+use std::error::Error;
 use std::fs;
 use std::io;
+use std::ops::Range;
 use std::path::{Path, PathBuf};
 use std::process::Command;
 
-const BATCH: usize = 60;
+pub const BATCH: usize = 60;
 
 /// What the checker says where a claim takes too long to compute.
 const STEP_LIMIT: &str = "stopped at the step limit";
@@ -16,18 +19,21 @@ pub struct Scratch {
     folder: PathBuf,
 }
 
-/// What the checker said of the claims.
-pub struct Verdict {
-    /// All of them hold.
-    pub proved: bool,
-    /// The definition was accepted, so that claims could be judged.
-    pub judged: bool,
-    /// The numbers of those that failed.
-    pub failed: Vec<usize>,
-    /// The numbers of those that took the checker more steps than it has.
-    pub stopped: Vec<usize>,
-    pub output: String,
+/// What the checker said of a claim.
+#[derive(Clone, Copy, Debug, PartialEq, Eq)]
+pub enum Verdict {
+    /// It stands in a batch that the checker proved.
+    Holds,
+    Differs,
+    /// It took the checker more steps than it has.
+    TooLong,
 }
+
+/// By a claim's number.
+pub type Verdicts = BTreeMap<usize, Verdict>;
+
+/// The numbers of claims that are checked as one crate.
+type Batch = Vec<usize>;
 
 impl Scratch {
     /// A new folder that holds a copy of the definition.
@@ -51,41 +57,112 @@ impl Scratch {
         fs::write(path, text.replace(old, new))
     }
 
-    /// Has the checker compute all claims, in batches.
-    pub fn check(&self, claims: &[String]) -> io::Result<Verdict> {
-        let mut list = String::from("definition:\n");
-        for (number, batch) in claims.chunks(BATCH).enumerate() {
-            list.push_str(&format!("batch{number}: definition\n"));
-            self.write_batch(number, batch)?;
+    /// Judges every claim of a range. A batch in which some get an error is checked again without these, until it is
+    /// proved: what has no error of its own is in a proved batch. Those of `apart` have a batch each.
+    pub fn judge(
+        &self,
+        claims: &[String],
+        range: Range<usize>,
+        apart: &[usize],
+    ) -> Result<Verdicts, Box<dyn Error>> {
+        let (alone, together): (Batch, Batch) =
+            range.clone().partition(|number| apart.contains(number));
+        let mut open: Vec<Batch> = together.chunks(BATCH).map(<[usize]>::to_vec).collect();
+        open.extend(alone.into_iter().map(|number| vec![number]));
+        let mut verdicts = Verdicts::new();
+        while !open.is_empty() {
+            let told = self.round(claims, &open)?;
+            open.iter_mut()
+                .for_each(|batch| batch.retain(|number| !told.contains_key(number)));
+            open.retain(|batch| !batch.is_empty());
+            verdicts.extend(told);
         }
+        assert!(verdicts.keys().copied().eq(range), "a claim went unjudged");
+        Ok(verdicts)
+    }
+
+    /// Has the checker go over some batches once; of a batch that isn't proved, only the claims with an error get a
+    /// verdict. Any other end of the checker is an error.
+    pub fn round(&self, claims: &[String], batches: &[Batch]) -> Result<Verdicts, Box<dyn Error>> {
+        let mut list = String::from("definition:\n");
+        for place in 0..batches.len() {
+            list.push_str(&format!("batch{place}: definition\n"));
+        }
+        self.clear_batches()?;
+        for (place, batch) in batches.iter().enumerate() {
+            self.write_batch(place, batch, claims)?;
+        }
+        let said = self.check(&list)?;
+        let mut told = Verdicts::new();
+        for (place, batch) in batches.iter().enumerate() {
+            let verdicts = batch_verdicts(&said, place, batch)
+                .ok_or_else(|| format!("no verdict on batch {place}:\n{said}"))?;
+            told.extend(verdicts);
+        }
+        Ok(told)
+    }
+
+    /// Whether the checker proves a theorem of crates/laws, of which these modules are taken.
+    pub fn theorem_holds(
+        &self,
+        theorem: &str,
+        modules: &[(&str, String)],
+    ) -> Result<bool, Box<dyn Error>> {
+        self.clear_batches()?;
+        let folder = self.new_crate("laws")?;
+        let mut list = String::new();
+        for (name, text) in modules {
+            list.push_str(&format!("pub mod {name}\n"));
+            fs::write(folder.join(format!("specs/{name}.antt")), text)?;
+        }
+        fs::write(folder.join("specs/Lib.antt"), list)?;
+        let said = self.check("definition:\nlaws: definition\n")?;
+        match (is_proved(&said, "laws"), refusal(&said, theorem)) {
+            (Some(true), None) => Ok(true),
+            (Some(false), Some(line)) if verdict(line) == Verdict::Differs => Ok(false),
+            _ => Err(format!("no verdict on {theorem}:\n{said}").into()),
+        }
+    }
+
+    /// What the checker says of the crates of a list.
+    fn check(&self, list: &str) -> io::Result<String> {
         fs::write(self.folder.join("crates.txt"), list)?;
         let said = Command::new("rt")
             .arg("check")
             .current_dir(&self.folder)
             .output()?;
-        let output = String::from_utf8_lossy(&said.stdout) + String::from_utf8_lossy(&said.stderr);
-        let refused = |n: &usize| refusal(&output, *n).is_some();
-        let too_long =
-            |n: &usize| refusal(&output, *n).is_some_and(|line| line.contains(STEP_LIMIT));
-        let (stopped, failed) = (0..claims.len()).filter(refused).partition(too_long);
-        Ok(Verdict {
-            proved: said.status.success(),
-            judged: output.contains("rt: definition proved"),
-            failed,
-            stopped,
-            output: output.to_string(),
-        })
+        Ok(format!(
+            "{}{}{}",
+            String::from_utf8_lossy(&said.stdout),
+            String::from_utf8_lossy(&said.stderr),
+            said.status
+        ))
     }
 
-    fn write_batch(&self, number: usize, batch: &[String]) -> io::Result<()> {
-        let folder = self.folder.join(format!("crates/batch{number}"));
+    fn clear_batches(&self) -> io::Result<()> {
+        for entry in fs::read_dir(self.folder.join("crates"))? {
+            let entry = entry?;
+            if entry.file_name() != "definition" {
+                fs::remove_dir_all(entry.path())?;
+            }
+        }
+        Ok(())
+    }
+
+    fn new_crate(&self, name: &str) -> io::Result<PathBuf> {
+        let folder = self.folder.join("crates").join(name);
         fs::create_dir_all(folder.join("src"))?;
         fs::create_dir_all(folder.join("specs"))?;
         fs::write(folder.join("src/lib.rt"), "// claims only\n")?;
+        Ok(folder)
+    }
+
+    fn write_batch(&self, place: usize, batch: &[usize], claims: &[String]) -> io::Result<()> {
+        let folder = self.new_crate(&format!("batch{place}"))?;
         fs::write(folder.join("specs/Lib.antt"), "pub mod Claims\n")?;
         let mut text = String::from(HEADER);
-        for (at, claim) in batch.iter().enumerate() {
-            let name = format!("claim{}", number * BATCH + at);
+        for number in batch {
+            let (name, claim) = (format!("claim{number}"), &claims[*number]);
             text.push_str(&format!(
                 "\n{name} : {claim}\nunfolding opened digit bytes emptyTexts\n{name} = refl\n"
             ));
@@ -94,10 +171,55 @@ impl Scratch {
     }
 }
 
-/// The line in which the checker refuses a claim.
-fn refusal(output: &str, claim: usize) -> Option<&str> {
-    let name = format!("error: `claim{claim}`");
-    output.lines().find(|line| line.contains(&name))
+/// What the checker's output says of a batch: all hold, or those with an error don't. Nothing, if it says neither.
+fn batch_verdicts(output: &str, place: usize, batch: &[usize]) -> Option<Verdicts> {
+    if is_proved(output, &format!("batch{place}"))? {
+        return Some(
+            batch
+                .iter()
+                .map(|number| (*number, Verdict::Holds))
+                .collect(),
+        );
+    }
+    let error = |number: &usize| {
+        Some((
+            *number,
+            verdict(refusal(output, &format!("claim{number}"))?),
+        ))
+    };
+    let told: Verdicts = batch.iter().filter_map(error).collect();
+    (!told.is_empty()).then_some(told)
+}
+
+/// Whether a crate is proved; nothing, if the checker came to no verdict on it. It ends with 1 where it refuses, and with 3
+/// where it can't tell.
+fn is_proved(output: &str, name: &str) -> Option<bool> {
+    let start = format!("rt: {name} ");
+    let end = output.lines().find_map(|line| line.strip_prefix(&start))?;
+    if end.starts_with("proved (") {
+        Some(true)
+    } else if ["NOT PROVED (exit 1,", "NOT PROVED (exit 3,"]
+        .iter()
+        .any(|refused| end.starts_with(refused))
+    {
+        Some(false)
+    } else {
+        None
+    }
+}
+
+fn verdict(refusal: &str) -> Verdict {
+    if refusal.contains(STEP_LIMIT) {
+        Verdict::TooLong
+    } else {
+        Verdict::Differs
+    }
+}
+
+/// The line in which the checker refuses a declaration.
+fn refusal<'a>(output: &'a str, name: &str) -> Option<&'a str> {
+    let error = format!("error: `{name}`");
+    output.lines().find(|line| line.contains(&error))
 }
 
 impl Drop for Scratch {
@@ -119,4 +241,52 @@ fn copy_tree(from: &Path, to: &Path) -> io::Result<()> {
         }
     }
     Ok(())
+}
+
+#[cfg(test)]
+mod tests {
+    use super::*;
+
+    const PROVED: &str = "rt: definition proved (1 s)\nrt: batch0 proved (9 s)\nrt: ok, 2 crates\n";
+
+    fn said(output: &str) -> Option<Vec<(usize, Verdict)>> {
+        batch_verdicts(output, 0, &[7, 8]).map(|verdicts| verdicts.into_iter().collect())
+    }
+
+    #[test]
+    fn a_proved_batch_holds() {
+        let hold = vec![(7, Verdict::Holds), (8, Verdict::Holds)];
+        assert_eq!(said(PROVED), Some(hold));
+    }
+
+    #[test]
+    fn only_claims_with_an_error_are_told_of_a_batch_not_proved() {
+        let output = "Claims.antt:9:1: error: `claim8`: the two types differ\n\
+                      rt: batch0 NOT PROVED (exit 1, 4 s)\n";
+        assert_eq!(said(output), Some(vec![(8, Verdict::Differs)]));
+        let output = "Claims.antt:9:1: error: `claim7`: stopped at the step limit\n\
+                      Claims.antt:9:1: error: `claim70`: the two types differ\n\
+                      rt: batch0 NOT PROVED (exit 3, 4 s)\n";
+        assert_eq!(said(output), Some(vec![(7, Verdict::TooLong)]));
+    }
+
+    #[test]
+    fn any_other_end_is_no_verdict() {
+        let error = "Claims.antt:9:1: error: `claim8`: the two types differ\n";
+        for end in [
+            "",
+            "rt: batch0 NOT PROVED (exit 2, 4 s)\n",
+            "rt: batch0 NOT PROVED (exit 137, 4 s)\n",
+            "rt: batch0 NOT PROVED (exit 139, 4 s)\n",
+            "rt: batch0 NOT PROVED: its dependency definition is not proved\n",
+            "rt: batch1 NOT PROVED (exit 1, 4 s)\n",
+            "rt: batch1 proved (4 s)\n",
+        ] {
+            assert_eq!(said(&format!("{error}{end}")), None, "{end}");
+        }
+        assert_eq!(said("rt: batch0 NOT PROVED (exit 1, 4 s)\n"), None);
+        let other =
+            "Claims.antt:1:1: error: `digit`: no such name\nrt: batch0 NOT PROVED (exit 1, 4 s)\n";
+        assert_eq!(said(other), None);
+    }
 }

@@ -16,6 +16,7 @@ const fn edit(file: &'static str, old: &'static str, new: &'static str) -> Edit 
     Edit { file, old, new }
 }
 
+const SHAPES: &str = "specs/Shapes.antt";
 const FORM: &str = "specs/Form.antt";
 const NUMBERING: &str = "specs/Numbering.antt";
 const DEFINITIONS: &str = "specs/Definitions.antt";
@@ -360,5 +361,97 @@ pub const LIST: &[Wrong] = &[
     Wrong {
         name: "job bytes / 5 + 1 gaps are enough",
         edits: &[edit(RUN, "leb (size / 5 + 2)", "leb (size / 5 + 1)")],
+    },
+    Wrong {
+        name: "a Double takes one slot",
+        edits: &[edit(
+            SHAPES,
+            "isWide tag = eqb tag 5 || eqb tag 6",
+            "isWide tag = eqb tag 5 || eqb tag 5",
+        )],
+    },
+    Wrong {
+        name: "a Float has 8 bytes",
+        edits: &[edit(SHAPES, "(4, bits 4 ∷ [])", "(4, bits 8 ∷ [])")],
+    },
+    Wrong {
+        name: "a Float has 3 bytes",
+        edits: &[edit(SHAPES, "(4, bits 4 ∷ [])", "(4, bits 3 ∷ [])")],
+    },
+    Wrong {
+        name: "a method handle has its reference ahead of its kind byte",
+        edits: &[edit(
+            SHAPES,
+            "(15, byte ∷ to constant ∷ [])",
+            "(15, to constant ∷ byte ∷ [])",
+        )],
+    },
+    Wrong {
+        name: "a Fieldref has one reference",
+        edits: &[edit(
+            SHAPES,
+            "(9, to constant ∷ to constant ∷ [])",
+            "(9, to constant ∷ [])",
+        )],
+    },
+    Wrong {
+        name: "there are no tags 19 and 20",
+        edits: &[edit(
+            SHAPES,
+            "    ∷ (19, to constant ∷ [])  -- Module: name_index\n    ∷ (20, to constant ∷ [])  -- Package: name_index\n",
+            "",
+        )],
+    },
+    Wrong {
+        name: "tag 21 stands for 20",
+        edits: &[edit(
+            SHAPES,
+            "(20, to constant ∷ [])",
+            "(21, to constant ∷ [])",
+        )],
+    },
+    Wrong {
+        name: "the name is never given if present",
+        edits: &[edit(
+            BUILDING,
+            "nameWanted (suc zero) bootstraps = ltb 0 bootstraps",
+            "nameWanted (suc zero) bootstraps = false",
+        )],
+    },
+    Wrong {
+        name: "a job above 50 bytes is refused",
+        edits: &[edit(
+            RUN,
+            "unless (leb (length bytes) longestJob) 1",
+            "unless (leb (length bytes) 50) 1",
+        )],
+    },
+    Wrong {
+        name: "a table takes ten entries",
+        edits: &[edit(FORM, "tableSize = 65536", "tableSize = 10")],
+    },
+    Wrong {
+        name: "only texts are shared",
+        edits: &[edit(
+            RESOLVING,
+            "sameNode a b = eqb (a .tag) (b .tag) && (",
+            "sameNode a b = (eqb (a .tag) 1 && eqb (a .tag) (b .tag)) && (",
+        )],
+    },
+    Wrong {
+        name: "inline bootstraps are never shared",
+        edits: &[edit(
+            BUILDING,
+            "elim (indexOf row (rows .inline))",
+            "elim (indexOf row [])",
+        )],
+    },
+    Wrong {
+        name: "odd gaps are told by their first slot",
+        edits: &[edit(
+            SLOTS,
+            "isOdd g = eqb (size g % 2) 1",
+            "isOdd g = leb 1 (size g) && eqb (g .first % 2) 1",
+        )],
     },
 ];

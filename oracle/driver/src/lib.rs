@@ -1,6 +1,7 @@
 //! Runs jobs of document 01 through Krakatau's `cpool` module and shows what it answered.
 
 pub mod bench;
+pub mod end_of_definitions;
 pub mod form;
 pub mod frames;
 pub mod outcome;

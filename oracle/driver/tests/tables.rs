@@ -1,0 +1,89 @@
+//! The tables of crates/laws whose rows the checker computes, held to the driver: each row is a job in hex and the text
+//! that the program prints for it (document 01, "The block file and the program").
+
+mod common;
+
+use common::bytes;
+use driver::{Outcome, run_job};
+use std::fs;
+use std::path::Path;
+
+/// A row's job in hex, and its text.
+type Row = (String, String);
+
+#[test]
+fn the_second_table_has_the_drivers_texts() {
+    let rows = rows("SecondTable.antt");
+    assert_eq!(rows.len(), 40);
+    hold(&rows);
+}
+
+/// One more row of this table is a whole block file.
+#[test]
+fn the_starred_table_has_the_drivers_texts() {
+    let rows = rows("Starred.antt");
+    assert_eq!(rows.len(), 16);
+    hold(&rows);
+}
+
+fn hold(rows: &[Row]) {
+    for (job, text) in rows {
+        let outcome = run_job(&bytes(job));
+        assert_eq!(*text, printed(&outcome), "{job}");
+    }
+}
+
+/// The rows of a table: its lines of the form `job "HEX" "TEXT"`, behind `∷` but for the first.
+fn rows(file: &str) -> Vec<Row> {
+    let specs = Path::new(env!("CARGO_MANIFEST_DIR")).join("../../crates/laws/specs");
+    let text = fs::read_to_string(specs.join(file)).expect("the table can be read");
+    let lines = text
+        .lines()
+        .map(|line| line.trim().trim_start_matches("∷ "));
+    lines
+        .filter_map(|line| line.strip_prefix("job \"").map(row))
+        .collect()
+}
+
+/// A row behind `job "`.
+fn row(line: &str) -> Row {
+    let parts: Vec<&str> = line.split('"').collect();
+    let [job, " ", text, ""] = parts[..] else {
+        panic!("not a row: {line}");
+    };
+    (job.into(), text.replace("\\n", "\n"))
+}
+
+/// What the program prints for an outcome: the driver's line, with each part on a line of its own.
+fn printed(outcome: &Outcome) -> String {
+    let Outcome::Built {
+        answers,
+        pool,
+        bootstrap_count,
+        bootstraps,
+        name_slot,
+        class_name,
+        visits,
+    } = outcome
+    else {
+        return format!("{}\n", outcome.line());
+    };
+    let answers_text: String = answers.iter().map(|answer| format!("{answer}\n")).collect();
+    let class = class_name.as_ref().map_or("none\n".into(), |name| {
+        format!("{}\n{}\n", name.len(), hex(name))
+    });
+    format!(
+        "answers {}\n{answers_text}pool {}\n{}\nbootstraps {bootstrap_count} {}\n{}\nname {name_slot}\nclass {class}visits {visits}\n",
+        answers.len(),
+        pool.len(),
+        hex(pool),
+        bootstraps.len(),
+        hex(bootstraps),
+    )
+}
+
+fn hex(bytes: &[u8]) -> String {
+    let mut text = String::new();
+    driver::outcome::push_hex(&mut text, bytes);
+    text
+}
