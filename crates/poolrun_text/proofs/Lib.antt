@@ -1,0 +1,5 @@
+pub mod Putting
+pub mod Decimals
+pub mod Texts
+pub mod Reading
+pub mod Running

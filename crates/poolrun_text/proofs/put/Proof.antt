@@ -1,0 +1,21 @@
+-- `poolrun_text::put` meets its contract. Assumes nothing.
+use mathlib.Core.Path.{refl}
+use borrow.Author.Needs.{needs}
+use Rattle.poolrun_text.proofs.Putting.{byte-behind}
+use Rattle.poolrun_text.proofs.put.Statement.{statement}
+use Rattle.poolrun_text.proofs.put.Tie as tie
+
+slice-write-out : tie.Need-slice-write-out
+slice-write-out c = search needs
+
+add-result : tie.Need-add-result
+add-result c = search needs
+
+same-length : tie.Need-same-length
+same-length c = search needs
+
+returns : tie.Need-returns
+returns c = (refl, byte-behind (c .args .out .now) (c .args .at) (c .args .b) (c .pre))
+
+pub put-spec : {M : Type 1} → statement M
+put-spec = tie.close (tie.spec slice-write-out add-result same-length returns)
