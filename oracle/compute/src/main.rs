@@ -2,7 +2,8 @@
 //!
 //! `compute agree DEFINITION [KIND [BATCH]]` computes every set of `AGREE`, or that of one kind, or one batch of it;
 //! `compute wrong DEFINITION [NAME..]` sees that each wrong version of the definition, or those whose name has a NAME in it,
-//! is noticed, and tells which of the tables of crates/laws fail under it. DEFINITION is the folder crates/definition.
+//! fails a claim, and tells which of the tables of crates/laws it fails; `compute tables DEFINITION [NAME..]` tells the
+//! second alone. DEFINITION is the folder crates/definition.
 
 mod claim;
 mod directed;
@@ -17,13 +18,14 @@ use jobs::record::encode;
 use jobs::{damaged, pairs, small};
 use scratch::{BATCH, Scratch, Verdict};
 use std::error::Error;
+use std::io;
 use std::ops::Range;
 use std::path::Path;
 use std::process::ExitCode;
 use wrong::Wrong;
 
-const USAGE: &str =
-    "usage: compute agree DEFINITION [KIND [BATCH]] | compute wrong DEFINITION [NAME..]";
+const USAGE: &str = "usage: compute agree DEFINITION [KIND [BATCH]] | compute wrong DEFINITION [NAME..] | \
+                     compute tables DEFINITION [NAME..]";
 
 type Make = fn(&mut Random) -> Vec<Vec<u8>>;
 
@@ -94,6 +96,7 @@ fn main() -> ExitCode {
             Err(_) => Err(USAGE.into()),
         },
         ["wrong", definition, ref names @ ..] => all_noticed(Path::new(definition), names),
+        ["tables", definition, ref names @ ..] => tables_told(Path::new(definition), names),
         _ => Err(USAGE.into()),
     };
     match ended {
@@ -179,11 +182,7 @@ fn part(batch: usize, count: usize) -> Range<usize> {
 
 /// Every wrong version fails some claim that the definition meets.
 fn all_noticed(definition: &Path, names: &[&str]) -> Result<bool, Box<dyn Error>> {
-    let is_picked = |w: &&Wrong| names.is_empty() || names.iter().any(|name| w.name.contains(name));
-    let picked: Vec<&Wrong> = wrong::LIST.iter().filter(is_picked).collect();
-    if picked.is_empty() {
-        return Err("no wrong version has such a name".into());
-    }
+    let picked = wrong_versions(names)?;
     let claims: Vec<String> = NOTICE
         .iter()
         .flat_map(|set| claims(set, is_quick))
@@ -196,43 +195,79 @@ fn all_noticed(definition: &Path, names: &[&str]) -> Result<bool, Box<dyn Error>
     if right.values().any(|verdict| *verdict != Verdict::Holds) {
         return Err("the definition itself fails a claim".into());
     }
+    tables_hold(definition)?;
+    let mut all = true;
+    for wrong in picked {
+        let scratch = edited(definition, wrong)?;
+        let named = |error| format!("{}: {error}", wrong.name);
+        let verdicts = scratch.round(&claims, &batches).map_err(named)?;
+        let failed = verdicts
+            .values()
+            .filter(|verdict| **verdict == Verdict::Differs)
+            .count();
+        let tables = told(&scratch, definition).map_err(named)?;
+        println!(
+            "{}: {failed} of {} claims fail, {tables}",
+            wrong.name,
+            claims.len()
+        );
+        all &= failed > 0;
+    }
+    Ok(all)
+}
+
+/// Tells which tables fail under each wrong version.
+fn tables_told(definition: &Path, names: &[&str]) -> Result<bool, Box<dyn Error>> {
+    let picked = wrong_versions(names)?;
+    tables_hold(definition)?;
+    for wrong in picked {
+        let scratch = edited(definition, wrong)?;
+        let tables =
+            told(&scratch, definition).map_err(|error| format!("{}: {error}", wrong.name))?;
+        println!("{}: {tables}", wrong.name);
+    }
+    Ok(true)
+}
+
+/// The wrong versions whose name has one of these in it, or all.
+fn wrong_versions(names: &[&str]) -> Result<Vec<&'static Wrong>, Box<dyn Error>> {
+    let is_picked = |w: &&Wrong| names.is_empty() || names.iter().any(|name| w.name.contains(name));
+    let picked: Vec<&Wrong> = wrong::LIST.iter().filter(is_picked).collect();
+    if picked.is_empty() {
+        return Err("no wrong version has such a name".into());
+    }
+    Ok(picked)
+}
+
+/// A scratch repository with a wrong version of the definition.
+fn edited(definition: &Path, wrong: &Wrong) -> io::Result<Scratch> {
+    let scratch = Scratch::new(definition, "wrong")?;
+    for edit in wrong.edits {
+        scratch.edit(edit.file, edit.old, edit.new)?;
+    }
+    Ok(scratch)
+}
+
+/// The definition itself meets every table.
+fn tables_hold(definition: &Path) -> Result<(), Box<dyn Error>> {
     let right = Scratch::new(definition, "right")?;
     for table in tables::ALL {
         if !table.holds(&right, definition)? {
             return Err(format!("the definition itself fails {}", table.theorem).into());
         }
     }
-    let mut all = true;
-    for wrong in picked {
-        all &= noticed(definition, wrong, &claims, &batches)?;
-    }
-    Ok(all)
+    Ok(())
 }
 
-fn noticed(
-    definition: &Path,
-    wrong: &Wrong,
-    claims: &[String],
-    batches: &[Vec<usize>],
-) -> Result<bool, Box<dyn Error>> {
-    let scratch = Scratch::new(definition, "wrong")?;
-    for edit in wrong.edits {
-        scratch.edit(edit.file, edit.old, edit.new)?;
-    }
-    let named = |error| format!("{}: {error}", wrong.name);
-    let verdicts = scratch.round(claims, batches).map_err(named)?;
-    let failed = verdicts
-        .values()
-        .filter(|verdict| **verdict == Verdict::Differs)
-        .count();
-    print!("{}: {failed} of {} claims fail", wrong.name, claims.len());
+/// Which tables hold.
+fn told(scratch: &Scratch, definition: &Path) -> Result<String, Box<dyn Error>> {
+    let mut parts = Vec::new();
     for table in tables::ALL {
-        let holds = table.holds(&scratch, definition).map_err(named)?;
+        let holds = table.holds(scratch, definition)?;
         let told = if holds { "holds" } else { "fails" };
-        print!(", {} {told}", table.theorem);
+        parts.push(format!("{} {told}", table.theorem));
     }
-    println!();
-    Ok(failed > 0)
+    Ok(parts.join(", "))
 }
 
 /// The claims of a set, for those jobs that pass.
