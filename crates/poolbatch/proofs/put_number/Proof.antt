@@ -1,14 +1,13 @@
 -- `poolbatch::put_number` meets its contract. Assumes nothing.
-use Prim.Native.Nat.{_≤_}
 use borrow.Author.Needs.{needs}
 use Rattle.poolbatch.proofs.put_number.Statement.{statement}
 use Rattle.poolbatch.proofs.put_number.Tie as tie
 
 abbrev Inv-loop : tie.InvT-loop
-Inv-loop line₀ start n at₀ unit₀ line at unit = at ≤ 256
+Inv-loop text₀ start n at₀ unit₀ text at unit = Unit {0}
 
 abbrev μ-loop : tie.MeasureT-loop
-μ-loop line₀ start n at₀ unit₀ line at unit = unit
+μ-loop text₀ start n at₀ unit₀ text at unit = unit
 
 put-requires : tie.Need-put-requires Inv-loop μ-loop
 put-requires c κs = search needs

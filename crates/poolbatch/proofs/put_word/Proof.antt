@@ -6,10 +6,10 @@ use Rattle.poolbatch.proofs.put_word.Statement.{statement}
 use Rattle.poolbatch.proofs.put_word.Tie as tie
 
 abbrev Inv-loop : tie.InvT-loop
-Inv-loop line₀ word at₀ i₀ line at i = (i ≤ length word) × (at ≤ 256)
+Inv-loop text₀ start word at₀ i₀ text at i = i ≤ length word
 
 abbrev μ-loop : tie.MeasureT-loop
-μ-loop line₀ word at₀ i₀ line at i = length word - i
+μ-loop text₀ start word at₀ i₀ text at i = length word - i
 
 loop-holds : tie.Need-loop-holds Inv-loop μ-loop
 loop-holds c = search needs
