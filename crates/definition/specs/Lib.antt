@@ -14,3 +14,5 @@ pub mod Run
 pub mod Blocks
 pub mod Jvms
 pub mod Opened
+pub mod Starred
+pub mod SecondTable

@@ -1,6 +1,3 @@
-pub mod Starred
-pub mod SecondTable
-pub mod Decided
 pub mod AsEntries
 pub mod LeadsStatement
 pub mod Statements

@@ -1,9 +1,9 @@
 //! Has the checker compute the definition on generated jobs and holds it to the Rust's answers.
 //!
 //! `compute agree DEFINITION [KIND [BATCH]]` computes every set of `AGREE`, or that of one kind, or one batch of it;
-//! `compute wrong DEFINITION [NAME..]` sees that each wrong version of the definition, or those whose name has a NAME in it,
-//! fails a claim, and tells which of the tables of crates/laws it fails; `compute tables DEFINITION [NAME..]` tells the
-//! second alone. DEFINITION is the folder crates/definition.
+//! `compute wrong DEFINITION [NAME..]` tells how many claims, and which of the definition's computed theorems, fail under each
+//! of its must-fail edits, or those whose name has a NAME in it, and sees that one does; `compute tables DEFINITION [NAME..]`
+//! tells of the theorems alone. DEFINITION is the folder crates/definition.
 
 mod claim;
 mod directed;
@@ -22,6 +22,7 @@ use std::io;
 use std::ops::Range;
 use std::path::Path;
 use std::process::ExitCode;
+use tables::Table;
 use wrong::Wrong;
 
 const USAGE: &str = "usage: compute agree DEFINITION [KIND [BATCH]] | compute wrong DEFINITION [NAME..] | \
@@ -180,9 +181,9 @@ fn part(batch: usize, count: usize) -> Range<usize> {
     end(batch)..end(batch.saturating_add(1))
 }
 
-/// Every wrong version fails some claim that the definition meets.
+/// Every wrong version fails a claim that the definition meets, or a computed theorem.
 fn all_noticed(definition: &Path, names: &[&str]) -> Result<bool, Box<dyn Error>> {
-    let picked = wrong_versions(names)?;
+    let picked = wrong_versions(definition, names)?;
     let claims: Vec<String> = NOTICE
         .iter()
         .flat_map(|set| claims(set, is_quick))
@@ -195,44 +196,50 @@ fn all_noticed(definition: &Path, names: &[&str]) -> Result<bool, Box<dyn Error>
     if right.values().any(|verdict| *verdict != Verdict::Holds) {
         return Err("the definition itself fails a claim".into());
     }
-    tables_hold(definition)?;
+    let tables = tables_that_hold(definition)?;
     let mut all = true;
     for wrong in picked {
-        let scratch = edited(definition, wrong)?;
+        let scratch = edited(definition, &wrong)?;
         let named = |error| format!("{}: {error}", wrong.name);
         let verdicts = scratch.round(&claims, &batches).map_err(named)?;
         let failed = verdicts
             .values()
             .filter(|verdict| **verdict == Verdict::Differs)
             .count();
-        let tables = told(&scratch, definition).map_err(named)?;
+        let failing = failing(&scratch, &tables).map_err(named)?;
         println!(
-            "{}: {failed} of {} claims fail, {tables}",
+            "{}: {failed} of {} claims fail, {}",
             wrong.name,
-            claims.len()
+            claims.len(),
+            told(&failing)
         );
-        all &= failed > 0;
+        all &= failed > 0 || !failing.is_empty();
     }
     Ok(all)
 }
 
-/// Tells which tables fail under each wrong version.
+/// Every wrong version fails a computed theorem.
 fn tables_told(definition: &Path, names: &[&str]) -> Result<bool, Box<dyn Error>> {
-    let picked = wrong_versions(names)?;
-    tables_hold(definition)?;
+    let picked = wrong_versions(definition, names)?;
+    let tables = tables_that_hold(definition)?;
+    let mut all = true;
     for wrong in picked {
-        let scratch = edited(definition, wrong)?;
-        let tables =
-            told(&scratch, definition).map_err(|error| format!("{}: {error}", wrong.name))?;
-        println!("{}: {tables}", wrong.name);
+        let scratch = edited(definition, &wrong)?;
+        let failing =
+            failing(&scratch, &tables).map_err(|error| format!("{}: {error}", wrong.name))?;
+        println!("{}: {}", wrong.name, told(&failing));
+        all &= !failing.is_empty();
     }
-    Ok(true)
+    Ok(all)
 }
 
 /// The wrong versions whose name has one of these in it, or all.
-fn wrong_versions(names: &[&str]) -> Result<Vec<&'static Wrong>, Box<dyn Error>> {
-    let is_picked = |w: &&Wrong| names.is_empty() || names.iter().any(|name| w.name.contains(name));
-    let picked: Vec<&Wrong> = wrong::LIST.iter().filter(is_picked).collect();
+fn wrong_versions(definition: &Path, names: &[&str]) -> Result<Vec<Wrong>, Box<dyn Error>> {
+    let is_picked = |w: &Wrong| names.is_empty() || names.iter().any(|name| w.name.contains(name));
+    let picked: Vec<Wrong> = wrong::list(definition)?
+        .into_iter()
+        .filter(is_picked)
+        .collect();
     if picked.is_empty() {
         return Err("no wrong version has such a name".into());
     }
@@ -242,32 +249,38 @@ fn wrong_versions(names: &[&str]) -> Result<Vec<&'static Wrong>, Box<dyn Error>>
 /// A scratch repository with a wrong version of the definition.
 fn edited(definition: &Path, wrong: &Wrong) -> io::Result<Scratch> {
     let scratch = Scratch::new(definition, "wrong")?;
-    for edit in wrong.edits {
-        scratch.edit(edit.file, edit.old, edit.new)?;
+    for edit in &wrong.edits {
+        scratch.edit(&edit.file, &edit.old, &edit.new)?;
     }
     Ok(scratch)
 }
 
-/// The definition itself meets every table.
-fn tables_hold(definition: &Path) -> Result<(), Box<dyn Error>> {
+/// The computed theorems, all of which the definition itself meets.
+fn tables_that_hold(definition: &Path) -> Result<Vec<Table>, Box<dyn Error>> {
     let right = Scratch::new(definition, "right")?;
-    for table in tables::ALL {
-        if !table.holds(&right, definition)? {
-            return Err(format!("the definition itself fails {}", table.theorem).into());
-        }
+    let tables = tables::list(definition)?;
+    match failing(&right, &tables)?[..] {
+        [] => Ok(tables),
+        [module, ..] => Err(format!("the definition itself fails {module}").into()),
     }
-    Ok(())
 }
 
-/// Which tables hold.
-fn told(scratch: &Scratch, definition: &Path) -> Result<String, Box<dyn Error>> {
-    let mut parts = Vec::new();
-    for table in tables::ALL {
-        let holds = table.holds(scratch, definition)?;
-        let told = if holds { "holds" } else { "fails" };
-        parts.push(format!("{} {told}", table.theorem));
+/// The modules of which a theorem fails.
+fn failing<'a>(scratch: &Scratch, tables: &'a [Table]) -> Result<Vec<&'a str>, Box<dyn Error>> {
+    let mut modules = Vec::new();
+    for table in tables {
+        if !scratch.table_holds(table)? {
+            modules.push(table.module.as_str());
+        }
     }
-    Ok(parts.join(", "))
+    Ok(modules)
+}
+
+fn told(failing: &[&str]) -> String {
+    match failing {
+        [] => "every theorem holds".into(),
+        modules => format!("theorems fail in {}", modules.join(", ")),
+    }
 }
 
 /// The claims of a set, for those jobs that pass.

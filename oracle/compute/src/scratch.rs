@@ -1,5 +1,6 @@
 //! A scratch repository in a temporary folder, in which the checker computes claims about the definition.
 
+use crate::tables::Table;
 use std::collections::BTreeMap;
 use std::error::Error;
 use std::fs;
@@ -36,13 +37,18 @@ pub type Verdicts = BTreeMap<usize, Verdict>;
 type Batch = Vec<usize>;
 
 impl Scratch {
-    /// A new folder that holds a copy of the definition.
+    /// A new folder that holds a copy of the definition without its computed theorems.
     pub fn new(definition: &Path, name: &str) -> io::Result<Self> {
         let folder = std::env::temp_dir().join(format!("compute-{}-{name}", std::process::id()));
         if folder.exists() {
             fs::remove_dir_all(&folder)?;
         }
-        copy_tree(definition, &folder.join("crates/definition"))?;
+        for part in ["src", "specs"] {
+            copy_tree(
+                &definition.join(part),
+                &folder.join("crates/definition").join(part),
+            )?;
+        }
         Ok(Self { folder })
     }
 
@@ -102,26 +108,24 @@ impl Scratch {
         Ok(told)
     }
 
-    /// Whether the checker proves a theorem of crates/laws, of which these modules are taken.
-    pub fn theorem_holds(
-        &self,
-        theorem: &str,
-        modules: &[(&str, String)],
-    ) -> Result<bool, Box<dyn Error>> {
+    /// Whether the checker proves the definition with one module of computed theorems.
+    pub fn table_holds(&self, table: &Table) -> Result<bool, Box<dyn Error>> {
         self.clear_batches()?;
-        let folder = self.new_crate("laws")?;
-        let mut list = String::new();
-        for (name, text) in modules {
-            list.push_str(&format!("pub mod {name}\n"));
-            fs::write(folder.join(format!("specs/{name}.antt")), text)?;
-        }
-        fs::write(folder.join("specs/Lib.antt"), list)?;
-        let said = self.check("definition:\nlaws: definition\n")?;
-        match (is_proved(&said, "laws"), refusal(&said, theorem)) {
-            (Some(true), None) => Ok(true),
-            (Some(false), Some(line)) if verdict(line) == Verdict::Differs => Ok(false),
-            _ => Err(format!("no verdict on {theorem}:\n{said}").into()),
-        }
+        let proofs = self.folder.join("crates/definition/proofs");
+        fs::create_dir(&proofs)?;
+        fs::write(
+            proofs.join("Lib.antt"),
+            format!("pub mod {}\n", table.module),
+        )?;
+        let file = format!("proofs/{}.antt", table.module);
+        fs::write(
+            self.folder.join("crates/definition").join(&file),
+            &table.text,
+        )?;
+        let said = self.check("definition:\n")?;
+        fs::remove_dir_all(&proofs)?;
+        table_verdict(&said, &file)
+            .ok_or_else(|| format!("no verdict on {}:\n{said}", table.module).into())
     }
 
     /// What the checker says of the crates of a list.
@@ -216,6 +220,21 @@ fn verdict(refusal: &str) -> Verdict {
     }
 }
 
+/// Whether the checker's output says that the definition is proved, or that a theorem of a file isn't true. Nothing, if it says
+/// neither.
+fn table_verdict(output: &str, file: &str) -> Option<bool> {
+    if is_proved(output, "definition")? {
+        return Some(true);
+    }
+    let place = format!("/{file}:");
+    let errors: Vec<&str> = output
+        .lines()
+        .filter(|line| line.contains(": error: "))
+        .collect();
+    let differs = |line: &&str| line.contains(&place) && verdict(line) == Verdict::Differs;
+    (!errors.is_empty() && errors.iter().all(differs)).then_some(false)
+}
+
 /// The line in which the checker refuses a declaration.
 fn refusal<'a>(output: &'a str, name: &str) -> Option<&'a str> {
     let error = format!("error: `{name}`");
@@ -288,5 +307,20 @@ mod tests {
         let other =
             "Claims.antt:1:1: error: `digit`: no such name\nrt: batch0 NOT PROVED (exit 1, 4 s)\n";
         assert_eq!(said(other), None);
+    }
+
+    #[test]
+    fn a_computed_theorem_fails_by_an_error_in_its_own_file_alone() {
+        let end = "rt: definition NOT PROVED (exit 1, 2 s)\n";
+        let error = "crates/definition/proofs/Starred.antt:9:1: error: `starredHold`: expected\n";
+        let told = |output: &str| table_verdict(output, "proofs/Starred.antt");
+        assert_eq!(told(PROVED), Some(true));
+        assert_eq!(told(&format!("{error}{end}")), Some(false));
+        assert_eq!(told(end), None);
+        assert_eq!(told(error), None);
+        let broken = "crates/definition/specs/Slots.antt:9:1: error: no such name\n";
+        assert_eq!(told(&format!("{broken}{error}{end}")), None);
+        let long = error.replace("expected", STEP_LIMIT);
+        assert_eq!(told(&format!("{long}{end}")), None);
     }
 }

@@ -1,4 +1,4 @@
-//! The tables of crates/laws whose rows the checker computes, held to the driver: each row is a job in hex and the text
+//! The tables of crates/definition whose rows the checker computes, held to the driver: each row is a job in hex and the text
 //! that the program prints for it (document 01, "The block file and the program").
 
 mod common;
@@ -14,7 +14,7 @@ type Row = (String, String);
 #[test]
 fn the_second_table_has_the_drivers_texts() {
     let rows = rows("SecondTable.antt");
-    assert_eq!(rows.len(), 40);
+    assert_eq!(rows.len(), 42);
     hold(&rows);
 }
 
@@ -35,7 +35,7 @@ fn hold(rows: &[Row]) {
 
 /// The rows of a table: its lines of the form `job "HEX" "TEXT"`, behind `∷` but for the first.
 fn rows(file: &str) -> Vec<Row> {
-    let specs = Path::new(env!("CARGO_MANIFEST_DIR")).join("../../crates/laws/specs");
+    let specs = Path::new(env!("CARGO_MANIFEST_DIR")).join("../../crates/definition/specs");
     let text = fs::read_to_string(specs.join(file)).expect("the table can be read");
     let lines = text
         .lines()

@@ -1,0 +1,4 @@
+pub mod Starred
+pub mod SecondTable
+pub mod Decided
+pub mod BlockFiles
