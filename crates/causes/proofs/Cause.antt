@@ -1,6 +1,6 @@
 -- CAUSE: a run that is refused says why and where, and its number and place are bounded. Assumes nothing.
 use mathlib.Core.Bool.{Bool, true, false, _&&_}
-use mathlib.Core.List.{List}
+use mathlib.Core.List.{List, []}
 use mathlib.Core.Logic.{_⊎_, inl, inr}
 use mathlib.Core.Path.{_≡_, refl, sym, subst, _∙_}
 use Prim.Native.Nat.{ℕ, suc, _+_, _*_, _/_, _≤_, _<_}
@@ -19,10 +19,10 @@ use Rattle.facts.proofs.Results.{bad≢good, good-inj}
 use Rattle.facts.proofs.Outcomes.{Ends, well, refused, next, weaker, whenBad, known-good}
 use Rattle.laws.specs.Statements.{IsBytes}
 use Rattle.causes.specs.CauseStatement as CauseStatement
-use Rattle.causes.specs.CauseStatement.{DefinitionCause, outside, secondTaken, onSecond, sameSlot, lastIndex, sameIndex, sameName, Resolves, byRaw, byRequest, ResolvingCause, undefined, circular, SlotCause, noSlotAsked, noLdcSlotAsked, rawAbove, slotAbove, pairAbove, rawLacks, childLacks, bootstrapLacks, nameLacks, noIndex, buildPlace, Short, CauseOf, tooLong, tooLittle, notFormed, defining, resolving, noRoom, records, CausePlaced}
+use Rattle.causes.specs.CauseStatement.{DefinitionCause, outside, secondTaken, onSecond, sameSlot, lastIndex, sameIndex, sameName, Resolves, byRaw, byRequest, ResolvingCause, undefined, circular, SlotCause, noSlotAsked, noLdcSlotAsked, rawAbove, slotAbove, pairAbove, rawLacks, childLacks, bootstrapLacks, nameLacks, noIndex, buildPlace, Short, CauseOf, tooLong, tooLittle, notFormed, defining, resolving, noRoom, records, RecordsStand, onlyDefinitions, noneYet, CausePlaced}
 use Rattle.laws.proofs.runs.FuelLasts.{fuelLasts}
 use Rattle.causes.proofs.CauseSteps.{unless-cause, at-place}
-use Rattle.causes.proofs.CauseForm.{Standing, causeOfForm, records-fit, form-bounds}
+use Rattle.causes.proofs.CauseForm.{Standing, causeOfForm, records-stand, form-bounds}
 use Rattle.causes.proofs.CauseRecords.{InTurn, causeOfRecords}
 
 -- ---- numbers and places of the causes of a formed job
@@ -72,18 +72,21 @@ module _ (lent : Lent) (bytes : List ℕ) (are : IsBytes bytes) where
   record Told (code place : ℕ) : Type 0 where
     cause : CauseOf lent bytes code place
     inRange : (1 ≤ code) × (code ≤ 18)
-    inBytes : place ≤ length bytes
+    inStanding : (n : ℕ) × RecordsStand bytes n × (place ≤ n)
     inRecords : (job : Job (List ℕ)) → form bytes ≡ good job → place < records job
 
   abbrev Z : ℕ → ℕ → Type 0
   Z code place = (code ≡ 0) ⊎ Told code place
 
+  nothing-stands : (n : ℕ) × RecordsStand bytes n × (0 ≤ n)
+  nothing-stands = (0, onlyDefinitions [] bytes noneYet, omega arith)
+
   one : leb (length bytes) longestJob ≡ false → Z 1 0
-  one t = inr (record { cause = tooLong (leb-false (length bytes) longestJob t); inRange = (omega arith, omega arith); inBytes = omega arith; inRecords = λ job f. omega arith })
+  one t = inr (record { cause = tooLong (leb-false (length bytes) longestJob t); inRange = (omega arith, omega arith); inStanding = nothing-stands; inRecords = λ job f. omega arith })
 
   two : enough (length bytes) lent ≡ false → Z 2 0
   unfolding enough
-  two t = inr (record { cause = tooLittle (go (leb (6 * length bytes + 1024) (lent .work)) refl t); inRange = (omega arith, omega arith); inBytes = omega arith; inRecords = λ job f. omega arith })
+  two t = inr (record { cause = tooLittle (go (leb (6 * length bytes + 1024) (lent .work)) refl t); inRange = (omega arith, omega arith); inStanding = nothing-stands; inRecords = λ job f. omega arith })
     where
       go :
           (b : Bool) → leb (6 * length bytes + 1024) (lent .work) ≡ b → (b && leb (length bytes / 5 + 2) (lent .gaps)) ≡ false →
@@ -95,12 +98,12 @@ module _ (lent : Lent) (bytes : List ℕ) (are : IsBytes bytes) where
   form-told =
       weaker
       (λ e h.
-      let b = form-bounds bytes are (h .0) in
+      let b = form-bounds (h .0) in
       inr
       (record {
         cause = notFormed (h .0);
         inRange = (omega (arith, b .0), omega (arith, b .1));
-        inBytes = b .2;
+        inStanding = (e .place, b .2, omega arith);
         inRecords = λ job f. bad≢good (sym (h .1) ∙ f);
       }))
       (λ a k. k)
@@ -113,7 +116,7 @@ module _ (lent : Lent) (bytes : List ℕ) (are : IsBytes bytes) where
         record {
           cause = c;
           inRange = (low, high);
-          inBytes = omega (arith, l, records-fit bytes job are stand);
+          inStanding = (buildPlace job, records-stand bytes job stand, omega (arith, l));
           inRecords = λ job′ f. subst (λ (j : Job (List ℕ)). place < records j) (good-inj (sym formed ∙ f)) l;
         }
 
@@ -183,8 +186,9 @@ module _ (lent : Lent) (bytes : List ℕ) (are : IsBytes bytes) where
 pub cause : CauseStatement.Cause
 cause lent bytes r are ran = told lent bytes are r ran .cause
 
--- CAUSE PLACED: the number lies from 1 to 18, and the place is at most the number of bytes, and the number of a record if the job is well formed
+-- CAUSE PLACED: the number lies from 1 to 18; the place is at most the number of records that stand, and the number of a record if the job is
+-- well formed
 pub causePlaced : CausePlaced
 causePlaced lent bytes r are ran =
     let t = told lent bytes are r ran in
-    (t .inRange .0, t .inRange .1, t .inBytes, t .inRecords)
+    (t .inRange .0, t .inRange .1, t .inStanding, t .inRecords)

@@ -16,7 +16,7 @@ use Rattle.facts.specs.Lists.{Among}
 use Rattle.facts.proofs.Lists.{none≢some, some-inj, same-refl, found-append, place-behind, map-at}
 use Rattle.facts.proofs.Results.{decided}
 use Rattle.laws.specs.Faithful.{Settled, Faithful}
-use Rattle.causes.specs.CauseStatement.{At, LeadsRaw, rawItself, rawNamed, tableOf, Leads, byName, toChild, Reaches, there, further, Resolves, ResolvingCause, undefined, circular}
+use Rattle.causes.specs.CauseStatement.{At, LeadsRaw, rawItself, rawNamed, tableOf, Refers, byName, toChild, Reaches, there, further, Resolves, ResolvingCause, undefined, circular}
 use Rattle.laws.proofs.numbering.NumberedCited.{constants-numbered, bootstraps-numbered}
 use Rattle.laws.proofs.definitions.DefinedAsPlaced.{namingsOf}
 use Rattle.laws.proofs.resolving.Followed.{followed}
@@ -166,7 +166,7 @@ module _ (job : Job (List ℕ)) (d : Defined) (defined : defineAll 65534 (consta
         let (j, deep, less) = deep-child (placeOf (size job) kind n) k done-at x there-at (goal r) among in
         (j, deep, omega (arith, less, is))
 
-    lead-deep : {t u : Reference} → Leads job t u → (n : ℕ) → Deep (goal t) n → (m : ℕ) × Deep (goal u) m × (m ≤ n)
+    lead-deep : {t u : Reference} → Refers job t u → (n : ℕ) → Deep (goal t) n → (m : ℕ) × Deep (goal u) m × (m ≤ n)
     lead-deep (byName i kind l r at) n h = (n, subst (λ g. Deep g n) (goal-name kind l r (target-is i kind l r at)) h, omega arith)
     lead-deep (toChild kind k e r at a) n h = let (m, deep, less) = child-deeper kind k e r n at a h in (m, deep, omega (arith, less))
 
@@ -192,7 +192,7 @@ module _ (job : Job (List ℕ)) (d : Defined) (defined : defineAll 65534 (consta
         omega (arith, less, less′, one)
 
     -- what leads back to itself is lost, however long it is followed
-    lost : (steps : ℕ) (t u : Reference) → Leads job t u → Reaches job u t → (n : ℕ) → Deep (goal t) n → follow steps (names job) (size job) t ≡ refusal 13
+    lost : (steps : ℕ) (t u : Reference) → Refers job t u → Reaches job u t → (n : ℕ) → Deep (goal t) n → follow steps (names job) (size job) t ≡ refusal 13
     unfolding follow
     lost zero t₀ u₀ (toChild kind k e r at a) back n h = absurd (no-return kind k e r n at a back h)
     lost zero t₀ u₀ (byName i kind l r at) back n h = refl
@@ -205,9 +205,9 @@ module _ (job : Job (List ℕ)) (d : Defined) (defined : defineAll 65534 (consta
 
         on :
             {t : Reference} →
-            Leads job t r →
+            Refers job t r →
             Reaches job r t →
-            ((t u : Reference) → Leads job t u → Reaches job u t → (n : ℕ) → Deep (goal t) n → follow steps (names job) (size job) t ≡ refusal 13) →
+            ((t u : Reference) → Refers job t u → Reaches job u t → (n : ℕ) → Deep (goal t) n → follow steps (names job) (size job) t ≡ refusal 13) →
             follow steps (names job) (size job) r ≡ refusal 13
         on first (there x) rest = rest x x first (there x) n deep
         on first (further x y z k way) rest = rest x y k (reaches-on job way (further z x x first (there x))) n deep

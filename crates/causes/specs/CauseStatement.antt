@@ -198,19 +198,19 @@ abbrev pub tableOf : Kind → Job (List ℕ) → List (Entry (List ℕ) Referenc
 tableOf constant job = constantsOf (job .definitions)
 tableOf bootstrap job = bootstrapsOf (job .definitions)
 
--- a name leads to what a record says that it names; an entry leads to each of its references
-pub data Leads (job : Job (List ℕ)) : Reference → Reference → Type 0 where
-  byName : (i : ℕ) (kind : Kind) (s : List ℕ) (r : Reference) → At job i (named kind s r) → Leads job (name kind s) r
+-- a name refers to what a record says that it names; an entry refers to each of its references
+pub data Refers (job : Job (List ℕ)) : Reference → Reference → Type 0 where
+  byName : (i : ℕ) (kind : Kind) (s : List ℕ) (r : Reference) → At job i (named kind s r) → Refers job (name kind s) r
   toChild :
       (kind : Kind) (n : ℕ) (e : Entry (List ℕ) Reference) (r : Reference) →
       getElem? (tableOf kind job) n ≡ some e →
       Among r (e .kids) →
-      Leads job (entry kind n) r
+      Refers job (entry kind n) r
 
 -- in no step or more
 pub data Reaches (job : Job (List ℕ)) : Reference → Reference → Type 0 where
   there : (r : Reference) → Reaches job r r
-  further : (r s t : Reference) → Leads job r s → Reaches job s t → Reaches job r t
+  further : (r s t : Reference) → Refers job r s → Reaches job s t → Reaches job r t
 
 -- a reference is a raw number, or a name that leads to it through names alone
 pub data LeadsRaw (job : Job (List ℕ)) : Reference → ℕ → Type 0 where
@@ -231,12 +231,12 @@ pub data ResolvingCause (job : Job (List ℕ)) : ℕ → ℕ → Type 0 where
       Reaches job r (name kind s) →
       ((i : ℕ) (t : Reference) → At job i (named kind s t) → ⊥) →
       ResolvingCause job 12 place
-  -- 13: an entry or a name is reached that leads back to itself
+  -- 13: an entry or a name is reached that comes back to itself, in one step or more
   circular :
       (place : ℕ) (r t u : Reference) →
       Resolves job place r →
       Reaches job r t →
-      Leads job t u →
+      Refers job t u →
       Reaches job u t →
       ResolvingCause job 13 place
 
@@ -465,11 +465,24 @@ Cause = (lent : Lent) (bytes : List ℕ) (r : Refusal) → IsBytes bytes → run
 abbrev pub records : Job (List ℕ) → ℕ
 records job = suc (buildPlace job)
 
--- CAUSE PLACED: the number lies from 1 to 18, and the place is at most the number of bytes, and the number of a record if the job is well formed
+-- the bytes begin with so many records, each well formed
+pub data RecordsStand (bytes : List ℕ) : ℕ → Type 0 where
+  onlyDefinitions : (ds : List (Definition (List ℕ))) (left : List ℕ) → Stand bytes ds left → RecordsStand bytes (length ds)
+  upToRequests :
+      (ds : List (Definition (List ℕ))) (qs : List Request) (left : List ℕ) → StandAsked bytes ds qs left → RecordsStand bytes (suc (length ds) + length qs)
+  upToBuild :
+      (ds : List (Definition (List ℕ))) (qs : List Request) (left : List ℕ) (b : Build) (rest : List ℕ) →
+      StandAsked bytes ds qs (0x60 ∷ left) →
+      readBuild left ≡ some (b, rest) →
+      ((n : ℕ) → b .class ≡ request n → n < length qs) →
+      RecordsStand bytes (suc (suc (length ds) + length qs))
+
+-- CAUSE PLACED: the number lies from 1 to 18; the place is at most the number of records that stand, and the number of a record if the job is
+-- well formed
 abbrev pub CausePlaced : Type 0
 CausePlaced =
     (lent : Lent) (bytes : List ℕ) (r : Refusal) → IsBytes bytes → run lent bytes ≡ bad r → (1 ≤ r .code) × (r .code ≤ 18)
-    × (r .place ≤ length bytes) × ((job : Job (List ℕ)) → form bytes ≡ good job → r .place < records job)
+    × ((n : ℕ) × RecordsStand bytes n × (r .place ≤ n)) × ((job : Job (List ℕ)) → form bytes ≡ good job → r .place < records job)
 
 -- NO CAUSE: a job of bytes is built exactly if there is no cause of a refusal
 abbrev pub NoCause : Type 0
