@@ -49,11 +49,11 @@ module _ (job : Job (List ℕ)) where
   resolving-bounds (circular place r t u is h l k) = (omega arith, omega arith, resolves-place is)
 
   slot-bounds : {code place : ℕ} → SlotCause job code place → Bounds code place
-  slot-bounds (noSlotAsked j a l) = (omega arith, omega arith, omega (arith, found-inside (job .requests) j _ (a .isWhat)))
-  slot-bounds (noLdcSlotAsked j a l) = (omega arith, omega arith, omega (arith, found-inside (job .requests) j _ (a .isWhat)))
-  slot-bounds (rawAbove j n d w q b at ldc g h) = (omega arith, omega arith, omega (arith, found-inside (job .requests) j _ at))
-  slot-bounds (slotAbove j s a l h) = (omega arith, omega arith, omega (arith, found-inside (job .requests) j _ (a .isWhat)))
-  slot-bounds (pairAbove j s a n w h f₁ f₂ l) = (omega arith, omega arith, omega (arith, found-inside (job .requests) j _ (a .isWhat)))
+  slot-bounds (noSlotAsked answers e b a n l) = (omega arith, omega arith, omega (arith, found-inside (job .requests) (length answers) _ (a .1)))
+  slot-bounds (noLdcSlotAsked answers e b a n l) = (omega arith, omega arith, omega (arith, found-inside (job .requests) (length answers) _ (a .1)))
+  slot-bounds (rawAbove answers n b a h) = (omega arith, omega arith, omega (arith, found-inside (job .requests) (length answers) _ (a .1)))
+  slot-bounds (slotAbove answers e s b a l h) = (omega arith, omega arith, omega (arith, found-inside (job .requests) (length answers) _ (a .1)))
+  slot-bounds (pairAbove answers e s b a n w h f₁ f₂ l) = (omega arith, omega arith, omega (arith, found-inside (job .requests) (length answers) _ (a .1)))
   slot-bounds (rawLacks d w b r c l) = (omega arith, omega arith, omega arith)
   slot-bounds (childLacks d w b n tag l) = (omega arith, omega arith, omega arith)
   slot-bounds (bootstrapLacks d w b n tag c l) = (omega arith, omega arith, omega arith)

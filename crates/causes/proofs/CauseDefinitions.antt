@@ -215,7 +215,7 @@ module _ (job : Job (List ℕ)) where
     among-before i y l p = (i, sym (place-front before tail i l) ∙ subst (λ l. getElem? l i ≡ some y) (sym split) p)
 
     -- a held slot is taken by an earlier record, and one that isn't by none
-    taken-of : (s : ℕ) (h : Held) → Among (s, h) (d .held) → Taken job place s
+    pub taken-of : (s : ℕ) (h : Held) → Among (s, h) (d .held) → Taken job place s
     taken-of s (starts k) a =
         let e = earlier (placed constant s k) (facts .allHeld .startPlaced s k a) in
         (e .0, s, k, e .1, placed-back (e .0) constant s k (e .2), inl refl)

@@ -15,14 +15,14 @@ use Rattle.definition.specs.Shapes.{Kind, constant, bootstrap, Entry, withLiter
 use Rattle.definition.specs.Job.{Reference, raw, entry, name, Definition, define, named, placed, Job}
 use Rattle.definition.specs.Numbering.{constantsOf, bootstrapsOf, literals, numberedEntry, numberedDefinition, numbered}
 use Rattle.definition.specs.Definitions.{Naming, sameKind, nameTarget}
-use Rattle.definition.specs.Resolving.{Goal, rawNumber, tableEntry, refusal, placeOf, follow, goalOf, Resolved, resolve}
+use Rattle.definition.specs.Resolving.{Goal, tableEntry, refusal, placeOf, follow, goalOf, Resolved, resolve}
 use Rattle.facts.specs.Lists.{Among}
 use Rattle.facts.proofs.Lists.{clash, none≢some, some-inj, same-refl, found-inside, append-at, among-cons, among-later, map-at, map-some, unmap}
 use Rattle.facts.proofs.Results.{decided}
 use Rattle.facts.proofs.Outcomes.{Ends, weaker, Anything}
 use Rattle.laws.specs.Counted.{countIn}
 use Rattle.laws.specs.Faithful.{Faithful}
-use Rattle.causes.specs.CauseStatement.{At, LeadsRaw, rawItself, rawNamed, Refers, byName, toChild, Reaches, there, further, Resolves, ResolvingCause, undefined, circular}
+use Rattle.causes.specs.CauseStatement.{At, Refers, byName, toChild, Reaches, there, further, Resolves, ResolvingCause, undefined, circular}
 use Rattle.laws.proofs.form.CitedEntries.{Cites, Cited, kid-cited, named-cited}
 use Rattle.laws.proofs.numbering.NumberedCited.{constants-numbered, bootstraps-numbered}
 use Rattle.laws.proofs.definitions.DefinedAsPlaced.{namingsOf}
@@ -235,40 +235,6 @@ module _ (job : Job (List ℕ)) where
   round : (r : Reference) → goalOf names size r ≡ refusal 13 → Loop r
   unfolding goalOf
   round r e = follow-round (suc (length names)) r names (omega arith) (λ n a. inl a) e
-
-  -- what is followed to a raw number leads to it
-  name-raw : (kind : Kind) (s : List ℕ) (t : Reference) (n : ℕ) → nameTarget kind s names ≡ some t → LeadsRaw job t n → LeadsRaw job (name kind s) n
-  name-raw kind s t n e h =
-      let g = target-at kind s names t e in
-      let m = g .0 in
-      let a = naming-named ds (g .1 .0) m (g .1 .1) in
-      subst (λ k. LeadsRaw job (name k s) n) (sym (g .2))
-      (subst (λ l. LeadsRaw job (name (m .kind) l) n) (sym (g .3))
-      (rawNamed (a .0) (m .kind) (m .label) (m .target) n (named-back job (a .0) (m .kind) (m .label) (m .target) (a .1)) (subst (λ t. LeadsRaw job t n) (sym (g .4)) h)))
-
-  raw-itself : (m n : ℕ) → _≡_ {A = Goal} (rawNumber m) (rawNumber n) → LeadsRaw job (raw m) n
-  raw-itself m n e =
-      let q : m ≡ n = cc in
-      subst (LeadsRaw job (raw m)) q (rawItself m)
-
-  follow-raw : (steps : ℕ) (r : Reference) (n : ℕ) → follow steps names size r ≡ rawNumber n → LeadsRaw job r n
-  unfolding follow
-  follow-raw zero (raw m) n e = raw-itself m n e
-  follow-raw zero (entry kind m) n e = clash (cc)
-  follow-raw zero (name kind s) n e = clash (cc)
-  follow-raw (suc steps) (raw m) n e = raw-itself m n e
-  follow-raw (suc steps) (entry kind m) n e = clash (cc)
-  follow-raw (suc steps) (name kind s) n e = go (nameTarget kind s names) refl (follow-raw steps)
-    where
-      go : (o : Option Reference) → nameTarget kind s names ≡ o → ((r : Reference) (n : ℕ) → follow steps names size r ≡ rawNumber n → LeadsRaw job r n) → LeadsRaw job (name kind s) n
-      go none q rest =
-          let f = follow-none steps kind s q in
-          clash (cc)
-      go (some t) q rest = name-raw kind s t n q (rest t n (sym (follow-some steps kind s t q) ∙ e))
-
-  pub leads-raw : (r : Reference) (n : ℕ) → goalOf names size r ≡ rawNumber n → LeadsRaw job r n
-  unfolding goalOf
-  leads-raw r n e = follow-raw (suc (length names)) r n e
 
   -- ---- entries
 

@@ -1,5 +1,6 @@
 pub mod CauseSteps
 pub mod CauseDefinitions
+pub mod FreeSlots
 pub mod CauseForm
 pub mod CauseStack
 pub mod CauseReached
@@ -9,7 +10,7 @@ pub mod CauseRecords
 pub mod Cause
 pub mod CausedForm
 pub mod CausedDefinitions
-pub mod CausedRanks
+pub mod SlotsSoFar
 pub mod CausedReached
 pub mod CausedBuilding
 pub mod CausedSlots
