@@ -24,7 +24,7 @@ use Rattle.facts.proofs.Lists.{clash, some-inj, among-either, among-later, unma
 use Rattle.facts.proofs.Outcomes.{Ends, well, next, weaker, ended, known-good, Anything}
 use Rattle.laws.specs.Statements.{IsBytes}
 use Rattle.laws.specs.Faithful.{InTable, Settled, Faithful}
-use Rattle.causes.specs.CauseStatement.{requestPlace, Resolves, byRaw, byRequest, ResolvingCause, Behind, behind50, behindRequest, Asks, HasSlot, AllBehind, NextNumber, buildPlace, goalIn, SlotCause, noSlotAsked, noLdcSlotAsked, rawAbove, slotAbove, pairAbove, rawLacks, childLacks, bootstrapLacks, nameLacks, noIndex, DefinitionCause, Lacks}
+use Rattle.causes.specs.CauseStatement.{requestPlace, Resolves, byRaw, byRequest, ResolvingCause, Behind, behind50, behindRequest, AsksFor, HasSlot, AllAnswered, NextNumber, buildPlace, goalIn, SlotCause, noSlotAsked, noLdcSlotAsked, rawAbove, slotAbove, pairAbove, rawLacks, childLacks, bootstrapLacks, nameLacks, noIndex, DefinitionCause, Lacks}
 use Rattle.laws.proofs.form.CitedEntries.{Cites, Cited, placed-cited}
 use Rattle.laws.proofs.form.FormedJobs.{form-formed}
 use Rattle.laws.proofs.definitions.DefinedAsPlaced.{DefinedFacts, wideAt, defined-facts, starters-start}
@@ -188,7 +188,7 @@ module _ (bytes : List ℕ) (job : Job (List ℕ)) (are : IsBytes bytes) (formed
                 let is : q ≡ p = some-inj (sym is-request ∙ ap (getElem? (job .requests)) (sym one) ∙ at) in
                 subst (λ (p : Request). Settled (s .marks) (goalOf names size (p .what))) is (subst (Settled (s .marks)) (sym (on .1)) (on .2))
 
-        asks : (ldc : Bool) → q .ldc ≡ ldc → (g : Goal) → goal ≡ g → Asks job (length answers) ldc g
+        asks : (ldc : Bool) → q .ldc ≡ ldc → (g : Goal) → goal ≡ g → AsksFor job (length answers) ldc g
         asks ldc is g same =
             (q, is-request, is, goes-leads bytes job are formed (s .marks) (q .what) g (on .1 ∙ same) (subst (Settled (s .marks)) same (on .2)), is-resolved)
 
@@ -278,7 +278,7 @@ module _ (bytes : List ℕ) (job : Job (List ℕ)) (are : IsBytes bytes) (formed
     Z e = Later (e .code) (e .place)
 
     abbrev Ended : List ℕ × Ready → Type 0
-    Ended r = AllBehind job d (r .1)
+    Ended r = AllAnswered job d (r .1)
 
     all-answered :
         (answers : List ℕ) (left : List Request) (w : Ready) →
@@ -306,7 +306,7 @@ module _ (bytes : List ℕ) (job : Job (List ℕ)) (are : IsBytes bytes) (formed
 
     -- ---- the build record
 
-    module _ (w : Ready) (b : AllBehind job d w) where
+    module _ (w : Ready) (b : AllAnswered job d w) where
       abbrev nodes : List Node
       nodes = w .resolved .nodes
 
@@ -405,7 +405,7 @@ module _ (bytes : List ℕ) (job : Job (List ℕ)) (are : IsBytes bytes) (formed
       (known-good (endDefinitions 65534 (tableIn (numbered job) d) size d) (causeOfFifty d (defined .1)))))) λ w ready.
       next _
       (weaker (λ e h. inr h) (λ a k. k)
-      (subst (λ p. Ends (λ e. Later (e .code) (e .place)) (λ r. AllBehind job d (r .1)) (answerAll (d .names) size p (numbered job .requests) w)) first-place
+      (subst (λ p. Ends (λ e. Later (e .code) (e .place)) (λ r. AllAnswered job d (r .1)) (answerAll (d .names) size p (numbered job .requests) w)) first-place
       (all-answered d (defined .1) [] (numbered job .requests) w (behind-fifty d (defined .1) w (ready .1))))) λ r b.
       weaker (λ e h. inr h) (λ a k. k)
       (at-place Later _

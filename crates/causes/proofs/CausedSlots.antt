@@ -23,7 +23,7 @@ use Rattle.facts.proofs.Lists.{clash, drop-place}
 use Rattle.facts.proofs.Results.{bad≢good, good-inj, good-then, atRecord-good, unless-good}
 use Rattle.laws.specs.Faithful.{Settled}
 use Rattle.laws.specs.Statements.{IsBytes}
-use Rattle.causes.specs.CauseStatement.{Wide, Behind, behind50, behindRequest, Asks, HasSlot, HasNone, Free, NoSlot, AllBehind, NextRaw, NextChild, NextNumber, rawIndexes, goalIn, SlotCause, noSlotAsked, noLdcSlotAsked, rawAbove, slotAbove, pairAbove, rawLacks, childLacks, bootstrapLacks, nameLacks, noIndex, Lacks}
+use Rattle.causes.specs.CauseStatement.{Wide, Behind, behind50, behindRequest, AsksFor, HasSlot, HasNoSlot, Free, NoSlot, AllAnswered, NextRaw, NextChild, NextNumber, rawIndexes, goalIn, SlotCause, noSlotAsked, noLdcSlotAsked, rawAbove, slotAbove, pairAbove, rawLacks, childLacks, bootstrapLacks, nameLacks, noIndex, Lacks}
 use Rattle.laws.proofs.resolving.ResolvedNodes.{ConstantGoal, child-done}
 use Rattle.laws.proofs.resolving.JobGoals.{jobConstants, jobTable}
 use Rattle.laws.proofs.building.LayoutStages.{tableIn, rowsIn, Stages, stages}
@@ -133,7 +133,7 @@ module _ (bytes : List ℕ) (job : Job (List ℕ)) (are : IsBytes bytes) (formed
     isSlot : slotOf (resolved .nodes) ldc (childOf (resolved .marks) goal) (w .pool) ≡ good slot
     isLow : ldc ≡ true → slot .0 ≤ 255
 
-  came : (answers : List ℕ) (d : Defined) (w : Ready) (ldc : Bool) (goal : Goal) → Behind job d answers w → Asks job (length answers) ldc goal → Came answers d w ldc goal
+  came : (answers : List ℕ) (d : Defined) (w : Ready) (ldc : Bool) (goal : Goal) → Behind job d answers w → AsksFor job (length answers) ldc goal → Came answers d w ldc goal
   came answers d w ldc goal b (q, at, is, leads, _) =
       let k = kept bytes job are formed d b in
       let h = gone-answers d answers w q (gone b) at in
@@ -184,7 +184,7 @@ module _ (bytes : List ℕ) (job : Job (List ℕ)) (are : IsBytes bytes) (formed
             let same : child - 65536 ≡ n = omega (arith, is) in
             subst (λ n. allocate (c .resolved .nodes) ldc n (w .pool) ≡ good (c .slot)) same f
 
-    lacks-refuted : HasNone job answers e → NoSlot (Wide job e) (Free job answers) ldc → ⊥
+    lacks-refuted : HasNoSlot job answers e → NoSlot (Wide job e) (Free job answers) ldc → ⊥
     lacks-refuted none-had none-free =
         bad≢good (sym (lacks-asked bytes job are formed d answers w (c .state) (c .resolved) (c .on) e n mark ldc none-had none-free) ∙ got)
 
@@ -200,7 +200,7 @@ module _ (bytes : List ℕ) (job : Job (List ℕ)) (are : IsBytes bytes) (formed
 
   -- ---- the build record
 
-  module _ (d : Defined) (w : Ready) (b : AllBehind job d w) where
+  module _ (d : Defined) (w : Ready) (b : AllAnswered job d w) where
     abbrev made-nodes : List Node
     made-nodes = w .resolved .nodes
 

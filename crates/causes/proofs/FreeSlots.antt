@@ -20,7 +20,7 @@ use Rattle.facts.proofs.Lists.{clash, order, equal, among-nil, among-either, am
 use Rattle.facts.proofs.Tables.{some-key, some-row}
 use Rattle.facts.proofs.Sums.{run, run-has, run-low, run-high, once, times, total-times, among-times, times-low, times-high, times-run}
 use Rattle.laws.specs.Statements.{Occurs, freeSlots, givenSlots}
-use Rattle.causes.specs.CauseStatement.{Taken, RawHeld, GivenTo, FreeIn}
+use Rattle.causes.specs.CauseStatement.{Taken, RawHeld, GivenToNode, FreeIn}
 use Rattle.laws.proofs.definitions.DefinedAsPlaced.{wideAt, DefinedFacts, defined-facts}
 use Rattle.laws.proofs.slots.SlotRequest.{width}
 use Rattle.laws.proofs.slots.SlotsToHold.{NodeTakes}
@@ -102,7 +102,7 @@ module _ (top : ℕ) (held : List (ℕ × Held)) (nodes : List Node) (p : Pool) 
       )
 
   abbrev Neither : Type 0
-  Neither = (1 ≤ t) × (t ≤ top) × (Among t (keys held) → ⊥) × (GivenTo nodes p t → ⊥)
+  Neither = (1 ≤ t) × (t ≤ top) × (Among t (keys held) → ⊥) × (GivenToNode nodes p t → ⊥)
 
   pub free-neither : Among t (freeSlots (p .slots .gaps)) → Neither
   free-neither a = go (order t 1) (order top t)

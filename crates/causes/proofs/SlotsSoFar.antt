@@ -29,7 +29,7 @@ use Rattle.facts.proofs.Results.{good-inj, good-then, decided}
 use Rattle.laws.specs.Faithful.{InTable, Settled, Faithful}
 use Rattle.laws.specs.LeadsStatement.{Leads, NamedOnce}
 use Rattle.laws.specs.Statements.{IsBytes, entryAt, Occurs, afterRequest, moreResolved, stackTaken, freeSlots}
-use Rattle.causes.specs.CauseStatement.{Wide, sameName, Behind, behind50, behindRequest, goalIn, Got, HasSlot, HasNone, GivenOut, Free, NoSlot, GivenTo, AllBehind}
+use Rattle.causes.specs.CauseStatement.{Wide, sameName, Behind, behind50, behindRequest, goalIn, Got, HasSlot, HasNoSlot, GivenOut, Free, NoSlot, GivenToNode, AllAnswered}
 use Rattle.laws.proofs.resolving.FaithfulToEntries.{Grows, resolve-faithful}
 use Rattle.laws.proofs.resolving.Interning.{interned}
 use Rattle.laws.proofs.resolving.JobGoals.{jobNames, jobConstants, jobTable, bootstrap-tag}
@@ -259,7 +259,7 @@ module _ (bytes : List ℕ) (job : Job (List ℕ)) (are : IsBytes bytes) (formed
         subst (λ n. Reaches highestSlot (numbered job) d (drop n (job .requests)) w′) (sym (snoc-length answers a))
         (afterAnswer q (drop (suc (length answers)) (job .requests)) w w′ a (subst (λ l. Reaches highestSlot (numbered job) d l w) now (behind-reaches b)) e)
 
-    pub all-reaches : {w : Ready} → AllBehind job d w → Reaches highestSlot (numbered job) d [] w
+    pub all-reaches : {w : Ready} → AllAnswered job d w → Reaches highestSlot (numbered job) d [] w
     all-reaches {w} (answers, all, b) =
         subst (λ l. Reaches highestSlot (numbered job) d l w) (ap (λ n. drop n (job .requests)) all ∙ drop-all (job .requests)) (behind-reaches b)
 
@@ -366,7 +366,7 @@ module _ (bytes : List ℕ) (job : Job (List ℕ)) (are : IsBytes bytes) (formed
         )
 
     -- so what is given out was given to nodes
-    given-out : (t : ℕ) → GivenTo (s .nodes) (w .pool) t → GivenOut job answers t
+    given-out : (t : ℕ) → GivenToNode (s .nodes) (w .pool) t → GivenOut job answers t
     given-out t (n, a, at, takes) =
         let (e, mark, got) = node-got n a at in
         (e, a, got, go e mark takes)
@@ -375,7 +375,7 @@ module _ (bytes : List ℕ) (job : Job (List ℕ)) (are : IsBytes bytes) (formed
         go e mark (inl is) = inl is
         go e mark (inr (w, is)) = inr (node-wide e n mark w, is)
 
-    out-given : (t : ℕ) → GivenOut job answers t → GivenTo (s .nodes) (w .pool) t
+    out-given : (t : ℕ) → GivenOut job answers t → GivenToNode (s .nodes) (w .pool) t
     out-given t (e, a, got, takes) =
         let (n, mark, slot) = got-node e a got in
         (n, a, lookup-at n a given-now slot, go n mark takes)
@@ -399,10 +399,10 @@ module _ (bytes : List ℕ) (job : Job (List ℕ)) (are : IsBytes bytes) (formed
     -- ---- an entry that became a node, and its request
 
     module _ (e n : ℕ) (mark : getElem? (s .marks) e ≡ some (done n)) where
-      has-none : lookup n given-now ≡ none → HasNone job answers e
+      has-none : lookup n given-now ≡ none → HasNoSlot job answers e
       has-none unheld a has = none≢some (sym unheld ∙ slot-had e n a mark has)
 
-      not-held : HasNone job answers e → lookup n given-now ≡ none
+      not-held : HasNoSlot job answers e → lookup n given-now ≡ none
       not-held none-had = go (lookup n given-now) refl
         where
           go : (o : Option ℕ) → lookup n given-now ≡ o → lookup n given-now ≡ none
@@ -412,7 +412,7 @@ module _ (bytes : List ℕ) (job : Job (List ℕ)) (are : IsBytes bytes) (formed
       -- it is refused a slot exactly if it has none and there is none for it
       pub asked-lacks :
           (ldc : Bool) (code : ℕ) → allocate (s .nodes) ldc n (w .pool) ≡ bad code →
-          HasNone job answers e × NoSlot (Wide job e) (Free job answers) ldc × (code ≡ noSlot ldc)
+          HasNoSlot job answers e × NoSlot (Wide job e) (Free job answers) ldc × (code ≡ noSlot ldc)
       asked-lacks ldc code refused =
           let (unheld, none-free) = lacks 65534 (d .held) (s .nodes) (w .pool) ldc n code occurs refused in (
             has-none unheld,
@@ -420,13 +420,13 @@ module _ (bytes : List ℕ) (job : Job (List ℕ)) (are : IsBytes bytes) (formed
             allocate-refused (s .nodes) ldc n code (w .pool) refused .1,
           )
 
-      pub lacks-asked : (ldc : Bool) → HasNone job answers e → NoSlot (Wide job e) (Free job answers) ldc → allocate (s .nodes) ldc n (w .pool) ≡ bad (noSlot ldc)
+      pub lacks-asked : (ldc : Bool) → HasNoSlot job answers e → NoSlot (Wide job e) (Free job answers) ldc → allocate (s .nodes) ldc n (w .pool) ≡ bad (noSlot ldc)
       lacks-asked ldc none-had none-free =
           lacks-refused 65534 (d .held) (s .nodes) (w .pool) ldc n occurs (not-held none-had) (noSlot-same (wide-node e n mark) (node-wide e n mark) pool-asked none-free)
 
       -- and gets one above 255 for ldc if it has it, or is wide and no two neighbours that are free lie lower
       abbrev pub GetsPair : ℕ → Type 0
-      GetsPair a = HasNone job answers e × Wide job e × Free job answers a × Free job answers (suc a) × ((t : ℕ) → Free job answers t → Free job answers (suc t) → a ≤ t)
+      GetsPair a = HasNoSlot job answers e × Wide job e × Free job answers a × Free job answers (suc a) × ((t : ℕ) → Free job answers t → Free job answers (suc t) → a ≤ t)
 
       pub asked-above : (a : ℕ) (p : Pool) → allocate (s .nodes) true n (w .pool) ≡ good (a, p) → 255 < a → HasSlot job answers e a ⊎ GetsPair a
       asked-above a p got high = go (above 65534 (d .held) (s .nodes) (w .pool) n a p occurs got high)

@@ -250,8 +250,8 @@ constantsNumbered job = constantsOf (numbered job .definitions)
 abbrev pub goalIn : Job (List ℕ) → Defined → Request → Goal
 goalIn job d q = goalOf (d .names) (length (constantsNumbered job)) (q .what)
 
--- record 50 has been passed, and the first requests, one after another, have these answers; and what the definition then has. What is said of
--- a request in turn goes by the answers alone
+-- record 50 was passed, and the first requests, one after another, got these answers; and what the definition has by then, of which the causes
+-- at a request say nothing
 pub data Behind (job : Job (List ℕ)) (d : Defined) : List ℕ → Ready → Type 0 where
   behind50 :
       (w : Ready) →
@@ -269,12 +269,13 @@ pub data Behind (job : Job (List ℕ)) (d : Defined) : List ℕ → Ready → Ty
       answer (q .ldc) (goalIn job d q) w ≡ good (a, w′) →
       Behind job d (answers ++ a ∷ []) w′
 
-abbrev pub Answered : Job (List ℕ) → List ℕ → Type 0
-Answered job answers = (d : Defined) × (w : Ready) × Behind job d answers w
+-- the first requests of a job have these answers
+abbrev pub AnsweredSoFar : Job (List ℕ) → List ℕ → Type 0
+AnsweredSoFar job answers = (d : Defined) × (w : Ready) × Behind job d answers w
 
 -- request j, ldc or not, leads to a goal (Leads: through names alone), and is refused neither with 12 nor with 13
-abbrev pub Asks : Job (List ℕ) → ℕ → Bool → Goal → Type 0
-Asks job j ldc goal =
+abbrev pub AsksFor : Job (List ℕ) → ℕ → Bool → Goal → Type 0
+AsksFor job j ldc goal =
     (q : Request) × (getElem? (job .requests) j ≡ some q) × (q .ldc ≡ ldc) × Leads (job .definitions) (q .what) goal
     × ((code : ℕ) → ResolvingCause job code (requestPlace job j) → ⊥)
 
@@ -283,12 +284,13 @@ abbrev pub Got : Job (List ℕ) → List ℕ → ℕ → ℕ → Type 0
 Got job answers e a =
     (i : ℕ) × (q : Request) × (getElem? (job .requests) i ≡ some q) × Leads (job .definitions) (q .what) (tableEntry e) × (getElem? answers i ≡ some a)
 
--- constant e has slot s: an answered request led to the same constant (Same: by the records) and got it
+-- constant e has slot s: an answered request led to the same constant (Same: by the job's records) and got it
 abbrev pub HasSlot : Job (List ℕ) → List ℕ → ℕ → ℕ → Type 0
 HasSlot job answers e s = (f : ℕ) × Got job answers f s × Same (job .definitions) (tableEntry f) (tableEntry e)
 
-abbrev pub HasNone : Job (List ℕ) → List ℕ → ℕ → Type 0
-HasNone job answers e = (s : ℕ) → HasSlot job answers e s → ⊥
+-- it has none yet
+abbrev pub HasNoSlot : Job (List ℕ) → List ℕ → ℕ → Type 0
+HasNoSlot job answers e = (s : ℕ) → HasSlot job answers e s → ⊥
 
 -- a raw constant holds slot s
 abbrev pub RawHeld : Job (List ℕ) → ℕ → Type 0
@@ -311,20 +313,20 @@ pub data NoSlot (wide : Type 0) (free : ℕ → Type 0) : Bool → Type 0 where
 -- ---- 14 and 17 at the build, over what the definition has when a constant is in turn
 
 -- slot s was given to a node, or is the slot behind it if that is wide
-abbrev pub GivenTo : List Node → Pool → ℕ → Type 0
-GivenTo nodes p s = (k : ℕ) × (a : ℕ) × Among (k, a) (p .given) × ((s ≡ a) ⊎ ((isWide (tagAt nodes k) ≡ true) × (s ≡ suc a)))
+abbrev pub GivenToNode : List Node → Pool → ℕ → Type 0
+GivenToNode nodes p s = (k : ℕ) × (a : ℕ) × Among (k, a) (p .given) × ((s ≡ a) ⊎ ((isWide (tagAt nodes k) ≡ true) × (s ≡ suc a)))
 
 -- a slot is free: it is one from 1 to 65534, neither raw-held nor given to a node so far
 abbrev pub FreeIn : Job (List ℕ) → List Node → Pool → ℕ → Type 0
-FreeIn job nodes p s = (1 ≤ s) × (s ≤ 65534) × (RawHeld job s → ⊥) × (GivenTo nodes p s → ⊥)
+FreeIn job nodes p s = (1 ≤ s) × (s ≤ 65534) × (RawHeld job s → ⊥) × (GivenToNode nodes p s → ⊥)
 
 -- a node has no slot yet, and there is none for it
 abbrev pub Lacks : Job (List ℕ) → List Node → ℕ → Pool → Type 0
 Lacks job nodes k p = (lookup k (p .given) ≡ none) × NoSlot (isWide (tagAt nodes k) ≡ true) (FreeIn job nodes p) false
 
--- all requests are answered
-abbrev pub AllBehind : Job (List ℕ) → Defined → Ready → Type 0
-AllBehind job d w = (answers : List ℕ) × (length answers ≡ length (job .requests)) × Behind job d answers w
+-- all requests are answered, and what the definition has by then
+abbrev pub AllAnswered : Job (List ℕ) → Defined → Ready → Type 0
+AllAnswered job d w = (answers : List ℕ) × (length answers ≡ length (job .requests)) × Behind job d answers w
 
 -- BUILDING asks in turn (document 01, "Building"), over the nodes, from the pool that requests left. In each list of children a number below
 -- 65,536 is a raw one, and 65536 + k is node k
@@ -392,36 +394,36 @@ pub data SlotCause (job : Job (List ℕ)) : ℕ → ℕ → Type 0 where
   -- 14: a request for a constant that has no slot yet, and there is none for it
   noSlotAsked :
       (answers : List ℕ) (e : ℕ) →
-      Answered job answers →
-      Asks job (length answers) false (tableEntry e) →
-      HasNone job answers e →
+      AnsweredSoFar job answers →
+      AsksFor job (length answers) false (tableEntry e) →
+      HasNoSlot job answers e →
       NoSlot (Wide job e) (Free job answers) false →
       SlotCause job 14 (requestPlace job (length answers))
   -- 15: the same of an ldc request
   noLdcSlotAsked :
       (answers : List ℕ) (e : ℕ) →
-      Answered job answers →
-      Asks job (length answers) true (tableEntry e) →
-      HasNone job answers e →
+      AnsweredSoFar job answers →
+      AsksFor job (length answers) true (tableEntry e) →
+      HasNoSlot job answers e →
       NoSlot (Wide job e) (Free job answers) true →
       SlotCause job 15 (requestPlace job (length answers))
   -- 16: an ldc request that leads to a raw number above 255
   rawAbove :
-      (answers : List ℕ) (n : ℕ) → Answered job answers → Asks job (length answers) true (rawNumber n) → 255 < n → SlotCause job 16 (requestPlace job (length answers))
+      (answers : List ℕ) (n : ℕ) → AnsweredSoFar job answers → AsksFor job (length answers) true (rawNumber n) → 255 < n → SlotCause job 16 (requestPlace job (length answers))
   -- 16: or to a constant that has a slot above 255
   slotAbove :
       (answers : List ℕ) (e s : ℕ) →
-      Answered job answers →
-      Asks job (length answers) true (tableEntry e) →
+      AnsweredSoFar job answers →
+      AsksFor job (length answers) true (tableEntry e) →
       HasSlot job answers e s →
       255 < s →
       SlotCause job 16 (requestPlace job (length answers))
   -- 16: or to a wide one that has none, where the first two neighbours that are free lie above 255
   pairAbove :
       (answers : List ℕ) (e s : ℕ) →
-      Answered job answers →
-      Asks job (length answers) true (tableEntry e) →
-      HasNone job answers e →
+      AnsweredSoFar job answers →
+      AsksFor job (length answers) true (tableEntry e) →
+      HasNoSlot job answers e →
       Wide job e →
       255 < s →
       Free job answers s →
@@ -431,14 +433,14 @@ pub data SlotCause (job : Job (List ℕ)) : ℕ → ℕ → Type 0 where
   -- 14 at the build: a child of a raw bootstrap
   rawLacks :
       (d : Defined) (w : Ready) →
-      AllBehind job d w →
+      AllAnswered job d w →
       (r : NextRaw (w .resolved .nodes) (rawIndexes job d w) (w .pool)) (c : NextChild (w .resolved .nodes) (kidsOf (w .resolved .nodes) (r .node)) (r .pool)) →
       Lacks job (w .resolved .nodes) (c .node) (c .pool) →
       SlotCause job 14 (buildPlace job)
   -- 14 at the build: a constant that is a child of one from the stack
   childLacks :
       (d : Defined) (w : Ready) →
-      AllBehind job d w →
+      AllAnswered job d w →
       (n : NextNumber (w .resolved .nodes) (rawIndexes job d w) (w .pool)) →
       tagAt (w .resolved .nodes) (n .node) ≢ 0x40 →
       Lacks job (w .resolved .nodes) (n .node) (n .pool) →
@@ -446,7 +448,7 @@ pub data SlotCause (job : Job (List ℕ)) : ℕ → ℕ → Type 0 where
   -- 14 at the build: a child of a bootstrap that one from the stack cites
   bootstrapLacks :
       (d : Defined) (w : Ready) →
-      AllBehind job d w →
+      AllAnswered job d w →
       (n : NextNumber (w .resolved .nodes) (rawIndexes job d w) (w .pool)) →
       tagAt (w .resolved .nodes) (n .node) ≡ 0x40 →
       (c : NextChild (w .resolved .nodes) (kidsOf (w .resolved .nodes) (n .node)) (n .pool)) →
@@ -455,7 +457,7 @@ pub data SlotCause (job : Job (List ℕ)) : ℕ → ℕ → Type 0 where
   -- 14 at the build: the name, which is wanted and comes last
   nameLacks :
       (d : Defined) (w : Ready) (m : Made) →
-      AllBehind job d w →
+      AllAnswered job d w →
       buildAll (w .resolved .nodes) (rawIndexes job d w) (w .pool) ≡ good m →
       nameWanted (job .build .nameByte) (length (fillHoles (m .rows .written) (m .rows .waiting))) ≡ true →
       Lacks job (intern attributeText (w .resolved .nodes)) (position (sameNode attributeText) (w .resolved .nodes)) (m .pool) →
@@ -463,7 +465,7 @@ pub data SlotCause (job : Job (List ℕ)) : ℕ → ℕ → Type 0 where
   -- 17: a bootstrap that one from the stack cites shares no index, and all 65,535 are used: written, or kept by a raw bootstrap
   noIndex :
       (d : Defined) (w : Ready) →
-      AllBehind job d w →
+      AllAnswered job d w →
       (n : NextNumber (w .resolved .nodes) (rawIndexes job d w) (w .pool)) (row : Row) (p : Pool) →
       tagAt (w .resolved .nodes) (n .node) ≡ 0x40 →
       slotsOf (w .resolved .nodes) (kidsOf (w .resolved .nodes) (n .node)) (n .pool) ≡ good (row, p) →
@@ -514,12 +516,16 @@ pub data RecordsStand (bytes : List ℕ) : ℕ → Type 0 where
       ((n : ℕ) → b .class ≡ request n → n < length qs) →
       RecordsStand bytes (suc (suc (length ds) + length qs))
 
+-- a place is at most the number of records that stand
+abbrev pub InRecords : List ℕ → ℕ → Type 0
+InRecords bytes place = (n : ℕ) × RecordsStand bytes n × (place ≤ n)
+
 -- CAUSE PLACED: the number lies from 1 to 18; the place is at most the number of records that stand, and the number of a record if the job is
 -- well formed
 abbrev pub CausePlaced : Type 0
 CausePlaced =
     (lent : Lent) (bytes : List ℕ) (r : Refusal) → IsBytes bytes → run lent bytes ≡ bad r → (1 ≤ r .code) × (r .code ≤ 18)
-    × ((n : ℕ) × RecordsStand bytes n × (r .place ≤ n)) × ((job : Job (List ℕ)) → form bytes ≡ good job → r .place < records job)
+    × InRecords bytes (r .place) × ((job : Job (List ℕ)) → form bytes ≡ good job → r .place < records job)
 
 -- NO CAUSE: a job of bytes is built exactly if there is no cause of a refusal
 abbrev pub NoCause : Type 0
