@@ -9,7 +9,7 @@ use native.Mathlib.Omega.{arith}
 use lib.Dec.{leb}
 use lib.ListN.{length, drop, getElem?}
 use borrow.Author.Tests.{leb-true}
-use Rattle.definition.specs.Basics.{good, atRecord, unless, position, lookup}
+use Rattle.definition.specs.Basics.{good, atRecord, unless, position}
 use Rattle.definition.specs.Shapes.{bootstrapTag}
 use Rattle.definition.specs.Job.{Request, Job}
 use Rattle.definition.specs.Form.{form}
@@ -23,7 +23,7 @@ use Rattle.facts.proofs.Lists.{clash, drop-place}
 use Rattle.facts.proofs.Results.{bad≢good, good-inj, good-then, atRecord-good, unless-good}
 use Rattle.laws.specs.Faithful.{Settled}
 use Rattle.laws.specs.Statements.{IsBytes}
-use Rattle.causes.specs.CauseStatement.{Wide, Behind, behind50, behindRequest, AsksFor, HasSlot, HasNoSlot, Free, NoSlot, AllAnswered, NextRaw, NextChild, NextNumber, rawIndexes, goalIn, SlotCause, noSlotAsked, noLdcSlotAsked, rawAbove, slotAbove, pairAbove, rawLacks, childLacks, bootstrapLacks, nameLacks, noIndex, Lacks}
+use Rattle.causes.specs.CauseStatement.{Wide, Behind, behind50, behindRequest, AsksFor, HasSlot, HasNoSlot, Free, NoSlot, AllAnswered, NextRaw, NextChild, NextNumber, RawIndex, rawIndexes, goalIn, SlotCause, noSlotAsked, noLdcSlotAsked, rawAbove, slotAbove, pairAbove, rawLacks, childLacks, bootstrapLacks, nameLacks, noIndex, Lacks}
 use Rattle.laws.proofs.resolving.ResolvedNodes.{ConstantGoal, child-done}
 use Rattle.laws.proofs.resolving.JobGoals.{jobConstants, jobTable}
 use Rattle.laws.proofs.building.LayoutStages.{tableIn, rowsIn, Stages, stages}
@@ -33,6 +33,7 @@ use Rattle.laws.proofs.runs.IndexOccurs.{indexOccurs}
 use Rattle.causes.proofs.CauseBuilding.{slotOf-good}
 use Rattle.causes.proofs.CauseForm.{snoc-length}
 use Rattle.causes.proofs.CauseNoSlot.{lacks-pool}
+use Rattle.causes.proofs.UsedIndexes.{raw-used}
 use Rattle.causes.proofs.SlotsSoFar.{drop-all, leads-goes, Kept, kept, all-reaches, Onward, onward, lacks-asked, GetsPair, slot-kept, pair-lowest, building-occurs, name-occurs}
 use Rattle.causes.proofs.CausedBuilding.{number-got, raw-got, child-got, node-good, node-got}
 
@@ -283,7 +284,7 @@ module _ (bytes : List ℕ) (job : Job (List ℕ)) (are : IsBytes bytes) (formed
           tagAt made-nodes (n .node) ≡ 0x40 →
           slotsOf made-nodes (kidsOf made-nodes (n .node)) (n .pool) ≡ good (row, p) →
           indexOf row (n .rows .inline) ≡ none →
-          ((i : ℕ) → i < 65535 → (i < length (n .rows .written)) ⊎ ((r : Row) × (lookup i (n .rows .waiting) ≡ some r))) →
+          ((i : ℕ) → i < 65535 → (i < length (n .rows .written)) ⊎ RawIndex job i) →
           ⊥
       index-refuted row p tag slots unshared used = let (o, q, (y, g)) = number-came in go o q y g
         where
@@ -300,7 +301,7 @@ module _ (bytes : List ℕ) (job : Job (List ℕ)) (are : IsBytes bytes) (formed
                 rowsIn = q;
                 rowOf = record { node = n .node; tag = tag; before = n .pool; after = p; pools = o; slots = slots };
               }) in
-              bad≢good (sym (exactlySeventeen (n .rows) row occurs-there .1 (unshared, used)) ∙ given)
+              bad≢good (sym (exactlySeventeen (n .rows) row occurs-there .1 (unshared, λ i l. raw-used job d (k₀ .isDefined) made-nodes size (w .resolved .marks) (w .pool) q i (used i l))) ∙ given)
           go o q y (inr (t, _)) = t tag
 
     name-refuted :

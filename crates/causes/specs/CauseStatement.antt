@@ -382,6 +382,10 @@ pub record NextNumber (nodes : List Node) (indexes : List (ℕ × ℕ)) (start :
   pub isKids : parent .kids ≡ before ++ (65536 + node) ∷ after
   pub isPool : childNumbers nodes before (withPending pending made .pool) (made .rows) ≡ good (numbers, pool, rows)
 
+-- a raw bootstrap stands at index i
+abbrev pub RawIndex : Job (List ℕ) → ℕ → Type 0
+RawIndex job i = (k : ℕ) × (e : ℕ) × At job k (placed bootstrap i e)
+
 -- the nodes of the raw bootstraps
 abbrev pub rawIndexes : Job (List ℕ) → Defined → Ready → List (ℕ × ℕ)
 rawIndexes job d w = indexNodes (length (constantsNumbered job)) (w .resolved .marks) (d .indexes)
@@ -462,7 +466,7 @@ pub data SlotCause (job : Job (List ℕ)) : ℕ → ℕ → Type 0 where
       nameWanted (job .build .nameByte) (length (fillHoles (m .rows .written) (m .rows .waiting))) ≡ true →
       Lacks job (intern attributeText (w .resolved .nodes)) (position (sameNode attributeText) (w .resolved .nodes)) (m .pool) →
       SlotCause job 14 (buildPlace job)
-  -- 17: a bootstrap that one from the stack cites shares no index, and all 65,535 are used: written, or kept by a raw bootstrap
+  -- 17: a bootstrap that one from the stack cites shares no index, and all 65,535 are used: written by then, or a raw bootstrap's
   noIndex :
       (d : Defined) (w : Ready) →
       AllAnswered job d w →
@@ -470,7 +474,7 @@ pub data SlotCause (job : Job (List ℕ)) : ℕ → ℕ → Type 0 where
       tagAt (w .resolved .nodes) (n .node) ≡ 0x40 →
       slotsOf (w .resolved .nodes) (kidsOf (w .resolved .nodes) (n .node)) (n .pool) ≡ good (row, p) →
       indexOf row (n .rows .inline) ≡ none →
-      ((i : ℕ) → i < 65535 → (i < length (n .rows .written)) ⊎ ((r : Row) × (lookup i (n .rows .waiting) ≡ some r))) →
+      ((i : ℕ) → i < 65535 → (i < length (n .rows .written)) ⊎ RawIndex job i) →
       SlotCause job 17 (buildPlace job)
 
 -- ---- all of them
