@@ -242,7 +242,7 @@ module _ (bytes : List ℕ) (job : Job (List ℕ)) (are : IsBytes bytes) (formed
         Lacks job made-nodes (c .node) (c .pool) →
         ⊥
     child-refuted k p z o e c h =
-        let (o₁, a, (r, f)) = child-got made-nodes indexes (w .pool) k p z o e c in
+        let (o₁, (r, f)) = child-got made-nodes indexes (w .pool) k p z o e c in
         node-refuted (c .node) (c .pool) r o₁ f h
 
     raw-lacks-refuted :

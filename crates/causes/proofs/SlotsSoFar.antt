@@ -7,9 +7,9 @@ use mathlib.Core.Option.{Option, none, some}
 use mathlib.Core.Path.{_≡_, refl, sym, ap, subst, _∙_}
 use Prim.Native.Nat.{ℕ, zero, suc, _+_, _-_, _≤_, _<_}
 use native.Mathlib.Omega.{arith}
-use lib.Dec.{eqb, leb, ltb}
+use lib.Dec.{leb, ltb}
 use lib.ListN.{length, drop, getElem?}
-use borrow.Author.Tests.{eqb-true, ltb-false}
+use borrow.Author.Tests.{ltb-false}
 use Rattle.definition.specs.Basics.{good, bad, unless, lookup}
 use Rattle.definition.specs.Shapes.{Entry, isWide}
 use Rattle.definition.specs.Job.{Reference, Request, Job}
@@ -33,7 +33,7 @@ use Rattle.causes.specs.CauseStatement.{Wide, sameName, Behind, behind50
 use Rattle.laws.proofs.resolving.FaithfulToEntries.{Grows, resolve-faithful}
 use Rattle.laws.proofs.resolving.Interning.{interned}
 use Rattle.laws.proofs.resolving.JobGoals.{jobNames, jobConstants, jobTable, bootstrap-tag}
-use Rattle.laws.proofs.resolving.LeadsAsFollowed.{leads-followed, followed-leads}
+use Rattle.laws.proofs.resolving.LeadsAsFollowed.{leads-followed, settled-leads}
 use Rattle.laws.proofs.resolving.NodesAndChildren as NodesAndChildren
 use Rattle.laws.proofs.resolving.NodesAndChildren.{tag-found, KidsIn}
 use Rattle.laws.proofs.resolving.NodesApart.{Tidy, nothing-tidy, resolve-tidy, resolveAll-tidy}
@@ -49,6 +49,7 @@ use Rattle.laws.proofs.building.LayoutStages.{constantsIn, tableIn}
 use Rattle.laws.proofs.runs.RowsOccur.{built}
 use Rattle.laws.proofs.runs.StepRefusals.{allocate-refused}
 use Rattle.laws.proofs.runs.StepsOfRuns.{PoolIn, atStart, afterChild, afterTaken, Reaches, afterFifty, afterAnswer}
+use Rattle.causes.proofs.CauseDefinitions.{wide-tag, tag-wide}
 use Rattle.causes.proofs.CauseForm.{snoc-length}
 use Rattle.causes.proofs.CauseNoSlot.{noSlot-same, lacks, lacks-refused, wide-pair, Above, had, gets, above}
 use Rattle.causes.proofs.CausedDefinitions.{definitionRefuted}
@@ -145,12 +146,9 @@ module _ (bytes : List ℕ) (job : Job (List ℕ)) (are : IsBytes bytes) (formed
   leads-goes d defined r goal leads = goal-numbered job r ∙ leads-followed (job .definitions) (defined-once d defined) r goal leads
 
   pub goes-leads : (marks : List Mark) (r : Reference) (goal : Goal) → goes r ≡ goal → Settled marks goal → Leads (job .definitions) r goal
-  goes-leads marks r goal is h = followed-leads (job .definitions) r goal (sym (goal-numbered job r) ∙ is) (somewhere goal h)
-    where
-      somewhere : (goal : Goal) → Settled marks goal → (code : ℕ) → goal ≡ refusal code → ⊥
-      somewhere (rawNumber n) h code e = clash (cc)
-      somewhere (tableEntry n) h code e = clash (cc)
-      somewhere (refusal n) h code e = h
+  goes-leads marks r goal is h =
+      let to = sym (goal-numbered job r) ∙ is in
+      subst (Leads (job .definitions) r) to (settled-leads (job .definitions) marks r (subst (Settled marks) (sym to) h))
 
   -- ---- what is kept from record 50 on
 
@@ -299,32 +297,22 @@ module _ (bytes : List ℕ) (job : Job (List ℕ)) (are : IsBytes bytes) (formed
         tag-found (s .nodes) n (b .node) (b .isNode) ∙ b .tagIs ∙ ap (λ (y : Entry (List ℕ) Reference). y .tag) (some-inj (sym (b .isEntry) ∙ at))
 
     wide-node : (e n : ℕ) → getElem? (s .marks) e ≡ some (done n) → Wide job e → isWide (tagAt (s .nodes) n) ≡ true
-    unfolding isWide
     wide-node e n mark (x, at, tag) =
-        let is = node-tag e n x mark (found-append (constantsOf (job .definitions)) (bootstrapsOf (job .definitions)) e x at) in
-        go tag is
-      where
-        go : (x .tag ≡ 5) ⊎ (x .tag ≡ 6) → tagAt (s .nodes) n ≡ x .tag → isWide (tagAt (s .nodes) n) ≡ true
-        go (inl t) is = rw (is, t) refl
-        go (inr t) is = rw (is, t) refl
+        ap isWide (node-tag e n x mark (found-append (constantsOf (job .definitions)) (bootstrapsOf (job .definitions)) e x at)) ∙ tag-wide (x .tag) tag
 
     node-wide : (e n : ℕ) → getElem? (s .marks) e ≡ some (done n) → isWide (tagAt (s .nodes) n) ≡ true → Wide job e
     unfolding isWide
     node-wide e n mark wide =
         let b = entry-node e n mark in
         let is = node-tag e n (b .entry) mark (b .isEntry) in
-        go (b .entry) (subst (λ t. isWide t ≡ true) is wide) (append-at (constantsOf (job .definitions)) (bootstrapsOf (job .definitions)) e (b .entry) (b .isEntry))
+        go (b .entry) (sym (ap isWide is) ∙ wide) (append-at (constantsOf (job .definitions)) (bootstrapsOf (job .definitions)) e (b .entry) (b .isEntry))
       where
-        five : (t : ℕ) (b : Bool) → eqb t 5 ≡ b → isWide t ≡ true → (t ≡ 5) ⊎ (t ≡ 6)
-        five t true h _ = inl (eqb-true t 5 h)
-        five t false h w = inr (eqb-true t 6 (rw (h, isWide) at w))
-
         go :
             (x : Entry (List ℕ) Reference) →
             isWide (x .tag) ≡ true →
             (getElem? (constantsOf (job .definitions)) e ≡ some x) ⊎ ((j : ℕ) × (e ≡ length (constantsOf (job .definitions)) + j) × (getElem? (bootstrapsOf (job .definitions)) j ≡ some x)) →
             Wide job e
-        go x w (inl at) = (x, at, five (x .tag) (eqb (x .tag) 5) refl w)
+        go x w (inl at) = (x, at, wide-tag (x .tag) w)
         go x w (inr (j, is, at)) = clash (cc (sym w ∙ ap isWide (bootstrap-tag (job .definitions) j x at .0)))
 
     -- a constant that an answer went to has it, and what a node has went to its constant
