@@ -62,7 +62,7 @@ lacks top held nodes p ldc k code o e = (r .0, go ldc (isWide (tagAt nodes k)) r
     go : (ldc wide : Bool) → isWide (tagAt nodes k) ≡ wide → allocate nodes ldc k p ≡ bad (noSlot ldc) → NoSlot (isWide (tagAt nodes k) ≡ true) (InGaps p) ldc
     go true true w h = noPair true w (exactly top held nodes p k o (r .0) .2 true w .0 h)
     go false true w h = noPair false w (exactly top held nodes p k o (r .0) .2 false w .0 h)
-    go true false w h = noneLow (λ t. true≢false (sym t ∙ w)) (exactly top held nodes p k o (r .0) .0 w .0 h)
+    go true false w h = noneLow (λ t. true≢false (sym t ∙ w)) (λ s f l. exactly top held nodes p k o (r .0) .0 w .0 h s f (omega (arith, l)))
     go false false w h = noneAtAll (λ t. true≢false (sym t ∙ w)) (exactly top held nodes p k o (r .0) .1 w .0 h)
 
 -- and the other way
@@ -78,7 +78,7 @@ lacks-refused top held nodes p ldc k o unheld (noPair b w h) = go ldc
     go : (ldc : Bool) → allocate nodes ldc k p ≡ bad (noSlot ldc)
     go true = exactly top held nodes p k o unheld .2 true w .1 h
     go false = exactly top held nodes p k o unheld .2 false w .1 h
-lacks-refused top held nodes p ldc k o unheld (noneLow n h) = exactly top held nodes p k o unheld .0 (not-true (isWide (tagAt nodes k)) n) .1 h
+lacks-refused top held nodes p ldc k o unheld (noneLow n h) = exactly top held nodes p k o unheld .0 (not-true (isWide (tagAt nodes k)) n) .1 (λ s f l. h s f (omega (arith, l)))
 lacks-refused top held nodes p ldc k o unheld (noneAtAll n h) = exactly top held nodes p k o unheld .1 (not-true (isWide (tagAt nodes k)) n) .1 h
 
 -- a wide request that is met gets the first two neighbours that are free

@@ -345,7 +345,7 @@ module _ (bytes : List ℕ) (job : Job (List ℕ)) (are : IsBytes bytes) (formed
           let o = indexOccurs highestSlot (numbered job) row rows (record { defined = d; state = w; reached = all-reaches bytes job are formed d b; rowsIn = q; rowOf = is }) in
           let number = rowIndex-refused row code rows e in
           let why = exactlySeventeen rows row o .0 (subst (λ c. rowIndex row rows ≡ bad c) number e) in
-          inr (inr (subst (λ code. SlotCause job code (buildPlace job)) (sym number) (noIndex d w b n row p tag slots (why .0) (λ i l. used-raw job d isDefined nodes size (w .resolved .marks) (w .pool) q i (why .1 i l)))))
+          inr (inr (subst (λ code. SlotCause job code (buildPlace job)) (sym number) (noIndex d w b n row p tag slots (why .0) (λ i l. used-raw job d isDefined nodes size (w .resolved .marks) (w .pool) q i (why .1 i (omega (arith, l)))))))
 
       name-cause :
           (wanted : Bool) (m : Made) →

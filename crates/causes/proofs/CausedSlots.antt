@@ -301,7 +301,7 @@ module _ (bytes : List ℕ) (job : Job (List ℕ)) (are : IsBytes bytes) (formed
                 rowsIn = q;
                 rowOf = record { node = n .node; tag = tag; before = n .pool; after = p; pools = o; slots = slots };
               }) in
-              bad≢good (sym (exactlySeventeen (n .rows) row occurs-there .1 (unshared, λ i l. raw-used job d (k₀ .isDefined) made-nodes size (w .resolved .marks) (w .pool) q i (used i l))) ∙ given)
+              bad≢good (sym (exactlySeventeen (n .rows) row occurs-there .1 (unshared, λ i l. raw-used job d (k₀ .isDefined) made-nodes size (w .resolved .marks) (w .pool) q i (used i (omega (arith, l))))) ∙ given)
           go o q y (inr (t, _)) = t tag
 
     name-refuted :

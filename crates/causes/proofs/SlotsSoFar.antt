@@ -29,7 +29,7 @@ use Rattle.facts.proofs.Results.{good-inj, good-then, decided}
 use Rattle.laws.specs.Faithful.{InTable, Settled, Faithful}
 use Rattle.laws.specs.LeadsStatement.{Leads, NamedOnce}
 use Rattle.laws.specs.Statements.{IsBytes, entryAt, Occurs, afterRequest, moreResolved, stackTaken, freeSlots}
-use Rattle.causes.specs.CauseStatement.{Wide, sameName, Behind, behind50, behindRequest, goalIn, Got, HasSlot, HasNoSlot, GivenOut, Free, NoSlot, GivenToNode, AllAnswered}
+use Rattle.causes.specs.CauseStatement.{Wide, TakesSlot, sameName, Behind, behind50, behindRequest, goalIn, Got, HasSlot, HasNoSlot, GivenOut, Free, NoSlot, GivenToNode, AllAnswered}
 use Rattle.laws.proofs.resolving.FaithfulToEntries.{Grows, resolve-faithful}
 use Rattle.laws.proofs.resolving.Interning.{interned}
 use Rattle.laws.proofs.resolving.JobGoals.{jobNames, jobConstants, jobTable, bootstrap-tag}
@@ -58,6 +58,10 @@ use Rattle.causes.proofs.FreeSlots.{pool-free, free-pool}
 pub drop-all : {A : Type 0} (l : List A) → drop (length l) l ≡ []
 drop-all [] = refl
 drop-all (x ∷ l) = drop-all l
+
+takes-same : {wide wide′ : Type 0} {a t : ℕ} → (wide → wide′) → TakesSlot wide a t → TakesSlot wide′ a t
+takes-same to (inl is) = inl is
+takes-same to (inr (w, is)) = inr (to w, is)
 
 -- ---- an answer gives out at most one slot, to the node that was asked for
 
@@ -357,20 +361,12 @@ module _ (bytes : List ℕ) (job : Job (List ℕ)) (are : IsBytes bytes) (formed
     given-out : (t : ℕ) → GivenToNode (s .nodes) (w .pool) t → GivenOut job answers t
     given-out t (n, a, at, takes) =
         let (e, mark, got) = node-got n a at in
-        (e, a, got, go e mark takes)
-      where
-        go : (e : ℕ) → getElem? (s .marks) e ≡ some (done n) → (t ≡ a) ⊎ ((isWide (tagAt (s .nodes) n) ≡ true) × (t ≡ suc a)) → (t ≡ a) ⊎ (Wide job e × (t ≡ suc a))
-        go e mark (inl is) = inl is
-        go e mark (inr (w, is)) = inr (node-wide e n mark w, is)
+        (e, a, got, takes-same (node-wide e n mark) takes)
 
     out-given : (t : ℕ) → GivenOut job answers t → GivenToNode (s .nodes) (w .pool) t
     out-given t (e, a, got, takes) =
         let (n, mark, slot) = got-node e a got in
-        (n, a, lookup-at n a given-now slot, go n mark takes)
-      where
-        go : (n : ℕ) → getElem? (s .marks) e ≡ some (done n) → (t ≡ a) ⊎ (Wide job e × (t ≡ suc a)) → (t ≡ a) ⊎ ((isWide (tagAt (s .nodes) n) ≡ true) × (t ≡ suc a))
-        go n mark (inl is) = inl is
-        go n mark (inr (w, is)) = inr (wide-node e n mark w, is)
+        (n, a, lookup-at n a given-now slot, takes-same (wide-node e n mark) takes)
 
     occurs : Occurs 65534 (d .held) (s .nodes) (w .pool)
     occurs = subst (λ nodes. Occurs 65534 (d .held) nodes (w .pool)) (sym (on .grows .nodesKept .1)) (moreResolved (on .grows .nodesKept .0) (k .going .pooled .occurs))

@@ -144,10 +144,13 @@ At job i x = getElem? (job .definitions) i ≡ some x
 abbrev pub Wide : Job (List ℕ) → ℕ → Type 0
 Wide job e = (x : Entry (List ℕ) Reference) × (getElem? (constantsOf (job .definitions)) e ≡ some x) × ((x .tag ≡ 5) ⊎ (x .tag ≡ 6))
 
+-- a constant at slot n takes slot s: its own, and the next if it is wide
+abbrev pub TakesSlot : Type 0 → ℕ → ℕ → Type 0
+TakesSlot wide n s = (s ≡ n) ⊎ (wide × (s ≡ suc n))
+
 -- a raw constant before this record takes slot s
 abbrev pub Taken : Job (List ℕ) → ℕ → ℕ → Type 0
-Taken job place s =
-    (i : ℕ) × (m : ℕ) × (k : ℕ) × (i < place) × At job i (placed constant m k) × ((s ≡ m) ⊎ (Wide job k × (s ≡ suc m)))
+Taken job place s = (i : ℕ) × (m : ℕ) × (k : ℕ) × (i < place) × At job i (placed constant m k) × TakesSlot (Wide job k) m s
 
 -- a wide one at n finds slot n + 1 free
 abbrev pub SecondFree : Job (List ℕ) → ℕ → ℕ → ℕ → Type 0
@@ -296,9 +299,9 @@ HasNoSlot job answers e = (s : ℕ) → HasSlot job answers e s → ⊥
 abbrev pub RawHeld : Job (List ℕ) → ℕ → Type 0
 RawHeld job s = Taken job (length (job .definitions)) s
 
--- slot s is given out: it is an answer to a request that led to a constant, or the slot behind it if that is wide
+-- slot s is given out: a constant that an answered request led to takes it
 abbrev pub GivenOut : Job (List ℕ) → List ℕ → ℕ → Type 0
-GivenOut job answers s = (e : ℕ) × (a : ℕ) × Got job answers e a × ((s ≡ a) ⊎ (Wide job e × (s ≡ suc a)))
+GivenOut job answers s = (e : ℕ) × (a : ℕ) × Got job answers e a × TakesSlot (Wide job e) a s
 
 -- a slot is free: it is one from 1 to 65534, neither raw-held nor given out
 abbrev pub Free : Job (List ℕ) → List ℕ → ℕ → Type 0
@@ -312,11 +315,11 @@ pub data NoSlot (wide : Type 0) (free : ℕ → Type 0) : Bool → Type 0 where
 
 -- ---- 14 and 17 at the build, over what the definition has when a constant is in turn
 
--- slot s was given to a node, or is the slot behind it if that is wide
+-- slot s is given out: a node that was given a slot takes it
 abbrev pub GivenToNode : List Node → Pool → ℕ → Type 0
-GivenToNode nodes p s = (k : ℕ) × (a : ℕ) × Among (k, a) (p .given) × ((s ≡ a) ⊎ ((isWide (tagAt nodes k) ≡ true) × (s ≡ suc a)))
+GivenToNode nodes p s = (k : ℕ) × (a : ℕ) × Among (k, a) (p .given) × TakesSlot (isWide (tagAt nodes k) ≡ true) a s
 
--- a slot is free: it is one from 1 to 65534, neither raw-held nor given to a node so far
+-- a slot is free: it is one from 1 to 65534, neither raw-held nor given out so far
 abbrev pub FreeIn : Job (List ℕ) → List Node → Pool → ℕ → Type 0
 FreeIn job nodes p s = (1 ≤ s) × (s ≤ 65534) × (RawHeld job s → ⊥) × (GivenToNode nodes p s → ⊥)
 
