@@ -301,7 +301,7 @@ module _ (bytes : List ℕ) (job : Job (List ℕ)) (are : IsBytes bytes) (formed
                 rowsIn = q;
                 rowOf = record { node = n .node; tag = tag; before = n .pool; after = p; pools = o; slots = slots };
               }) in
-              bad≢good (sym (exactlySeventeen (n .rows) row occurs-there .1 (unshared, λ i l. raw-used job d (k₀ .isDefined) made-nodes size (w .resolved .marks) (w .pool) q i (used i (omega (arith, l))))) ∙ given)
+              bad≢good (sym (exactlySeventeen (n .rows) row occurs-there .1 (unshared, λ i l. raw-used job d (k₀ .isDefined) made-nodes size (w .resolved .marks) (w .pool) q i (used i l))) ∙ given)
           go o q y (inr (t, _)) = t tag
 
     name-refuted :
@@ -333,4 +333,4 @@ module _ (bytes : List ℕ) (job : Job (List ℕ)) (are : IsBytes bytes) (formed
   slotRefuted (childLacks d w b n tag h) = constant-refuted d w b n tag h
   slotRefuted (bootstrapLacks d w b n tag c h) = bootstrap-refuted d w b n tag c h
   slotRefuted (nameLacks d w m b made wanted h) = name-refuted d w b m made wanted h
-  slotRefuted (noIndex d w b n row p tag slots unshared used) = index-refuted d w b n row p tag slots unshared used
+  slotRefuted (noIndex d w b n row p tag slots unshared used) = index-refuted d w b n row p tag slots unshared (λ i l. used i (omega (arith, l)))
