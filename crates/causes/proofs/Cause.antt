@@ -1,6 +1,6 @@
 -- CAUSE: a run that is refused says why and where, and its number and place are bounded. Assumes nothing.
 use mathlib.Core.Bool.{Bool, true, false, _&&_}
-use mathlib.Core.List.{List}
+use mathlib.Core.List.{List, []}
 use mathlib.Core.Logic.{_⊎_, inl, inr}
 use mathlib.Core.Path.{_≡_, refl, sym, subst, _∙_}
 use Prim.Native.Nat.{ℕ, suc, _+_, _*_, _/_, _≤_, _<_}
@@ -19,10 +19,10 @@ use Rattle.facts.proofs.Results.{bad≢good, good-inj}
 use Rattle.facts.proofs.Outcomes.{Ends, well, refused, next, weaker, whenBad, known-good}
 use Rattle.laws.specs.Statements.{IsBytes}
 use Rattle.causes.specs.CauseStatement as CauseStatement
-use Rattle.causes.specs.CauseStatement.{DefinitionCause, outside, secondTaken, onSecond, sameSlot, lastIndex, sameIndex, sameName, Resolves, byRaw, byRequest, ResolvingCause, undefined, circular, SlotCause, noSlotAsked, noLdcSlotAsked, rawAbove, slotAbove, pairAbove, rawLacks, childLacks, bootstrapLacks, nameLacks, noIndex, buildPlace, Short, CauseOf, tooLong, tooLittle, notFormed, defining, resolving, noRoom, records, CausePlaced}
+use Rattle.causes.specs.CauseStatement.{DefinitionCause, outside, secondTaken, onSecond, sameSlot, lastIndex, sameIndex, sameName, Resolves, byRaw, byRequest, ResolvingCause, undefined, circular, SlotCause, noSlotAsked, noLdcSlotAsked, rawAbove, slotAbove, pairAbove, rawLacks, childLacks, bootstrapLacks, nameLacks, noIndex, buildPlace, Short, CauseOf, tooLong, tooLittle, notFormed, defining, resolving, noRoom, records, onlyDefinitions, noneYet, InRecords, CausePlaced}
 use Rattle.laws.proofs.runs.FuelLasts.{fuelLasts}
 use Rattle.causes.proofs.CauseSteps.{unless-cause, at-place}
-use Rattle.causes.proofs.CauseForm.{Standing, causeOfForm, records-fit, form-bounds}
+use Rattle.causes.proofs.CauseForm.{Standing, causeOfForm, records-stand, form-bounds}
 use Rattle.causes.proofs.CauseRecords.{InTurn, causeOfRecords}
 
 -- ---- numbers and places of the causes of a formed job
@@ -31,7 +31,7 @@ module _ (job : Job (List ℕ)) where
   abbrev Bounds : ℕ → ℕ → Type 0
   Bounds code place = (6 ≤ code) × (code ≤ 17) × (place < records job)
 
-  definition-bounds : {code place : ℕ} → DefinitionCause job code place → Bounds code place
+  pub definition-bounds : {code place : ℕ} → DefinitionCause job code place → Bounds code place
   definition-bounds (outside place n e at h) = (omega arith, omega arith, omega (arith, found-inside (job .definitions) place _ at))
   definition-bounds (secondTaken place n e at w t) = (omega arith, omega arith, omega (arith, found-inside (job .definitions) place _ at))
   definition-bounds (onSecond place n e i m k at f l a w q) = (omega arith, omega arith, omega (arith, found-inside (job .definitions) place _ at))
@@ -44,16 +44,16 @@ module _ (job : Job (List ℕ)) where
   resolves-place (byRaw i kind n e at) = omega arith
   resolves-place (byRequest j q at) = omega (arith, found-inside (job .requests) j q at)
 
-  resolving-bounds : {code place : ℕ} → ResolvingCause job code place → Bounds code place
+  pub resolving-bounds : {code place : ℕ} → ResolvingCause job code place → Bounds code place
   resolving-bounds (undefined place r kind s is h gone) = (omega arith, omega arith, resolves-place is)
   resolving-bounds (circular place r t u is h l k) = (omega arith, omega arith, resolves-place is)
 
-  slot-bounds : {code place : ℕ} → SlotCause job code place → Bounds code place
-  slot-bounds (noSlotAsked j a l) = (omega arith, omega arith, omega (arith, found-inside (job .requests) j _ (a .isWhat)))
-  slot-bounds (noLdcSlotAsked j a l) = (omega arith, omega arith, omega (arith, found-inside (job .requests) j _ (a .isWhat)))
-  slot-bounds (rawAbove j n d w q b at ldc g h) = (omega arith, omega arith, omega (arith, found-inside (job .requests) j _ at))
-  slot-bounds (slotAbove j s a l h) = (omega arith, omega arith, omega (arith, found-inside (job .requests) j _ (a .isWhat)))
-  slot-bounds (pairAbove j s a n w h f₁ f₂ l) = (omega arith, omega arith, omega (arith, found-inside (job .requests) j _ (a .isWhat)))
+  pub slot-bounds : {code place : ℕ} → SlotCause job code place → Bounds code place
+  slot-bounds (noSlotAsked answers e b a n l) = (omega arith, omega arith, omega (arith, found-inside (job .requests) (length answers) _ (a .1)))
+  slot-bounds (noLdcSlotAsked answers e b a n l) = (omega arith, omega arith, omega (arith, found-inside (job .requests) (length answers) _ (a .1)))
+  slot-bounds (rawAbove answers n b a h) = (omega arith, omega arith, omega (arith, found-inside (job .requests) (length answers) _ (a .1)))
+  slot-bounds (slotAbove answers e s b a l h) = (omega arith, omega arith, omega (arith, found-inside (job .requests) (length answers) _ (a .1)))
+  slot-bounds (pairAbove answers e s b a n w h f₁ f₂ l) = (omega arith, omega arith, omega (arith, found-inside (job .requests) (length answers) _ (a .1)))
   slot-bounds (rawLacks d w b r c l) = (omega arith, omega arith, omega arith)
   slot-bounds (childLacks d w b n tag l) = (omega arith, omega arith, omega arith)
   slot-bounds (bootstrapLacks d w b n tag c l) = (omega arith, omega arith, omega arith)
@@ -72,18 +72,21 @@ module _ (lent : Lent) (bytes : List ℕ) (are : IsBytes bytes) where
   record Told (code place : ℕ) : Type 0 where
     cause : CauseOf lent bytes code place
     inRange : (1 ≤ code) × (code ≤ 18)
-    inBytes : place ≤ length bytes
-    inRecords : (job : Job (List ℕ)) → form bytes ≡ good job → place < records job
+    inRecords : InRecords bytes place
+    inJob : (job : Job (List ℕ)) → form bytes ≡ good job → place < records job
 
   abbrev Z : ℕ → ℕ → Type 0
   Z code place = (code ≡ 0) ⊎ Told code place
 
+  nothing-stands : InRecords bytes 0
+  nothing-stands = (0, onlyDefinitions [] bytes noneYet, omega arith)
+
   one : leb (length bytes) longestJob ≡ false → Z 1 0
-  one t = inr (record { cause = tooLong (leb-false (length bytes) longestJob t); inRange = (omega arith, omega arith); inBytes = omega arith; inRecords = λ job f. omega arith })
+  one t = inr (record { cause = tooLong (leb-false (length bytes) longestJob t); inRange = (omega arith, omega arith); inRecords = nothing-stands; inJob = λ job f. omega arith })
 
   two : enough (length bytes) lent ≡ false → Z 2 0
   unfolding enough
-  two t = inr (record { cause = tooLittle (go (leb (6 * length bytes + 1024) (lent .work)) refl t); inRange = (omega arith, omega arith); inBytes = omega arith; inRecords = λ job f. omega arith })
+  two t = inr (record { cause = tooLittle (go (leb (6 * length bytes + 1024) (lent .work)) refl t); inRange = (omega arith, omega arith); inRecords = nothing-stands; inJob = λ job f. omega arith })
     where
       go :
           (b : Bool) → leb (6 * length bytes + 1024) (lent .work) ≡ b → (b && leb (length bytes / 5 + 2) (lent .gaps)) ≡ false →
@@ -95,13 +98,13 @@ module _ (lent : Lent) (bytes : List ℕ) (are : IsBytes bytes) where
   form-told =
       weaker
       (λ e h.
-      let b = form-bounds bytes are (h .0) in
+      let b = form-bounds (h .0) in
       inr
       (record {
         cause = notFormed (h .0);
         inRange = (omega (arith, b .0), omega (arith, b .1));
-        inBytes = b .2;
-        inRecords = λ job f. bad≢good (sym (h .1) ∙ f);
+        inRecords = (e .place, b .2, omega arith);
+        inJob = λ job f. bad≢good (sym (h .1) ∙ f);
       }))
       (λ a k. k)
       (known-bad (form bytes) (known-good (form bytes) (causeOfForm bytes are)))
@@ -113,8 +116,8 @@ module _ (lent : Lent) (bytes : List ℕ) (are : IsBytes bytes) where
         record {
           cause = c;
           inRange = (low, high);
-          inBytes = omega (arith, l, records-fit bytes job are stand);
-          inRecords = λ job′ f. subst (λ (j : Job (List ℕ)). place < records j) (good-inj (sym formed ∙ f)) l;
+          inRecords = (buildPlace job, records-stand bytes job stand, omega (arith, l));
+          inJob = λ job′ f. subst (λ (j : Job (List ℕ)). place < records j) (good-inj (sym formed ∙ f)) l;
         }
 
     turn-told : (code place : ℕ) → InTurn bytes job are formed code place → Z code place
@@ -183,8 +186,9 @@ module _ (lent : Lent) (bytes : List ℕ) (are : IsBytes bytes) where
 pub cause : CauseStatement.Cause
 cause lent bytes r are ran = told lent bytes are r ran .cause
 
--- CAUSE PLACED: the number lies from 1 to 18, and the place is at most the number of bytes, and the number of a record if the job is well formed
+-- CAUSE PLACED: the number lies from 1 to 18; the place is at most the number of records that stand, and the number of a record if the job is
+-- well formed
 pub causePlaced : CausePlaced
 causePlaced lent bytes r are ran =
     let t = told lent bytes are r ran in
-    (t .inRange .0, t .inRange .1, t .inBytes, t .inRecords)
+    (t .inRange .0, t .inRange .1, t .inRecords, t .inJob)

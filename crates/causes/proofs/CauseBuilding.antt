@@ -18,7 +18,7 @@ use Rattle.facts.specs.Lists.{Among}
 use Rattle.facts.proofs.Lists.{found-seam}
 use Rattle.facts.proofs.Results.{good-inj, good-then, decided}
 use Rattle.facts.proofs.Outcomes.{Ends, well, refused, next, weaker, ended, known-good}
-use Rattle.causes.specs.CauseStatement.{NextChild, NextRaw, Stack, noneTaken, oneTaken, NextNumber, Lacks}
+use Rattle.causes.specs.CauseStatement.{NextChild, NextRaw, Stack, noneTaken, oneTaken, NextNumber}
 use Rattle.laws.proofs.resolving.NodesAndChildren.{kids-found}
 use Rattle.laws.proofs.runs.StepsOfRuns.{PoolIn, atStart, afterChild, afterTaken, RowOf, RowsIn, rawOnes, afterInline}
 use Rattle.laws.proofs.runs.StepsOfBuilding.{slotOf-by}
@@ -98,12 +98,14 @@ seam kids before after c e high =
     let q : c ≡ 65536 + (c - 65536) = omega (arith, high) in
     sym e ∙ ap (λ n. before ++ n ∷ after) q
 
--- Z is what is known of a refusal's number: for each place where building asks it is known if the asking is refused there
+-- Z is what is known of a refusal's number, and Lacks of a node that is refused a slot: for each place where building asks it is known if the
+-- asking is refused there
 module _
     (nodes : List Node)
     (indexes : List (ℕ × ℕ))
     (start : Pool)
     (Z : ℕ → Type 0)
+    (Lacks : ℕ → Pool → Type 0)
     (empty : Z 0)
     (lacking :
     (k c code : ℕ) (p : Pool) →
@@ -111,14 +113,14 @@ module _
     Among c (kidsOf nodes k) →
     65536 ≤ c →
     allocate nodes false (c - 65536) p ≡ bad code →
-    (code ≡ 14) × Lacks nodes false (c - 65536) p)
-    (rawLacking : (r : NextRaw nodes indexes start) (c : NextChild nodes (kidsOf nodes (r .node)) (r .pool)) → Lacks nodes false (c .node) (c .pool) → Z 14)
-    (childLacking : (n : NextNumber nodes indexes start) → tagAt nodes (n .node) ≢ 0x40 → Lacks nodes false (n .node) (n .pool) → Z 14)
+    (code ≡ 14) × Lacks (c - 65536) p)
+    (rawLacking : (r : NextRaw nodes indexes start) (c : NextChild nodes (kidsOf nodes (r .node)) (r .pool)) → Lacks (c .node) (c .pool) → Z 14)
+    (childLacking : (n : NextNumber nodes indexes start) → tagAt nodes (n .node) ≢ 0x40 → Lacks (n .node) (n .pool) → Z 14)
     (bootstrapLacking :
     (n : NextNumber nodes indexes start) →
     tagAt nodes (n .node) ≡ 0x40 →
     (c : NextChild nodes (kidsOf nodes (n .node)) (n .pool)) →
-    Lacks nodes false (c .node) (c .pool) →
+    Lacks (c .node) (c .pool) →
     Z 14)
     (noIndexFor :
     (n : NextNumber nodes indexes start) (row : Row) (p : Pool) (code : ℕ) →
@@ -137,7 +139,7 @@ module _
   -- children's slots
   module _ (k : ℕ) (p₀ : Pool) where
     abbrev LacksOne : ℕ → Type 0
-    LacksOne code = (code ≡ 14) × ((c : NextChild nodes (kidsOf nodes k) p₀) × Lacks nodes false (c .node) (c .pool))
+    LacksOne code = (code ≡ 14) × ((c : NextChild nodes (kidsOf nodes k) p₀) × Lacks (c .node) (c .pool))
 
     slots-walk :
         (before after slots : List ℕ) (p : Pool) →

@@ -119,6 +119,19 @@ define-more top constants place (y ∷ ds) x d₀ d d′ e q =
 
 -- ---- the records of the job, and its wide constants
 
+pub wide-tag : (t : ℕ) → isWide t ≡ true → (t ≡ 5) ⊎ (t ≡ 6)
+unfolding isWide
+wide-tag t w = go (eqb t 5) refl
+  where
+    go : (b : Bool) → eqb t 5 ≡ b → (t ≡ 5) ⊎ (t ≡ 6)
+    go true h = inl (eqb-true t 5 h)
+    go false h = inr (eqb-true t 6 (rw (h, isWide) at w))
+
+pub tag-wide : (t : ℕ) → (t ≡ 5) ⊎ (t ≡ 6) → isWide t ≡ true
+unfolding isWide
+tag-wide t (inl e) = rw e refl
+tag-wide t (inr e) = rw e refl
+
 module _ (job : Job (List ℕ)) where
   abbrev pub all : List (Definition ℕ)
   all = numbered job .definitions
@@ -171,16 +184,12 @@ module _ (job : Job (List ℕ)) where
   unfolding tagAt isWide
   wide-back e w = go (getElem? constants e) refl
     where
-      five : (x : Entry ℕ Reference) (b : Bool) → eqb (x .tag) 5 ≡ b → isWide (x .tag) ≡ true → (x .tag ≡ 5) ⊎ (x .tag ≡ 6)
-      five x true t h = inl (eqb-true (x .tag) 5 t)
-      five x false t h = inr (eqb-true (x .tag) 6 (rw (t, isWide) at h))
-
       go : (o : Option (Entry ℕ Reference)) → getElem? constants e ≡ o → Wide job e
       go none p = clash (cc (rw (p, tagAt) at w))
       go (some x) p =
           let h = tag-back e x p in
           let t : isWide (x .tag) ≡ true = rw (p, tagAt) at w in
-          (h .0, h .1, subst (λ n. (n ≡ 5) ⊎ (n ≡ 6)) (sym (h .2)) (five x (eqb (x .tag) 5) refl t))
+          (h .0, h .1, wide-tag (h .0 .tag) (ap isWide (h .2) ∙ t))
 
   tag-forth : (e : ℕ) (y : Entry (List ℕ) Reference) → getElem? (constantsOf (job .definitions)) e ≡ some y → tagAt constants e ≡ y .tag
   unfolding tagAt numberedEntry withLiteral
@@ -190,9 +199,7 @@ module _ (job : Job (List ℕ)) where
       rw (h, tagAt) refl
 
   pub wide-forth : (e : ℕ) → Wide job e → wideAt constants e ≡ true
-  unfolding isWide
-  wide-forth e (y, p, inl t) = rw (tag-forth e y p, t) refl
-  wide-forth e (y, p, inr t) = rw (tag-forth e y p, t) refl
+  wide-forth e (y, p, t) = ap isWide (tag-forth e y p) ∙ tag-wide (y .tag) t
 
   -- ---- a definition in turn, behind those before it
 
@@ -215,7 +222,7 @@ module _ (job : Job (List ℕ)) where
     among-before i y l p = (i, sym (place-front before tail i l) ∙ subst (λ l. getElem? l i ≡ some y) (sym split) p)
 
     -- a held slot is taken by an earlier record, and one that isn't by none
-    taken-of : (s : ℕ) (h : Held) → Among (s, h) (d .held) → Taken job place s
+    pub taken-of : (s : ℕ) (h : Held) → Among (s, h) (d .held) → Taken job place s
     taken-of s (starts k) a =
         let e = earlier (placed constant s k) (facts .allHeld .startPlaced s k a) in
         (e .0, s, k, e .1, placed-back (e .0) constant s k (e .2), inl refl)

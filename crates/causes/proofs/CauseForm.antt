@@ -23,7 +23,7 @@ use Rattle.facts.proofs.Outcomes.{Ends, well, refused, next}
 use Rattle.laws.specs.Statements.{IsBytes}
 use Rattle.laws.specs.Counted.{countIn}
 use Rattle.causes.specs.CauseStatement as CauseStatement
-use Rattle.causes.specs.CauseStatement.{CitesEntry, HasPlace, Stand, noneYet, StandAsked, noneAsked, oneAsked, FormCause, unreadDefinition, tableFull, noEntry, unreadRequest, noEntryAsked, unreadBuild, noRequestCited, bytesBehind}
+use Rattle.causes.specs.CauseStatement.{CitesEntry, HasPlace, Stand, noneYet, StandAsked, noneAsked, oneAsked, FormCause, unreadDefinition, tableFull, noEntry, unreadRequest, noEntryAsked, unreadBuild, noRequestCited, bytesBehind, RecordsStand, onlyDefinitions, upToRequests, upToBuild}
 use Rattle.laws.proofs.form.ParsersYield.{Byte, each-byte, Yields, yields-fail, yields-return, yields-bind}
 use Rattle.laws.proofs.form.FormedEntries.{OfKind, yields-reference, yields-definition}
 use Rattle.laws.proofs.form.DefinitionsRead.{noEntries}
@@ -375,7 +375,7 @@ module _ (bytes : List ℕ) (are : Each Byte bytes) where
             (rest (qs ++ r .0 ∷ []) (r .1) (omega (arith, longer, enough)) st₁))) λ d h.
             well (h .0, subst (λ l. StandAsked bytes ds l (0x60 ∷ h .0)) (append-assoc qs (r .0 ∷ []) (d .list)) (h .1)))
 
--- a well-formed job's records stand in the bytes, so they are no more than these
+-- a well-formed job's records up to 60 stand in the bytes
 abbrev pub Standing : List ℕ → Job (List ℕ) → Type 0
 Standing bytes job = (left : List ℕ) × StandAsked bytes (job .definitions) (job .requests) (0x60 ∷ left)
 
@@ -393,15 +393,17 @@ causeOfForm bytes are =
 
 -- ---- numbers and places
 
-pub records-fit : (bytes : List ℕ) (job : Job (List ℕ)) → IsBytes bytes → Standing bytes job → suc (suc (length (job .definitions)) + length (job .requests)) ≤ length bytes
-records-fit bytes job are st = omega (arith, asked-length bytes (each-byte bytes are) (st .1) .0)
+-- the records of a well-formed job up to 60 stand
+pub records-stand : (bytes : List ℕ) (job : Job (List ℕ)) → Standing bytes job → RecordsStand bytes (suc (length (job .definitions)) + length (job .requests))
+records-stand bytes job (left, st) = upToRequests (job .definitions) (job .requests) (0x60 ∷ left) st
 
-pub form-bounds : (bytes : List ℕ) → IsBytes bytes → {code place : ℕ} → FormCause bytes code place → (3 ≤ code) × (code ≤ 5) × (place ≤ length bytes)
-form-bounds bytes are (unreadDefinition ds left st h) = (omega arith, omega arith, omega (arith, stand-length bytes (each-byte bytes are) st .0))
-form-bounds bytes are (tableFull ds first left e rest st ne read full) = (omega arith, omega arith, omega (arith, stand-length bytes (each-byte bytes are) st .0))
-form-bounds bytes are (noEntry ds first left x rest kind n st ne read place c l) = (omega arith, omega arith, omega (arith, stand-length bytes (each-byte bytes are) st .0))
-form-bounds bytes are (unreadRequest ds qs left st h) = (omega arith, omega arith, omega (arith, asked-length bytes (each-byte bytes are) st .0))
-form-bounds bytes are (noEntryAsked ds qs first left q rest kind n st ne read c l) = (omega arith, omega arith, omega (arith, asked-length bytes (each-byte bytes are) st .0))
-form-bounds bytes are (unreadBuild ds qs left st read) = (omega arith, omega arith, omega (arith, asked-length bytes (each-byte bytes are) st .0))
-form-bounds bytes are (noRequestCited ds qs left b rest n st read c l) = (omega arith, omega arith, omega (arith, asked-length bytes (each-byte bytes are) st .0))
-form-bounds bytes are (bytesBehind ds qs left b more rest st read c) = (omega arith, omega arith, omega (arith, asked-length bytes (each-byte bytes are) st .0))
+-- a refusal of the form lies right behind the records that stand
+pub form-bounds : {bytes : List ℕ} {code place : ℕ} → FormCause bytes code place → (3 ≤ code) × (code ≤ 5) × RecordsStand bytes place
+form-bounds (unreadDefinition ds left st h) = (omega arith, omega arith, onlyDefinitions ds left st)
+form-bounds (tableFull ds first left e rest st ne read full) = (omega arith, omega arith, onlyDefinitions ds (first ∷ left) st)
+form-bounds (noEntry ds first left x rest kind n st ne read place c l) = (omega arith, omega arith, onlyDefinitions ds (first ∷ left) st)
+form-bounds (unreadRequest ds qs left st h) = (omega arith, omega arith, upToRequests ds qs left st)
+form-bounds (noEntryAsked ds qs first left q rest kind n st ne read c l) = (omega arith, omega arith, upToRequests ds qs (first ∷ left) st)
+form-bounds (unreadBuild ds qs left st read) = (omega arith, omega arith, upToRequests ds qs (0x60 ∷ left) st)
+form-bounds (noRequestCited ds qs left b rest n st read c l) = (omega arith, omega arith, upToRequests ds qs (0x60 ∷ left) st)
+form-bounds (bytesBehind ds qs left b more rest st read c) = (omega arith, omega arith, upToBuild ds qs left b (more ∷ rest) st read c)

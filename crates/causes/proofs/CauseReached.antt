@@ -15,14 +15,14 @@ use Rattle.definition.specs.Shapes.{Kind, constant, bootstrap, Entry, withLiter
 use Rattle.definition.specs.Job.{Reference, raw, entry, name, Definition, define, named, placed, Job}
 use Rattle.definition.specs.Numbering.{constantsOf, bootstrapsOf, literals, numberedEntry, numberedDefinition, numbered}
 use Rattle.definition.specs.Definitions.{Naming, sameKind, nameTarget}
-use Rattle.definition.specs.Resolving.{Goal, rawNumber, tableEntry, refusal, placeOf, follow, goalOf, Resolved, resolve}
+use Rattle.definition.specs.Resolving.{Goal, tableEntry, refusal, placeOf, follow, goalOf, Resolved, resolve}
 use Rattle.facts.specs.Lists.{Among}
 use Rattle.facts.proofs.Lists.{clash, none≢some, some-inj, same-refl, found-inside, append-at, among-cons, among-later, map-at, map-some, unmap}
 use Rattle.facts.proofs.Results.{decided}
 use Rattle.facts.proofs.Outcomes.{Ends, weaker, Anything}
 use Rattle.laws.specs.Counted.{countIn}
 use Rattle.laws.specs.Faithful.{Faithful}
-use Rattle.causes.specs.CauseStatement.{At, LeadsRaw, rawItself, rawNamed, Leads, byName, toChild, Reaches, there, further, Resolves, ResolvingCause, undefined, circular}
+use Rattle.causes.specs.CauseStatement.{At, Refers, byName, toChild, Reaches, there, further, Resolves, ResolvingCause, undefined, circular}
 use Rattle.laws.proofs.form.CitedEntries.{Cites, Cited, kid-cited, named-cited}
 use Rattle.laws.proofs.numbering.NumberedCited.{constants-numbered, bootstraps-numbered}
 use Rattle.laws.proofs.definitions.DefinedAsPlaced.{namingsOf}
@@ -89,7 +89,7 @@ module _ (job : Job (List ℕ)) where
 
   -- in one step or more
   abbrev Back : Reference → Reference → Type 0
-  Back r t = (u : Reference) × Leads job r u × Reaches job u t
+  Back r t = (u : Reference) × Refers job r u × Reaches job u t
 
   back-on : {r s t : Reference} → Back r s → Reaches job s t → Back r t
   back-on (u, l, k) h = (u, l, reaches-on k h)
@@ -117,17 +117,17 @@ module _ (job : Job (List ℕ)) where
   table = jobTable (numbered job)
 
   -- the name of a naming leads to its target
-  pub naming-leads : (n : Naming) → Among n names → Leads job (name (n .kind) (n .label)) (n .target)
-  naming-leads n a =
+  pub naming-refers : (n : Naming) → Among n names → Refers job (name (n .kind) (n .label)) (n .target)
+  naming-refers n a =
       let h = naming-named ds (a .0) n (a .1) in
       byName (h .0) (n .kind) (n .label) (n .target) (named-back job (h .0) (n .kind) (n .label) (n .target) (h .1))
 
-  pub target-leads : (kind : Kind) (s : List ℕ) (t : Reference) → nameTarget kind s names ≡ some t → Leads job (name kind s) t
-  target-leads kind s t e =
+  pub target-refers : (kind : Kind) (s : List ℕ) (t : Reference) → nameTarget kind s names ≡ some t → Refers job (name kind s) t
+  target-refers kind s t e =
       let h = target-at kind s names t e in
       let n = h .0 in
-      subst (λ k. Leads job (name k s) t) (sym (h .2))
-      (subst (λ l. Leads job (name (n .kind) l) t) (sym (h .3)) (subst (λ u. Leads job (name (n .kind) (n .label)) u) (h .4) (naming-leads n (h .1))))
+      subst (λ k. Refers job (name k s) t) (sym (h .2))
+      (subst (λ l. Refers job (name (n .kind) l) t) (sym (h .3)) (subst (λ u. Refers job (name (n .kind) (n .label)) u) (h .4) (naming-refers n (h .1))))
 
   no-record : (kind : Kind) (s : List ℕ) → nameTarget kind s names ≡ none → (i : ℕ) (t : Reference) → At job i (named kind s t) → ⊥
   unfolding numbered numberedDefinition
@@ -158,7 +158,7 @@ module _ (job : Job (List ℕ)) where
       Goal′ : Type 0
       Goal′ = ((code ≡ 12) × Undefined (name kind s)) ⊎ (code ≡ 13)
 
-      more : (t : Reference) → Leads job (name kind s) t → ((code ≡ 12) × Undefined t) ⊎ (code ≡ 13) → Goal′
+      more : (t : Reference) → Refers job (name kind s) t → ((code ≡ 12) × Undefined t) ⊎ (code ≡ 13) → Goal′
       more t l (inl (q, (k, u, h, n))) = inl (q, (k, u, further (name kind s) t (name k u) l h, n))
       more t l (inr q) = inr q
 
@@ -166,7 +166,7 @@ module _ (job : Job (List ℕ)) where
       go none q rest =
           let f = follow-none steps kind s q in
           inl (cc, (kind, s, there (name kind s), q))
-      go (some t) q rest = more t (target-leads kind s t q) (rest t code (sym (follow-some steps kind s t q) ∙ e))
+      go (some t) q rest = more t (target-refers kind s t q) (rest t code (sym (follow-some steps kind s t q) ∙ e))
 
   -- what is followed round leads back to itself: one name more is used up at each step, and one that was used is come from
   follow-round :
@@ -194,8 +194,8 @@ module _ (job : Job (List ℕ)) where
 
       onward :
           (t : Reference) (n : Naming) →
-          Leads job r t →
-          Leads job (name (n .kind) (n .label)) t →
+          Refers job r t →
+          Refers job (name (n .kind) (n .label)) t →
           Among n left ⊎ Back (name (n .kind) (n .label)) r →
           r ≡ name (n .kind) (n .label) →
           follow steps names size t ≡ refusal 13 →
@@ -227,7 +227,7 @@ module _ (job : Job (List ℕ)) where
       go (some t) q rest =
           let h = target-at kind s names t q in
           let n = h .0 in
-          onward t n (target-leads kind s t q) (subst (λ u. Leads job (name (n .kind) (n .label)) u) (h .4) (naming-leads n (h .1))) (used n (h .1))
+          onward t n (target-refers kind s t q) (subst (λ u. Refers job (name (n .kind) (n .label)) u) (h .4) (naming-refers n (h .1))) (used n (h .1))
           (ap (λ k. name k s) (h .2) ∙ ap (name (n .kind)) (h .3))
           (sym (follow-some steps kind s t q) ∙ e)
           rest
@@ -235,40 +235,6 @@ module _ (job : Job (List ℕ)) where
   round : (r : Reference) → goalOf names size r ≡ refusal 13 → Loop r
   unfolding goalOf
   round r e = follow-round (suc (length names)) r names (omega arith) (λ n a. inl a) e
-
-  -- what is followed to a raw number leads to it
-  name-raw : (kind : Kind) (s : List ℕ) (t : Reference) (n : ℕ) → nameTarget kind s names ≡ some t → LeadsRaw job t n → LeadsRaw job (name kind s) n
-  name-raw kind s t n e h =
-      let g = target-at kind s names t e in
-      let m = g .0 in
-      let a = naming-named ds (g .1 .0) m (g .1 .1) in
-      subst (λ k. LeadsRaw job (name k s) n) (sym (g .2))
-      (subst (λ l. LeadsRaw job (name (m .kind) l) n) (sym (g .3))
-      (rawNamed (a .0) (m .kind) (m .label) (m .target) n (named-back job (a .0) (m .kind) (m .label) (m .target) (a .1)) (subst (λ t. LeadsRaw job t n) (sym (g .4)) h)))
-
-  raw-itself : (m n : ℕ) → _≡_ {A = Goal} (rawNumber m) (rawNumber n) → LeadsRaw job (raw m) n
-  raw-itself m n e =
-      let q : m ≡ n = cc in
-      subst (LeadsRaw job (raw m)) q (rawItself m)
-
-  follow-raw : (steps : ℕ) (r : Reference) (n : ℕ) → follow steps names size r ≡ rawNumber n → LeadsRaw job r n
-  unfolding follow
-  follow-raw zero (raw m) n e = raw-itself m n e
-  follow-raw zero (entry kind m) n e = clash (cc)
-  follow-raw zero (name kind s) n e = clash (cc)
-  follow-raw (suc steps) (raw m) n e = raw-itself m n e
-  follow-raw (suc steps) (entry kind m) n e = clash (cc)
-  follow-raw (suc steps) (name kind s) n e = go (nameTarget kind s names) refl (follow-raw steps)
-    where
-      go : (o : Option Reference) → nameTarget kind s names ≡ o → ((r : Reference) (n : ℕ) → follow steps names size r ≡ rawNumber n → LeadsRaw job r n) → LeadsRaw job (name kind s) n
-      go none q rest =
-          let f = follow-none steps kind s q in
-          clash (cc)
-      go (some t) q rest = name-raw kind s t n q (rest t n (sym (follow-some steps kind s t q) ∙ e))
-
-  pub leads-raw : (r : Reference) (n : ℕ) → goalOf names size r ≡ rawNumber n → LeadsRaw job r n
-  unfolding goalOf
-  leads-raw r n e = follow-raw (suc (length names)) r n e
 
   -- ---- entries
 
@@ -321,7 +287,7 @@ module _ (job : Job (List ℕ)) where
             let n = h .0 in
             let a = naming-named ds (h .1 .0) n (h .1 .1) in
             let c′ = subst (Cites ds) (h .4) (named-cited (numbered job) cited (n .kind) (n .label) (n .target) a .0) in
-            further (name kind s) t (canon e) (target-leads kind s t p) (rest t e c′ (sym (follow-some steps kind s t p) ∙ q))
+            further (name kind s) t (canon e) (target-refers kind s t p) (rest t e c′ (sym (follow-some steps kind s t p) ∙ q))
 
     goal-entry : (r : Reference) (e : ℕ) → Cites ds r → goalOf names size r ≡ tableEntry e → Reaches job r (canon e)
     unfolding goalOf
@@ -329,31 +295,31 @@ module _ (job : Job (List ℕ)) where
 
     -- an entry of the one table leads to its children
     abbrev Child : ℕ → Goal → Type 0
-    Child e g = (t : Reference) × Leads job (canon e) t × (goalOf names size t ≡ g) × Cites ds t
+    Child e g = (t : Reference) × Refers job (canon e) t × (goalOf names size t ≡ g) × Cites ds t
 
-    entry-leads : (e : ℕ) (y : Entry ℕ Reference) (t : Reference) → getElem? (constantsOf ds ++ bootstrapsOf ds) e ≡ some y → Among t (y .kids) → Leads job (canon e) t
+    entry-refers : (e : ℕ) (y : Entry ℕ Reference) (t : Reference) → getElem? (constantsOf ds ++ bootstrapsOf ds) e ≡ some y → Among t (y .kids) → Refers job (canon e) t
     unfolding numberedEntry withLiteral
-    entry-leads e y t p a = ways (append-at (constantsOf ds) (bootstrapsOf ds) e y p)
+    entry-refers e y t p a = ways (append-at (constantsOf ds) (bootstrapsOf ds) e y p)
       where
         kids-same : (z : Entry (List ℕ) Reference) → numberedEntry (literals job) z ≡ y → Among t (z .kids)
         kids-same z q = subst (Among t) (sym (ap (λ (x : Entry ℕ Reference). x .kids) q)) a
 
         ways :
             (getElem? (constantsOf ds) e ≡ some y) ⊎ ((j : ℕ) × (e ≡ size + j) × (getElem? (bootstrapsOf ds) j ≡ some y)) →
-            Leads job (canon e) t
+            Refers job (canon e) t
         ways (inl q) =
             let h = map-some (numberedEntry (literals job)) (constantsOf (job .definitions)) e y (subst (λ l. getElem? l e ≡ some y) (constants-numbered job) q) in
-            subst (λ r. Leads job r t) (sym (canon-low e (found-inside (constantsOf ds) e y q))) (toChild constant e (h .0) t (h .1) (kids-same (h .0) (h .2)))
+            subst (λ r. Refers job r t) (sym (canon-low e (found-inside (constantsOf ds) e y q))) (toChild constant e (h .0) t (h .1) (kids-same (h .0) (h .2)))
         ways (inr (j, is, q)) =
             let h = map-some (numberedEntry (literals job)) (bootstrapsOf (job .definitions)) j y (subst (λ l. getElem? l j ≡ some y) (bootstraps-numbered job) q) in
-            subst (λ r. Leads job r t) (sym (ap canon is ∙ canon-high j)) (toChild bootstrap j (h .0) t (h .1) (kids-same (h .0) (h .2)))
+            subst (λ r. Refers job r t) (sym (ap canon is ∙ canon-high j)) (toChild bootstrap j (h .0) t (h .1) (kids-same (h .0) (h .2)))
 
     child-leads : (e : ℕ) (x : Entry ℕ Goal) (g : Goal) → getElem? table e ≡ some x → Among g (x .kids) → Child e g
     child-leads e x g p a =
         let h = linked-at names size (constantsOf ds ++ bootstrapsOf ds) e x p in
         let y = h .0 in
         let u = unmap (goalOf names size) (y .kids) g (subst (Among g) (h .3) a) in
-        (u .0, entry-leads e y (u .0) (h .1) (u .1), u .2, kid-cited (numbered job) cited y (table-defined ds e y (h .1) .2) (u .1 .0) (u .0) (u .1 .1) .0)
+        (u .0, entry-refers e y (u .0) (h .1) (u .1), u .2, kid-cited (numbered job) cited y (table-defined ds e y (h .1) .2) (u .1 .0) (u .0) (u .1 .1) .0)
 
     -- ---- what is reached while resolving, and the cause
 

@@ -14,18 +14,17 @@ use Rattle.definition.specs.Shapes.{Kind, constant, bootstrap, Entry}
 use Rattle.definition.specs.Job.{Reference, entry, placed, Request, Job}
 use Rattle.definition.specs.Form.{form}
 use Rattle.definition.specs.Numbering.{bootstrapsOf, literals, numberedDefinition, numbered}
-use Rattle.definition.specs.Definitions.{Held, Naming, Defined, defineAll, nothingDefined, tagAt}
-use Rattle.definition.specs.Resolving.{Goal, rawNumber, tableEntry, refusal, placeOf, follow, goalOf, linked, Node, Resolved, sameNode, intern, childOf, resolve, resolveAll, nothingResolved}
+use Rattle.definition.specs.Definitions.{Naming, Defined, defineAll, nothingDefined, tagAt}
+use Rattle.definition.specs.Resolving.{Goal, rawNumber, tableEntry, refusal, placeOf, follow, goalOf, linked, Node, done, Resolved, sameNode, intern, childOf, resolve, resolveAll, nothingResolved}
 use Rattle.definition.specs.Slots.{highestSlot, highestLdc}
 use Rattle.definition.specs.Building.{Pool, noSlot, allocate, slotOf, slotsOf, Row, rowIndex, Made, buildAll, attributeText, kidsOf, nameWanted, nameSlot}
 use Rattle.definition.specs.Layout.{starters, Ready, endDefinitions, answer, answerAll, buildLayout, layout}
 use Rattle.facts.specs.Lists.{Among}
-use Rattle.facts.proofs.Lists.{clash, among-either, among-later, unmap}
-use Rattle.facts.proofs.Each.{Each}
+use Rattle.facts.proofs.Lists.{clash, some-inj, among-either, among-later, unmap}
 use Rattle.facts.proofs.Outcomes.{Ends, well, next, weaker, ended, known-good, Anything}
-use Rattle.laws.specs.Statements.{IsBytes, Occurs}
+use Rattle.laws.specs.Statements.{IsBytes}
 use Rattle.laws.specs.Faithful.{InTable, Settled, Faithful}
-use Rattle.causes.specs.CauseStatement.{Resolves, byRaw, byRequest, ResolvingCause, Behind, behind50, behindRequest, Asks, NextNumber, buildPlace, goalIn, SlotCause, noSlotAsked, noLdcSlotAsked, rawAbove, slotAbove, pairAbove, rawLacks, childLacks, bootstrapLacks, nameLacks, noIndex, DefinitionCause, Lacks}
+use Rattle.causes.specs.CauseStatement.{requestPlace, Resolves, byRaw, byRequest, ResolvingCause, Behind, behind50, behindRequest, AsksFor, HasSlot, AllAnswered, NextNumber, buildPlace, goalIn, SlotCause, noSlotAsked, noLdcSlotAsked, rawAbove, slotAbove, pairAbove, rawLacks, childLacks, bootstrapLacks, nameLacks, noIndex, DefinitionCause, Lacks}
 use Rattle.laws.proofs.form.CitedEntries.{Cites, Cited, placed-cited}
 use Rattle.laws.proofs.form.FormedJobs.{form-formed}
 use Rattle.laws.proofs.definitions.DefinedAsPlaced.{DefinedFacts, wideAt, defined-facts, starters-start}
@@ -35,21 +34,21 @@ use Rattle.laws.proofs.resolving.JobTableGood.{placed-good, numbered-cited, def
 use Rattle.laws.proofs.resolving.ResolvedNodes.{ConstantGoal, child-done, GoodTable}
 use Rattle.laws.proofs.building.LayoutStages.{constantsIn, tableIn, rowsIn}
 use Rattle.laws.proofs.building.AfterRecord50.{rawGoals}
-use Rattle.laws.proofs.building.AfterRequests.{Going, answer-going}
-use Rattle.laws.proofs.building.BeforeRequests as BeforeRequests
-use Rattle.laws.proofs.building.BeforeRequests.{formed-table, begun-names, begunRaws, begun-asks}
+use Rattle.laws.proofs.building.BeforeRequests.{formed-table, begun-names}
 use Rattle.laws.proofs.building.ExactlySeventeen.{exactlySeventeen}
-use Rattle.laws.proofs.runs.StepsOfRuns as StepsOfRuns
-use Rattle.laws.proofs.runs.StepsOfRuns.{PoolIn, RowOf, RowsIn, afterFifty, afterAnswer, rawsAt, forRequest, forChild, forName}
+use Rattle.laws.proofs.runs.StepsOfRuns.{PoolIn, RowOf, RowsIn, rawsAt}
 use Rattle.laws.proofs.runs.StepsOfBuilding.{slotOf-by}
 use Rattle.laws.proofs.runs.StepRefusals.{allocate-refused, rowIndex-refused}
-use Rattle.laws.proofs.runs.SlotOccurs.{slotOccurs}
 use Rattle.laws.proofs.runs.IndexOccurs.{indexOccurs}
 use Rattle.causes.proofs.CauseSteps.{unless-cause, at-place}
 use Rattle.causes.proofs.CauseDefinitions.{placed-back, causeOfDefinitions}
-use Rattle.causes.proofs.CauseReached.{leads-raw, causeOfResolving}
+use Rattle.causes.proofs.CauseReached.{causeOfResolving}
 use Rattle.causes.proofs.CauseBuilding.{slotOf-good, causeInBuilding}
-use Rattle.causes.proofs.CauseNoSlot.{lacks, Above, had, gets, above}
+use Rattle.causes.proofs.CauseForm.{snoc-length}
+use Rattle.causes.proofs.CauseNoSlot.{pool-lacks}
+use Rattle.causes.proofs.CausedReached.{resolvingRefuted}
+use Rattle.causes.proofs.UsedIndexes.{used-raw}
+use Rattle.causes.proofs.SlotsSoFar.{settled-entry, goes-leads, Kept, kept, all-reaches, Onward, onward, asked-lacks, GetsPair, asked-above, building-occurs, name-occurs}
 
 module _ (bytes : List ℕ) (job : Job (List ℕ)) (are : IsBytes bytes) (formed : form bytes ≡ good job) where
   abbrev names : List Naming
@@ -140,91 +139,95 @@ module _ (bytes : List ℕ) (job : Job (List ℕ)) (are : IsBytes bytes) (formed
 
     -- ---- a request in turn
 
-    -- what is kept before request j, and the requests that are left
-    record Before (j : ℕ) (left : List Request) (w : Ready) : Type 0 where
-      isBehind : Behind job d j w
-      reached : StepsOfRuns.Reaches highestSlot (numbered job) d left w
-      stacked : List (ℕ × ℕ)
-      going : Going table highestSlot (d .held) stacked w
-      asked : Each (λ q. InTable (length table) (goalIn job d q) × ConstantGoal table (goalIn job d q)) left
-      places : (i : ℕ) → getElem? left i ≡ getElem? (job .requests) (j + i)
-      number : j + length left ≡ length (job .requests)
+    -- what is kept behind these answers, and the requests that are left
+    record Before (answers : List ℕ) (left : List Request) (w : Ready) : Type 0 where
+      isBehind : Behind job d answers w
+      places : (i : ℕ) → getElem? left i ≡ getElem? (job .requests) (length answers + i)
+      number : length answers + length left ≡ length (job .requests)
 
-    module _ (j : ℕ) (q : Request) (left : List Request) (w : Ready) (b : Before j (q ∷ left) w) where
+    module _ (answers : List ℕ) (q : Request) (left : List Request) (w : Ready) (b : Before answers (q ∷ left) w) where
       abbrev place : ℕ
-      place = suc (length (job .definitions)) + j
+      place = requestPlace job (length answers)
 
       abbrev goal : Goal
       goal = goalIn job d q
 
-      is-request : getElem? (job .requests) j ≡ some q
+      k : Kept bytes job are formed d answers w
+      k = kept bytes job are formed d (b .isBehind)
+
+      is-request : getElem? (job .requests) (length answers) ≡ some q
       is-request =
-          let zero-more : j + 0 ≡ j = omega arith in
+          let zero-more : length answers + 0 ≡ length answers = omega arith in
           subst (λ i. getElem? (job .requests) i ≡ some q) zero-more (sym (b .places 0))
 
       request-cited : Cites (numbered job .definitions) (q .what)
       unfolding numbered
-      request-cited = cited .requestCited j q is-request
+      request-cited = cited .requestCited (length answers) q is-request
 
       resolve-later : Ends (λ code. Later code place) Anything (resolve (w .table) goal (w .resolved))
       resolve-later =
           weaker (λ code h. resolving-later place code h) (λ a k. k)
-          (subst (λ t. Ends (λ code. (code ≡ 0) ⊎ ResolvingCause job code place) Anything (resolve t goal (w .resolved))) (sym (b .going .sameTable))
+          (subst (λ t. Ends (λ code. (code ≡ 0) ⊎ ResolvingCause job code place) Anything (resolve t goal (w .resolved))) (sym (k .going .sameTable))
           (subst (λ names. Ends (λ code. (code ≡ 0) ⊎ ResolvingCause job code place) Anything (resolve table (goalOf names size (q .what)) (w .resolved))) (sym same-names)
-          (causeOfResolving job cited place (q .what) (w .resolved) (byRequest j q is-request) request-cited (b .going .faithful))))
+          (causeOfResolving job cited place (q .what) (w .resolved) (byRequest (length answers) q is-request) request-cited (k .going .faithful))))
 
       module _ (s : Resolved) (resolved : resolve (w .table) goal (w .resolved) ≡ good s) where
         abbrev child : ℕ
         child = childOf (s .marks) goal
 
-        settled : Settled (s .marks) goal
-        settled =
-            resolve-faithful table goal (w .resolved) s (fine .cited) (b .asked .0 .0) (b .going .faithful)
-            (subst (λ t. resolve t goal (w .resolved) ≡ good s) (b .going .sameTable) resolved) .1
+        on : Onward bytes job are formed d w s × (goalOf names size (q .what) ≡ goal) × Settled (s .marks) goal × ConstantGoal table goal
+        on = onward bytes job are formed d answers w k q s is-request resolved
 
-        asks : (ldc : Bool) → q .ldc ≡ ldc → 65536 ≤ child → Asks job j ldc
-        asks ldc is high =
-            record {
-              defined = d;
-              state = w;
-              what = q;
-              resolved = s;
-              node = child - 65536;
-              isBehind = b .isBehind;
-              isWhat = is-request;
-              isLdc = is;
-              isResolved = resolved;
-              isNode = omega (arith, high);
-            }
+        -- it is refused neither with 12 nor with 13
+        is-resolved : (code : ℕ) → ResolvingCause job code place → ⊥
+        is-resolved code c = resolvingRefuted job d isDefined s (on .0 .faithful) (on .0 .tidy .orderly) (λ r is. go is refl) c
+          where
+            go : {p : ℕ} {r : Reference} → Resolves job p r → p ≡ place → Settled (s .marks) (goalOf names size r)
+            go (byRaw i kind n e at) same = absurd (omega (arith, same))
+            go (byRequest i p at) same =
+                let one : i ≡ length answers = omega (arith, same) in
+                let is : q ≡ p = some-inj (sym is-request ∙ ap (getElem? (job .requests)) (sym one) ∙ at) in
+                subst (λ (p : Request). Settled (s .marks) (goalOf names size (p .what))) is (subst (Settled (s .marks)) (sym (on .1)) (on .2))
 
-        occurs : 65536 ≤ child → (held : List (ℕ × Held)) × Occurs highestSlot held (s .nodes) (w .pool)
-        occurs high = let o = slotOccurs bytes job are formed (forRequest d q left w s (b .reached) resolved high) in (o .0, o .1)
+        asks : (ldc : Bool) → q .ldc ≡ ldc → (g : Goal) → goal ≡ g → AsksFor job (length answers) ldc g
+        asks ldc is g same =
+            (q, is-request, is, goes-leads bytes job are formed (s .marks) (q .what) g (on .1 ∙ same) (subst (Settled (s .marks)) same (on .2)), is-resolved)
 
-        -- 14, 15
-        lacking : (ldc : Bool) (a : Asks job j ldc) → Lacks (a .resolved .nodes) ldc (a .node) (a .state .pool) → SlotCause job (noSlot ldc) place
-        unfolding noSlot
-        lacking true a l = noLdcSlotAsked j a l
-        lacking false a l = noSlotAsked j a l
+        -- a request that leads to a constant, which became node n
+        module _ (e n : ℕ) (is : goal ≡ tableEntry e) (mark : getElem? (s .marks) e ≡ some (done n)) where
+          no-slot : (ldc : Bool) → q .ldc ≡ ldc → (code : ℕ) → allocate (s .nodes) ldc n (w .pool) ≡ bad code → SlotCause job code place
+          unfolding noSlot
+          no-slot true ldc code refused =
+              let (none-had, none-free, number) = asked-lacks bytes job are formed d answers w k s (on .0) e n mark true code refused in
+              subst (λ code. SlotCause job code place) (sym number) (noLdcSlotAsked answers e (d, w, b .isBehind) (asks true ldc (tableEntry e) is) none-had none-free)
+          no-slot false ldc code refused =
+              let (none-had, none-free, number) = asked-lacks bytes job are formed d answers w k s (on .0) e n mark false code refused in
+              subst (λ code. SlotCause job code place) (sym number) (noSlotAsked answers e (d, w, b .isBehind) (asks false ldc (tableEntry e) is) none-had none-free)
 
-        no-slot : (high : 65536 ≤ child) (code : ℕ) → allocate (s .nodes) (q .ldc) (child - 65536) (w .pool) ≡ bad code → Later code place
-        unfolding asks
-        no-slot high code e =
-            let o = occurs high in
-            let l = lacks highestSlot (o .0) (s .nodes) (w .pool) (q .ldc) (child - 65536) code (o .1) e in
-            let is = allocate-refused (s .nodes) (q .ldc) (child - 65536) code (w .pool) e .1 in
-            inr (inr (subst (λ code. SlotCause job code place) (sym is) (lacking (q .ldc) (asks (q .ldc) refl high) l)))
+          node-above : q .ldc ≡ true → (r : ℕ × Pool) → allocate (s .nodes) true n (w .pool) ≡ good r → 255 < r .0 → SlotCause job 16 place
+          node-above ldc r got more = go (asked-above bytes job are formed d answers w k s (on .0) e n mark (r .0) (r .1) got more)
+            where
+              go : HasSlot job answers e (r .0) ⊎ GetsPair bytes job are formed d answers w k s (on .0) e n mark (r .0) → SlotCause job 16 place
+              go (inl has) = slotAbove answers e (r .0) (d, w, b .isBehind) (asks true ldc (tableEntry e) is) has more
+              go (inr (none-had, wide, one, two, lowest)) =
+                  pairAbove answers e (r .0) (d, w, b .isBehind) (asks true ldc (tableEntry e) is) none-had wide more one two lowest
 
-        -- 16
+        -- the entry that is asked for, and its node
+        asked : 65536 ≤ child → (e : ℕ) × (n : ℕ) × (goal ≡ tableEntry e) × (getElem? (s .marks) e ≡ some (done n)) × (child - 65536 ≡ n)
+        asked high =
+            let (e, n, is, mark, became) = settled-entry table (s .marks) goal (on .3) (on .2) high in
+            (e, n, is, mark, omega (arith, became))
+
+        slot-refused : 65536 ≤ child → (code : ℕ) → allocate (s .nodes) (q .ldc) (child - 65536) (w .pool) ≡ bad code → Later code place
+        slot-refused high code refused =
+            let (e, n, is, mark, same) = asked high in
+            inr (inr (no-slot e n is mark (q .ldc) refl code (subst (λ n. allocate (s .nodes) (q .ldc) n (w .pool) ≡ bad code) same refused)))
+
         raw-above : (g : Goal) → goal ≡ g → q .ldc ≡ true → Settled (s .marks) g → childOf (s .marks) g < 65536 → 255 < childOf (s .marks) g → SlotCause job 16 place
         unfolding childOf
-        raw-above (rawNumber n) is ldc h low high = rawAbove j n d w q (b .isBehind) is-request ldc (leads-raw job (q .what) n (subst (λ names. goalOf names size (q .what) ≡ rawNumber n) same-names is)) high
+        raw-above (rawNumber n) is ldc h low high = rawAbove answers n (d, w, b .isBehind) (asks true ldc (rawNumber n) is) high
         raw-above (tableEntry e) is ldc h low high = absurd (omega (arith, child-done (s .marks) e (h .0) (h .1), low))
         raw-above (refusal code) is ldc h low high = absurd h
-
-        node-above : (high : 65536 ≤ child) (ldc : q .ldc ≡ true) (a : ℕ) → 255 < a → Above (s .nodes) (child - 65536) (w .pool) a → SlotCause job 16 place
-        unfolding asks
-        node-above high ldc a more (had h) = slotAbove j a (asks true ldc high) h more
-        node-above high ldc a more (gets new wide one two lowest) = pairAbove j a (asks true ldc high) new wide more one two lowest
 
         got-above :
             (r : ℕ × Pool) →
@@ -232,11 +235,12 @@ module _ (bytes : List ℕ) (job : Job (List ℕ)) (are : IsBytes bytes) (formed
             q .ldc ≡ true →
             255 < r .0 →
             SlotCause job 16 place
-        got-above r (inl (low, is)) ldc more = raw-above goal refl ldc settled low (subst (λ n. 255 < n) is more)
-        got-above r (inr (high, e)) ldc more =
-            let o = occurs high in
-            node-above high ldc (r .0) more
-            (above highestSlot (o .0) (s .nodes) (w .pool) (child - 65536) (r .0) (r .1) (o .1) (subst (λ b. allocate (s .nodes) b (child - 65536) (w .pool) ≡ good r) ldc e) more)
+        got-above r (inl (low, is)) ldc more = raw-above goal refl ldc (on .2) low (subst (λ n. 255 < n) is more)
+        got-above r (inr (high, got)) ldc more =
+            let (e, n, is, mark, same) = asked high in
+            node-above e n is mark ldc r
+            (subst (λ n. allocate (s .nodes) true n (w .pool) ≡ good r) same (subst (λ b. allocate (s .nodes) b (child - 65536) (w .pool) ≡ good r) ldc got))
+            more
 
         too-high : (ldc : Bool) (a : ℕ) → (not ldc || leb a highestLdc) ≡ false → (ldc ≡ true) × (255 < a)
         too-high true a t = (refl, leb-false a highestLdc t)
@@ -245,7 +249,7 @@ module _ (bytes : List ℕ) (job : Job (List ℕ)) (are : IsBytes bytes) (formed
         slot-later : Ends (λ code. Later code place) Anything (slotOf (s .nodes) (q .ldc) child (w .pool))
         slot-later =
             slotOf-by (s .nodes) (q .ldc) child (w .pool) tt λ high.
-            ended (allocate (s .nodes) (q .ldc) (child - 65536) (w .pool)) (λ r e. tt) (no-slot high)
+            ended (allocate (s .nodes) (q .ldc) (child - 65536) (w .pool)) (λ r e. tt) (slot-refused high)
 
       -- CAUSE at a request
       causeOfRequest : Ends (λ code. Later code place) Anything (answer (q .ldc) goal w)
@@ -258,16 +262,15 @@ module _ (bytes : List ℕ) (job : Job (List ℕ)) (are : IsBytes bytes) (formed
           let h = too-high s (k .1) (q .ldc) (r .0) t in
           inr (inr (got-above s (k .1) r (slotOf-good (s .nodes) (q .ldc) (childOf (s .marks) goal) (w .pool) r (e .1)) (h .0) (h .1)))) λ _ _. well tt
 
-      after : (r : ℕ × Ready) → answer (q .ldc) goal w ≡ good r → Before (suc j) left (r .1)
+      after : (r : ℕ × Ready) → answer (q .ldc) goal w ≡ good r → Before (answers ++ r .0 ∷ []) left (r .1)
       after r e =
+          let longer = snoc-length answers (r .0) in
           record {
-            isBehind = behindRequest j q w (r .1) (r .0) (b .isBehind) is-request e;
-            reached = afterAnswer q left w (r .1) (r .0) (b .reached) e;
-            stacked = b .stacked;
-            going = answer-going table (fine .cited) highestSlot (d .held) (b .stacked) (q .ldc) goal w r (b .asked .0 .0) (b .asked .0 .1) e (b .going) .0;
-            asked = b .asked .1;
-            places = λ i. let more : j + suc i ≡ suc j + i = omega arith in b .places (suc i) ∙ ap (getElem? (job .requests)) more;
-            number = omega (arith, b .number);
+            isBehind = behindRequest answers q w (r .1) (r .0) (b .isBehind) is-request e;
+            places = λ i.
+                let more : length answers + suc i ≡ length (answers ++ r .0 ∷ []) + i = omega (arith, longer) in
+                b .places (suc i) ∙ ap (getElem? (job .requests)) more;
+            number = omega (arith, longer, b .number);
           }
 
     -- ---- all requests
@@ -275,43 +278,36 @@ module _ (bytes : List ℕ) (job : Job (List ℕ)) (are : IsBytes bytes) (formed
     abbrev Z : Refusal → Type 0
     Z e = Later (e .code) (e .place)
 
+    abbrev Ended : List ℕ × Ready → Type 0
+    Ended r = AllAnswered job d (r .1)
+
     all-answered :
-        (j : ℕ) (left : List Request) (w : Ready) →
-        Before j left w →
-        Ends Z (λ r. Before (length (job .requests)) [] (r .1)) (answerAll (d .names) size (suc (length (job .definitions)) + j) left w)
+        (answers : List ℕ) (left : List Request) (w : Ready) →
+        Before answers left w →
+        Ends Z Ended (answerAll (d .names) size (requestPlace job (length answers)) left w)
     unfolding answerAll
-    all-answered j [] w b =
-        let all : j ≡ length (job .requests) = omega (arith, b .number) in
-        well {a = ([], w)} (subst (λ n. Before n [] w) all b)
-    all-answered j (q ∷ left) w b =
-        let later : suc (length (job .definitions)) + suc j ≡ suc (suc (length (job .definitions)) + j) = omega arith in
-        next _ (at-place Later (suc (length (job .definitions)) + j) (known-good (answer (q .ldc) (goalIn job d q) w) (causeOfRequest j q left w b))) λ r k.
+    all-answered answers [] w b = well {a = ([], w)} (answers, omega (arith, b .number), b .isBehind)
+    all-answered answers (q ∷ left) w b =
+        next _ (at-place Later (requestPlace job (length answers)) (known-good (answer (q .ldc) (goalIn job d q) w) (causeOfRequest answers q left w b))) λ r k.
+        let later : requestPlace job (length (answers ++ r .0 ∷ [])) ≡ suc (requestPlace job (length answers)) = omega (arith, snoc-length answers (r .0)) in
         next _
-        (subst (λ p. Ends Z (λ r. Before (length (job .requests)) [] (r .1)) (answerAll (d .names) size p left (r .1))) later
-        (all-answered (suc j) left (r .1) (after j q left w b r (k .1)))) λ rest h.
+        (subst (λ p. Ends Z Ended (answerAll (d .names) size p left (r .1))) later
+        (all-answered (answers ++ r .0 ∷ []) left (r .1) (after answers q left w b r (k .1)))) λ rest h.
         well {a = (r .0 ∷ rest .0, rest .1)} h
 
     -- what is kept behind record 50
-    behind-fifty : (w : Ready) → endDefinitions 65534 (tableIn (numbered job) d) size d ≡ good w → Before 0 (numbered job .requests) w
+    behind-fifty : (w : Ready) → endDefinitions 65534 (tableIn (numbered job) d) size d ≡ good w → Before [] (numbered job .requests) w
     unfolding numbered
     behind-fifty w ready =
         record {
           isBehind = behind50 w isDefined ready;
-          reached = afterFifty w isDefined ready;
-          stacked = begunRaws bytes job are formed d isDefined w ready;
-          going = BeforeRequests.begun bytes job are formed d isDefined w ready .0;
-          asked =
-              subst
-              (λ names. Each (λ q. InTable (length table) (goalOf names size (q .what)) × ConstantGoal table (goalOf names size (q .what))) (numbered job .requests))
-              (sym same-names)
-              (begun-asks bytes job are formed d isDefined w ready);
           places = λ i. let none-more : i ≡ 0 + i = omega arith in ap (getElem? (job .requests)) none-more;
           number = omega arith;
         }
 
     -- ---- the build record
 
-    module _ (w : Ready) (b : Before (length (job .requests)) [] w) where
+    module _ (w : Ready) (b : AllAnswered job d w) where
       abbrev nodes : List Node
       nodes = w .resolved .nodes
 
@@ -321,16 +317,20 @@ module _ (bytes : List ℕ) (job : Job (List ℕ)) (are : IsBytes bytes) (formed
       abbrev Y : ℕ → Type 0
       Y code = Later code (buildPlace job)
 
+      all-kept : Kept bytes job are formed d (b .0) w
+      all-kept = kept bytes job are formed d (b .2)
+
       fourteen : {code : ℕ} → code ≡ noSlot false → code ≡ 14
       unfolding noSlot
       fourteen is = is
 
       child-refused :
           (k c code : ℕ) (p : Pool) → PoolIn nodes (w .pool) p → Among c (kidsOf nodes k) → 65536 ≤ c → allocate nodes false (c - 65536) p ≡ bad code →
-          (code ≡ 14) × Lacks nodes false (c - 65536) p
-      child-refused k c code p o a high e =
-          let s = slotOccurs bytes job are formed (forChild d w k c p (b .reached) o a high) in
-          (fourteen (allocate-refused nodes false (c - 65536) code p e .1), lacks highestSlot (s .0) nodes p false (c - 65536) code (s .1) e)
+          (code ≡ 14) × Lacks job nodes (c - 65536) p
+      child-refused m c code p o a high e = (
+        fourteen (allocate-refused nodes false (c - 65536) code p e .1),
+        pool-lacks job d isDefined nodes p (building-occurs bytes job are formed d (b .0) w all-kept o) (c - 65536) code e,
+      )
 
       row-refused :
           (n : NextNumber nodes indexes (w .pool)) (row : Row) (p : Pool) (code : ℕ) →
@@ -342,10 +342,10 @@ module _ (bytes : List ℕ) (job : Job (List ℕ)) (are : IsBytes bytes) (formed
           Y code
       row-refused n row p code tag slots q is e =
           let rows = n .rows in
-          let o = indexOccurs highestSlot (numbered job) row rows (record { defined = d; state = w; reached = b .reached; rowsIn = q; rowOf = is }) in
+          let o = indexOccurs highestSlot (numbered job) row rows (record { defined = d; state = w; reached = all-reaches bytes job are formed d b; rowsIn = q; rowOf = is }) in
           let number = rowIndex-refused row code rows e in
           let why = exactlySeventeen rows row o .0 (subst (λ c. rowIndex row rows ≡ bad c) number e) in
-          inr (inr (subst (λ code. SlotCause job code (buildPlace job)) (sym number) (noIndex d w (b .isBehind) n row p tag slots (why .0) (why .1))))
+          inr (inr (subst (λ code. SlotCause job code (buildPlace job)) (sym number) (noIndex d w b n row p tag slots (why .0) (λ i l. used-raw job d isDefined nodes size (w .resolved .marks) (w .pool) q i (why .1 i (omega (arith, l)))))))
 
       name-cause :
           (wanted : Bool) (m : Made) →
@@ -355,15 +355,15 @@ module _ (bytes : List ℕ) (job : Job (List ℕ)) (are : IsBytes bytes) (formed
       unfolding nameSlot numbered
       name-cause false m made is = well tt
       name-cause true m made wanted-name =
-          let k = position (sameNode attributeText) nodes in
-          let s = slotOccurs bytes job are formed (forName d w m (b .reached) made wanted-name) in
+          let text = position (sameNode attributeText) nodes in
+          let o = name-occurs bytes job are formed d (b .0) w all-kept indexes m made in
           next {P = Anything} _
-          (ended (allocate (intern attributeText nodes) false k (m .pool)) (λ r e. tt) λ code e.
-          let is = fourteen (allocate-refused (intern attributeText nodes) false k code (m .pool) e .1) in
+          (ended (allocate (intern attributeText nodes) false text (m .pool)) (λ r e. tt) λ code e.
+          let is = fourteen (allocate-refused (intern attributeText nodes) false text code (m .pool) e .1) in
           inr
           (inr
           (subst (λ code. SlotCause job code (buildPlace job)) (sym is)
-          (nameLacks d w m (b .isBehind) made wanted-name (lacks highestSlot (s .0) (intern attributeText nodes) (m .pool) false k code (s .1) e))))) λ r _.
+          (nameLacks d w m b made wanted-name (pool-lacks job d isDefined (intern attributeText nodes) (m .pool) o text code e))))) λ r _.
           well tt
 
       -- CAUSE at the build record
@@ -372,10 +372,10 @@ module _ (bytes : List ℕ) (job : Job (List ℕ)) (are : IsBytes bytes) (formed
       causeOfBuild answers =
           next _
           (known-good (buildAll nodes indexes (w .pool))
-          (causeInBuilding nodes indexes (w .pool) Y (inl refl) child-refused
-          (λ r c l. inr (inr (rawLacks d w (b .isBehind) r c l)))
-          (λ n tag l. inr (inr (childLacks d w (b .isBehind) n tag l)))
-          (λ n tag c l. inr (inr (bootstrapLacks d w (b .isBehind) n tag c l)))
+          (causeInBuilding nodes indexes (w .pool) Y (Lacks job nodes) (inl refl) child-refused
+          (λ r c l. inr (inr (rawLacks d w b r c l)))
+          (λ n tag l. inr (inr (childLacks d w b n tag l)))
+          (λ n tag c l. inr (inr (bootstrapLacks d w b n tag c l)))
           row-refused)) λ m k.
           next _ (name-cause (nameWanted (numbered job .build .nameByte) (length (rowsIn m))) m (k .1) refl) λ s _. well tt
 
@@ -406,8 +406,8 @@ module _ (bytes : List ℕ) (job : Job (List ℕ)) (are : IsBytes bytes) (formed
       (known-good (endDefinitions 65534 (tableIn (numbered job) d) size d) (causeOfFifty d (defined .1)))))) λ w ready.
       next _
       (weaker (λ e h. inr h) (λ a k. k)
-      (subst (λ p. Ends (λ e. Later (e .code) (e .place)) (λ r. Before d (defined .1) (length (job .requests)) [] (r .1)) (answerAll (d .names) size p (numbered job .requests) w)) first-place
-      (all-answered d (defined .1) 0 (numbered job .requests) w (behind-fifty d (defined .1) w (ready .1))))) λ r b.
+      (subst (λ p. Ends (λ e. Later (e .code) (e .place)) (λ r. AllAnswered job d (r .1)) (answerAll (d .names) size p (numbered job .requests) w)) first-place
+      (all-answered d (defined .1) [] (numbered job .requests) w (behind-fifty d (defined .1) w (ready .1))))) λ r b.
       weaker (λ e h. inr h) (λ a k. k)
       (at-place Later _
       (subst (λ p. Ends (λ code. Later code p) Anything (buildLayout 65534 (rawsAt (numbered job) d (r .1)) (numbered job .build) (r .0) (r .1))) last-place

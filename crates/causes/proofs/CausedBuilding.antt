@@ -16,7 +16,7 @@ use Rattle.definition.specs.Definitions.{tagAt}
 use Rattle.definition.specs.Resolving.{Node, firstNode}
 use Rattle.definition.specs.Building.{Pool, allocate, slotOf, slotsOf, Row, Rows, rowIndex, Made, kidsOf, nodeNumber, childNumber, childNumbers, finish, withPending, drain, rawRows, buildAll}
 use Rattle.facts.specs.Lists.{Among}
-use Rattle.facts.proofs.Lists.{found-seam, among-left}
+use Rattle.facts.proofs.Lists.{among-left}
 use Rattle.facts.proofs.Each.{Each, each-from}
 use Rattle.facts.proofs.Results.{bad≢good, good-inj, good-then, decided}
 use Rattle.causes.specs.CauseStatement.{NextChild, NextRaw, Stack, noneTaken, oneTaken, NextNumber}
@@ -257,14 +257,13 @@ module _ (nodes : List Node) (indexes : List (ℕ × ℕ)) (start : Pool) where
       P p₀ →
       slotsOf nodes (kidsOf nodes k) p₀ ≡ good z →
       (c : NextChild nodes (kidsOf nodes k) p₀) →
-      P (c .pool) × Among (65536 + c .node) (kidsOf nodes k) × ((r : ℕ × Pool) × (allocate nodes false (c .node) (c .pool) ≡ good r))
+      P (c .pool) × ((r : ℕ × Pool) × (allocate nodes false (c .node) (c .pool) ≡ good r))
   child-got k p₀ z o e c =
       let (r, h) =
       slots-at nodes (c .before) (c .after) (65536 + c .node) p₀ (c .pool) (c .slots) z
       (subst (λ l. slotsOf nodes l p₀ ≡ good z) (c .isKids) e)
       (c .isPool) in (
         slots-pool k (c .before) p₀ (c .slots, c .pool) (some-kids k (c .before) ((65536 + c .node) ∷ c .after) (c .isKids)) o (c .isPool),
-        subst (Among (65536 + c .node)) (sym (c .isKids)) (length (c .before), found-seam (c .before) (65536 + c .node) (c .after)),
         (r, high-slot r h),
       )
     where

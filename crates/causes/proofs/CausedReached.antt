@@ -16,17 +16,17 @@ use Rattle.facts.specs.Lists.{Among}
 use Rattle.facts.proofs.Lists.{none≢some, some-inj, same-refl, found-append, place-behind, map-at}
 use Rattle.facts.proofs.Results.{decided}
 use Rattle.laws.specs.Faithful.{Settled, Faithful}
-use Rattle.causes.specs.CauseStatement.{At, LeadsRaw, rawItself, rawNamed, tableOf, Leads, byName, toChild, Reaches, there, further, Resolves, ResolvingCause, undefined, circular}
+use Rattle.causes.specs.CauseStatement.{At, tableOf, Refers, byName, toChild, Reaches, there, further, Resolves, ResolvingCause, undefined, circular}
 use Rattle.laws.proofs.numbering.NumberedCited.{constants-numbered, bootstraps-numbered}
 use Rattle.laws.proofs.definitions.DefinedAsPlaced.{namingsOf}
 use Rattle.laws.proofs.resolving.Followed.{followed}
 use Rattle.laws.proofs.resolving.NameTargets.{target-at}
 use Rattle.laws.proofs.resolving.JobGoals.{naming-named}
-use Rattle.laws.proofs.resolving.ResolvedNodes.{child-done, GoodTable}
+use Rattle.laws.proofs.resolving.NodesApart.{Orderly}
+use Rattle.laws.proofs.resolving.ResolvedNodes.{child-done}
 use Rattle.causes.proofs.CauseDefinitions.{all, constants, named-back}
 use Rattle.causes.proofs.CauseReached.{sameKind-refl, reaches-on, ds, names, size, table, follow-none, follow-some}
 use Rattle.causes.proofs.CausedDefinitions.{name-passed}
-use Rattle.causes.proofs.CausedRanks.{Ranked}
 
 -- the first naming of a name is found
 first-named :
@@ -59,12 +59,6 @@ module _ (job : Job (List ℕ)) (d : Defined) (defined : defineAll 65534 (consta
       ∙ ap (λ n. follow n (names job) (size job) (name kind s)) q
       ∙ follow-some job (suc (length (names job))) kind s r e
 
-  -- so what leads to a raw number is followed to it
-  pub goal-raw : {r : Reference} {n : ℕ} → LeadsRaw job r n → goalOf (names job) (size job) r ≡ rawNumber n
-  unfolding goalOf follow
-  goal-raw (rawItself n) = refl
-  goal-raw (rawNamed i kind s r n at h) = goal-name kind s r (target-is i kind s r at) ∙ goal-raw h
-
   goal-none : (kind : Kind) (s : List ℕ) → nameTarget kind s (names job) ≡ none → goalOf (names job) (size job) (name kind s) ≡ refusal 12
   unfolding goalOf
   goal-none kind s e = follow-none job (length (names job)) kind s e
@@ -86,7 +80,7 @@ module _ (job : Job (List ℕ)) (d : Defined) (defined : defineAll 65534 (consta
 
   -- ---- how deep a goal lies, once resolved
 
-  module _ (fine : GoodTable (table job)) (s : Resolved) (faithful : Faithful (table job) s) (ranked : Ranked (table job) fine s) where
+  module _ (s : Resolved) (faithful : Faithful (table job) s) (orderly : Orderly (s .nodes)) where
     Deep : Goal → ℕ → Type 0
     Deep (rawNumber m) n = n ≡ 0
     Deep (tableEntry e) n = (k : ℕ) × (getElem? (s .marks) e ≡ some (done k)) × (n ≡ suc k)
@@ -124,7 +118,7 @@ module _ (job : Job (List ℕ)) (d : Defined) (defined : defineAll 65534 (consta
         go (rawNumber m) h node among = (0, refl, omega arith)
         go (tableEntry f) h node among =
             let c = child-done (s .marks) f (h .0) (h .1) in
-            let low = ranked .below k _ (childOf (s .marks) (tableEntry f)) node among (omega (arith, c)) in
+            let low = orderly .before k _ node (childOf (s .marks) (tableEntry f)) among in
             (suc (h .0), (h .0, h .1, refl), omega (arith, c, low))
         go (refusal code) h node among = absurd h
 
@@ -166,7 +160,7 @@ module _ (job : Job (List ℕ)) (d : Defined) (defined : defineAll 65534 (consta
         let (j, deep, less) = deep-child (placeOf (size job) kind n) k done-at x there-at (goal r) among in
         (j, deep, omega (arith, less, is))
 
-    lead-deep : {t u : Reference} → Leads job t u → (n : ℕ) → Deep (goal t) n → (m : ℕ) × Deep (goal u) m × (m ≤ n)
+    lead-deep : {t u : Reference} → Refers job t u → (n : ℕ) → Deep (goal t) n → (m : ℕ) × Deep (goal u) m × (m ≤ n)
     lead-deep (byName i kind l r at) n h = (n, subst (λ g. Deep g n) (goal-name kind l r (target-is i kind l r at)) h, omega arith)
     lead-deep (toChild kind k e r at a) n h = let (m, deep, less) = child-deeper kind k e r n at a h in (m, deep, omega (arith, less))
 
@@ -192,7 +186,7 @@ module _ (job : Job (List ℕ)) (d : Defined) (defined : defineAll 65534 (consta
         omega (arith, less, less′, one)
 
     -- what leads back to itself is lost, however long it is followed
-    lost : (steps : ℕ) (t u : Reference) → Leads job t u → Reaches job u t → (n : ℕ) → Deep (goal t) n → follow steps (names job) (size job) t ≡ refusal 13
+    lost : (steps : ℕ) (t u : Reference) → Refers job t u → Reaches job u t → (n : ℕ) → Deep (goal t) n → follow steps (names job) (size job) t ≡ refusal 13
     unfolding follow
     lost zero t₀ u₀ (toChild kind k e r at a) back n h = absurd (no-return kind k e r n at a back h)
     lost zero t₀ u₀ (byName i kind l r at) back n h = refl
@@ -205,21 +199,21 @@ module _ (job : Job (List ℕ)) (d : Defined) (defined : defineAll 65534 (consta
 
         on :
             {t : Reference} →
-            Leads job t r →
+            Refers job t r →
             Reaches job r t →
-            ((t u : Reference) → Leads job t u → Reaches job u t → (n : ℕ) → Deep (goal t) n → follow steps (names job) (size job) t ≡ refusal 13) →
+            ((t u : Reference) → Refers job t u → Reaches job u t → (n : ℕ) → Deep (goal t) n → follow steps (names job) (size job) t ≡ refusal 13) →
             follow steps (names job) (size job) r ≡ refusal 13
         on first (there x) rest = rest x x first (there x) n deep
         on first (further x y z k way) rest = rest x y k (reaches-on job way (further z x x first (there x))) n deep
 
     -- what a record resolves being resolved, there is no such cause
-    pub resolvingRefuted : ((place : ℕ) (r : Reference) → Resolves job place r → Settled (s .marks) (goal r)) → {code place : ℕ} → ResolvingCause job code place → ⊥
+    pub resolvingRefuted : {code place : ℕ} → ((r : Reference) → Resolves job place r → Settled (s .marks) (goal r)) → ResolvingCause job code place → ⊥
     unfolding Deep goalOf
     resolvingRefuted settled (undefined place r kind l is way gone) =
-        let (n, deep) = settled-deep (goal r) (settled place r is) in
+        let (n, deep) = settled-deep (goal r) (settled r is) in
         let (m, there-deep, _) = reach-deep way n deep in
         absurd (subst (λ g. Deep g m) (goal-none kind l (unnamed kind l gone)) there-deep)
     resolvingRefuted settled (circular place r t u is way lead back) =
-        let (n, deep) = settled-deep (goal r) (settled place r is) in
+        let (n, deep) = settled-deep (goal r) (settled r is) in
         let (m, there-deep, _) = reach-deep way n deep in
         absurd (subst (λ g. Deep g m) (lost (suc (length (names job))) t u lead back m there-deep) there-deep)

@@ -1,44 +1,37 @@
 -- NO CAUSE: a job of bytes is built exactly if there is no cause of a refusal. Assumes nothing.
 use mathlib.Core.Bool.{true, _&&_}
-use mathlib.Core.List.{List, _++_, map}
+use mathlib.Core.List.{List, map}
 use mathlib.Core.Logic.{_⊎_, inl, inr}
-use mathlib.Core.Option.{some}
-use mathlib.Core.Path.{_≡_, refl, sym, ap, subst, _∙_}
+use mathlib.Core.Path.{_≡_, refl, sym, subst, _∙_}
 use Prim.Native.Nat.{ℕ, suc, _+_, _*_, _/_, _<_}
 use native.Mathlib.Omega.{arith}
 use lib.Dec.{leb}
-use lib.ListN.{length, getElem?}
+use lib.ListN.{length}
 use borrow.Author.Tests.{leb-true}
 use Rattle.definition.specs.Basics.{Result, good, bad, Refusal, atRecord, unless}
-use Rattle.definition.specs.Shapes.{Kind, constant, bootstrap, Entry}
-use Rattle.definition.specs.Job.{Reference, placed, Request, Job}
+use Rattle.definition.specs.Shapes.{Kind, constant, bootstrap}
+use Rattle.definition.specs.Job.{Reference, placed, Job}
 use Rattle.definition.specs.Form.{form}
-use Rattle.definition.specs.Numbering.{bootstrapsOf, literals, numbered}
+use Rattle.definition.specs.Numbering.{literals, numbered}
 use Rattle.definition.specs.Definitions.{Defined}
-use Rattle.definition.specs.Resolving.{Goal, tableEntry, placeOf, follow, goalOf, linked, Resolved}
-use Rattle.definition.specs.Slots.{highestSlot}
-use Rattle.definition.specs.Layout.{starters, endDefinitions, answerAll, Layout, layout}
+use Rattle.definition.specs.Resolving.{tableEntry, placeOf, follow, goalOf, Resolved}
+use Rattle.definition.specs.Layout.{starters, Layout, layout}
 use Rattle.definition.specs.Run.{Built, render, Placed, build, Lent, longestJob, enough, classOut, fits, run}
 use Rattle.facts.specs.Lists.{Among}
-use Rattle.facts.proofs.Lists.{both-true, among-left, among-right, map-at}
+use Rattle.facts.proofs.Lists.{both-true, among-left, map-at}
 use Rattle.facts.proofs.Results.{good-inj, good-then, atRecord-good, unless-good}
-use Rattle.facts.proofs.Outcomes.{whenGood}
 use Rattle.laws.specs.Statements.{IsBytes}
 use Rattle.laws.specs.Faithful.{Settled}
 use Rattle.causes.specs.CauseStatement.{Resolves, byRaw, byRequest, Short, CauseOf, tooLong, tooLittle, notFormed, defining, resolving, slots, noRoom, ResolvingCause, NoCause}
-use Rattle.laws.proofs.definitions.DefinedAsPlaced.{DefinedFacts, wideAt, defined-facts, start-starters}
-use Rattle.laws.proofs.resolving.FaithfulToEntries.{settled-grows}
-use Rattle.laws.proofs.resolving.JobGoals.{jobNames, jobConstants, jobTable}
-use Rattle.laws.proofs.resolving.ResolvedNodes.{GoodTable}
-use Rattle.laws.proofs.building.LayoutStages.{constantsIn, tableIn, Stages, stages}
-use Rattle.laws.proofs.building.AfterRecord50.{rawGoals}
-use Rattle.laws.proofs.building.AfterRequests.{Going, Answered, Further, answerAll-going}
-use Rattle.laws.proofs.building.BeforeRequests.{formed-table, begun-names, begunRaws, begun, begun-asks}
+use Rattle.laws.proofs.definitions.DefinedAsPlaced.{start-starters}
+use Rattle.laws.proofs.resolving.JobGoals.{jobNames, jobConstants}
+use Rattle.laws.proofs.building.LayoutStages.{Stages, stages}
+use Rattle.laws.proofs.building.BuiltJob.{st, facts, asked, raw-settled, index-node}
+use Rattle.laws.proofs.building.JobNodesApart.{nodes-apart}
 use Rattle.causes.proofs.CauseDefinitions.{placed-forth}
 use Rattle.causes.proofs.Cause.{cause}
 use Rattle.causes.proofs.CausedForm.{formRefuted}
 use Rattle.causes.proofs.CausedDefinitions.{definitionRefuted}
-use Rattle.causes.proofs.CausedRanks.{Ranked, fifty-ranked, answerAll-ranked}
 use Rattle.causes.proofs.CausedReached.{resolvingRefuted}
 use Rattle.causes.proofs.CausedSlots.{slotRefuted}
 
@@ -46,7 +39,7 @@ use Rattle.causes.proofs.CausedSlots.{slotRefuted}
 
 module _ (bytes : List ℕ) (job : Job (List ℕ)) (are : IsBytes bytes) (formed : form bytes ≡ good job) (l : Layout) (laid : layout 65534 (numbered job) ≡ good l) where
   abbrev stg : Stages 65534 (numbered job) l
-  stg = stages 65534 (numbered job) l laid
+  stg = st bytes job l are formed laid
 
   abbrev d : Defined
   d = stg .defined
@@ -54,73 +47,26 @@ module _ (bytes : List ℕ) (job : Job (List ℕ)) (are : IsBytes bytes) (formed
   abbrev size : ℕ
   size = jobConstants (numbered job)
 
-  abbrev table : List (Entry ℕ Goal)
-  table = jobTable (numbered job)
-
-  fine : GoodTable table
-  fine = formed-table bytes job are formed
-
-  same-names : d .names ≡ jobNames (numbered job)
-  same-names = begun-names bytes job are formed d (stg .isDefined)
-
-  same-table : tableIn (numbered job) d ≡ table
-  same-table = ap (λ names. linked names size (constantsIn (numbered job) ++ bootstrapsOf (numbered job .definitions))) same-names
-
-  asked-all : answerAll (jobNames (numbered job)) size (suc (length (numbered job .definitions))) (numbered job .requests) (stg .ready) ≡ good (stg .answers, stg .asked)
-  asked-all = subst (λ names. answerAll names size (suc (length (numbered job .definitions))) (numbered job .requests) (stg .ready) ≡ good (stg .answers, stg .asked)) same-names (stg .isAsked)
-
-  abbrev raws : List (ℕ × ℕ)
-  raws = begunRaws bytes job are formed d (stg .isDefined) (stg .ready) (stg .isReady)
-
   abbrev s : Resolved
   s = stg .asked .resolved
 
-  -- the requests kept all that record 50 resolved, and resolved what they asked for
-  abbrev Through : Type 0
-  Through =
-      Going table highestSlot (d .held) raws (stg .asked)
-      × Further (stg .ready) (stg .asked)
-      × ((i : ℕ) (q : Request) → getElem? (numbered job .requests) i ≡ some q →
-      (a : ℕ) × (getElem? (stg .answers) i ≡ some a) × Answered (goalOf (jobNames (numbered job)) size (q .what)) a (stg .asked))
-
-  through : Through
-  through =
-      answerAll-going table (fine .cited) highestSlot (d .held) raws (jobNames (numbered job)) size (suc (length (numbered job .definitions))) (numbered job .requests) (stg .ready) (stg .answers, stg .asked)
-      (begun-asks bytes job are formed d (stg .isDefined) (stg .ready) (stg .isReady))
-      asked-all
-      (begun bytes job are formed d (stg .isDefined) (stg .ready) (stg .isReady) .0)
-
-  ranked : Ranked table fine s
-  ranked =
-      let r = whenGood (fifty-ranked table fine 65534 size d) (subst (λ t. endDefinitions 65534 t size d ≡ good (stg .ready)) same-table (stg .isReady)) in
-      whenGood (answerAll-ranked table fine (jobNames (numbered job)) size (suc (length (numbered job .definitions))) (numbered job .requests) (stg .ready) r) asked-all .0
-
-  raw-settled : (kind : Kind) (n e : ℕ) → Among (placed kind n e) (numbered job .definitions) → Settled (s .marks) (tableEntry (placeOf size kind e))
+  placed-settled : (kind : Kind) (n e : ℕ) → Among (placed kind n e) (numbered job .definitions) → Settled (s .marks) (tableEntry (placeOf size kind e))
   unfolding placeOf
-  raw-settled kind n e a =
-      settled-grows (stg .ready .resolved) s (tableEntry (placeOf size kind e)) (through .1 .grows)
-      (begun bytes job are formed d (stg .isDefined) (stg .ready) (stg .isReady) .1 (tableEntry (placeOf size kind e)) (go kind a))
-    where
-      facts : DefinedFacts (wideAt (constantsIn (numbered job))) (numbered job .definitions) d
-      facts = defined-facts 65534 (constantsIn (numbered job)) (numbered job .definitions) d (stg .isDefined)
-
-      go : (kind : Kind) → Among (placed kind n e) (numbered job .definitions) → Among (tableEntry (placeOf size kind e)) (rawGoals size d)
-      go constant a =
-          let h = start-starters (d .held) n e (facts .allHeld .startHeld n e a) in
-          among-left (tableEntry e) (map (λ r. tableEntry (r .1)) (starters (d .held))) (map (λ r. tableEntry (size + r .1)) (d .indexes))
-          (h .0, map-at (λ (r : ℕ × ℕ). tableEntry (r .1)) (starters (d .held)) (h .0) (n, e) (h .1))
-      go bootstrap a =
-          let h = facts .allIndexes .indexHeld n e a in
-          among-right (tableEntry (size + e)) (map (λ r. tableEntry (r .1)) (starters (d .held))) (map (λ r. tableEntry (size + r .1)) (d .indexes))
-          (h .0, map-at (λ (r : ℕ × ℕ). tableEntry (size + r .1)) (d .indexes) (h .0) (n, e) (h .1))
+  placed-settled constant n e a =
+      let h = start-starters (d .held) n e (facts bytes job l are formed laid .allHeld .startHeld n e a) in
+      raw-settled bytes job l are formed laid (tableEntry e)
+      (among-left (tableEntry e) (map (λ r. tableEntry (r .1)) (starters (d .held))) (map (λ r. tableEntry (size + r .1)) (d .indexes))
+      (h .0, map-at (λ (r : ℕ × ℕ). tableEntry (r .1)) (starters (d .held)) (h .0) (n, e) (h .1)))
+  placed-settled bootstrap n e a = index-node bytes job l are formed laid n e (facts bytes job l are formed laid .allIndexes .indexHeld n e a)
 
   settled : (place : ℕ) (r : Reference) → Resolves job place r → Settled (s .marks) (goalOf (jobNames (numbered job)) size r)
   unfolding goalOf follow numbered
-  settled place r₀ (byRaw i kind n e at) = raw-settled kind n e (i, placed-forth job i kind n e at)
-  settled place r₀ (byRequest j q at) = through .2 j q at .2 .settled
+  settled place r₀ (byRaw i kind n e at) = placed-settled kind n e (i, placed-forth job i kind n e at)
+  settled place r₀ (byRequest j q at) = asked bytes job l are formed laid .2 j q at .2 .settled
 
   resolving-refuted : {code place : ℕ} → ResolvingCause job code place → ⊥
-  resolving-refuted c = resolvingRefuted job d (stg .isDefined) fine s (through .0 .faithful) ranked settled c
+  resolving-refuted {code} {place} c =
+      resolvingRefuted job d (stg .isDefined) s (asked bytes job l are formed laid .0 .faithful) (nodes-apart bytes job l are formed laid) (settled place) c
 
 -- ---- a run that ends well
 

@@ -9,18 +9,20 @@ use Prim.Native.Nat.{ℕ, suc, _+_, _*_, _/_, _≤_, _<_}
 use lib.ListN.{length, getElem?}
 use Rattle.definition.specs.Basics.{good, bad, Refusal, position, lookup}
 use Rattle.definition.specs.Shapes.{Kind, constant, bootstrap, Entry, isWide}
-use Rattle.definition.specs.Job.{Reference, raw, entry, name, Definition, define, named, placed, Request, request, Build, Job}
+use Rattle.definition.specs.Job.{Reference, entry, name, Definition, define, named, placed, Request, request, Build, Job}
 use Rattle.definition.specs.Job.{Body, bodies, readBody, readDefinition, asks, reference, readRequest, readBuild}
 use Rattle.definition.specs.Form.{kindOf, form}
 use Rattle.definition.specs.Numbering.{constantsOf, bootstrapsOf, literals, numbered}
 use Rattle.definition.specs.Definitions.{Defined, tagAt, defineAll, nothingDefined}
-use Rattle.definition.specs.Resolving.{Goal, goalOf, linked, Node, Resolved, sameNode, intern, childOf, resolve}
+use Rattle.definition.specs.Resolving.{Goal, rawNumber, tableEntry, goalOf, linked, Node, sameNode, intern}
 use Rattle.definition.specs.Building.{Pool, slotsOf, Row, Rows, indexOf, fillHoles, Made, kidsOf, childNumbers, finish, withPending, rawRows, buildAll, attributeText, nameWanted}
 use Rattle.definition.specs.Layout.{Ready, endDefinitions, answer, indexNodes, Layout, layout}
 use Rattle.definition.specs.Run.{Built, render, Lent, classOut, run}
 use Rattle.facts.specs.Lists.{Among}
 use Rattle.laws.specs.Counted.{countIn}
-use Rattle.laws.specs.Statements.{IsBytes, freeSlots}
+use Rattle.laws.specs.LeadsStatement.{Leads}
+use Rattle.laws.specs.SharedStatement.{Same}
+use Rattle.laws.specs.Statements.{IsBytes}
 
 -- ---- 3, 4, 5: the form, over the bytes
 
@@ -142,10 +144,13 @@ At job i x = getElem? (job .definitions) i ≡ some x
 abbrev pub Wide : Job (List ℕ) → ℕ → Type 0
 Wide job e = (x : Entry (List ℕ) Reference) × (getElem? (constantsOf (job .definitions)) e ≡ some x) × ((x .tag ≡ 5) ⊎ (x .tag ≡ 6))
 
+-- a constant at slot n takes slot s: its own, and the next if it is wide
+abbrev pub TakesSlot : Type 0 → ℕ → ℕ → Type 0
+TakesSlot wide n s = (s ≡ n) ⊎ (wide × (s ≡ suc n))
+
 -- a raw constant before this record takes slot s
 abbrev pub Taken : Job (List ℕ) → ℕ → ℕ → Type 0
-Taken job place s =
-    (i : ℕ) × (m : ℕ) × (k : ℕ) × (i < place) × At job i (placed constant m k) × ((s ≡ m) ⊎ (Wide job k × (s ≡ suc m)))
+Taken job place s = (i : ℕ) × (m : ℕ) × (k : ℕ) × (i < place) × At job i (placed constant m k) × TakesSlot (Wide job k) m s
 
 -- a wide one at n finds slot n + 1 free
 abbrev pub SecondFree : Job (List ℕ) → ℕ → ℕ → ℕ → Type 0
@@ -198,30 +203,28 @@ abbrev pub tableOf : Kind → Job (List ℕ) → List (Entry (List ℕ) Referenc
 tableOf constant job = constantsOf (job .definitions)
 tableOf bootstrap job = bootstrapsOf (job .definitions)
 
--- a name leads to what a record says that it names; an entry leads to each of its references
-pub data Leads (job : Job (List ℕ)) : Reference → Reference → Type 0 where
-  byName : (i : ℕ) (kind : Kind) (s : List ℕ) (r : Reference) → At job i (named kind s r) → Leads job (name kind s) r
+-- a name refers to what a record says that it names; an entry refers to each of its references
+pub data Refers (job : Job (List ℕ)) : Reference → Reference → Type 0 where
+  byName : (i : ℕ) (kind : Kind) (s : List ℕ) (r : Reference) → At job i (named kind s r) → Refers job (name kind s) r
   toChild :
       (kind : Kind) (n : ℕ) (e : Entry (List ℕ) Reference) (r : Reference) →
       getElem? (tableOf kind job) n ≡ some e →
       Among r (e .kids) →
-      Leads job (entry kind n) r
+      Refers job (entry kind n) r
 
 -- in no step or more
 pub data Reaches (job : Job (List ℕ)) : Reference → Reference → Type 0 where
   there : (r : Reference) → Reaches job r r
-  further : (r s t : Reference) → Leads job r s → Reaches job s t → Reaches job r t
+  further : (r s t : Reference) → Refers job r s → Reaches job s t → Reaches job r t
 
--- a reference is a raw number, or a name that leads to it through names alone
-pub data LeadsRaw (job : Job (List ℕ)) : Reference → ℕ → Type 0 where
-  rawItself : (n : ℕ) → LeadsRaw job (raw n) n
-  rawNamed : (i : ℕ) (kind : Kind) (s : List ℕ) (r : Reference) (n : ℕ) → At job i (named kind s r) → LeadsRaw job r n → LeadsRaw job (name kind s) n
+-- the record of a request: definitions and 50 stand before
+abbrev pub requestPlace : Job (List ℕ) → ℕ → ℕ
+requestPlace job j = suc (length (job .definitions)) + j
 
 -- what a record resolves: 50 each raw definition's entry, a request what it asks for
 pub data Resolves (job : Job (List ℕ)) : ℕ → Reference → Type 0 where
   byRaw : (i : ℕ) (kind : Kind) (n e : ℕ) → At job i (placed kind n e) → Resolves job (length (job .definitions)) (entry kind e)
-  byRequest :
-      (j : ℕ) (q : Request) → getElem? (job .requests) j ≡ some q → Resolves job (suc (length (job .definitions)) + j) (q .what)
+  byRequest : (j : ℕ) (q : Request) → getElem? (job .requests) j ≡ some q → Resolves job (requestPlace job j) (q .what)
 
 pub data ResolvingCause (job : Job (List ℕ)) : ℕ → ℕ → Type 0 where
   -- 12: a name is reached that no record names
@@ -231,27 +234,28 @@ pub data ResolvingCause (job : Job (List ℕ)) : ℕ → ℕ → Type 0 where
       Reaches job r (name kind s) →
       ((i : ℕ) (t : Reference) → At job i (named kind s t) → ⊥) →
       ResolvingCause job 12 place
-  -- 13: an entry or a name is reached that leads back to itself
+  -- 13: an entry or a name is reached that comes back to itself, in one step or more
   circular :
       (place : ℕ) (r t u : Reference) →
       Resolves job place r →
       Reaches job r t →
-      Leads job t u →
+      Refers job t u →
       Reaches job u t →
       ResolvingCause job 13 place
 
--- ---- 14 to 17: slots and indexes, over what the definition has when the record is in turn
+-- ---- 14 to 16 at a request, over the answers to those before it
 
 -- the constants of a job, literals being numbers
 abbrev pub constantsNumbered : Job (List ℕ) → List (Entry ℕ Reference)
 constantsNumbered job = constantsOf (numbered job .definitions)
 
--- where a request leads
+-- where the definition follows what a request asks for
 abbrev pub goalIn : Job (List ℕ) → Defined → Request → Goal
 goalIn job d q = goalOf (d .names) (length (constantsNumbered job)) (q .what)
 
--- what the run works on behind record 50 and so many requests, all of them answered
-pub data Behind (job : Job (List ℕ)) (d : Defined) : ℕ → Ready → Type 0 where
+-- record 50 was passed, and the first requests, one after another, got these answers; and what the definition has by then, of which the causes
+-- at a request say nothing
+pub data Behind (job : Job (List ℕ)) (d : Defined) : List ℕ → Ready → Type 0 where
   behind50 :
       (w : Ready) →
       defineAll 65534 (constantsNumbered job) 0 (numbered job .definitions) nothingDefined ≡ good d →
@@ -260,39 +264,72 @@ pub data Behind (job : Job (List ℕ)) (d : Defined) : ℕ → Ready → Type 0 
       (linked (d .names) (length (constantsNumbered job)) (constantsNumbered job ++ bootstrapsOf (numbered job .definitions)))
       (length (constantsNumbered job))
       d ≡ good w →
-      Behind job d 0 w
+      Behind job d [] w
   behindRequest :
-      (j : ℕ) (q : Request) (w w′ : Ready) (a : ℕ) →
-      Behind job d j w →
-      getElem? (job .requests) j ≡ some q →
+      (answers : List ℕ) (q : Request) (w w′ : Ready) (a : ℕ) →
+      Behind job d answers w →
+      getElem? (job .requests) (length answers) ≡ some q →
       answer (q .ldc) (goalIn job d q) w ≡ good (a, w′) →
-      Behind job d (suc j) w′
+      Behind job d (answers ++ a ∷ []) w′
 
--- request j, ldc or not, asks for a constant, which resolving made node k
-pub record Asks (job : Job (List ℕ)) (j : ℕ) (ldc : Bool) : Type 0 where
-  pub defined : Defined
-  pub state : Ready
-  pub what : Request
-  pub resolved : Resolved
-  pub node : ℕ
-  pub isBehind : Behind job defined j state
-  pub isWhat : getElem? (job .requests) j ≡ some what
-  pub isLdc : what .ldc ≡ ldc
-  pub isResolved : resolve (state .table) (goalIn job defined what) (state .resolved) ≡ good resolved
-  pub isNode : childOf (resolved .marks) (goalIn job defined what) ≡ 65536 + node
+-- the first requests of a job have these answers
+abbrev pub AnsweredSoFar : Job (List ℕ) → List ℕ → Type 0
+AnsweredSoFar job answers = (d : Defined) × (w : Ready) × Behind job d answers w
 
-abbrev pub Free : Pool → ℕ → Type 0
-Free p s = Among s (freeSlots (p .slots .gaps))
+-- request j, ldc or not, leads to a goal (Leads: through names alone), and is refused neither with 12 nor with 13
+abbrev pub AsksFor : Job (List ℕ) → ℕ → Bool → Goal → Type 0
+AsksFor job j ldc goal =
+    (q : Request) × (getElem? (job .requests) j ≡ some q) × (q .ldc ≡ ldc) × Leads (job .definitions) (q .what) goal
+    × ((code : ℕ) → ResolvingCause job code (requestPlace job j) → ⊥)
 
--- a pool has no slot: a wide constant needs two neighbours, a narrow one for ldc a slot up to 255, any other any
-abbrev pub NoSlot : Bool → Bool → Pool → Type 0
-NoSlot true ldc p = (s : ℕ) → Free p s → Free p (suc s) → ⊥
-NoSlot false true p = (s : ℕ) → Free p s → s ≤ 255 → ⊥
-NoSlot false false p = (s : ℕ) → Free p s → ⊥
+-- an answered request led to constant e and got slot a
+abbrev pub Got : Job (List ℕ) → List ℕ → ℕ → ℕ → Type 0
+Got job answers e a =
+    (i : ℕ) × (q : Request) × (getElem? (job .requests) i ≡ some q) × Leads (job .definitions) (q .what) (tableEntry e) × (getElem? answers i ≡ some a)
 
--- a node has no slot yet and gets none
-abbrev pub Lacks : List Node → Bool → ℕ → Pool → Type 0
-Lacks nodes ldc k p = (lookup k (p .given) ≡ none) × NoSlot (isWide (tagAt nodes k)) ldc p
+-- constant e has slot s: an answered request led to the same constant (Same: by the job's records) and got it
+abbrev pub HasSlot : Job (List ℕ) → List ℕ → ℕ → ℕ → Type 0
+HasSlot job answers e s = (f : ℕ) × Got job answers f s × Same (job .definitions) (tableEntry f) (tableEntry e)
+
+-- it has none yet
+abbrev pub HasNoSlot : Job (List ℕ) → List ℕ → ℕ → Type 0
+HasNoSlot job answers e = (s : ℕ) → HasSlot job answers e s → ⊥
+
+-- a raw constant holds slot s
+abbrev pub RawHeld : Job (List ℕ) → ℕ → Type 0
+RawHeld job s = Taken job (length (job .definitions)) s
+
+-- slot s is given out: a constant that an answered request led to takes it
+abbrev pub GivenOut : Job (List ℕ) → List ℕ → ℕ → Type 0
+GivenOut job answers s = (e : ℕ) × (a : ℕ) × Got job answers e a × TakesSlot (Wide job e) a s
+
+-- a slot is free: it is one from 1 to 65534, neither raw-held nor given out
+abbrev pub Free : Job (List ℕ) → List ℕ → ℕ → Type 0
+Free job answers s = (1 ≤ s) × (s ≤ 65534) × (RawHeld job s → ⊥) × (GivenOut job answers s → ⊥)
+
+-- there is no slot: a wide constant needs two neighbours, a narrow one for ldc a slot up to 255, any other any
+pub data NoSlot (wide : Type 0) (free : ℕ → Type 0) : Bool → Type 0 where
+  noPair : (ldc : Bool) → wide → ((s : ℕ) → free s → free (suc s) → ⊥) → NoSlot wide free ldc
+  noneLow : (wide → ⊥) → ((s : ℕ) → free s → s ≤ 255 → ⊥) → NoSlot wide free true
+  noneAtAll : (wide → ⊥) → ((s : ℕ) → free s → ⊥) → NoSlot wide free false
+
+-- ---- 14 and 17 at the build, over what the definition has when a constant is in turn
+
+-- slot s is given out: a node that was given a slot takes it
+abbrev pub GivenToNode : List Node → Pool → ℕ → Type 0
+GivenToNode nodes p s = (k : ℕ) × (a : ℕ) × Among (k, a) (p .given) × TakesSlot (isWide (tagAt nodes k) ≡ true) a s
+
+-- a slot is free: it is one from 1 to 65534, neither raw-held nor given out so far
+abbrev pub FreeIn : Job (List ℕ) → List Node → Pool → ℕ → Type 0
+FreeIn job nodes p s = (1 ≤ s) × (s ≤ 65534) × (RawHeld job s → ⊥) × (GivenToNode nodes p s → ⊥)
+
+-- a node has no slot yet, and there is none for it
+abbrev pub Lacks : Job (List ℕ) → List Node → ℕ → Pool → Type 0
+Lacks job nodes k p = (lookup k (p .given) ≡ none) × NoSlot (isWide (tagAt nodes k) ≡ true) (FreeIn job nodes p) false
+
+-- all requests are answered, and what the definition has by then
+abbrev pub AllAnswered : Job (List ℕ) → Defined → Ready → Type 0
+AllAnswered job d w = (answers : List ℕ) × (length answers ≡ length (job .requests)) × Behind job d answers w
 
 -- BUILDING asks in turn (document 01, "Building"), over the nodes, from the pool that requests left. In each list of children a number below
 -- 65,536 is a raw one, and 65536 + k is node k
@@ -348,90 +385,99 @@ pub record NextNumber (nodes : List Node) (indexes : List (ℕ × ℕ)) (start :
   pub isKids : parent .kids ≡ before ++ (65536 + node) ∷ after
   pub isPool : childNumbers nodes before (withPending pending made .pool) (made .rows) ≡ good (numbers, pool, rows)
 
+-- a raw bootstrap stands at index i
+abbrev pub RawIndex : Job (List ℕ) → ℕ → Type 0
+RawIndex job i = (k : ℕ) × (e : ℕ) × At job k (placed bootstrap i e)
+
 -- the nodes of the raw bootstraps
 abbrev pub rawIndexes : Job (List ℕ) → Defined → Ready → List (ℕ × ℕ)
 rawIndexes job d w = indexNodes (length (constantsNumbered job)) (w .resolved .marks) (d .indexes)
 
 -- the number of the build record
 abbrev pub buildPlace : Job (List ℕ) → ℕ
-buildPlace job = suc (length (job .definitions)) + length (job .requests)
+buildPlace job = requestPlace job (length (job .requests))
 
 pub data SlotCause (job : Job (List ℕ)) : ℕ → ℕ → Type 0 where
-  -- 14, 15: a request
+  -- 14: a request for a constant that has no slot yet, and there is none for it
   noSlotAsked :
-      (j : ℕ) (a : Asks job j false) →
-      Lacks (a .resolved .nodes) false (a .node) (a .state .pool) →
-      SlotCause job 14 (suc (length (job .definitions)) + j)
+      (answers : List ℕ) (e : ℕ) →
+      AnsweredSoFar job answers →
+      AsksFor job (length answers) false (tableEntry e) →
+      HasNoSlot job answers e →
+      NoSlot (Wide job e) (Free job answers) false →
+      SlotCause job 14 (requestPlace job (length answers))
+  -- 15: the same of an ldc request
   noLdcSlotAsked :
-      (j : ℕ) (a : Asks job j true) →
-      Lacks (a .resolved .nodes) true (a .node) (a .state .pool) →
-      SlotCause job 15 (suc (length (job .definitions)) + j)
+      (answers : List ℕ) (e : ℕ) →
+      AnsweredSoFar job answers →
+      AsksFor job (length answers) true (tableEntry e) →
+      HasNoSlot job answers e →
+      NoSlot (Wide job e) (Free job answers) true →
+      SlotCause job 15 (requestPlace job (length answers))
   -- 16: an ldc request that leads to a raw number above 255
   rawAbove :
-      (j n : ℕ) (d : Defined) (w : Ready) (q : Request) →
-      Behind job d j w →
-      getElem? (job .requests) j ≡ some q →
-      q .ldc ≡ true →
-      LeadsRaw job (q .what) n →
-      255 < n →
-      SlotCause job 16 (suc (length (job .definitions)) + j)
+      (answers : List ℕ) (n : ℕ) → AnsweredSoFar job answers → AsksFor job (length answers) true (rawNumber n) → 255 < n → SlotCause job 16 (requestPlace job (length answers))
   -- 16: or to a constant that has a slot above 255
   slotAbove :
-      (j s : ℕ) (a : Asks job j true) →
-      lookup (a .node) (a .state .pool .given) ≡ some s →
+      (answers : List ℕ) (e s : ℕ) →
+      AnsweredSoFar job answers →
+      AsksFor job (length answers) true (tableEntry e) →
+      HasSlot job answers e s →
       255 < s →
-      SlotCause job 16 (suc (length (job .definitions)) + j)
+      SlotCause job 16 (requestPlace job (length answers))
   -- 16: or to a wide one that has none, where the first two neighbours that are free lie above 255
   pairAbove :
-      (j s : ℕ) (a : Asks job j true) →
-      lookup (a .node) (a .state .pool .given) ≡ none →
-      isWide (tagAt (a .resolved .nodes) (a .node)) ≡ true →
+      (answers : List ℕ) (e s : ℕ) →
+      AnsweredSoFar job answers →
+      AsksFor job (length answers) true (tableEntry e) →
+      HasNoSlot job answers e →
+      Wide job e →
       255 < s →
-      Free (a .state .pool) s →
-      Free (a .state .pool) (suc s) →
-      ((t : ℕ) → Free (a .state .pool) t → Free (a .state .pool) (suc t) → s ≤ t) →
-      SlotCause job 16 (suc (length (job .definitions)) + j)
+      Free job answers s →
+      Free job answers (suc s) →
+      ((t : ℕ) → Free job answers t → Free job answers (suc t) → s ≤ t) →
+      SlotCause job 16 (requestPlace job (length answers))
   -- 14 at the build: a child of a raw bootstrap
   rawLacks :
       (d : Defined) (w : Ready) →
-      Behind job d (length (job .requests)) w →
+      AllAnswered job d w →
       (r : NextRaw (w .resolved .nodes) (rawIndexes job d w) (w .pool)) (c : NextChild (w .resolved .nodes) (kidsOf (w .resolved .nodes) (r .node)) (r .pool)) →
-      Lacks (w .resolved .nodes) false (c .node) (c .pool) →
+      Lacks job (w .resolved .nodes) (c .node) (c .pool) →
       SlotCause job 14 (buildPlace job)
   -- 14 at the build: a constant that is a child of one from the stack
   childLacks :
       (d : Defined) (w : Ready) →
-      Behind job d (length (job .requests)) w →
+      AllAnswered job d w →
       (n : NextNumber (w .resolved .nodes) (rawIndexes job d w) (w .pool)) →
       tagAt (w .resolved .nodes) (n .node) ≢ 0x40 →
-      Lacks (w .resolved .nodes) false (n .node) (n .pool) →
+      Lacks job (w .resolved .nodes) (n .node) (n .pool) →
       SlotCause job 14 (buildPlace job)
   -- 14 at the build: a child of a bootstrap that one from the stack cites
   bootstrapLacks :
       (d : Defined) (w : Ready) →
-      Behind job d (length (job .requests)) w →
+      AllAnswered job d w →
       (n : NextNumber (w .resolved .nodes) (rawIndexes job d w) (w .pool)) →
       tagAt (w .resolved .nodes) (n .node) ≡ 0x40 →
       (c : NextChild (w .resolved .nodes) (kidsOf (w .resolved .nodes) (n .node)) (n .pool)) →
-      Lacks (w .resolved .nodes) false (c .node) (c .pool) →
+      Lacks job (w .resolved .nodes) (c .node) (c .pool) →
       SlotCause job 14 (buildPlace job)
   -- 14 at the build: the name, which is wanted and comes last
   nameLacks :
       (d : Defined) (w : Ready) (m : Made) →
-      Behind job d (length (job .requests)) w →
+      AllAnswered job d w →
       buildAll (w .resolved .nodes) (rawIndexes job d w) (w .pool) ≡ good m →
       nameWanted (job .build .nameByte) (length (fillHoles (m .rows .written) (m .rows .waiting))) ≡ true →
-      Lacks (intern attributeText (w .resolved .nodes)) false (position (sameNode attributeText) (w .resolved .nodes)) (m .pool) →
+      Lacks job (intern attributeText (w .resolved .nodes)) (position (sameNode attributeText) (w .resolved .nodes)) (m .pool) →
       SlotCause job 14 (buildPlace job)
-  -- 17: a bootstrap that one from the stack cites shares no index, and all 65,535 are used: written, or kept by a raw bootstrap
+  -- 17: a bootstrap that one from the stack cites shares no index, and all 65,535 are used: written by then, or a raw bootstrap's
   noIndex :
       (d : Defined) (w : Ready) →
-      Behind job d (length (job .requests)) w →
+      AllAnswered job d w →
       (n : NextNumber (w .resolved .nodes) (rawIndexes job d w) (w .pool)) (row : Row) (p : Pool) →
       tagAt (w .resolved .nodes) (n .node) ≡ 0x40 →
       slotsOf (w .resolved .nodes) (kidsOf (w .resolved .nodes) (n .node)) (n .pool) ≡ good (row, p) →
       indexOf row (n .rows .inline) ≡ none →
-      ((i : ℕ) → i < 65535 → (i < length (n .rows .written)) ⊎ ((r : Row) × (lookup i (n .rows .waiting) ≡ some r))) →
+      ((i : ℕ) → i < 65535 → (i < length (n .rows .written)) ⊎ RawIndex job i) →
       SlotCause job 17 (buildPlace job)
 
 -- ---- all of them
@@ -465,11 +511,28 @@ Cause = (lent : Lent) (bytes : List ℕ) (r : Refusal) → IsBytes bytes → run
 abbrev pub records : Job (List ℕ) → ℕ
 records job = suc (buildPlace job)
 
--- CAUSE PLACED: the number lies from 1 to 18, and the place is at most the number of bytes, and the number of a record if the job is well formed
+-- the bytes begin with so many records, each well formed
+pub data RecordsStand (bytes : List ℕ) : ℕ → Type 0 where
+  onlyDefinitions : (ds : List (Definition (List ℕ))) (left : List ℕ) → Stand bytes ds left → RecordsStand bytes (length ds)
+  upToRequests :
+      (ds : List (Definition (List ℕ))) (qs : List Request) (left : List ℕ) → StandAsked bytes ds qs left → RecordsStand bytes (suc (length ds) + length qs)
+  upToBuild :
+      (ds : List (Definition (List ℕ))) (qs : List Request) (left : List ℕ) (b : Build) (rest : List ℕ) →
+      StandAsked bytes ds qs (0x60 ∷ left) →
+      readBuild left ≡ some (b, rest) →
+      ((n : ℕ) → b .class ≡ request n → n < length qs) →
+      RecordsStand bytes (suc (suc (length ds) + length qs))
+
+-- a place is at most the number of records that stand
+abbrev pub InRecords : List ℕ → ℕ → Type 0
+InRecords bytes place = (n : ℕ) × RecordsStand bytes n × (place ≤ n)
+
+-- CAUSE PLACED: the number lies from 1 to 18; the place is at most the number of records that stand, and the number of a record if the job is
+-- well formed
 abbrev pub CausePlaced : Type 0
 CausePlaced =
     (lent : Lent) (bytes : List ℕ) (r : Refusal) → IsBytes bytes → run lent bytes ≡ bad r → (1 ≤ r .code) × (r .code ≤ 18)
-    × (r .place ≤ length bytes) × ((job : Job (List ℕ)) → form bytes ≡ good job → r .place < records job)
+    × InRecords bytes (r .place) × ((job : Job (List ℕ)) → form bytes ≡ good job → r .place < records job)
 
 -- NO CAUSE: a job of bytes is built exactly if there is no cause of a refusal
 abbrev pub NoCause : Type 0

@@ -16,12 +16,8 @@ use Rattle.definition.specs.Run.{Built, Lent, longestJob, enough, run, untouche
 use Rattle.facts.proofs.Lists.{both-true}
 use Rattle.laws.specs.Statements.{IsBytes}
 use Rattle.causes.specs.CauseStatement.{CauseOf, tooLong, tooLittle, notFormed, defining, resolving, slots, noRoom}
-use Rattle.causes.specs.CauseStatement.{FormCause, unreadDefinition, tableFull, noEntry, unreadRequest, noEntryAsked, unreadBuild, noRequestCited, bytesBehind}
-use Rattle.causes.specs.CauseStatement.{DefinitionCause, secondTaken, onSecond, sameSlot, lastIndex, sameIndex, sameName}
-use Rattle.causes.specs.CauseStatement as cause-of
-use Rattle.causes.specs.CauseStatement.{ResolvingCause, undefined, circular}
-use Rattle.causes.specs.CauseStatement.{SlotCause, noSlotAsked, noLdcSlotAsked, rawAbove, slotAbove, pairAbove, rawLacks, childLacks, bootstrapLacks, nameLacks, noIndex}
-use Rattle.causes.proofs.Cause.{cause}
+use Rattle.causes.proofs.CauseForm.{form-bounds}
+use Rattle.causes.proofs.Cause.{definition-bounds, resolving-bounds, slot-bounds, cause}
 use Rattle.laws.proofs.runs.StepsOfRuns.{LayoutRefused, early, sixteen, atSlot, atRow}
 use Rattle.laws.proofs.runs.StepRefusals.{allocate-refused, noSlot-low, rowIndex-refused}
 use Rattle.laws.proofs.runs.RunRefused.{RunRefused, outside, inLayout, runRefused}
@@ -62,42 +58,6 @@ pub late-cleared : (q : Refusal) → 3 ≤ q .code → untouched (bad q) ≡ fal
 unfolding untouched
 late-cleared q low = rw (ne-eqb (q .code) 1 (λ e. omega (arith, e)), ne-eqb (q .code) 2 (λ e. omega (arith, e)))
 
--- no cause behind those of 1 and 2 has these numbers
-late-form : {bytes : List ℕ} {code place : ℕ} → FormCause bytes code place → 2 < code
-late-form (unreadDefinition _ _ _ _) = omega arith
-late-form (tableFull _ _ _ _ _ _ _ _ _) = omega arith
-late-form (noEntry _ _ _ _ _ _ _ _ _ _ _ _ _) = omega arith
-late-form (unreadRequest _ _ _ _ _) = omega arith
-late-form (noEntryAsked _ _ _ _ _ _ _ _ _ _ _ _ _) = omega arith
-late-form (unreadBuild _ _ _ _ _) = omega arith
-late-form (noRequestCited _ _ _ _ _ _ _ _ _ _) = omega arith
-late-form (bytesBehind _ _ _ _ _ _ _ _ _) = omega arith
-
-late-definition : {job : Job (List ℕ)} {code place : ℕ} → DefinitionCause job code place → 2 < code
-late-definition (cause-of.outside _ _ _ _ _) = omega arith
-late-definition (secondTaken _ _ _ _ _ _) = omega arith
-late-definition (onSecond _ _ _ _ _ _ _ _ _ _ _ _) = omega arith
-late-definition (sameSlot _ _ _ _ _ _ _ _ _) = omega arith
-late-definition (lastIndex _ _ _) = omega arith
-late-definition (sameIndex _ _ _ _ _ _ _ _) = omega arith
-late-definition (sameName _ _ _ _ _ _ _ _ _) = omega arith
-
-late-resolving : {job : Job (List ℕ)} {code place : ℕ} → ResolvingCause job code place → 2 < code
-late-resolving (undefined _ _ _ _ _ _ _) = omega arith
-late-resolving (circular _ _ _ _ _ _ _ _) = omega arith
-
-late-slot : {job : Job (List ℕ)} {code place : ℕ} → SlotCause job code place → 2 < code
-late-slot (noSlotAsked _ _ _) = omega arith
-late-slot (noLdcSlotAsked _ _ _) = omega arith
-late-slot (rawAbove _ _ _ _ _ _ _ _ _ _) = omega arith
-late-slot (slotAbove _ _ _ _ _) = omega arith
-late-slot (pairAbove _ _ _ _ _ _ _ _ _) = omega arith
-late-slot (rawLacks _ _ _ _ _ _) = omega arith
-late-slot (childLacks _ _ _ _ _ _) = omega arith
-late-slot (bootstrapLacks _ _ _ _ _ _ _) = omega arith
-late-slot (nameLacks _ _ _ _ _ _ _) = omega arith
-late-slot (noIndex _ _ _ _ _ _ _ _ _ _) = omega arith
-
 module _ (lent : Lent) (s : List ℕ) (are : IsBytes s) (short : length s ≤ longestJob) (has : enough (length s) lent ≡ true) where
   little : (lent .work < 6 * length s + 1024) ⊎ (lent .gaps < length s / 5 + 2) → ⊥
   unfolding enough
@@ -107,13 +67,14 @@ module _ (lent : Lent) (s : List ℕ) (are : IsBytes s) (short : length s ≤ lo
       let gaps = leb-true (length s / 5 + 2) (lent .gaps) (both .1) in
       ⊎-elim (λ (l : lent .work < 6 * length s + 1024). omega (arith, l, words)) (λ (l : lent .gaps < length s / 5 + 2). omega (arith, l, gaps)) h
 
+  -- no cause behind those of 1 and 2 has these numbers
   late : {code place : ℕ} → CauseOf lent s code place → 2 < code
   late (tooLong h) = omega (arith, h, short)
   late (tooLittle h) = absurd (little h)
-  late (notFormed f) = late-form f
-  late (defining _ _ f) = late-definition f
-  late (resolving _ _ f) = late-resolving f
-  late (slots _ _ f) = late-slot f
+  late (notFormed f) = form-bounds f .0
+  late (defining job _ f) = omega (arith, definition-bounds job f .0)
+  late (resolving job _ f) = omega (arith, resolving-bounds job f .0)
+  late (slots job _ f) = omega (arith, slot-bounds job f .0)
   late (noRoom _ _ _ _ _) = omega arith
 
   -- so work and gaps are cleared
