@@ -6,3 +6,4 @@ pub mod Ending
 pub mod Single
 pub mod Handed
 pub mod Promises
+pub mod Walks

@@ -8,7 +8,7 @@ use lib.Dec.{eqb}
 use lib.ListN.{length}
 use Rattle.definition.specs.Basics.{Result, good, bad, Refusal}
 use Rattle.definition.specs.Run.{Built, Memory, lentOf, run, refusalOf, returned, clearedAfter, memoryAfter}
-use Rattle.slots.specs.Gaps.{gapOf}
+use Rattle.slots.specs.Gaps.{GapTable, gapOf}
 use Rattle.cpool.specs.declared.ClassLength.{ClassLength}
 use Rattle.cpool.specs.declared.ClassLength.the-variants as classLength
 use Rattle.cpool.specs.declared.Outcome.{Outcome}
@@ -107,7 +107,7 @@ isGood (bad r) = false
 -- what the caller lent, as slices hold it: a row of the gap table is a gap's first and last slot
 pub record Slices : Type 0 where
   pub work : List ℕ
-  pub rows : List (List ℕ)
+  pub rows : GapTable
   pub answers : List ℕ
   pub pool : List ℕ
   pub bootstraps : List ℕ
@@ -125,7 +125,7 @@ memoryOf m =
       class = m .class;
     }
 
-abbrev pub slices : List ℕ → List (List ℕ) → List ℕ → List ℕ → List ℕ → List ℕ → Slices
+abbrev pub slices : List ℕ → GapTable → List ℕ → List ℕ → List ℕ → List ℕ → Slices
 slices work rows answers pool bootstraps class =
     record { work = work; rows = rows; answers = answers; pool = pool; bootstraps = bootstraps; class = class }
 

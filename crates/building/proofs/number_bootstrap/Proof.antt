@@ -1,4 +1,6 @@
 -- `building::number_bootstrap` meets its contract. Assumes nothing.
+mod Lts
+mod Tie
 use Rattle.building.proofs.Stepping.{bootstrap-had, bootstrap-refused, bootstrap-indexed}
 use Rattle.building.proofs.Kids.{kids-now}
 use Rattle.building.proofs.Lasting.{there-now, working-goes, boot-goes}
@@ -8,7 +10,7 @@ use Rattle.store.specs.Regions.{NODES}
 use Rattle.store.specs.Store.{store}
 use borrow.Author.Needs.{needs}
 use Rattle.building.proofs.number_bootstrap.Statement.{statement}
-use Rattle.building.proofs.number_bootstrap.Tie as tie
+use Rattle.building.proofs.number_bootstrap.Proof.Tie as tie
 
 index-of-requires : tie.Need-index-of-requires
 index-of-requires c κs = let a = c .before .before .before .before .args in let q = c .before .before .before .before .pre in let s = a .job .now in let p = a .p .now in let t = store p (a .w .now) in (search needs, row-room s p (q .1), kids-now s p t (q .1) (q .2 .standing) (length-store p (a .w .now) NODES), q .3)

@@ -1,4 +1,6 @@
 -- `cpool::run` meets its contract. Assumes nothing.
+mod Lts
+mod Tie
 use borrow.Author.Needs.{needs}
 use mathlib.Core.List.{[], _∷_}
 use mathlib.Core.Path.{_∙_, ap}
@@ -7,7 +9,7 @@ use native.Mathlib.Omega.{arith}
 use Rattle.cpool.specs.Ran.{slices}
 use Rattle.cpool.proofs.Ending.{ran-long, ran-few-words, ran-few-gaps, ran-on}
 use Rattle.cpool.proofs.run.Statement.{statement}
-use Rattle.cpool.proofs.run.Tie as tie
+use Rattle.cpool.proofs.run.Proof.Tie as tie
 
 returns : tie.Need-returns
 returns c = let a = c .before .before .before .before .before .before .before .args in ran-long (a .job .now) (slices (a .work .now) (a .gaps .now) (a .answers .now) (a .pool .now) (a .bootstraps .now) (a .class-name .now)) (omega (arith, c .if1 .taken))

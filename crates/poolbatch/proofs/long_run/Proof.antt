@@ -1,4 +1,6 @@
 -- `poolbatch::long_run` meets its contract. The arrays are as long as their types say. Assumes nothing.
+mod Lts
+mod Tie
 use mathlib.Core.List.{List, [], _∷_}
 use mathlib.Core.Path.{sym, subst, _∙_}
 use Prim.Native.Nat.{ℕ, _+_, _*_, _/_, _≤_}
@@ -6,7 +8,7 @@ use native.Mathlib.Omega.{arith}
 use borrow.Author.Needs.{needs}
 use lib.ListN.{length-replicate}
 use Rattle.poolbatch.proofs.long_run.Statement.{statement}
-use Rattle.poolbatch.proofs.long_run.Tie as tie
+use Rattle.poolbatch.proofs.long_run.Proof.Tie as tie
 
 long-words-requires : tie.Need-long-words-requires
 long-words-requires c κs = tt

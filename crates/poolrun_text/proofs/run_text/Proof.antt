@@ -1,11 +1,13 @@
 -- `poolrun_text::run_text` meets its contract. The arrays are as long as their types say. Assumes nothing.
+mod Lts
+mod Tie
 use mathlib.Core.List.{List, [], _∷_}
 use mathlib.Core.Path.{sym}
 use Prim.Native.Nat.{ℕ}
 use borrow.Author.Needs.{needs}
 use lib.ListN.{length-replicate}
 use Rattle.poolrun_text.proofs.run_text.Statement.{statement}
-use Rattle.poolrun_text.proofs.run_text.Tie as tie
+use Rattle.poolrun_text.proofs.run_text.Proof.Tie as tie
 
 slice-aggregate-run-over : tie.Need-slice-aggregate-run-over
 slice-aggregate-run-over c = sym (length-replicate {0} {A = ℕ} 16384 0)

@@ -1,11 +1,13 @@
 -- `slots_test::load` meets its contract: the loop keeps the table's length. Assumes nothing.
+mod Lts
+mod Tie
 use Prim.Native.Nat.{_-_}
 use mathlib.Core.Path.{_≡_, refl}
 use native.Mathlib.Omega.{arith}
 use lib.ListN.{length, length-set}
 use borrow.Author.Needs.{needs}
 use Rattle.slots_test.proofs.load.Statement.{statement}
-use Rattle.slots_test.proofs.load.Tie as tie
+use Rattle.slots_test.proofs.load.Proof.Tie as tie
 
 abbrev Inv-loop : tie.InvT-loop
 Inv-loop gaps₀ text i₀ gaps i = length gaps ≡ length gaps₀

@@ -1,11 +1,13 @@
 -- `slots_test::try_table` meets its contract: the rows that are lent are as many as the text has gaps. Assumes nothing.
+mod Lts
+mod Tie
 use mathlib.Core.Path.{sym}
 use native.Mathlib.Omega.{arith}
 use lib.ListN.{length-take}
 use lib.Seq.{length-take-le}
 use borrow.Author.Needs.{needs}
 use Rattle.slots_test.proofs.try_table.Statement.{statement}
-use Rattle.slots_test.proofs.try_table.Tie as tie
+use Rattle.slots_test.proofs.try_table.Proof.Tie as tie
 
 add-gaps : tie.Need-add-gaps
 add-gaps c = search needs

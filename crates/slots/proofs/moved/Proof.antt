@@ -1,8 +1,8 @@
--- `pool::moved` meets its contract. By cases. Assumes nothing.
-use Rattle.pool.specs.Pooled.{movedTo}
+-- `slots::moved` meets its contract: by the answer's cases. Assumes nothing.
 use borrow.Author.Needs.{needs}
-use Rattle.pool.proofs.moved.Statement.{statement}
-use Rattle.pool.proofs.moved.Tie as tie
+use Rattle.slots.specs.Gaps.{movedBy}
+use Rattle.slots.proofs.moved.Statement.{statement}
+use Rattle.slots.proofs.moved.Tie as tie
 
 enum-known-a : tie.Need-enum-known-a
 enum-known-a c = search needs
@@ -11,11 +11,11 @@ enum-told : tie.Need-enum-told
 enum-told c = search needs
 
 returns : tie.Need-returns
-unfolding movedTo
+unfolding movedBy
 returns c = search needs
 
 returns-2 : tie.Need-returns-2
-unfolding movedTo
+unfolding movedBy
 returns-2 c = search needs
 
 pub moved-spec : {M : Type 1} → statement M
