@@ -9,6 +9,9 @@ use borrow.Author.Needs.{needs}
 use Rattle.slots_test.proofs.try_table.Statement.{statement}
 use Rattle.slots_test.proofs.try_table.Proof.Tie as tie
 
+no-gap-requires : tie.Need-no-gap-requires
+no-gap-requires c κs = tt
+
 add-gaps : tie.Need-add-gaps
 add-gaps c = search needs
 
@@ -52,6 +55,7 @@ pub try-table-spec : {M : Type 1} → statement M
 try-table-spec =
     tie.close
     (tie.spec
+    no-gap-requires
     add-gaps
     add-requests
     array-borrow-prefix-rows
