@@ -62,9 +62,8 @@ module _
         nodeNumber-row nodes k pool rows (tag-bootstrap s p t (there-now s p t work (w .standing)) k (is .made) long (is .behind))
 
     -- it has an index
-    pub bootstrap-had : (x : ℕ) → x ≡ indexWord p t k → (x ≡ 0 → ⊥) → RowNumbered s p k t t g g 0
-    bootstrap-had x e f =
-        let there : 0 < indexWord p t k = omega (arith, e, f) in
+    pub bootstrap-had : 0 < indexWord p t k → RowNumbered s p k t t g g 0
+    bootstrap-had there =
         let has = w .indexed (getD (t NODES) k 0) (is .behind) there in
         record {
           step =

@@ -15,13 +15,15 @@ use store::COUNTS;
 use store::ENTRY;
 use store::PENDING_COUNT;
 use store::load;
+ghost use mathlib.Core.Path.{_≡_};
 ghost use Prim.Native.Nat.{_+_, _<_};
+ghost use lib.Dec.{ltb};
 ghost use lib.ListN.{length};
 ghost use Rattle.store.specs.Store.{store, On};
 ghost use Rattle.store.specs.Regions.{Work};
 ghost use Rattle.store.specs.Words.{ENTRY};
 ghost use Rattle.interner.specs.Nodes.{nodeCount};
-ghost use Rattle.rows.specs.Rowed.{IsBootstrapIn};
+ghost use Rattle.rows.specs.Rowed.{RowRoom, KidsIn, indexWord, IsBootstrapIn};
 ghost use Rattle.pool.specs.Pooled.{LiveIn};
 ghost use Rattle.building.specs.Built.{CanBuild, BuiltAll};
 ghost use Rattle.building.specs.Working.{Standing, Working, Owners, RawsSlotted, RowNumbered, Numbered, Finished, Drained};
@@ -43,12 +45,20 @@ fn slot_raw_rows(job: &[u8], w: &mut [u32], p: &[usize], gaps: &mut [Gap]) -> us
     0
 }
 
+// Bootstrap node k has an index.
+fn has_index(w: &[u32], p: &[usize], k: usize) -> bool
+    requires { ⌜ On (now p) (length (now w)) × RowRoom (now p) × KidsIn (now p) (store (now p) (now w)) × IsBootstrapIn (now p) (store (now p) (now w)) k ⌝ }
+    ensures { λ r. ⌜ r ≡ ltb 0 (indexWord (now (p .entry)) (store (now (p .entry)) (now (w .entry))) k) ⌝ }
+{
+    0 < index_of(w, p, k)
+}
+
 // Bootstrap node k has an index from then on, its children having slots, 0, or 14 or 17: `nodeNumber`.
 fn number_bootstrap(job: &[u8], w: &mut [u32], p: &[usize], gaps: &mut [Gap], k: usize) -> usize
     requires { ⌜ On (now p) (length (now w)) × Work (now job) (now p) × Working (now job) (now p) (store (now p) (now w)) (now gaps) × IsBootstrapIn (now p) (store (now p) (now w)) k ⌝ }
     ensures { λ r. ⌜ RowNumbered (now (job .entry)) (now (p .entry)) k (store (now (p .entry)) (now (w .entry))) (store (now (p .entry)) (now (w .exit))) (now (gaps .entry)) (now (gaps .exit)) r ⌝ }
 {
-    if index_of(w, p, k) != 0 {
+    if has_index(w, p, k) {
         return 0;
     }
     let code = slots_of(job, w, p, gaps, k);

@@ -10,6 +10,7 @@ ghost use Rattle.facts.specs.Lists.{Rising};
 ghost use Rattle.slots.specs.Gaps.{gapOf, noGap, gapAt, gapsAt, ends, AtMost, slotsAt, rowsLess, Answered, foundIn, movedBy, Taken, Written, endFits, requested};
 
 // A run of free slots, shortened in place: empty once its first slot is past its last.
+#[repr(C)]
 pub struct Gap {
     pub first: u16,
     pub last: u16,

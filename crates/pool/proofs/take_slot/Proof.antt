@@ -31,9 +31,9 @@ save-positions-requires c κs =
     let start = placed .before .before .before .before in
     let a = start .args in
     let r =
-      save-asks (store (a .p .now) (a .w .now)) (a .gaps .now) (taken .take-slot .last .0) (a .wide) (a .ldc) (start .pre .2)
-      (placed .load-positions .result) (counted .load .result) (taken .take-slot .result) (placed .load-positions .ensures)
-      (counted .load .ensures .word) (taken .take-slot .kept .0) _ (taken .take-slot .ensures) in
+    save-asks (store (a .p .now) (a .w .now)) (a .gaps .now) (taken .take-slot .last .0) (a .wide) (a .ldc) (start .pre .2)
+    (placed .load-positions .result) (counted .load .result) (taken .take-slot .result) (placed .load-positions .ensures)
+    (counted .load .ensures .word) (taken .take-slot .kept .0) _ (taken .take-slot .ensures) in
     (search needs, start .pre .1, r .0, r .1, r .2)
 
 slot-found-requires : tie.Need-slot-found-requires
