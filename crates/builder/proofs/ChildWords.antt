@@ -17,6 +17,7 @@ use Rattle.facts.proofs.Lists.{both-true, order, read-found}
 use Rattle.facts.proofs.Each.{each-at}
 use Rattle.laws.specs.Statements.{IsBytes}
 use Rattle.laws.proofs.resolving.NodesAndChildren.{ConstantChild}
+use Rattle.slots.specs.Gaps.{GapTable}
 use Rattle.store.specs.Store.{Store}
 use Rattle.store.specs.JobIn.{constantsIn}
 use Rattle.store.specs.Regions.{GIVEN, INDEXES, FIRSTS, SIZES, CHILDREN, NODES, Work}
@@ -37,7 +38,7 @@ use Rattle.builder.proofs.NumberWords.{index-word}
 use Rattle.builder.proofs.HeldWords.{given-holds}
 
 module _
-    (s p : List ℕ) (v : Store) (h : List (List ℕ)) (d : Defined) (ready asked : Ready) (m after : Made)
+    (s p : List ℕ) (v : Store) (h : GapTable) (d : Defined) (ready asked : Ready) (m after : Made)
     (are : IsBytes s) (work : Work s p) (f : Final s p v h d ready asked m after) where
   -- a slot that was given fits two bytes
   pub given-small : (k : ℕ) → getD (v GIVEN) k 0 < 65536

@@ -11,6 +11,7 @@ use Rattle.definition.specs.Slots.{highestSlot, countFrom}
 use Rattle.definition.specs.Building.{Made, buildAll}
 use Rattle.definition.specs.Layout.{Ready, answerAll, endDefinitions, indexNodes}
 use Rattle.laws.specs.Gaps.{Apart}
+use Rattle.slots.specs.Gaps.{GapTable}
 use Rattle.store.specs.Store.{Store, size}
 use Rattle.store.specs.JobIn.{jobIn, definitionsIn, constantsIn, linkedIn}
 use Rattle.store.specs.Regions.{COUNTS, GIVEN, NODE-HEADS, RAW-KEYS, RAW-ENTRIES, ORDER, ANSWERS, AT}
@@ -26,7 +27,7 @@ use Rattle.building.specs.Numbers.{KidsDone}
 use Rattle.ending.specs.Ended.{nameIn, countIn, nameOf, Named}
 
 -- v are the words, h the gap table
-pub record Final (s p : List ℕ) (v : Store) (h : List (List ℕ)) (d : Defined) (ready asked : Ready) (m after : Made) : Type 0 where
+pub record Final (s p : List ℕ) (v : Store) (h : GapTable) (d : Defined) (ready asked : Ready) (m after : Made) : Type 0 where
   -- the definition's stages
   pub isDefined : definedIn highestSlot s ≡ good d
   pub isReady : endDefinitions highestSlot (linkedIn s) (constantsIn s) d ≡ good ready

@@ -14,6 +14,7 @@ use Rattle.facts.proofs.Lists.{clash}
 use Rattle.laws.specs.Statements.{IsBytes}
 use Rattle.laws.proofs.form.FormedJobs.{FormedClass, form-formed}
 use Rattle.laws.proofs.slots.SlotsToHold.{count-range}
+use Rattle.slots.specs.Gaps.{GapTable}
 use Rattle.store.specs.Store.{Store, size}
 use Rattle.store.specs.JobIn.{jobIn, countsIn, constantsIn, entriesIn}
 use Rattle.store.specs.Regions.{COUNTS, MARKS, GIVEN, RAW-KEYS, RAW-ENTRIES, ANSWERS, Work}
@@ -50,7 +51,7 @@ class-small requests answers (slot k) h small = h
 class-small requests answers (request k) h small = small k (h .1)
 
 module _
-    (s p : List ℕ) (v : Store) (h : List (List ℕ)) (d : Defined) (ready asked : Ready) (m after : Made)
+    (s p : List ℕ) (v : Store) (h : GapTable) (d : Defined) (ready asked : Ready) (m after : Made)
     (are : IsBytes s) (work : Work s p) (f : Final s p v h d ready asked m after) where
   -- NODES that slots hold
 

@@ -20,6 +20,7 @@ use Rattle.laws.specs.Statements.{IsBytes}
 use Rattle.laws.proofs.definitions.DefinedAsPlaced.{starters-start, start-starters}
 use Rattle.laws.proofs.building.ChildNumbers.{given-held}
 use Rattle.laws.proofs.slots.SlotsToHold.{toHold, toHold-among}
+use Rattle.slots.specs.Gaps.{GapTable}
 use Rattle.store.specs.Store.{Store}
 use Rattle.store.specs.JobIn.{constantsIn, entriesIn}
 use Rattle.store.specs.Regions.{MARKS, GIVEN, RAW-KEYS, RAW-ENTRIES, Work}
@@ -69,7 +70,7 @@ done-word marks e k h low =
     ways (suc (suc j)) q l = ap (λ x. suc (suc x)) (done-inj q)
 
 module _
-    (s p : List ℕ) (v : Store) (h : List (List ℕ)) (d : Defined) (ready asked : Ready) (m after : Made)
+    (s p : List ℕ) (v : Store) (h : GapTable) (d : Defined) (ready asked : Ready) (m after : Made)
     (are : IsBytes s) (work : Work s p) (f : Final s p v h d ready asked m after) where
   abbrev pub rawNodes : List (ℕ × ℕ)
   rawNodes = rawsIn s p v h d ready asked m after are work f

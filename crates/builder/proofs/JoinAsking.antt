@@ -11,6 +11,7 @@ use Rattle.definition.specs.Definitions.{Defined}
 use Rattle.definition.specs.Layout.{nodeAt, indexNodes}
 use Rattle.facts.proofs.Lists.{some-inj}
 use Rattle.laws.proofs.resolving.ResolvedNodes.{child-done}
+use Rattle.slots.specs.Gaps.{GapTable}
 use Rattle.store.specs.Store.{Store, size}
 use Rattle.store.specs.JobIn.{constantsIn}
 use Rattle.store.specs.Regions.{MARKS, NODE-HEADS, RAW-ENTRIES, RAW-KEYS, ORDER, NODES, Work}
@@ -39,7 +40,7 @@ raw-at :
 unfolding RawsReady
 raw-at p t h = h .1
 
-module _ (p : List ℕ) (top : ℕ) (s : List ℕ) (t : Store) (g : List (List ℕ)) (d : Defined) (work : Work s p) (long : (k : ℕ) → length (t k) ≡ size p k)
+module _ (p : List ℕ) (top : ℕ) (s : List ℕ) (t : Store) (g : GapTable) (d : Defined) (work : Work s p) (long : (k : ℕ) → length (t k) ≡ size p k)
     (words : AskedWords p top s t g d) where
   abbrev Ready : ℕ → Type 0
   Ready e = (e < size p MARKS) × (2 ≤ getD (t MARKS) e 0) × (getD (t MARKS) e 0 - 2 < nodeCount t)

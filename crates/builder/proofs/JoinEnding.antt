@@ -9,6 +9,7 @@ use Rattle.definition.specs.Definitions.{Defined}
 use Rattle.definition.specs.Slots.{highestSlot}
 use Rattle.definition.specs.Building.{Pool, Made, buildAll}
 use Rattle.definition.specs.Layout.{Ready, indexNodes, layout}
+use Rattle.slots.specs.Gaps.{GapTable}
 use Rattle.store.specs.Store.{Store, size}
 use Rattle.store.specs.JobIn.{jobIn, definitionsIn, constantsIn}
 use Rattle.store.specs.Regions.{MARKS, NODE-HEADS, ANSWERS, PLACE, AT, NAME-SLOT, Work}
@@ -27,7 +28,7 @@ use Rattle.builder.proofs.JoinAsking.{rows-ready, raws-are}
 
 -- BUILT: t and g are behind the requests, u and h behind building, which gave r
 module _
-    (p : List ℕ) (top : ℕ) (s : List ℕ) (t u : Store) (g h : List (List ℕ)) (r : ℕ) (work : Work s p) (long : (k : ℕ) → length (t k) ≡ size p k)
+    (p : List ℕ) (top : ℕ) (s : List ℕ) (t u : Store) (g h : GapTable) (r : ℕ) (work : Work s p) (long : (k : ℕ) → length (t k) ≡ size p k)
     (d : Defined) (ready : Ready) (pool : Pool) (asked : Asked p top s t g d ready pool) (built : BuiltAll s p t u g h r) where
   abbrev words : AskedWords p top s t g d
   words = asked .words
@@ -70,7 +71,7 @@ module _
       (m, record { is = is; pooled = pooled; rowed = rowed })
 
   -- NAMED: v and i are behind the name and the count, which gave n
-  module _ (fine : r ≡ 0) (v : Store) (i : List (List ℕ)) (n : ℕ) (ended : PoolEnded s p top u v h i n) where
+  module _ (fine : r ≡ 0) (v : Store) (i : GapTable) (n : ℕ) (ended : PoolEnded s p top u v h i n) where
     pub named-since : Later u v
     named-since = named-later u v (ended .kept) (ended .counters)
 

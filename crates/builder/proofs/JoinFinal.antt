@@ -12,6 +12,7 @@ use Rattle.definition.specs.Building.{Pool, Made}
 use Rattle.definition.specs.Layout.{Ready, Layout, layoutOf, layout}
 use Rattle.definition.specs.Run.{render}
 use Rattle.laws.specs.Statements.{IsBytes}
+use Rattle.slots.specs.Gaps.{GapTable}
 use Rattle.store.specs.Store.{Store, size}
 use Rattle.store.specs.Chains.{Heads}
 use Rattle.store.specs.JobIn.{jobIn, constantsIn}
@@ -35,7 +36,7 @@ use Rattle.builder.proofs.JoinEnding.{Built, made, place-at, named-sinc
 
 -- t and g are behind the requests, u and h behind building, v and i behind the name and the count
 module _
-    (s p : List ℕ) (t u v : Store) (g h i : List (List ℕ)) (r n : ℕ) (work : Work s p) (long : (k : ℕ) → length (t k) ≡ size p k)
+    (s p : List ℕ) (t u v : Store) (g h i : GapTable) (r n : ℕ) (work : Work s p) (long : (k : ℕ) → length (t k) ≡ size p k)
     (d : Defined) (ready : Ready) (pool : Pool) (asked : Asked p highestSlot s t g d ready pool)
     (built : BuiltAll s p t u g h r) (fine : r ≡ 0) (ended : PoolEnded s p highestSlot u v h i n) where
   abbrev words : AskedWords p highestSlot s t g d

@@ -8,6 +8,7 @@ use Rattle.definition.specs.Basics.{every}
 use Rattle.definition.specs.Building.{Rows, kidsOf}
 use Rattle.definition.specs.Definitions.{Held}
 use Rattle.laws.specs.Faithful.{Faithful}
+use Rattle.slots.specs.Gaps.{GapTable}
 use Rattle.store.specs.Store.{Store, Kept}
 use Rattle.store.specs.JobIn.{linkedIn}
 use Rattle.store.specs.Regions.{COUNTS, MARKS, GIVEN, INDEXES, NODE-HEADS, RAW-HEADS, ROW-HEADS, NODE-LINKS, RAW-LINKS, ROW-LINKS, OFFSETS, FIRSTS, SIZES, GOALS, CHILDREN, RAW-KEYS, RAW-ENTRIES, ORDER, NODES, INLINE, RAW-COUNT, HELD-COUNT, NODE-COUNT, VISITS, ODD, WIDE, PLAIN, PENDING-COUNT, ROW-COUNT, WRITTEN-COUNT, INLINE-COUNT, NAME-SLOT, POOL-COUNT}
@@ -37,7 +38,7 @@ pub record Later (t u : Store) : Type 0 where
   pub kept : Kept builtRegions t u
   pub counters : SameBut laterCounters (t COUNTS) (u COUNTS)
 
-pub built-later : (s p : List ℕ) (t u : Store) (g h : List (List ℕ)) (r : ℕ) → BuiltAll s p t u g h r → Later t u
+pub built-later : (s p : List ℕ) (t u : Store) (g h : GapTable) (r : ℕ) → BuiltAll s p t u g h r → Later t u
 unfolding every
 built-later s p t u g h r b =
     record { kept = b .kept; counters = same-more builtCounters laterCounters (t COUNTS) (u COUNTS) refl (b .counters) }

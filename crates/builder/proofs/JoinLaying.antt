@@ -6,6 +6,7 @@ use native.Mathlib.Omega.{arith}
 use lib.ListN.{length, getD}
 use Rattle.definition.specs.Slots.{highestSlot}
 use Rattle.laws.specs.Statements.{IsBytes}
+use Rattle.slots.specs.Gaps.{GapTable}
 use Rattle.store.specs.Store.{Store, size, store, On}
 use Rattle.store.specs.Chains.{Heads}
 use Rattle.store.specs.Regions.{COUNTS, GIVEN, OWNER-HEADS, OWNER-LINKS, NODE-COUNT, Work}
@@ -24,7 +25,7 @@ use Rattle.builder.proofs.JoinFinal.{can-own, all-through}
 
 -- BEHIND THE REQUESTS: w are the words
 module _
-    (p w s : List ℕ) (g : List (List ℕ)) (a : ℕ) (asked : AskedAll p (length w) highestSlot s (store p w) g a) where
+    (p w s : List ℕ) (g : GapTable) (a : ℕ) (asked : AskedAll p (length w) highestSlot s (store p w) g a) where
   abbrev t : Store
   t = store p w
 
@@ -41,7 +42,7 @@ module _
 
     -- BEHIND BUILDING: x are the words
     module _
-        (x : List ℕ) (many : length x ≡ length w) (h : List (List ℕ)) (r : ℕ) (built : BuiltAll s p (store p w) (store p x) g h r) where
+        (x : List ℕ) (many : length x ≡ length w) (h : GapTable) (r : ℕ) (built : BuiltAll s p (store p w) (store p x) g h r) where
       abbrev u : Store
       u = store p x
 
@@ -64,7 +65,7 @@ module _
 
       -- BEHIND THE NAME AND THE COUNT: y are the words
       module _
-          (built-fine : r ≡ 0) (y : List ℕ) (as-many : length y ≡ length x) (i : List (List ℕ)) (n : ℕ)
+          (built-fine : r ≡ 0) (y : List ℕ) (as-many : length y ≡ length x) (i : GapTable) (n : ℕ)
           (ended : PoolEnded s p highestSlot (store p x) (store p y) h i n) where
         abbrev v : Store
         v = store p y

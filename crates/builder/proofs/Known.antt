@@ -34,6 +34,7 @@ use Rattle.laws.proofs.slots.SlotsToHold.{toHold, starts-once, start-in}
 use Rattle.laws.proofs.reading.PoolReadBack.{Fits}
 use Rattle.laws.proofs.reading.PoolContents.{spelled}
 use Rattle.laws.proofs.reading.BuiltPoolReadBack as read
+use Rattle.slots.specs.Gaps.{GapTable}
 use Rattle.store.specs.Store.{Store}
 use Rattle.store.specs.JobIn.{jobIn}
 use Rattle.store.specs.Regions.{MARKS, NODES, ANSWERS, Work}
@@ -52,7 +53,7 @@ use Rattle.builder.proofs.Laid.{layoutIn, laid-out}
 use Rattle.builder.proofs.Stages.{records-many, linked-is}
 
 module _
-    (s p : List ℕ) (v : Store) (h : List (List ℕ)) (d : Defined) (ready asked : Ready) (m after : Made)
+    (s p : List ℕ) (v : Store) (h : GapTable) (d : Defined) (ready asked : Ready) (m after : Made)
     (are : IsBytes s) (work : Work s p) (f : Final s p v h d ready asked m after) where
   pub formed : form s ≡ good (jobIn s)
   formed = formed-job s (work-formed s p work)

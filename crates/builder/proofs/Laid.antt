@@ -9,6 +9,7 @@ use Rattle.definition.specs.Definitions.{Defined}
 use Rattle.definition.specs.Slots.{highestSlot}
 use Rattle.definition.specs.Building.{Made, nameWanted, nameSlot}
 use Rattle.definition.specs.Layout.{Ready, Layout, layoutOf, buildLayout, indexNodes, layout}
+use Rattle.slots.specs.Gaps.{GapTable}
 use Rattle.store.specs.Store.{Store}
 use Rattle.store.specs.JobIn.{jobIn, definitionsIn, constantsIn}
 use Rattle.store.specs.Regions.{ANSWERS}
@@ -33,7 +34,7 @@ abbrev pub layoutIn : List ℕ → Store → Ready → Made → Made → Layout
 layoutIn s v asked m after =
     layoutOf highestSlot (v ANSWERS) (asked .resolved .visits) (jobIn s .build .class) (rowed.tableOf (m .rows)) (nameIn v, after)
 
-module _ (s p : List ℕ) (v : Store) (h : List (List ℕ)) (d : Defined) (ready asked : Ready) (m after : Made) (f : Final s p v h d ready asked m after) where
+module _ (s p : List ℕ) (v : Store) (h : GapTable) (d : Defined) (ready asked : Ready) (m after : Made) (f : Final s p v h d ready asked m after) where
   -- record 60
   built-out :
       buildLayout highestSlot (indexNodes (constantsIn s) (asked .resolved .marks) (d .indexes)) (jobIn s .build) (v ANSWERS) asked

@@ -20,3 +20,4 @@ pub mod JoinNaming
 pub mod JoinEnding
 pub mod JoinFinal
 pub mod JoinLaying
+pub mod Walks

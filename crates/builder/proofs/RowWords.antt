@@ -14,6 +14,7 @@ use Rattle.definition.specs.Building.{Made}
 use Rattle.definition.specs.Layout.{Ready}
 use Rattle.facts.proofs.Lists.{some-inj, equal, order, found-read}
 use Rattle.laws.specs.Statements.{IsBytes}
+use Rattle.slots.specs.Gaps.{GapTable}
 use Rattle.store.specs.Store.{Store, size}
 use Rattle.store.specs.JobIn.{constantsIn}
 use Rattle.store.specs.Regions.{MARKS, GIVEN, FIRSTS, SIZES, CHILDREN, RAW-KEYS, RAW-ENTRIES, ORDER, NODES, INLINE, Work}
@@ -73,7 +74,7 @@ unfolding nodeOr
 node-raw next index inline raw q = rw (ne-eqb next index q, nodeOr)
 
 module _
-    (s p : List ℕ) (v : Store) (h : List (List ℕ)) (d : Defined) (ready asked : Ready) (m after : Made)
+    (s p : List ℕ) (v : Store) (h : GapTable) (d : Defined) (ready asked : Ready) (m after : Made)
     (are : IsBytes s) (work : Work s p) (f : Final s p v h d ready asked m after) where
   -- RAW BOOTSTRAPS became nodes
 

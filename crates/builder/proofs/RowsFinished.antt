@@ -15,6 +15,7 @@ use Rattle.facts.proofs.Lists.{read-found, map-at}
 use Rattle.laws.specs.Statements.{IsBytes}
 use Rattle.laws.proofs.resolving.JobGoals.{linked-at, table-defined}
 use Rattle.laws.proofs.resolving.NodesAndChildren.{tag-found}
+use Rattle.slots.specs.Gaps.{GapTable}
 use Rattle.store.specs.Store.{Store}
 use Rattle.store.specs.JobIn.{constantsIn, entriesIn, namingsIn, numberedIn, linkedIn, tableOf}
 use Rattle.store.specs.Regions.{MARKS, INDEXES, FIRSTS, SIZES, CHILDREN, RAW-KEYS, RAW-ENTRIES, ORDER, NODES, INLINE, Work}
@@ -41,7 +42,7 @@ use Rattle.builder.proofs.ChildWords.{slot-small, child-low}
 use Rattle.builder.proofs.RowWords as rows
 
 module _
-    (s p : List ℕ) (v : Store) (h : List (List ℕ)) (d : Defined) (ready asked : Ready) (m after : Made)
+    (s p : List ℕ) (v : Store) (h : GapTable) (d : Defined) (ready asked : Ready) (m after : Made)
     (are : IsBytes s) (work : Work s p) (f : Final s p v h d ready asked m after) where
   abbrev there : NodesThere s p v
   there = nodes-there s p v h d ready asked m after are work f

@@ -24,7 +24,7 @@ use Rattle.laws.specs.Statements.{IsBytes}
 use Rattle.laws.proofs.form.EntryShapes.{Short}
 use Rattle.laws.proofs.reading.PoolReadBack.{Fits}
 use Rattle.laws.proofs.reading.PoolContents.{spelled, content-holds, content-behind}
-use Rattle.slots.specs.Gaps.{slotsAt}
+use Rattle.slots.specs.Gaps.{GapTable, slotsAt}
 use Rattle.store.specs.Store.{Store, over, Kept}
 use Rattle.store.specs.JobIn.{jobIn, definitionsIn}
 use Rattle.store.specs.Regions.{COUNTS, OWNER-HEADS, OWNER-LINKS, ANSWERS, PLACE, VISITS, NAME-SLOT, Work}
@@ -98,7 +98,7 @@ module _ (s p : List ℕ) (t u : Store) (k : Kept (OWNER-HEADS ∷ OWNER-LINKS �
   class-as = ap (λ (w : Store). classIn s w) (same-words t u k)
 
 module _
-    (s p : List ℕ) (v : Store) (h : List (List ℕ)) (d : Defined) (ready asked : Ready) (m after : Made)
+    (s p : List ℕ) (v : Store) (h : GapTable) (d : Defined) (ready asked : Ready) (m after : Made)
     (are : IsBytes s) (work : Work s p) (f : Final s p v h d ready asked m after) where
   abbrev all : List Literal
   all = literals (jobIn s)
@@ -133,7 +133,7 @@ module _
 
 -- THE WORDS SHOW what the definition renders
 pub rendered :
-    (s p : List ℕ) (v u : Store) (h : List (List ℕ)) (d : Defined) (ready asked : Ready) (m after : Made) →
+    (s p : List ℕ) (v u : Store) (h : GapTable) (d : Defined) (ready asked : Ready) (m after : Made) →
     IsBytes s → Work s p → Final s p v h d ready asked m after → OwnersMade p v u →
     (l : Layout) × (layout highestSlot (numbered (jobIn s)) ≡ good l) × Rendered s p u (render (literals (jobIn s)) l)
 unfolding render layoutOf definitionsIn

@@ -26,6 +26,7 @@ use Rattle.laws.specs.Statements.{IsBytes}
 use Rattle.laws.proofs.resolving.JobGoals.{linked-at}
 use Rattle.laws.proofs.resolving.NodesAndChildren.{tag-found, kids-found}
 use Rattle.laws.proofs.reading.PoolContents.{wideThere, spelled, content-holds, content-behind}
+use Rattle.slots.specs.Gaps.{GapTable}
 use Rattle.store.specs.Store.{Store}
 use Rattle.store.specs.JobIn.{jobIn, constantsIn, linkedIn, numberedIn, namingsIn, tableOf}
 use Rattle.store.specs.Regions.{MARKS, GIVEN, RAW-KEYS, RAW-ENTRIES, NODES, Work}
@@ -71,7 +72,7 @@ cases zero P f g = f refl
 cases (suc i) P f g = g i refl
 
 module _
-    (s p : List ℕ) (v : Store) (h : List (List ℕ)) (d : Defined) (ready asked : Ready) (m after : Made)
+    (s p : List ℕ) (v : Store) (h : GapTable) (d : Defined) (ready asked : Ready) (m after : Made)
     (are : IsBytes s) (work : Work s p) (f : Final s p v h d ready asked m after) where
   abbrev there : NodesThere s p v
   there = nodes-there s p v h d ready asked m after are work f

@@ -1,5 +1,6 @@
 // The builder: the records of a job in turn, to words that the outputs are read from.
 use job::JobCounts;
+use slots::Gap;
 ghost use mathlib.Core.Path.{_≡_};
 ghost use Prim.Native.Nat.{_+_, _*_, _/_, _≤_};
 ghost use lib.ListN.{length};
@@ -11,13 +12,7 @@ ghost use Rattle.builder.specs.Rendered.{LaidOut};
 const HIGHEST_SLOT: usize = 65534;
 
 // The records in turn, 0, or a refusal's number, met at the record that the counter PLACE tells: `layout`.
-pub fn lay_out(
-    job: &[u8],
-    w: &mut [u32],
-    p: &mut [usize],
-    gaps: &mut [[u16; 2]],
-    c: JobCounts,
-) -> usize
+pub fn lay_out(job: &[u8], w: &mut [u32], p: &mut [usize], gaps: &mut [Gap], c: JobCounts) -> usize
     requires { ⌜ WellFormed (now job) × (c ≡ countsIn (now job)) × (length (now p) ≡ 32) × (6 * length (now job) + 1024 ≤ length (now w)) × (length (now job) / 5 + 2 ≤ length (now gaps)) ⌝ }
     ensures { λ r. ⌜ LaidOut (now (p .exit)) (length (now (w .exit))) (now (job .entry)) (store (now (p .exit)) (now (w .exit))) r ⌝ }
 {

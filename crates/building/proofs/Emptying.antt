@@ -14,6 +14,7 @@ use Rattle.definition.specs.Building.{Pool, Rows, Made, kidsOf, childNumbers, f
 use Rattle.facts.specs.Lists.{Among}
 use Rattle.facts.proofs.Lists.{inside-found, among-cons, true≢false}
 use Rattle.laws.proofs.resolving.NodesAndChildren.{kids-found}
+use Rattle.slots.specs.Gaps.{GapTable}
 use Rattle.store.specs.Store.{Store, size, among}
 use Rattle.store.specs.Regions.{COUNTS, MARKS, GIVEN, NODES, RAW-KEYS, RAW-ENTRIES, PENDING, NODE-COUNT, GAP-COUNT, PENDING-COUNT, RAW-COUNT, Work}
 use Rattle.store.proofs.Keeping.{kept-more}
@@ -75,7 +76,7 @@ none-long (x ∷ l) e = absurd (omega arith)
 
 -- A NODE IS TAKEN from the stack
 
-module _ (s p : List ℕ) (t u : Store) (g : List (List ℕ)) (k : ℕ) (x : Popped t u k) where
+module _ (s p : List ℕ) (t u : Store) (g : GapTable) (k : ℕ) (x : Popped t u k) where
   pub goes-popped : Goes t u g g
   unfolding every
   goes-popped =
@@ -107,7 +108,7 @@ module _ (s p : List ℕ) (t u : Store) (g : List (List ℕ)) (k : ℕ) (x : Pop
 
 -- THE LOOP: what is left, with fuel for it, is the whole
 
-pub record Emptying (s p : List ℕ) (t u : Store) (g h : List (List ℕ)) : Type 0 where
+pub record Emptying (s p : List ℕ) (t u : Store) (g h : GapTable) : Type 0 where
   pub rest :
       (fuel : ℕ) (m : Made) → owing t ≤ fuel → PooledIn (m .pool) t g → RowedIn p (m .rows) t →
       (fuel′ : ℕ)
@@ -120,12 +121,12 @@ pub record Emptying (s p : List ℕ) (t u : Store) (g h : List (List ℕ)) : Typ
   pub again : Working s p u h
   pub grows : Grows t u g h
 
-pub emptying-begin : (s p : List ℕ) (t : Store) (g : List (List ℕ)) → Owners s p t → Working s p t g → Emptying s p t t g g
+pub emptying-begin : (s p : List ℕ) (t : Store) (g : GapTable) → Owners s p t → Working s p t g → Emptying s p t t g g
 emptying-begin s p t g owners w =
     record { rest = λ fuel m o q r. (fuel, m, refl, o, q, r); owners = owners; again = w; grows = grows-not t g }
 
 -- a raw slot holds what it held
-pub raw-owner : (t u : Store) (g h : List (List ℕ)) → Grows t u g h → (i k : ℕ) → RawOwner u i k → RawOwner t i k
+pub raw-owner : (t u : Store) (g h : GapTable) → Grows t u g h → (i k : ℕ) → RawOwner u i k → RawOwner t i k
 raw-owner t u g h grows i k x =
     record {
       inside = rw (← grows .counters RAW-COUNT refl) (x .inside);
@@ -134,7 +135,7 @@ raw-owner t u g h grows i k x =
       node = rw (← grows .kept RAW-ENTRIES refl, ← grows .kept MARKS refl) (x .node);
     }
 
-module _ (s p : List ℕ) (t u : Store) (g h : List (List ℕ)) (l : Emptying s p t u g h) (n : ℕ) (is : n ≡ pendingCount u) where
+module _ (s p : List ℕ) (t u : Store) (g h : GapTable) (l : Emptying s p t u g h) (n : ℕ) (is : n ≡ pendingCount u) where
   abbrev nodes : List Node
   nodes = nodesIn s t
 
@@ -179,7 +180,7 @@ module _ (s p : List ℕ) (t u : Store) (g h : List (List ℕ)) (l : Emptying s 
     nodes-now : nodesIn s v ≡ nodes
     nodes-now = nodes-same s p u v (grows-goes s p u v h h goes .kept) (grows-goes s p u v h h goes .counters) ∙ nodes-are
 
-    module _ (long : length (v NODES) ≡ size p NODES) (y : Store) (o : List (List ℕ)) (r : ℕ) (f : Finished s p k v y h o r) where
+    module _ (long : length (v NODES) ≡ size p NODES) (y : Store) (o : GapTable) (r : ℕ) (f : Finished s p k v y h o r) where
       grown : Grows u y h o
       grown = grows-then u v y h h o (grows-goes s p u v h h goes) (f .step .grows)
 

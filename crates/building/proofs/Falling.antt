@@ -10,6 +10,7 @@ use Rattle.definition.specs.Resolving.{Node}
 use Rattle.definition.specs.Building.{Pool, Row, slotsOf, kidsOf, rawRows as rowsOfRaws}
 use Rattle.facts.proofs.Chunks.{from-same}
 use Rattle.facts.proofs.Lists.{equal}
+use Rattle.slots.specs.Gaps.{GapTable}
 use Rattle.store.specs.Store.{Store, size}
 use Rattle.store.specs.Regions.{GIVEN, NODES, Work}
 use Rattle.store.specs.Words.{childSlot}
@@ -27,7 +28,7 @@ rawAt t i = (rawIndex t i, rawNode t i)
 
 -- THE LOOP: those from number i on have their rows, and what the others give in front of them is the whole
 
-pub record Falling (s : List ℕ) (t u : Store) (g h : List (List ℕ)) (i : ℕ) : Type 0 where
+pub record Falling (s : List ℕ) (t u : Store) (g h : GapTable) (i : ℕ) : Type 0 where
   pub low : i ≤ rawRows t
   pub rest :
       (pool : Pool) → PooledIn pool t g →
@@ -39,7 +40,7 @@ pub record Falling (s : List ℕ) (t u : Store) (g h : List (List ℕ)) (i : ℕ
   pub stacked : Stacked t u
   pub goes : Goes t u g h
 
-pub falling-begin : (s : List ℕ) (t : Store) (g : List (List ℕ)) (n : ℕ) → n ≡ rawRows t → Falling s t t g g n
+pub falling-begin : (s : List ℕ) (t : Store) (g : GapTable) (n : ℕ) → n ≡ rawRows t → Falling s t t g g n
 unfolding from
 falling-begin s t g n e =
     let z : rawRows t - rawRows t ≡ 0 = omega arith in
@@ -53,7 +54,7 @@ falling-begin s t g n e =
     })
 
 module _
-    (s p : List ℕ) (t u : Store) (g h : List (List ℕ)) (i : ℕ) (work : Work s p) (standing : Standing s p t) (live : LiveIn t g) (l : Falling s t u g h i) where
+    (s p : List ℕ) (t u : Store) (g h : GapTable) (i : ℕ) (work : Work s p) (standing : Standing s p t) (live : LiveIn t g) (l : Falling s t u g h i) where
   abbrev nodes : List Node
   nodes = nodesIn s t
 
@@ -96,7 +97,7 @@ module _
       unfolding backwards
       pulled = rw (← is, backwards, node-is)
 
-      module _ (v : Store) (o : List (List ℕ)) (r : ℕ) (x : SlottedAll s k u v h o r) where
+      module _ (v : Store) (o : GapTable) (r : ℕ) (x : SlottedAll s k u v h o r) where
         -- no slot for a child of it
         pub falling-refused : (r ≡ 0 → ⊥) → RawsSlotted s t v g o r
         unfolding rowsOfRaws

@@ -11,6 +11,7 @@ use Rattle.definition.specs.Basics.{Result, good, bad, _>>=_}
 use Rattle.definition.specs.Resolving.{Node}
 use Rattle.definition.specs.Building.{Pool, Rows, kidsOf, childNumber, childNumbers}
 use Rattle.facts.proofs.Lists.{order}
+use Rattle.slots.specs.Gaps.{GapTable}
 use Rattle.store.specs.Store.{Store, size}
 use Rattle.store.specs.Regions.{FIRSTS, SIZES, CHILDREN, NODES, Work}
 use Rattle.store.specs.Words.{ENTRY}
@@ -32,7 +33,7 @@ Numbers = Result ℕ (List ℕ × Pool × Rows)
 abbrev ahead : List ℕ → Numbers → Numbers
 ahead l r = r >>= λ x. good (l ++ x .0, x .1, x .2)
 
-pub record Numbering (s p : List ℕ) (k : ℕ) (t u : Store) (g h : List (List ℕ)) (i : ℕ) : Type 0 where
+pub record Numbering (s p : List ℕ) (k : ℕ) (t u : Store) (g h : GapTable) (i : ℕ) : Type 0 where
   pub passed : i ≤ length (kidsOf (nodesIn s t) k)
   pub rest :
       (pool : Pool) (rows : Rows) → PooledIn pool t g → RowedIn p rows t →
@@ -52,7 +53,7 @@ good-again : (r : Numbers) → r ≡ ahead [] r
 good-again (good a) = refl
 good-again (bad e) = refl
 
-pub numbering-begin : (s p : List ℕ) (k : ℕ) (t : Store) (g : List (List ℕ)) → Working s p t g → Numbering s p k t t g g 0
+pub numbering-begin : (s p : List ℕ) (k : ℕ) (t : Store) (g : GapTable) → Working s p t g → Numbering s p k t t g g 0
 numbering-begin s p k t g w =
     record {
       passed = omega arith;
@@ -67,7 +68,7 @@ regroup : (r : Numbers) (n : ℕ) (l : List ℕ) → ahead l (r >>= λ x. good (
 regroup (good a) n l = rw (append-assoc l (n ∷ []) (a .0))
 regroup (bad e) n l = refl
 
-module _ (s p : List ℕ) (k : ℕ) (t u : Store) (g h : List (List ℕ)) (i : ℕ) (l : Numbering s p k t u g h i) where
+module _ (s p : List ℕ) (k : ℕ) (t u : Store) (g h : GapTable) (i : ℕ) (l : Numbering s p k t u g h i) where
   abbrev nodes : List Node
   nodes = nodesIn s t
 
@@ -101,7 +102,7 @@ module _ (s p : List ℕ) (k : ℕ) (t u : Store) (g h : List (List ℕ)) (i : �
       }
 
   module _
-      (more : i < length kids) (child r : ℕ) (is : child ≡ getD kids i 0) (v : Store) (o : List (List ℕ)) (x : Numbered s p child u v h o r) where
+      (more : i < length kids) (child r : ℕ) (is : child ≡ getD kids i 0) (v : Store) (o : GapTable) (x : Numbered s p child u v h o r) where
     next : drop i kids ≡ child ∷ drop (suc i) kids
     next = drop-cons kids i 0 more ∙ rw is
 
@@ -160,7 +161,7 @@ module _ (s p : List ℕ) (k : ℕ) (t u : Store) (g h : List (List ℕ)) (i : �
 -- AS THE CODE HAS IT
 
 module _
-    (s p : List ℕ) (t : Store) (g : List (List ℕ)) (work : Work s p) (w : Working s p t g) (long : length (t NODES) ≡ size p NODES)
+    (s p : List ℕ) (t : Store) (g : GapTable) (work : Work s p) (w : Working s p t g) (long : length (t NODES) ≡ size p NODES)
     (k : ℕ) (low : k < nodeCount t) (first n : ℕ) (f : first ≡ getD (t FIRSTS) (getD (t NODES) k 0) 0) (m : n ≡ getD (t SIZES) (getD (t NODES) k 0) 0) where
   pub fields-many : length (kidsOf (nodesIn s t) k) ≡ n
   fields-many = kids-many s p t work (w .standing) long k low ∙ sym m
@@ -168,7 +169,7 @@ module _
   pub fields-room : first + n ≤ size p CHILDREN
   fields-room = node-kids-fit s p t (there-now s p t work (w .standing)) k low first n f m
 
-  module _ (u : Store) (h : List (List ℕ)) (i : ℕ) (l : Numbering s p k t u g h i) (more : i < n) (child : ℕ) (is : child ≡ getD (u CHILDREN) (first + i) 0) where
+  module _ (u : Store) (h : GapTable) (i : ℕ) (l : Numbering s p k t u g h i) (more : i < n) (child : ℕ) (is : child ≡ getD (u CHILDREN) (first + i) 0) where
     pub field-is : child ≡ getD (kidsOf (nodesIn s t) k) i 0
     field-is = is ∙ rw (l .grows .kept CHILDREN refl, f) (sym (kid-at s p t work (w .standing) long k low i (omega (arith, m))))
 

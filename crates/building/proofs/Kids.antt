@@ -15,6 +15,7 @@ use Rattle.facts.proofs.Lists.{found-inside, found-read}
 use Rattle.laws.proofs.resolving.NodesAndChildren.{InNodes}
 use Rattle.laws.proofs.slots.SlotRequest.{allocate-old}
 use Rattle.laws.proofs.building.ChildNumbers.{slotOf-raw, slotOf-node}
+use Rattle.slots.specs.Gaps.{GapTable}
 use Rattle.store.specs.Store.{Store, size}
 use Rattle.store.specs.Regions.{GIVEN, FIRSTS, SIZES, CHILDREN, NODES, Work}
 use Rattle.store.specs.Words.{ENTRY, cut, childSlot}
@@ -33,7 +34,7 @@ use Rattle.building.proofs.Lasting.{there-now}
 
 -- CHILDREN THAT HAVE SLOTS: asking again changes nothing
 
-module _ (nodes : List Node) (pool : Pool) (t : Store) (g : List (List ℕ)) (q : PooledIn pool t g) where
+module _ (nodes : List Node) (pool : Pool) (t : Store) (g : GapTable) (q : PooledIn pool t g) where
   slotOf-had : (ldc : Bool) (c : ℕ) → Has (t GIVEN) c → slotOf nodes ldc c pool ≡ good (childSlot (t GIVEN) c, pool)
   slotOf-had ldc c (inl h) = slotOf-raw nodes ldc c pool (lt-ltb c ENTRY h) ∙ ap (λ (x : ℕ). good (x, pool)) (sym (child-raw (t GIVEN) c h))
   slotOf-had ldc c (inr (h, l)) =
@@ -97,7 +98,7 @@ module _ (s p : List ℕ) (t : Store) (work : Work s p) (standing : Standing s p
 
   -- NODES THAT GET SLOTS are on the stack
 
-  module _ (u : Store) (g h : List (List ℕ)) (live : LiveIn t g) where
+  module _ (u : Store) (g h : GapTable) (live : LiveIn t g) where
     pub slotted-stacks : (c : ℕ) → c < ENTRY + nodeCount t → (ldc : Bool) (r : ℕ) → Slotted s ldc c t u g h r → r ≡ 0 → Stacked t u
     slotted-stacks c low ldc r x z =
         let (after, e, q) = x .met (somePool t g) (some-pooled t g) z in

@@ -8,6 +8,7 @@ use lib.ListN.{getD, take}
 use Rattle.definition.specs.Basics.{Result, every}
 use Rattle.definition.specs.Building.{Rows}
 use Rattle.facts.proofs.Lists.{equal}
+use Rattle.slots.specs.Gaps.{GapTable}
 use Rattle.store.specs.Store.{Store, Kept}
 use Rattle.store.specs.Regions.{COUNTS, MARKS, GIVEN, INDEXES, NODE-HEADS, NODE-LINKS, ROW-HEADS, ROW-LINKS, OFFSETS, FIRSTS, SIZES, CHILDREN, RAW-KEYS, RAW-ENTRIES, ORDER, NODES, PENDING, INLINE, NODE-COUNT, GAP-COUNT, ODD, WIDE, PLAIN, PENDING-COUNT, RAW-COUNT, HELD-COUNT, ROW-COUNT, WRITTEN-COUNT, INLINE-COUNT, Work}
 use Rattle.store.specs.Words.{ENTRY}
@@ -82,11 +83,11 @@ there-now s p t work h = (work, h .entered, h .nodes)
 
 -- STEP BY STEP
 
-pub grows-not : (t : Store) (g : List (List ℕ)) → Grows t t g g
+pub grows-not : (t : Store) (g : GapTable) → Grows t t g g
 grows-not t g =
     record { apart = λ top a. a; long = refl; given = λ k l. refl; index = λ i l. refl; counters = λ c f. refl; kept = λ k f. refl }
 
-pub grows-then : (t u v : Store) (g h o : List (List ℕ)) → Grows t u g h → Grows u v h o → Grows t v g o
+pub grows-then : (t u v : Store) (g h o : GapTable) → Grows t u g h → Grows u v h o → Grows t v g o
 grows-then t u v g h o a b =
     record {
       apart = λ top l. b .apart top (a .apart top l);
@@ -109,7 +110,7 @@ stacked-then t u v a b =
     }
 
 -- what has a number keeps it
-module _ (s p : List ℕ) (t u : Store) (g h : List (List ℕ)) (grows : Grows t u g h) where
+module _ (s p : List ℕ) (t u : Store) (g h : GapTable) (grows : Grows t u g h) where
   pub done-stays : (child : ℕ) → ChildDone p t child → ChildDone p u child
   unfolding HasNumber
   done-stays child d =
@@ -125,7 +126,7 @@ module _ (s p : List ℕ) (t u : Store) (g h : List (List ℕ)) (grows : Grows t
 
 -- SLOTS ARE GIVEN
 
-module _ (s p : List ℕ) (t u : Store) (g h : List (List ℕ)) (goes : Goes t u g h) where
+module _ (s p : List ℕ) (t u : Store) (g h : GapTable) (goes : Goes t u g h) where
   pub grows-goes : Grows t u g h
   unfolding every
   grows-goes =
@@ -180,7 +181,7 @@ module _ (s p : List ℕ) (t u : Store) (g h : List (List ℕ)) (goes : Goes t u
 -- AN INDEX IS GIVEN to bootstrap node k, whose children have slots, and to no other
 
 module _
-    (s p : List ℕ) (found : Rows → Result ℕ (ℕ × Rows)) (k : ℕ) (t u : Store) (g : List (List ℕ)) (r : ℕ) (x : Indexed found p k t u r) where
+    (s p : List ℕ) (found : Rows → Result ℕ (ℕ × Rows)) (k : ℕ) (t u : Store) (g : GapTable) (r : ℕ) (x : Indexed found p k t u r) where
   pub live-indexed : LiveIn t g → LiveIn u g
   live-indexed live =
       record {

@@ -7,3 +7,4 @@ pub mod Fields
 pub mod Falling
 pub mod Emptying
 pub mod Whole
+pub mod Walks

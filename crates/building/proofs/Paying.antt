@@ -21,6 +21,7 @@ use Rattle.laws.proofs.resolving.NodesAndChildren.{InNodes}
 use Rattle.laws.proofs.slots.SlotRequest.{Met, old, new, met}
 use Rattle.laws.proofs.building.ChildNumbers.{slotOf-raw, slotOf-node}
 use Rattle.laws.proofs.building.WhatBuildingLeaves.{PoolGrows, slotted, allSlotted}
+use Rattle.slots.specs.Gaps.{GapTable}
 use Rattle.store.specs.Store.{Store}
 use Rattle.store.specs.Regions.{COUNTS, GIVEN, PENDING}
 use Rattle.interner.specs.Nodes.{nodeCount}
@@ -122,7 +123,7 @@ module _ (nodes : List Node) where
 
 -- THE STACK IN THE WORDS
 
-module _ (pool : Pool) (t : Store) (g : List (List ℕ)) (q : PooledIn pool t g) (fits : pendingCount t ≤ length (t PENDING)) where
+module _ (pool : Pool) (t : Store) (g : GapTable) (q : PooledIn pool t g) (fits : pendingCount t ≤ length (t PENDING)) where
   abbrev stack : List ℕ
   stack = take (pendingCount t) (t PENDING)
 
@@ -156,7 +157,7 @@ word-there zero slot e = none≢some e
 word-there (suc n) slot e = omega arith
 
 module _
-    (nodes : List Node) (t u : Store) (g h : List (List ℕ)) (pool after : Pool) (q : PooledIn pool t g) (q′ : PooledIn after u h)
+    (nodes : List Node) (t u : Store) (g h : GapTable) (pool after : Pool) (q : PooledIn pool t g) (q′ : PooledIn after u h)
     (paid : Paid nodes pool after) (made : length nodes ≡ nodeCount t) (same : nodeCount u ≡ nodeCount t)
     (fits : pendingCount t ≤ length (t PENDING)) (fits′ : pendingCount u ≤ length (u PENDING)) where
   abbrev turned : ℕ × ℕ → ℕ × ℕ
@@ -235,7 +236,7 @@ past [] k h = refl
 past (x ∷ words) zero h = absurd (omega arith)
 past (x ∷ words) (suc k) h = past words k (omega arith)
 
-pub somePool : Store → List (List ℕ) → Pool
+pub somePool : Store → GapTable → Pool
 somePool t g =
     record {
       slots = slotsIn (t COUNTS) g;
@@ -247,7 +248,7 @@ seconds : (l : List ℕ) → map (λ (r : ℕ × ℕ). r .1) (map (λ k. (0, k))
 seconds [] = refl
 seconds (x ∷ l) = ap (λ (m : List ℕ). x ∷ m) (seconds l)
 
-pub some-pooled : (t : Store) (g : List (List ℕ)) → PooledIn (somePool t g) t g
+pub some-pooled : (t : Store) (g : GapTable) → PooledIn (somePool t g) t g
 unfolding somePool
 some-pooled t g =
     record {

@@ -14,6 +14,7 @@ use Rattle.definition.specs.Resolving.{Node, firstNode}
 use Rattle.definition.specs.Building.{Pool, Rows, slotOf, slotsOf, rowIndex, kidsOf, nodeNumber, childNumber}
 use Rattle.facts.proofs.Lists.{true≢false}
 use Rattle.laws.proofs.building.ChildNumbers.{slotOf-raw, slotOf-node, nodeNumber-row, nodeNumber-slot, childNumber-raw, childNumber-node}
+use Rattle.slots.specs.Gaps.{GapTable}
 use Rattle.store.specs.Store.{Store, size}
 use Rattle.store.specs.Regions.{COUNTS, GIVEN, INDEXES, NODES, PENDING, GAP-COUNT, ODD, WIDE, PLAIN, PENDING-COUNT, Work}
 use Rattle.store.specs.Words.{ENTRY, childSlot}
@@ -29,7 +30,7 @@ use Rattle.building.proofs.Kids.{slotsOf-had, row-kids, slotted-kids, k
 
 -- an index that is given changes no pool
 pooled-indexed :
-    {found : Rows → Result ℕ (ℕ × Rows)} (p : List ℕ) (k : ℕ) (t u : Store) (g : List (List ℕ)) (r : ℕ) → Indexed found p k t u r →
+    {found : Rows → Result ℕ (ℕ × Rows)} (p : List ℕ) (k : ℕ) (t u : Store) (g : GapTable) (r : ℕ) → Indexed found p k t u r →
     (pool : Pool) → PooledIn pool t g → PooledIn pool u g
 pooled-indexed p k t u g r x pool q =
     record {
@@ -47,7 +48,7 @@ pooled-indexed p k t u g r x pool q =
     }
 
 module _
-    (s p : List ℕ) (t : Store) (g : List (List ℕ)) (work : Work s p) (w : Working s p t g) (long : length (t NODES) ≡ size p NODES) where
+    (s p : List ℕ) (t : Store) (g : GapTable) (work : Work s p) (w : Working s p t g) (long : length (t NODES) ≡ size p NODES) where
   abbrev nodes : List Node
   nodes = nodesIn s t
 
@@ -61,9 +62,8 @@ module _
         nodeNumber-row nodes k pool rows (tag-bootstrap s p t (there-now s p t work (w .standing)) k (is .made) long (is .behind))
 
     -- it has an index
-    pub bootstrap-had : (x : ℕ) → x ≡ indexWord p t k → (x ≡ 0 → ⊥) → RowNumbered s p k t t g g 0
-    bootstrap-had x e f =
-        let there : 0 < indexWord p t k = omega (arith, e, f) in
+    pub bootstrap-had : 0 < indexWord p t k → RowNumbered s p k t t g g 0
+    bootstrap-had there =
         let has = w .indexed (getD (t NODES) k 0) (is .behind) there in
         record {
           step =
@@ -83,7 +83,7 @@ module _
           done = λ z. there;
         }
 
-    module _ (u : Store) (h : List (List ℕ)) (r : ℕ) (x : SlottedAll s k t u g h r) where
+    module _ (u : Store) (h : GapTable) (r : ℕ) (x : SlottedAll s k t u g h r) where
       -- a child of it has none, and gets no slot
       pub bootstrap-refused : (r ≡ 0 → ⊥) → RowNumbered s p k t u g h r
       bootstrap-refused bad′ =
@@ -149,7 +149,7 @@ module _
 
   -- A CHILD
 
-  module _ (child : ℕ) (low : child < ENTRY + nodeCount t) (u : Store) (h : List (List ℕ)) (r : ℕ) where
+  module _ (child : ℕ) (low : child < ENTRY + nodeCount t) (u : Store) (h : GapTable) (r : ℕ) where
     -- that is a bootstrap
     pub child-bootstrap : (b : Bool) → b ≡ isBootstrap p t child → b ≡ true → ENTRY ≤ child → RowNumbered s p (child - ENTRY) t u g h r → Numbered s p child t u g h r
     unfolding HasNumber

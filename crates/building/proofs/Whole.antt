@@ -10,6 +10,7 @@ use Rattle.definition.specs.Resolving.{Node}
 use Rattle.definition.specs.Building.{Pool, Row, Made, drain, rawRows as rowsOfRaws, buildAll}
 use Rattle.facts.proofs.Chunks.{from-same}
 use Rattle.laws.proofs.building.ChildNumbers.{startMade}
+use Rattle.slots.specs.Gaps.{GapTable}
 use Rattle.store.specs.Store.{Store, size}
 use Rattle.store.specs.Regions.{COUNTS, GIVEN, INDEXES, ROW-HEADS, NODES, INLINE, ROW-COUNT, WRITTEN-COUNT, INLINE-COUNT, Work}
 use Rattle.interner.specs.Nodes.{nodeCount, nodesIn}
@@ -27,7 +28,7 @@ use Rattle.building.proofs.Emptying.{raw-owner}
 
 -- WHAT HAS A ROW has children with slots
 
-module _ (s p : List ℕ) (t : Store) (g : List (List ℕ)) (work : Work s p) (w : Working s p t g) (long : length (t NODES) ≡ size p NODES) where
+module _ (s p : List ℕ) (t : Store) (g : GapTable) (work : Work s p) (w : Working s p t g) (long : length (t NODES) ≡ size p NODES) where
   raw-slots : (i : ℕ) → i < rawRows t → KidsSlotted s t (rawNode t i)
   unfolding RawsReady
   raw-slots i l = slotted-kids s p t work (w .standing) long (rawNode t i) (w .standing .raws .1 i l .node) (w .raw i l)
@@ -41,7 +42,7 @@ module _ (s p : List ℕ) (t : Store) (g : List (List ℕ)) (work : Work s p) (w
 
 -- AS THE CODE HAS IT
 
-module _ (s p : List ℕ) (t : Store) (g : List (List ℕ)) (work : Work s p) (can : CanBuild s p t g) where
+module _ (s p : List ℕ) (t : Store) (g : GapTable) (work : Work s p) (can : CanBuild s p t g) where
   pub standing-first : Standing s p t
   standing-first = record { entered = can .table .entered; nodes = can .rests .nodes; kids = can .kids; raws = can .raws }
 
@@ -58,7 +59,7 @@ module _ (s p : List ℕ) (t : Store) (g : List (List ℕ)) (work : Work s p) (c
   unfolding buildAll
   build-is indexes pool are = ap (λ (falling : List (ℕ × ℕ)). rowsOfRaws nodes falling pool [] >>= drained) are
 
-  module _ (u : Store) (h : List (List ℕ)) (r : ℕ) (x : RawsSlotted s t u g h r) where
+  module _ (u : Store) (h : GapTable) (r : ℕ) (x : RawsSlotted s t u g h r) where
     abbrev grown : Grows t u g h
     grown = grows-goes s p t u g h (x .goes)
 
@@ -130,7 +131,7 @@ module _ (s p : List ℕ) (t : Store) (g : List (List ℕ)) (work : Work s p) (c
               made-same s p t u (grown .kept) (grown .counters),
             )
 
-        module _ (v : Store) (o : List (List ℕ)) (c : ℕ) (d : Drained s p u v h o c) (long′ : length (v NODES) ≡ size p NODES) where
+        module _ (v : Store) (o : GapTable) (c : ℕ) (d : Drained s p u v h o c) (long′ : length (v NODES) ≡ size p NODES) where
           abbrev all : Grows t v g o
           all = grows-then t u v g h o grown (d .grows)
 

@@ -7,6 +7,7 @@ use lib.ListN.{length, getD}
 use Rattle.definition.specs.Basics.{good, bad}
 use Rattle.definition.specs.Building.{Pool, Made, buildAll}
 use Rattle.laws.specs.Gaps.{Apart}
+use Rattle.slots.specs.Gaps.{GapTable}
 use Rattle.store.specs.Store.{Store, size, among, Kept}
 use Rattle.store.specs.Regions.{COUNTS, GIVEN, INDEXES, NODE-HEADS, ROW-HEADS, ROW-LINKS, PENDING, INLINE, ODD, WIDE, PLAIN, PENDING-COUNT, ROW-COUNT, WRITTEN-COUNT, INLINE-COUNT}
 use Rattle.interner.specs.Nodes.{nodeCount, nodesIn}
@@ -17,7 +18,7 @@ use Rattle.pool.specs.Owning.{IsOwner, OnStack}
 use Rattle.building.specs.Numbers.{KidsDone, KidsSlotted}
 
 -- the nodes are there, what slots hold waits on the stack, and no row has an index yet
-pub record CanBuild (s p : List ℕ) (t : Store) (g : List (List ℕ)) : Type 0 where
+pub record CanBuild (s p : List ℕ) (t : Store) (g : GapTable) : Type 0 where
   pub table : Table s t
   pub rests : AtRest (size p NODE-HEADS) s t
   pub kids : (k : ℕ) → k < nodeCount t → KidsThere s t k
@@ -41,7 +42,7 @@ abbrev pub builtRegions : List ℕ
 builtRegions = COUNTS ∷ GIVEN ∷ INDEXES ∷ ROW-HEADS ∷ ROW-LINKS ∷ PENDING ∷ INLINE ∷ []
 
 -- all is built, or r is the refusal's number: t and the gap table g before, u and h after
-pub record BuiltAll (s p : List ℕ) (t u : Store) (g h : List (List ℕ)) (r : ℕ) : Type 0 where
+pub record BuiltAll (s p : List ℕ) (t u : Store) (g h : GapTable) (r : ℕ) : Type 0 where
   pub met :
       (pool : Pool) (indexes : List (ℕ × ℕ)) → PooledIn pool t g → RawsAre t indexes → r ≡ 0 →
       (m : Made) × (buildAll (nodesIn s t) indexes pool ≡ good m) × PooledIn (m .pool) u h × RowedIn p (m .rows) u

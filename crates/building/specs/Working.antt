@@ -9,6 +9,7 @@ use lib.ListN.{length, getD}
 use Rattle.definition.specs.Basics.{Result, good, bad, from}
 use Rattle.definition.specs.Building.{Pool, Rows, Made, kidsOf, nodeNumber, childNumber, childNumbers, drain, rawRows as rowsOfRaws}
 use Rattle.laws.specs.Gaps.{Apart}
+use Rattle.slots.specs.Gaps.{GapTable}
 use Rattle.store.specs.Store.{Store, size, among, Kept}
 use Rattle.store.specs.Regions.{COUNTS, GIVEN, INDEXES, NODE-HEADS, FIRSTS, SIZES, CHILDREN, NODES}
 use Rattle.interner.specs.Nodes.{nodeCount, nodesIn, EnteredIn, NodesIn}
@@ -35,7 +36,7 @@ pub record Standing (s p : List ℕ) (t : Store) : Type 0 where
   pub raws : RawsReadyIn p t
 
 -- and what it keeps: bootstraps that have an index, and raw ones, have children with slots, so that their rows stay
-pub record Working (s p : List ℕ) (t : Store) (g : List (List ℕ)) : Type 0 where
+pub record Working (s p : List ℕ) (t : Store) (g : GapTable) : Type 0 where
   pub standing : Standing s p t
   pub live : LiveIn t g
   pub rowed : (rows : Rows) × RowedIn p rows t
@@ -70,7 +71,7 @@ pub record Stacked (t u : Store) : Type 0 where
   pub fewer : owing u ≤ owing t
 
 -- slots and indexes stay, and what building never writes
-pub record Grows (t u : Store) (g h : List (List ℕ)) : Type 0 where
+pub record Grows (t u : Store) (g h : GapTable) : Type 0 where
   pub apart : (top : ℕ) → Apart top 1 (gapsIn (t COUNTS) g) → Apart top 1 (gapsIn (u COUNTS) h)
   pub long : length h ≡ length g
   pub given : (k : ℕ) → 0 < getD (t GIVEN) k 0 → getD (u GIVEN) k 0 ≡ getD (t GIVEN) k 0
@@ -79,7 +80,7 @@ pub record Grows (t u : Store) (g h : List (List ℕ)) : Type 0 where
   pub kept : Kept builtRegions t u
 
 -- a step f of the definition was taken, r ≡ 0, or r is the refusal's number
-pub record Stepped {A : Type 0} (f : Pool → Rows → Result ℕ (A × Pool × Rows)) (s p : List ℕ) (t u : Store) (g h : List (List ℕ)) (r : ℕ) : Type 0 where
+pub record Stepped {A : Type 0} (f : Pool → Rows → Result ℕ (A × Pool × Rows)) (s p : List ℕ) (t u : Store) (g h : GapTable) (r : ℕ) : Type 0 where
   pub met :
       (pool : Pool) (rows : Rows) → PooledIn pool t g → RowedIn p rows t → r ≡ 0 →
       (a : A) × (pool′ : Pool) × (rows′ : Rows) × (f pool rows ≡ good (a, pool′, rows′)) × PooledIn pool′ u h × RowedIn p rows′ u
@@ -91,17 +92,17 @@ pub record Stepped {A : Type 0} (f : Pool → Rows → Result ℕ (A × Pool × 
   pub grows : Grows t u g h
 
 -- bootstrap node k has an index
-pub record RowNumbered (s p : List ℕ) (k : ℕ) (t u : Store) (g h : List (List ℕ)) (r : ℕ) : Type 0 where
+pub record RowNumbered (s p : List ℕ) (k : ℕ) (t u : Store) (g h : GapTable) (r : ℕ) : Type 0 where
   pub step : Stepped (nodeNumber (nodesIn s t) k) s p t u g h r
   pub done : r ≡ 0 → 0 < indexWord p u k
 
 -- a child has its number
-pub record Numbered (s p : List ℕ) (child : ℕ) (t u : Store) (g h : List (List ℕ)) (r : ℕ) : Type 0 where
+pub record Numbered (s p : List ℕ) (child : ℕ) (t u : Store) (g h : GapTable) (r : ℕ) : Type 0 where
   pub step : Stepped (childNumber (nodesIn s t) child) s p t u g h r
   pub done : r ≡ 0 → ChildDone p u child
 
 -- all children of node k have
-pub record Finished (s p : List ℕ) (k : ℕ) (t u : Store) (g h : List (List ℕ)) (r : ℕ) : Type 0 where
+pub record Finished (s p : List ℕ) (k : ℕ) (t u : Store) (g h : GapTable) (r : ℕ) : Type 0 where
   pub step : Stepped (childNumbers (nodesIn s t) (kidsOf (nodesIn s t) k)) s p t u g h r
   pub done : r ≡ 0 → KidsDone s p u k
 
@@ -110,7 +111,7 @@ abbrev pub rawRow : Store → Store → ℕ → ℕ × List ℕ
 rawRow t u i = (rawIndex t i, rowIn u (rawNode t i))
 
 -- the raw bootstraps' children have slots
-pub record RawsSlotted (s : List ℕ) (t u : Store) (g h : List (List ℕ)) (r : ℕ) : Type 0 where
+pub record RawsSlotted (s : List ℕ) (t u : Store) (g h : GapTable) (r : ℕ) : Type 0 where
   pub met :
       (pool : Pool) → PooledIn pool t g → r ≡ 0 →
       (pool′ : Pool)
@@ -124,7 +125,7 @@ pub record RawsSlotted (s : List ℕ) (t u : Store) (g h : List (List ℕ)) (r :
   pub goes : Goes t u g h
 
 -- the stack is empty
-pub record Drained (s p : List ℕ) (t u : Store) (g h : List (List ℕ)) (r : ℕ) : Type 0 where
+pub record Drained (s p : List ℕ) (t u : Store) (g h : GapTable) (r : ℕ) : Type 0 where
   pub met :
       (fuel : ℕ) (m : Made) → owing t ≤ fuel → PooledIn (m .pool) t g → RowedIn p (m .rows) t → r ≡ 0 →
       (m′ : Made) × (drain fuel (nodesIn s t) (m .pool .pending) m ≡ good m′) × PooledIn (m′ .pool) u h × RowedIn p (m′ .rows) u

@@ -9,24 +9,27 @@ use rows::is_bootstrap;
 use rows::raw_row;
 use rows::raw_rows;
 use rows::row_index;
+use slots::Gap;
 use store::CHILDREN;
 use store::COUNTS;
 use store::ENTRY;
 use store::PENDING_COUNT;
 use store::load;
+ghost use mathlib.Core.Path.{_≡_};
 ghost use Prim.Native.Nat.{_+_, _<_};
+ghost use lib.Dec.{ltb};
 ghost use lib.ListN.{length};
 ghost use Rattle.store.specs.Store.{store, On};
 ghost use Rattle.store.specs.Regions.{Work};
 ghost use Rattle.store.specs.Words.{ENTRY};
 ghost use Rattle.interner.specs.Nodes.{nodeCount};
-ghost use Rattle.rows.specs.Rowed.{IsBootstrapIn};
+ghost use Rattle.rows.specs.Rowed.{RowRoom, KidsIn, indexWord, IsBootstrapIn};
 ghost use Rattle.pool.specs.Pooled.{LiveIn};
 ghost use Rattle.building.specs.Built.{CanBuild, BuiltAll};
 ghost use Rattle.building.specs.Working.{Standing, Working, Owners, RawsSlotted, RowNumbered, Numbered, Finished, Drained};
 
 // The raw bootstraps' children have slots from then on, by falling index, 0, or 14: `rawRows`.
-fn slot_raw_rows(job: &[u8], w: &mut [u32], p: &[usize], gaps: &mut [[u16; 2]]) -> usize
+fn slot_raw_rows(job: &[u8], w: &mut [u32], p: &[usize], gaps: &mut [Gap]) -> usize
     requires { ⌜ On (now p) (length (now w)) × Work (now job) (now p) × Standing (now job) (now p) (store (now p) (now w)) × LiveIn (store (now p) (now w)) (now gaps) ⌝ }
     ensures { λ r. ⌜ RawsSlotted (now (job .entry)) (store (now (p .entry)) (now (w .entry))) (store (now (p .entry)) (now (w .exit))) (now (gaps .entry)) (now (gaps .exit)) r ⌝ }
 {
@@ -42,18 +45,20 @@ fn slot_raw_rows(job: &[u8], w: &mut [u32], p: &[usize], gaps: &mut [[u16; 2]]) 
     0
 }
 
+// Bootstrap node k has an index.
+fn has_index(w: &[u32], p: &[usize], k: usize) -> bool
+    requires { ⌜ On (now p) (length (now w)) × RowRoom (now p) × KidsIn (now p) (store (now p) (now w)) × IsBootstrapIn (now p) (store (now p) (now w)) k ⌝ }
+    ensures { λ r. ⌜ r ≡ ltb 0 (indexWord (now (p .entry)) (store (now (p .entry)) (now (w .entry))) k) ⌝ }
+{
+    0 < index_of(w, p, k)
+}
+
 // Bootstrap node k has an index from then on, its children having slots, 0, or 14 or 17: `nodeNumber`.
-fn number_bootstrap(
-    job: &[u8],
-    w: &mut [u32],
-    p: &[usize],
-    gaps: &mut [[u16; 2]],
-    k: usize,
-) -> usize
+fn number_bootstrap(job: &[u8], w: &mut [u32], p: &[usize], gaps: &mut [Gap], k: usize) -> usize
     requires { ⌜ On (now p) (length (now w)) × Work (now job) (now p) × Working (now job) (now p) (store (now p) (now w)) (now gaps) × IsBootstrapIn (now p) (store (now p) (now w)) k ⌝ }
     ensures { λ r. ⌜ RowNumbered (now (job .entry)) (now (p .entry)) k (store (now (p .entry)) (now (w .entry))) (store (now (p .entry)) (now (w .exit))) (now (gaps .entry)) (now (gaps .exit)) r ⌝ }
 {
-    if index_of(w, p, k) != 0 {
+    if has_index(w, p, k) {
         return 0;
     }
     let code = slots_of(job, w, p, gaps, k);
@@ -64,13 +69,7 @@ fn number_bootstrap(
 }
 
 // A child has its number from then on, 0, or 14 or 17: `childNumber`.
-fn number_child(
-    job: &[u8],
-    w: &mut [u32],
-    p: &[usize],
-    gaps: &mut [[u16; 2]],
-    child: usize,
-) -> usize
+fn number_child(job: &[u8], w: &mut [u32], p: &[usize], gaps: &mut [Gap], child: usize) -> usize
     requires { ⌜ On (now p) (length (now w)) × Work (now job) (now p) × Working (now job) (now p) (store (now p) (now w)) (now gaps) × (child < ENTRY + nodeCount (store (now p) (now w))) ⌝ }
     ensures { λ r. ⌜ Numbered (now (job .entry)) (now (p .entry)) child (store (now (p .entry)) (now (w .entry))) (store (now (p .entry)) (now (w .exit))) (now (gaps .entry)) (now (gaps .exit)) r ⌝ }
 {
@@ -81,7 +80,7 @@ fn number_child(
 }
 
 // Node k's children have their numbers from then on, in field order, 0, or 14 or 17: `childNumbers`.
-fn finish(job: &[u8], w: &mut [u32], p: &[usize], gaps: &mut [[u16; 2]], k: usize) -> usize
+fn finish(job: &[u8], w: &mut [u32], p: &[usize], gaps: &mut [Gap], k: usize) -> usize
     requires { ⌜ On (now p) (length (now w)) × Work (now job) (now p) × Working (now job) (now p) (store (now p) (now w)) (now gaps) × (k < nodeCount (store (now p) (now w))) ⌝ }
     ensures { λ r. ⌜ Finished (now (job .entry)) (now (p .entry)) k (store (now (p .entry)) (now (w .entry))) (store (now (p .entry)) (now (w .exit))) (now (gaps .entry)) (now (gaps .exit)) r ⌝ }
 {
@@ -100,7 +99,7 @@ fn finish(job: &[u8], w: &mut [u32], p: &[usize], gaps: &mut [[u16; 2]], k: usiz
 }
 
 // Takes from the building stack until it is empty, 0, or 14 or 17: `drain`.
-fn drain(job: &[u8], w: &mut [u32], p: &[usize], gaps: &mut [[u16; 2]]) -> usize
+fn drain(job: &[u8], w: &mut [u32], p: &[usize], gaps: &mut [Gap]) -> usize
     requires { ⌜ On (now p) (length (now w)) × Work (now job) (now p) × Working (now job) (now p) (store (now p) (now w)) (now gaps) × Owners (now job) (now p) (store (now p) (now w)) ⌝ }
     ensures { λ r. ⌜ Drained (now (job .entry)) (now (p .entry)) (store (now (p .entry)) (now (w .entry))) (store (now (p .entry)) (now (w .exit))) (now (gaps .entry)) (now (gaps .exit)) r ⌝ }
 {
@@ -115,7 +114,7 @@ fn drain(job: &[u8], w: &mut [u32], p: &[usize], gaps: &mut [[u16; 2]]) -> usize
 }
 
 // Raw bootstraps, then the stack, 0, or 14 or 17: `buildAll`.
-pub fn build_all(job: &[u8], w: &mut [u32], p: &[usize], gaps: &mut [[u16; 2]]) -> usize
+pub fn build_all(job: &[u8], w: &mut [u32], p: &[usize], gaps: &mut [Gap]) -> usize
     requires { ⌜ On (now p) (length (now w)) × Work (now job) (now p) × CanBuild (now job) (now p) (store (now p) (now w)) (now gaps) ⌝ }
     ensures { λ r. ⌜ BuiltAll (now (job .entry)) (now (p .entry)) (store (now (p .entry)) (now (w .entry))) (store (now (p .entry)) (now (w .exit))) (now (gaps .entry)) (now (gaps .exit)) r ⌝ }
 {

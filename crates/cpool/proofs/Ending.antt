@@ -23,7 +23,7 @@ use Rattle.store.specs.Store.{Store}
 use Rattle.store.specs.JobIn.{WellFormed, jobIn, definitionsIn, countsIn}
 use Rattle.store.proofs.Bounds.{formed-job}
 use Rattle.definitions.specs.Defining.{placeCount}
-use Rattle.slots.specs.Gaps.{gapOf}
+use Rattle.slots.specs.Gaps.{gapOf, noGap}
 use Rattle.builder.specs.Rendered.{Rendered}
 use Rattle.cpool.specs.declared.Outcome.{Outcome}
 use Rattle.cpool.specs.declared.Outcome.the-variants as outcome
@@ -79,8 +79,8 @@ module _ (s : List ℕ) (well : WellFormed s) (o : Outputs) (r : Outcome) where
 
 -- THE WHOLE RUN
 
--- rows of zeros are gaps of zeros
-blank-rows : (n : ℕ) → map gapOf (replicate n (0 ∷ 0 ∷ [])) ≡ replicate n (record { first = 0; last = 0 })
+-- blank rows are gaps of zeros
+blank-rows : (n : ℕ) → map gapOf (replicate n noGap) ≡ replicate n (record { first = 0; last = 0 })
 unfolding gapOf
 blank-rows zero = refl
 blank-rows (suc n) = ap (λ l. record { first = 0; last = 0 } ∷ l) (blank-rows n)
@@ -114,7 +114,7 @@ module _ (s : List ℕ) (m : Slices) where
         case = rw e (t .case);
         numbers = rw e (t .numbers);
         memory = rw e (memory-left x (memoryOf m) u);
-        rows = rw e (sym (cleared-left (0 ∷ 0 ∷ []) (bad x) (m .rows) u));
+        rows = rw e (sym (cleared-left noGap (bad x) (m .rows) u));
       }
 
   pub ran-long : longestJob < length s → Ran s m m (outcome.Refused 1 0)
@@ -154,7 +154,7 @@ module _ (s : List ℕ) (m : Slices) where
   memory-cleared :
       (result : Result Refusal Built) (after : Slices) (r : Outcome) → untouched result ≡ false →
       Gave result before (outputs (after .answers) (after .pool) (after .bootstraps) (after .class)) r →
-      after .work ≡ replicate (length (m .work)) 0 → after .rows ≡ replicate (length (m .rows)) (0 ∷ 0 ∷ []) →
+      after .work ≡ replicate (length (m .work)) 0 → after .rows ≡ replicate (length (m .rows)) noGap →
       memoryOf after ≡ memoryAfter result (memoryOf m)
   unfolding memoryOf memoryAfter
   memory-cleared result after r u g w h =
@@ -173,7 +173,7 @@ module _ (s : List ℕ) (m : Slices) where
   pub ran-on :
       (after : Slices) (r : Outcome) → IsBytes s → length s ≤ longestJob → 6 * length s + 1024 ≤ length (m .work) → length s / 5 + 2 ≤ length (m .rows) →
       Gave (onward (roomOf before) s) before (outputs (after .answers) (after .pool) (after .bootstraps) (after .class)) r →
-      after .work ≡ replicate (length (m .work)) 0 → after .rows ≡ replicate (length (m .rows)) (0 ∷ 0 ∷ []) → Ran s m after r
+      after .work ≡ replicate (length (m .work)) 0 → after .rows ≡ replicate (length (m .rows)) noGap → Ran s m after r
   unfolding resultOf
   ran-on after r are short words gaps g w h =
       let is : resultOf s m ≡ onward (roomOf before) s = goes-on (lentOf (memoryOf m)) s short (all-enough words gaps) ∙ onward-room m s in
@@ -183,7 +183,7 @@ module _ (s : List ℕ) (m : Slices) where
         case = rw is (g .tells .case);
         numbers = rw is (g .tells .numbers);
         memory = rw is (memory-cleared (onward (roomOf before) s) after r u g w h);
-        rows = rw is (h ∙ sym (cleared-blank (0 ∷ 0 ∷ []) (onward (roomOf before) s) (m .rows) u));
+        rows = rw is (h ∙ sym (cleared-blank noGap (onward (roomOf before) s) (m .rows) u));
       }
 
   -- FOR RUST AND C: 0 tells that the job is built, since no refusal has that number

@@ -1,6 +1,6 @@
 -- The promises of every run hold. Assumes nothing.
 use mathlib.Core.Bool.{true, false, _||_}
-use mathlib.Core.List.{List, [], _∷_}
+use mathlib.Core.List.{List}
 use mathlib.Core.Logic.{_⊎_, _≢_, inl, inr, ⊎-elim}
 use mathlib.Core.Path.{_≡_, refl, sym, ap, subst, _∙_}
 use Prim.Native.Nat.{ℕ, zero, suc, _≤_}
@@ -24,6 +24,7 @@ use Rattle.causes.proofs.Cause.{cause}
 use Rattle.causes.proofs.CausedRuns.{noCause}
 use Rattle.laws.specs.ShapeStatement.{PoolsAlike, ClassesAlike}
 use Rattle.laws.proofs.runs.FuelLasts.{fuelLasts}
+use Rattle.slots.specs.Gaps.{noGap}
 use Rattle.cpool.specs.declared.Outcome.{Outcome}
 use Rattle.cpool.specs.Ran.{Numbers, told, isBuilt, numbers, isGood, Slices, memoryOf, resultOf, Ran}
 use Rattle.cpool.specs.Promises.{handed, PrefixOnly, BuiltRun, RefusedRun, EveryJob, CodeReads, CodeHolds, CodeShared, CodeCause, CodeShape}
@@ -185,7 +186,7 @@ module _ (job : List ℕ) (before after : Slices) (r : Outcome) (are : IsBytes j
         pool = prefix-only (told r .pool) (b .pool) (before .pool) (after .pool) (ap (λ (m : Numbers). m .pool) n) (pool-built job before after r ran b is) (room₁ .0);
         bootstraps = prefix-only (told r .bootstraps) (b .bootstraps) (before .bootstraps) (after .bootstraps) (ap (λ (m : Numbers). m .bootstraps) n) (bootstraps-built job before after r ran b is) (room₂ .0);
         class = prefix-only (told r .classBytes) (classOut (b .class)) (before .class) (after .class) (ap (λ (m : Numbers). m .classBytes) n ∙ class-size (b .class)) (class-built job before after r ran b is) (room₂ .1);
-        cleared = (ap (λ (m : Memory). m .work) (memory-built job before after r ran b is), ran .rows ∙ ap (λ x. clearedAfter (0 ∷ 0 ∷ []) x (before .rows)) is);
+        cleared = (ap (λ (m : Memory). m .work) (memory-built job before after r ran b is), ran .rows ∙ ap (λ x. clearedAfter noGap x (before .rows)) is);
       }
 
   refused-run : (q : Refusal) → resultOf job before ≡ bad q → RefusedRun before after (told r)
@@ -193,7 +194,7 @@ module _ (job : List ℕ) (before after : Slices) (r : Outcome) (are : IsBytes j
   refused-run q is =
       let n : told r .code ≡ q .code = ap (λ (m : Numbers). m .code) (ran .numbers ∙ ap numbers is) in
       let memory : memoryOf after ≡ memoryAfter (bad q) (memoryOf before) = ran .memory ∙ ap (λ x. memoryAfter x (memoryOf before)) is in
-      let rows : after .rows ≡ clearedAfter (0 ∷ 0 ∷ []) (bad q) (before .rows) = ran .rows ∙ ap (λ x. clearedAfter (0 ∷ 0 ∷ []) x (before .rows)) is in
+      let rows : after .rows ≡ clearedAfter noGap (bad q) (before .rows) = ran .rows ∙ ap (λ x. clearedAfter noGap x (before .rows)) is in
       let work : after .work ≡ clearedAfter 0 (bad q) (before .work) = ap (λ (m : Memory). m .work) memory in
       record {
         low = omega (arith, n, non-zero (q .code) (fuelLasts job (lentOf (memoryOf before)) q are is));
@@ -205,8 +206,8 @@ module _ (job : List ℕ) (before after : Slices) (r : Outcome) (are : IsBytes j
         untouched =
             λ h.
             let t = early-untouched q (omega (arith, n, non-zero (q .code) (fuelLasts job (lentOf (memoryOf before)) q are is))) (omega (arith, n)) in
-            (work ∙ cleared-left 0 (bad q) (before .work) t, rows ∙ cleared-left (0 ∷ 0 ∷ []) (bad q) (before .rows) t);
-        cleared = λ h. let t = late-cleared q (omega (arith, n)) in (work ∙ cleared-blank 0 (bad q) (before .work) t, rows ∙ cleared-blank (0 ∷ 0 ∷ []) (bad q) (before .rows) t);
+            (work ∙ cleared-left 0 (bad q) (before .work) t, rows ∙ cleared-left noGap (bad q) (before .rows) t);
+        cleared = λ h. let t = late-cleared q (omega (arith, n)) in (work ∙ cleared-blank 0 (bad q) (before .work) t, rows ∙ cleared-blank noGap (bad q) (before .rows) t);
       }
 
 pub everyJob : EveryJob

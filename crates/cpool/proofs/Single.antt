@@ -12,8 +12,8 @@ use Rattle.cpool.specs.declared.ClassLength.the-variants as classLength
 use Rattle.cpool.specs.declared.Outcome.{Outcome}
 use Rattle.cpool.specs.declared.Outcome.the-variants as outcome
 use Rattle.cpool.specs.Ran.{Numbers, Slices, given, bytesOf, told, isBuilt, memoryOf, Ran, Told}
-use Rattle.cpool.proofs.run.Reads as run
-use Rattle.cpool.proofs.cpool_run.Reads as cpool-run
+use Rattle.cpool.proofs.Walks.run.Reads as run
+use Rattle.cpool.proofs.Walks.cpool_run.Reads as cpool-run
 
 -- AN OUTCOME IS KNOWN BY ITS CASE AND ITS NUMBERS
 

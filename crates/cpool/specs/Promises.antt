@@ -2,7 +2,7 @@
 -- of bytes, and nothing else; they carry the laws of crates/laws over to the code. How a statement reads: crates/laws/specs/Statements.antt.
 -- Assumes nothing.
 use mathlib.Core.Bool.{true, false}
-use mathlib.Core.List.{List, [], _∷_, map}
+use mathlib.Core.List.{List, [], map}
 use mathlib.Core.Logic.{_↔_, _⊎_, _≢_}
 use mathlib.Core.Option.{none, some, Option·map}
 use mathlib.Core.Path.{_≡_}
@@ -23,6 +23,7 @@ use Rattle.laws.specs.Statements.{IsBytes, Alike, HeldBy}
 use Rattle.laws.specs.ShapeStatement.{PoolsAlike, ClassesAlike}
 use Rattle.laws.specs.SharedStatement.{SharedBy}
 use Rattle.causes.specs.CauseStatement.{CauseOf}
+use Rattle.slots.specs.Gaps.{noGap}
 use Rattle.cpool.specs.declared.Outcome.{Outcome}
 use Rattle.cpool.specs.Ran.{Numbers, told, isBuilt, Slices, memoryOf, Ran}
 
@@ -50,7 +51,7 @@ pub record PrefixOnly (n : ℕ) (before after : List ℕ) : Type 0 where
 -- work and gaps are wholly zero
 abbrev pub Cleared : Slices → Slices → Type 0
 Cleared before after =
-    (after .work ≡ replicate (length (before .work)) 0) × (after .rows ≡ replicate (length (before .rows)) (0 ∷ 0 ∷ []))
+    (after .work ≡ replicate (length (before .work)) 0) × (after .rows ≡ replicate (length (before .rows)) noGap)
 
 -- a job that is built writes a prefix of each output and nothing behind it
 pub record BuiltRun (before after : Slices) (n : Numbers) : Type 0 where

@@ -8,7 +8,7 @@ use lib.Dec.{eqb}
 use lib.ListN.{length}
 use Rattle.definition.specs.Basics.{Result, good, bad, Refusal}
 use Rattle.definition.specs.Run.{Built, Memory, lentOf, run, refusalOf, returned, clearedAfter, memoryAfter}
-use Rattle.slots.specs.Gaps.{gapOf}
+use Rattle.slots.specs.Gaps.{GapTable, gapOf, noGap}
 use Rattle.cpool.specs.declared.ClassLength.{ClassLength}
 use Rattle.cpool.specs.declared.ClassLength.the-variants as classLength
 use Rattle.cpool.specs.declared.Outcome.{Outcome}
@@ -104,10 +104,10 @@ isGood (bad r) = false
 
 -- THE MEMORY
 
--- what the caller lent, as slices hold it: a row of the gap table is a gap's first and last slot
+-- what the caller lent, as slices hold it: a row of the gap table is a gap record
 pub record Slices : Type 0 where
   pub work : List ℕ
-  pub rows : List (List ℕ)
+  pub rows : GapTable
   pub answers : List ℕ
   pub pool : List ℕ
   pub bootstraps : List ℕ
@@ -125,7 +125,7 @@ memoryOf m =
       class = m .class;
     }
 
-abbrev pub slices : List ℕ → List (List ℕ) → List ℕ → List ℕ → List ℕ → List ℕ → Slices
+abbrev pub slices : List ℕ → GapTable → List ℕ → List ℕ → List ℕ → List ℕ → Slices
 slices work rows answers pool bootstraps class =
     record { work = work; rows = rows; answers = answers; pool = pool; bootstraps = bootstraps; class = class }
 
@@ -135,13 +135,13 @@ slices work rows answers pool bootstraps class =
 unfoldable pub resultOf : List ℕ → Slices → Result Refusal Built
 resultOf job before = run (lentOf (memoryOf before)) job
 
--- the outcome r is the definition's, with each of its numbers, and the memory afterwards is the definition's, whatever it held. A gap's
--- row is left whole or is two zeros
+-- the outcome r is the definition's, with each of its numbers, and the memory afterwards is the definition's, whatever it held. A gap
+-- record is left whole or is zero
 pub record Ran (job : List ℕ) (before after : Slices) (r : Outcome) : Type 0 where
   pub case : isBuilt r ≡ isGood (resultOf job before)
   pub numbers : told r ≡ numbers (resultOf job before)
   pub memory : memoryOf after ≡ memoryAfter (resultOf job before) (memoryOf before)
-  pub rows : after .rows ≡ clearedAfter (0 ∷ 0 ∷ []) (resultOf job before) (before .rows)
+  pub rows : after .rows ≡ clearedAfter noGap (resultOf job before) (before .rows)
 
 -- FOR RUST AND C
 
@@ -165,4 +165,4 @@ pub record Told (job : List ℕ) (before after : Slices) (code : ℕ) (others : 
   pub case : eqb code 0 ≡ isGood (resultOf job before)
   pub written : others ≡ listed (numbers (resultOf job before))
   pub memory : memoryOf after ≡ memoryAfter (resultOf job before) (memoryOf before)
-  pub rows : after .rows ≡ clearedAfter (0 ∷ 0 ∷ []) (resultOf job before) (before .rows)
+  pub rows : after .rows ≡ clearedAfter noGap (resultOf job before) (before .rows)

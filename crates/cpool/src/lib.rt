@@ -2,6 +2,7 @@
 use job::Formed;
 use job::JobCounts;
 use output::ClassName;
+use slots::Gap;
 use store::ANSWERS;
 use store::COUNTS;
 use store::NAME_SLOT;
@@ -159,7 +160,7 @@ fn give_out(
 fn build(
     job: &[u8],
     w: &mut [u32],
-    gaps: &mut [[u16; 2]],
+    gaps: &mut [Gap],
     c: JobCounts,
     answers: &mut [u16],
     pool: &mut [u8],
@@ -183,7 +184,7 @@ fn build(
 fn run_formed(
     job: &[u8],
     w: &mut [u32],
-    gaps: &mut [[u16; 2]],
+    gaps: &mut [Gap],
     answers: &mut [u16],
     pool: &mut [u8],
     bootstraps: &mut [u8],
@@ -204,7 +205,7 @@ fn run_formed(
 pub fn run(
     job: &[u8],
     work: &mut [u32],
-    gaps: &mut [[u16; 2]],
+    gaps: &mut [Gap],
     answers: &mut [u16],
     pool: &mut [u8],
     bootstraps: &mut [u8],
@@ -226,7 +227,7 @@ pub fn run(
     }
     let outcome = run_formed(job, work, gaps, answers, pool, bootstraps, class_name);
     writer::clear_words(work);
-    writer::clear_gaps(gaps);
+    slots::clear_gaps(gaps);
     outcome
 }
 
@@ -292,7 +293,7 @@ fn tell(outcome: Outcome, numbers: &mut [usize; 9]) -> u32
 pub extern "C" fn cpool_run(
     job: &[u8],
     work: &mut [u32],
-    gaps: &mut [[u16; 2]],
+    gaps: &mut [Gap],
     answers: &mut [u16],
     pool: &mut [u8],
     bootstraps: &mut [u8],

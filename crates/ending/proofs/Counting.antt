@@ -9,7 +9,7 @@ use Rattle.definition.specs.Slots.{countFrom}
 use Rattle.facts.specs.Lists.{Rising}
 use Rattle.laws.specs.Gaps.{Apart}
 use Rattle.laws.proofs.slots.SlotsToHold.{count-range}
-use Rattle.slots.specs.Gaps.{gapsAt, ends}
+use Rattle.slots.specs.Gaps.{GapTable, gapsAt, ends}
 use Rattle.slots.proofs.Given.{apart-ends}
 use Rattle.store.specs.Store.{Store, put}
 use Rattle.store.specs.Regions.{COUNTS, ODD, WIDE, PLAIN, GAP-COUNT, NAME-SLOT, POOL-COUNT}
@@ -21,10 +21,10 @@ use Rattle.ending.specs.Naming.{CanName, PoolNamed}
 use Rattle.ending.proofs.Counters.{among-last, gaps-set}
 
 -- what the name asks
-pub can-name : (s p : List ℕ) (top : ℕ) (t : Store) (g : List (List ℕ)) → CanEnd s p top t g → CanName s p t g
+pub can-name : (s p : List ℕ) (top : ℕ) (t : Store) (g : GapTable) → CanEnd s p top t g → CanName s p t g
 can-name s p top t g can = record { nodes = can .nodes; raws = can .raws; gaps = can .gaps; build = can .build; unnamed = can .unnamed }
 
-module _ (s p : List ℕ) (top : ℕ) (t v : Store) (g h : List (List ℕ)) (r : ℕ) (can : CanEnd s p top t g) (named : PoolNamed s p t v g h r) where
+module _ (s p : List ℕ) (top : ℕ) (t v : Store) (g h : GapTable) (r : ℕ) (can : CanEnd s p top t g) (named : PoolNamed s p t v g h r) where
   apart : Apart top 1 (gapsIn (v COUNTS) h)
   apart = named .apart top (can .apart)
 

@@ -3,3 +3,4 @@ pub mod Finding
 pub mod Counters
 pub mod Naming
 pub mod Counting
+pub mod Walks

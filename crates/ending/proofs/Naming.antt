@@ -19,7 +19,7 @@ use Rattle.laws.specs.Gaps.{Apart}
 use Rattle.laws.proofs.resolving.Interning.{interned}
 use Rattle.laws.proofs.slots.Gaps.{apart-at}
 use Rattle.laws.proofs.slots.SlotRequest.{width, slot-taken, allocate-new, allocate-old}
-use Rattle.slots.specs.Gaps.{slotsAt}
+use Rattle.slots.specs.Gaps.{GapTable, slotsAt}
 use Rattle.store.specs.Store.{Store, put, among, Kept}
 use Rattle.store.specs.Regions.{COUNTS, GIVEN, ODD, WIDE, PLAIN, NAME-SLOT}
 use Rattle.store.proofs.Keeping.{kept-put}
@@ -78,7 +78,7 @@ taken-low s after slot a e =
     let r = apart-at highestSlot 1 (t .at) (s .gaps) (t .gap) a (t .there) in
     omega (arith, r .2, t .enough, t .slot)
 
-gaps-apart : (counts : List ℕ) (g : List (List ℕ)) → Apart highestSlot 1 (gapsIn counts g) → Apart highestSlot 1 (slotsIn counts g .gaps)
+gaps-apart : (counts : List ℕ) (g : GapTable) → Apart highestSlot 1 (gapsIn counts g) → Apart highestSlot 1 (slotsIn counts g .gaps)
 unfolding slotsAt
 gaps-apart counts g a = a
 
@@ -97,7 +97,7 @@ module _ (v : Store) (slot : ℕ) where
   same-gaps : SameGaps (v COUNTS) (after COUNTS)
   same-gaps = gaps-set (v COUNTS) NAME-SLOT slot refl
 
-module _ (s p : List ℕ) (t : Store) (g : List (List ℕ)) (live : GapsLive (t COUNTS) g) where
+module _ (s p : List ℕ) (t : Store) (g : GapTable) (live : GapsLive (t COUNTS) g) where
   abbrev nodes : List Node
   nodes = nodesIn s t
 
@@ -129,7 +129,7 @@ module _ (s p : List ℕ) (t : Store) (g : List (List ℕ)) (live : GapsLive (t 
 
   -- WANTED: v and h are the words and the gaps once the slot is known
   module _
-      (wants : Wants s p t true) (v u : Store) (h : List (List ℕ)) (slot r : ℕ) (room : NAME-SLOT < length (v COUNTS)) (kept : KeptName slot v u r)
+      (wants : Wants s p t true) (v u : Store) (h : GapTable) (slot r : ℕ) (room : NAME-SLOT < length (v COUNTS)) (kept : KeptName slot v u r)
     where
       -- the name at a slot, for what the words are
       record Gets (m : Made) : Type 0 where
@@ -199,7 +199,7 @@ module _ (s p : List ℕ) (t : Store) (g : List (List ℕ)) (live : GapsLive (t 
 
     -- a new one, or none
     pub named-new :
-        own ≡ 0 → (v : Store) (h : List (List ℕ)) (slot : ℕ) → Took false false t v g h slot → NAME-SLOT < length (v COUNTS) → KeptName slot v u r →
+        own ≡ 0 → (v : Store) (h : GapTable) (slot : ℕ) → Took false false t v g h slot → NAME-SLOT < length (v COUNTS) → KeptName slot v u r →
         PoolNamed s p t u g h r
     named-new lacks v h slot took room kept =
         named wants v u h slot r room kept (took .live) (took .apart) (took .long) (took .counters) (took .kept)

@@ -10,6 +10,7 @@ use Rattle.definition.specs.Slots.{highestSlot, countFrom}
 use Rattle.definition.specs.Job.{readBuild}
 use Rattle.definition.specs.Building.{Made, attributeText, nameWanted, nameSlot}
 use Rattle.laws.specs.Gaps.{Apart}
+use Rattle.slots.specs.Gaps.{GapTable}
 use Rattle.store.specs.Store.{Store, among, Kept}
 use Rattle.store.specs.JobIn.{jobIn}
 use Rattle.store.specs.Regions.{COUNTS, GIVEN, AT, ODD, WIDE, PLAIN, NAME-SLOT, POOL-COUNT}
@@ -24,7 +25,7 @@ abbrev pub countIn : Store → ℕ
 countIn t = getD (t COUNTS) POOL-COUNT 0
 
 -- the nodes are there, record 60 is in turn, and there is no name yet
-pub record CanEnd (s p : List ℕ) (top : ℕ) (t : Store) (g : List (List ℕ)) : Type 0 where
+pub record CanEnd (s p : List ℕ) (top : ℕ) (t : Store) (g : GapTable) : Type 0 where
   pub nodes : NodesThere s p t
   pub raws : RawsReadyIn p t
   pub gaps : GapsLive (t COUNTS) g
@@ -38,14 +39,14 @@ abbrev pub nameOf : List ℕ → Store → Made → Result ℕ (ℕ × Made)
 nameOf s t m = nameSlot (nameWanted (jobIn s .build .nameByte) (length (tableOf (m .rows)))) (nodesIn s t) m
 
 -- what is made once the name is there: it holds the text at its slot, and nothing else is new but the gaps
-pub record Named (m after : Made) (u : Store) (h : List (List ℕ)) : Type 0 where
+pub record Named (m after : Made) (u : Store) (h : GapTable) : Type 0 where
   pub slots : slotsIn (u COUNTS) h ≡ after .pool .slots
   pub rows : after .rows ≡ m .rows
   pub unnamed : nameIn u ≡ 0 → after .owned ≡ m .owned
   pub named : 0 < nameIn u → after .owned ≡ (nameIn u, attributeText) ∷ m .owned
 
 -- the name has a slot if it is wanted, and the pool its count, or r is the refusal's number: t and g before, u and h after
-pub record PoolEnded (s p : List ℕ) (top : ℕ) (t u : Store) (g h : List (List ℕ)) (r : ℕ) : Type 0 where
+pub record PoolEnded (s p : List ℕ) (top : ℕ) (t u : Store) (g h : GapTable) (r : ℕ) : Type 0 where
   pub met :
       (m : Made) → PooledIn (m .pool) t g → RowedIn p (m .rows) t → r ≡ 0 →
       (after : Made) × (nameOf s t m ≡ good (nameIn u, after)) × Named m after u h

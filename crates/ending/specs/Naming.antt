@@ -10,6 +10,7 @@ use Rattle.definition.specs.Slots.{highestSlot}
 use Rattle.definition.specs.Job.{readBuild}
 use Rattle.definition.specs.Building.{Rows, Made, nameWanted}
 use Rattle.laws.specs.Gaps.{Apart}
+use Rattle.slots.specs.Gaps.{GapTable}
 use Rattle.store.specs.Store.{Store, put, among, Kept}
 use Rattle.store.specs.JobIn.{jobIn}
 use Rattle.store.specs.Regions.{COUNTS, GIVEN, AT, ODD, WIDE, PLAIN, NAME-SLOT}
@@ -32,7 +33,7 @@ pub record KeptName (slot : ℕ) (t u : Store) (r : ℕ) : Type 0 where
   pub unmet : slot ≡ 0 → r ≡ 14
 
 -- the nodes are there, record 60 is in turn, and there is no name yet
-pub record CanName (s p : List ℕ) (t : Store) (g : List (List ℕ)) : Type 0 where
+pub record CanName (s p : List ℕ) (t : Store) (g : GapTable) : Type 0 where
   pub nodes : NodesThere s p t
   pub raws : RawsReadyIn p t
   pub gaps : GapsLive (t COUNTS) g
@@ -40,7 +41,7 @@ pub record CanName (s p : List ℕ) (t : Store) (g : List (List ℕ)) : Type 0 w
   pub unnamed : nameIn t ≡ 0
 
 -- the name has a slot if it is wanted, or r is the refusal's number: t and g before, u and h after
-pub record PoolNamed (s p : List ℕ) (t u : Store) (g h : List (List ℕ)) (r : ℕ) : Type 0 where
+pub record PoolNamed (s p : List ℕ) (t u : Store) (g h : GapTable) (r : ℕ) : Type 0 where
   pub met :
       (m : Made) → PooledIn (m .pool) t g → RowedIn p (m .rows) t → r ≡ 0 →
       (after : Made) × (nameOf s t m ≡ good (nameIn u, after)) × Named m after u h

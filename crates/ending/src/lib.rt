@@ -1,4 +1,5 @@
 // The end of a pool: the slot of the name "BootstrapMethods", and the pool's count.
+use slots::Gap;
 use store::AT;
 use store::COUNTS;
 use store::GAP_COUNT;
@@ -56,7 +57,7 @@ fn keep_name(w: &mut [u32], p: &[usize], slot: usize) -> usize
 }
 
 // The name, if wanted, has a slot from then on, its own or one that it takes, 0, or 14.
-fn name_slot(job: &[u8], w: &mut [u32], p: &[usize], gaps: &mut [[u16; 2]]) -> usize
+fn name_slot(job: &[u8], w: &mut [u32], p: &[usize], gaps: &mut [Gap]) -> usize
     requires { ⌜ On (now p) (length (now w)) × CanName (now job) (now p) (store (now p) (now w)) (now gaps) ⌝ }
     ensures { λ r. ⌜ PoolNamed (now (job .entry)) (now (p .entry)) (store (now (p .entry)) (now (w .entry))) (store (now (p .entry)) (now (w .exit))) (now (gaps .entry)) (now (gaps .exit)) r ⌝ }
 {
@@ -72,7 +73,7 @@ fn name_slot(job: &[u8], w: &mut [u32], p: &[usize], gaps: &mut [[u16; 2]]) -> u
 }
 
 // The name, if wanted, has a slot from then on, and the pool its count, 0, or 14: `nameSlot`, `countFrom` of `layoutOf`.
-pub fn end_pool(job: &[u8], w: &mut [u32], p: &[usize], gaps: &mut [[u16; 2]], top: usize) -> usize
+pub fn end_pool(job: &[u8], w: &mut [u32], p: &[usize], gaps: &mut [Gap], top: usize) -> usize
     requires { ⌜ On (now p) (length (now w)) × CanEnd (now job) (now p) top (store (now p) (now w)) (now gaps) ⌝ }
     ensures { λ r. ⌜ PoolEnded (now (job .entry)) (now (p .entry)) top (store (now (p .entry)) (now (w .entry))) (store (now (p .entry)) (now (w .exit))) (now (gaps .entry)) (now (gaps .exit)) r ⌝ }
 {

@@ -15,6 +15,7 @@ use Rattle.definition.specs.Layout.{Ready, answer}
 use Rattle.facts.proofs.Lists.{order, found-inside}
 use Rattle.laws.specs.Faithful.{Faithful}
 use Rattle.laws.specs.Gaps.{Apart}
+use Rattle.slots.specs.Gaps.{GapTable}
 use Rattle.store.specs.Store.{Store, size, put, among, Kept}
 use Rattle.store.specs.JobIn.{linkedIn}
 use Rattle.store.specs.Regions.{COUNTS, MARKS, GIVEN, NAME-HEADS, NAME-LINKS, NODE-HEADS, NODE-LINKS, OFFSETS, FIRSTS, SIZES, GOALS, CHILDREN, NAME-PLACES, NAME-GOALS, NODES, STACK, PENDING, ANSWERS, NAME-COUNT, NODE-COUNT, VISITS, GAP-COUNT, ODD, WIDE, PLAIN, PENDING-COUNT, Work}
@@ -87,7 +88,7 @@ became-low h s t rests goal became child is = ways (order goal ENTRY)
 -- A REQUEST
 
 module _
-    (s p : List ℕ) (q : Request) (i : ℕ) (t : Store) (g : List (List ℕ)) (asking : Asking s p t g) (work : Work s p) (goal : ℕ)
+    (s p : List ℕ) (q : Request) (i : ℕ) (t : Store) (g : GapTable) (asking : Asking s p t g) (work : Work s p) (goal : ℕ)
     (leads : LeadsTo s (goalFor s q) goal) where
   abbrev h : ℕ
   h = size p NODE-HEADS
@@ -193,7 +194,7 @@ module _
       child-there = became-low h s v (res .again refl) goal became child is
 
       -- its slot
-      module _ (ldc : Bool) (told-ldc : ldc ≡ q .ldc) (m : Store) (o : List (List ℕ)) (r : ℕ) (slotted : Slotted s ldc child v m g o r) where
+      module _ (ldc : Bool) (told-ldc : ldc ≡ q .ldc) (m : Store) (o : GapTable) (r : ℕ) (slotted : Slotted s ldc child v m g o r) where
         abbrev goes : Goes v m g o
         goes = slotted .goes
 

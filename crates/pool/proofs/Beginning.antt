@@ -16,7 +16,7 @@ use Rattle.definition.specs.Layout.{starters, nodeAt}
 use Rattle.facts.specs.Lists.{Rising, keys}
 use Rattle.facts.proofs.Lists.{equal, read-found, get-map}
 use Rattle.laws.specs.Gaps.{Apart}
-use Rattle.slots.specs.Gaps.{gapsAt, AtMost, slotsAt, Written}
+use Rattle.slots.specs.Gaps.{GapTable, gapsAt, AtMost, slotsAt, Written}
 use Rattle.slots.proofs.Given.{written-apart}
 use Rattle.store.specs.Store.{Store, size, put, among, Kept, IsWord}
 use Rattle.store.specs.Regions.{COUNTS, MARKS, GIVEN, RAW-KEYS, RAW-ENTRIES, ORDER, PENDING, HELD-COUNT, NODE-COUNT, GAP-COUNT, ODD, WIDE, PLAIN, PENDING-COUNT}
@@ -85,7 +85,7 @@ held-node marks nodes key e is = ways (equal e HALF)
     ways (inr h) = rw (entry-node marks e h, ne-eqb e HALF h, heldWord, node-is marks e (is h .0))
 
 module _
-    (p : List ℕ) (constants top : ℕ) (held : List (ℕ × Held)) (indexes : List (ℕ × ℕ)) (t : Store) (g : List (List ℕ))
+    (p : List ℕ) (constants top : ℕ) (held : List (ℕ × Held)) (indexes : List (ℕ × ℕ)) (t : Store) (g : GapTable)
     (can : CanStart p constants top held indexes t g) (long : length (t ORDER) ≡ size p ORDER) where
   abbrev slotAt : ℕ → ℕ × Held
   slotAt i = slotRow (t RAW-KEYS) (t RAW-ENTRIES) i
@@ -141,7 +141,7 @@ module _
 
   -- THE GAPS are written, and their number is kept
   module _
-      (h : List (List ℕ)) (n r : ℕ) (is : n ≡ heldCount t) (w : Written (gapsFrom top 1 (orderKeys (t RAW-KEYS) (t ORDER) n)) g h r)
+      (h : GapTable) (n r : ℕ) (is : n ≡ heldCount t) (w : Written (gapsFrom top 1 (orderKeys (t RAW-KEYS) (t ORDER) n)) g h r)
       (counts-long : length (t COUNTS) ≡ size p COUNTS) where
     written : Written (gapsFrom top 1 (keys held)) g h r
     written = rw (keys-are n is) at w
@@ -266,11 +266,11 @@ module _
 
 -- AS THE CODE HAS IT: some raw slots are held
 
-pub start-counts : (p : List ℕ) (top : ℕ) (t : Store) (g : List (List ℕ)) → SomeStart p top t g → size p COUNTS ≡ 20
+pub start-counts : (p : List ℕ) (top : ℕ) (t : Store) (g : GapTable) → SomeStart p top t g → size p COUNTS ≡ 20
 unfolding SomeStart
 start-counts p top t g (constants, held, indexes, can) = can .counts
 
-module _ (p : List ℕ) (top : ℕ) (t : Store) (g : List (List ℕ)) (some : SomeStart p top t g) (long : length (t ORDER) ≡ size p ORDER) (n : ℕ) (is : n ≡ heldCount t) where
+module _ (p : List ℕ) (top : ℕ) (t : Store) (g : GapTable) (some : SomeStart p top t g) (long : length (t ORDER) ≡ size p ORDER) (n : ℕ) (is : n ≡ heldCount t) where
   pub some-between :
       (n ≤ size p ORDER)
       × ((i : ℕ) → i < n → getD (t ORDER) i 0 < size p RAW-KEYS)
@@ -290,7 +290,7 @@ module _ (p : List ℕ) (top : ℕ) (t : Store) (g : List (List ℕ)) (some : So
       ways (constants, held, indexes, can) = between-asks p constants top held indexes t g can long n is
 
   module _
-      (h : List (List ℕ)) (r : ℕ) (w : Written (gapsFrom top 1 (orderKeys (t RAW-KEYS) (t ORDER) n)) g h r)
+      (h : GapTable) (r : ℕ) (w : Written (gapsFrom top 1 (orderKeys (t RAW-KEYS) (t ORDER) n)) g h r)
       (counts-long : length (t COUNTS) ≡ size p COUNTS) where
     pub some-few : IsWord r
     unfolding SomeStart

@@ -13,6 +13,7 @@ use Rattle.definition.specs.Resolving.{Node}
 use Rattle.definition.specs.Building.{Pool, slotOf, slotsOf, kidsOf}
 use Rattle.facts.proofs.Lists.{order, found-inside, found-read, map-same}
 use Rattle.facts.proofs.Chunks.{length-from, from-get}
+use Rattle.slots.specs.Gaps.{GapTable}
 use Rattle.store.specs.Store.{Store, size}
 use Rattle.store.specs.Regions.{GIVEN, NODE-HEADS, NODE-LINKS, OFFSETS, FIRSTS, SIZES, CHILDREN, NODES, NODE-COUNT}
 use Rattle.store.specs.Words.{ENTRY, cut, childSlot}
@@ -24,7 +25,7 @@ use Rattle.pool.proofs.Nodal.{entryOf, node-kids, node-kids-fit}
 
 -- THE NODES stay while slots are given
 
-module _ (s : List ℕ) (t u : Store) (g h : List (List ℕ)) (goes : Goes t u g h) where
+module _ (s : List ℕ) (t u : Store) (g h : GapTable) (goes : Goes t u g h) where
   pub count-stays : nodeCount u ≡ nodeCount t
   count-stays = goes .counters NODE-COUNT refl
 
@@ -53,7 +54,7 @@ module _ (s : List ℕ) (t u : Store) (g h : List (List ℕ)) (goes : Goes t u g
 
 -- THE LOOP: what the rest of the children gives, behind what those passed have, is the whole
 
-pub record Slotting (s : List ℕ) (k : ℕ) (t u : Store) (g h : List (List ℕ)) (i : ℕ) : Type 0 where
+pub record Slotting (s : List ℕ) (k : ℕ) (t u : Store) (g h : GapTable) (i : ℕ) : Type 0 where
   pub done : i ≤ length (kidsOf (nodesIn s t) k)
   pub rest :
       (pool : Pool) → PooledIn pool t g →
@@ -69,7 +70,7 @@ good-again : {A : Type 0} (r : Result ℕ (List ℕ × A)) → r ≡ (r >>= λ x
 good-again (good a) = refl
 good-again (bad e) = refl
 
-pub slotting-begin : (s : List ℕ) (k : ℕ) (t : Store) (g : List (List ℕ)) → Slotting s k t t g g 0
+pub slotting-begin : (s : List ℕ) (k : ℕ) (t : Store) (g : GapTable) → Slotting s k t t g g 0
 slotting-begin s k t g =
     record {
       done = omega arith;
@@ -90,7 +91,7 @@ regroup :
 regroup (good a) c l = rw (append-assoc l (c ∷ []) (a .0))
 regroup (bad e) c l = refl
 
-module _ (s : List ℕ) (k : ℕ) (t u : Store) (g h : List (List ℕ)) (i : ℕ) (l : Slotting s k t u g h i) where
+module _ (s : List ℕ) (k : ℕ) (t u : Store) (g h : GapTable) (i : ℕ) (l : Slotting s k t u g h i) where
   abbrev nodes : List Node
   nodes = nodesIn s t
 
@@ -113,7 +114,7 @@ module _ (s : List ℕ) (k : ℕ) (t u : Store) (g h : List (List ℕ)) (i : ℕ
         goes = l .goes;
       }
 
-  module _ (more : i < length kids) (child r : ℕ) (is : child ≡ getD kids i 0) (v : Store) (o : List (List ℕ)) (slotted : Slotted s false child u v h o r) where
+  module _ (more : i < length kids) (child r : ℕ) (is : child ≡ getD kids i 0) (v : Store) (o : GapTable) (slotted : Slotted s false child u v h o r) where
     next : drop i kids ≡ child ∷ drop (suc i) kids
     next = drop-cons kids i 0 more ∙ rw is
 
@@ -186,7 +187,7 @@ module _
   kids-room = node-kids-fit s p t there k low first n f m
 
   module _
-      (kidsThere : KidsThere s t k) (g h : List (List ℕ)) (u : Store) (i : ℕ) (l : Slotting s k t u g h i) (more : i < n)
+      (kidsThere : KidsThere s t k) (g h : GapTable) (u : Store) (i : ℕ) (l : Slotting s k t u g h i) (more : i < n)
       (child : ℕ) (is : child ≡ getD (u CHILDREN) (first + i) 0) where
     pub child-is : child ≡ getD (kidsOf (nodesIn s t) k) i 0
     child-is =

@@ -10,7 +10,7 @@ use lib.Seq.{drop-cons, drop-drop, drop-length, getD-take}
 use Rattle.definition.specs.Slots.{Gap, gapBefore, gapsFrom}
 use Rattle.facts.proofs.Lists.{order, read-found, get-map}
 use Rattle.laws.proofs.slots.Gaps.{gapBefore-some, gapBefore-none}
-use Rattle.slots.specs.Gaps.{gapOf, gapsAt, AtMost, Written}
+use Rattle.slots.specs.Gaps.{GapTable, gapOf, gapsAt, AtMost, Written}
 use Rattle.slots.proofs.Rows.{gaps-length}
 use Rattle.pool.specs.Starting.{orderKeys}
 
@@ -34,26 +34,26 @@ before-append first next gaps = ways (order first next)
     ways (inr h) = rw (gapBefore-none first next gaps h, gapBefore-none first next [] h)
 
 -- what is written is in the table
-pub written-fits : (gaps : List Gap) (before after : List (List ℕ)) (count : ℕ) → Written gaps before after count → count ≤ length after
+pub written-fits : (gaps : List Gap) (before after : GapTable) (count : ℕ) → Written gaps before after count → count ≤ length after
 unfolding gapsAt
 written-fits gaps before after count w =
     omega (arith, w .counted, ap length (w .read), length-map (take count after) gapOf, length-take count after)
 
 -- the loop: what is written, with what the rest will give, is the whole; behind it nothing has changed
-pub record Between (whole : List Gap) (held : List ℕ) (top : ℕ) (before rows : List (List ℕ)) (i count first : ℕ) : Type 0 where
+pub record Between (whole : List Gap) (held : List ℕ) (top : ℕ) (before rows : GapTable) (i count first : ℕ) : Type 0 where
   pub within : i ≤ length held
   pub fits : count ≤ length rows
   pub long : length rows ≡ length before
   pub rest : gapsAt rows count ++ gapsFrom top first (drop i held) ≡ whole
   pub behind : drop count rows ≡ drop count before
 
-pub between-start : (held : List ℕ) (top : ℕ) (rows : List (List ℕ)) → Between (gapsFrom top 1 held) held top rows rows 0 0 1
+pub between-start : (held : List ℕ) (top : ℕ) (rows : GapTable) → Between (gapsFrom top 1 held) held top rows rows 0 0 1
 unfolding gapsAt
 between-start held top rows = record { within = omega arith; fits = omega arith; long = refl; rest = refl; behind = refl }
 
 -- room for a gap that the whole still lacks
 room :
-    (whole more : List Gap) (rows : List (List ℕ)) (count first next : ℕ) →
+    (whole more : List Gap) (rows : GapTable) (count first next : ℕ) →
     count ≤ length rows → gapsAt rows count ++ gapBefore first next more ≡ whole → length whole ≤ length rows → first < next → count < length rows
 room whole more rows count first next fits e l h =
     omega (
@@ -66,7 +66,7 @@ room whole more rows count first next fits e l h =
 
 -- nothing behind what is written now
 behind-more :
-    (more : List Gap) (before rows after : List (List ℕ)) (count r : ℕ) →
+    (more : List Gap) (before rows after : GapTable) (count r : ℕ) →
     count ≤ length rows → drop count rows ≡ drop count before → Written (gapsAt rows count ++ more) rows after r → drop r after ≡ drop r before
 behind-more more before rows after count r fits e w =
     let q : count + (r - count) ≡ r = omega (arith, w .counted, length-append (gapsAt rows count) more, gaps-length rows count fits) in
@@ -78,7 +78,7 @@ behind-more more before rows after count r fits e w =
     ∙ ap (λ (n : ℕ). drop n before) q
 
 module _
-    (whole : List Gap) (held : List ℕ) (top : ℕ) (before rows : List (List ℕ)) (i count first : ℕ)
+    (whole : List Gap) (held : List ℕ) (top : ℕ) (before rows : GapTable) (i count first : ℕ)
     (b : Between whole held top before rows i count first) where
   -- the held slot that comes next
   module _ (h : i < length held) (slot : ℕ) (is : slot ≡ getD held i 0) where
@@ -90,7 +90,7 @@ module _
     next-room l = room whole (gapsFrom top (suc slot) (drop (suc i) held)) rows count first slot (b .fits) going (rw (b .long) l)
 
     pub next-pushed :
-        (after : List (List ℕ)) (r : ℕ) →
+        (after : GapTable) (r : ℕ) →
         length after ≡ length rows →
         Written (gapsAt rows count ++ gapBefore first slot []) rows after r →
         Between whole held top before after (i + 1) r (slot + 1)
@@ -117,7 +117,7 @@ module _
     last-room l = room whole [] rows count first (top + 1) (b .fits) gone (rw (b .long) l)
 
     pub last-pushed :
-        (after : List (List ℕ)) (r : ℕ) → Written (gapsAt rows count ++ gapBefore first (top + 1) []) rows after r → Written whole before after r
+        (after : GapTable) (r : ℕ) → Written (gapsAt rows count ++ gapBefore first (top + 1) []) rows after r → Written whole before after r
     last-pushed after r w =
         record {
           counted = w .counted ∙ ap length gone;
@@ -128,7 +128,7 @@ module _
 -- AS THE CODE HAS IT
 
 module _
-    (itemKeys order : List ℕ) (n top : ℕ) (fits : n ≤ length order) (most : AtMost 65535 (orderKeys itemKeys order n)) (before rows : List (List ℕ))
+    (itemKeys order : List ℕ) (n top : ℕ) (fits : n ≤ length order) (most : AtMost 65535 (orderKeys itemKeys order n)) (before rows : GapTable)
     (i count first : ℕ)
     (b : Between (gapsFrom top 1 (orderKeys itemKeys order n)) (orderKeys itemKeys order n) top before rows i count first)
     (enough : length (gapsFrom top 1 (orderKeys itemKeys order n)) ≤ length before) where
@@ -152,7 +152,7 @@ module _
     push-asks = (b .fits, next-room whole held top before rows i count first b more slot is enough, omega (arith, key-low))
 
     pub push-goes :
-        (after : List (List ℕ)) (r : ℕ) → length after ≡ length rows → Written (gapsAt rows count ++ gapBefore first slot []) rows after r →
+        (after : GapTable) (r : ℕ) → length after ≡ length rows → Written (gapsAt rows count ++ gapBefore first slot []) rows after r →
         Between whole held top before after (i + 1) r (slot + 1)
     push-goes = next-pushed whole held top before rows i count first b more slot is
 
@@ -164,5 +164,5 @@ module _
     last-asks low = (b .fits, last-room whole held top before rows i count first b over enough, omega arith)
 
     pub last-goes :
-        (after : List (List ℕ)) (r : ℕ) → Written (gapsAt rows count ++ gapBefore first (top + 1) []) rows after r → Written whole before after r
+        (after : GapTable) (r : ℕ) → Written (gapsAt rows count ++ gapBefore first (top + 1) []) rows after r → Written whole before after r
     last-goes = last-pushed whole held top before rows i count first b over

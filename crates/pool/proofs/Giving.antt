@@ -13,6 +13,7 @@ use Rattle.definition.specs.Basics.{every}
 use Rattle.definition.specs.Building.{Pool}
 use Rattle.facts.proofs.Lists.{equal}
 use Rattle.facts.proofs.Tables.{lookup-hit, lookup-miss}
+use Rattle.slots.specs.Gaps.{GapTable}
 use Rattle.store.specs.Store.{Store, put, among}
 use Rattle.store.specs.Regions.{COUNTS, GIVEN, PENDING, NODE-COUNT, GAP-COUNT, ODD, WIDE, PLAIN, PENDING-COUNT}
 use Rattle.store.proofs.Keeping.{kept-put, kept-then, kept-more}
@@ -29,7 +30,7 @@ pub record SameGaps (before after : List ℕ) : Type 0 where
   pub wide : getD after WIDE 0 ≡ getD before WIDE 0
   pub plain : getD after PLAIN 0 ≡ getD before PLAIN 0
 
-module _ (before after : List ℕ) (g : List (List ℕ)) (same : SameGaps before after) where
+module _ (before after : List ℕ) (g : GapTable) (same : SameGaps before after) where
   pub slots-same : slotsIn after g ≡ slotsIn before g
   slots-same = rw (same .count, same .odd, same .wide, same .plain)
 
@@ -55,11 +56,11 @@ same-gaps counts n =
 
 -- WHAT STAYS
 
-pub goes-not : (t : Store) (g : List (List ℕ)) → Goes t t g g
+pub goes-not : (t : Store) (g : GapTable) → Goes t t g g
 goes-not t g =
     record { live = λ l. l; apart = λ top a. a; long = refl; given = λ k h. refl; counters = λ c f. refl; kept = λ k f. refl }
 
-pub goes-then : (t u v : Store) (g h i : List (List ℕ)) → Goes t u g h → Goes u v h i → Goes t v g i
+pub goes-then : (t u v : Store) (g h i : GapTable) → Goes t u g h → Goes u v h i → Goes t v g i
 goes-then t u v g h i a b =
     record {
       live = λ l. b .live (a .live l);
@@ -78,7 +79,7 @@ fewer c f =
     rw (ne-eqb c ODD a, ne-eqb c WIDE b, ne-eqb c PLAIN n)
 
 -- a slot that was asked for
-module _ (wide ldc : Bool) (t u : Store) (g h : List (List ℕ)) (r : ℕ) (took : Took wide ldc t u g h r) where
+module _ (wide ldc : Bool) (t u : Store) (g h : GapTable) (r : ℕ) (took : Took wide ldc t u g h r) where
   pub same-given : u GIVEN ≡ t GIVEN
   same-given = took .kept GIVEN refl
 
@@ -139,7 +140,7 @@ module _ (t : Store) (k : ℕ) (size : PENDING-COUNT < length (t COUNTS)) (room 
 
 -- a node gets a slot and goes onto the stack
 module _
-    (t : Store) (h : List (List ℕ)) (k slot : ℕ) (some : 0 < slot) (lacks : getD (t GIVEN) k 0 ≡ 0) (inside : k < length (t GIVEN))
+    (t : Store) (h : GapTable) (k slot : ℕ) (some : 0 < slot) (lacks : getD (t GIVEN) k 0 ≡ 0) (inside : k < length (t GIVEN))
     (low : k < nodeCount t) (size : PENDING-COUNT < length (t COUNTS)) where
   abbrev after : Store
   after = withPending k (put t GIVEN k slot)

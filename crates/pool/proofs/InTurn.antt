@@ -18,6 +18,7 @@ use Rattle.laws.specs.Gaps.{Apart}
 use Rattle.job.specs.Stored.{Found, InTurn, WhatReference, anyRequest}
 use Rattle.job.proofs.Standing.{request-there}
 use Rattle.definition.specs.Shapes.{constant}
+use Rattle.slots.specs.Gaps.{GapTable}
 use Rattle.store.specs.Store.{Store, size, put, among, Kept, IsWord}
 use Rattle.store.specs.JobIn.{jobIn, countsIn, namingsIn, constantsIn, linkedIn}
 use Rattle.store.specs.Regions.{COUNTS, MARKS, NODES, ANSWERS, PLACE, AT, NAME-COUNT, NODE-COUNT, VISITS, GAP-COUNT, ODD, WIDE, PLAIN, PENDING-COUNT, Work}
@@ -52,7 +53,7 @@ module _ (s p : List ℕ) (t : Store) (c n : ℕ) (low : c < 2) where
         plain = placed-same PLAIN (omega arith);
       }
 
-  pub placed-pooled : (pool : Pool) (g : List (List ℕ)) → PooledIn pool t g → PooledIn pool placed g
+  pub placed-pooled : (pool : Pool) (g : GapTable) → PooledIn pool t g → PooledIn pool placed g
   placed-pooled pool g b =
       record {
         slots = slots-same (t COUNTS) (placed COUNTS) g gaps-same ∙ b .slots;
@@ -60,7 +61,7 @@ module _ (s p : List ℕ) (t : Store) (c n : ℕ) (low : c < 2) where
         pending = rw (placed-same PENDING-COUNT (omega arith)) (b .pending);
       }
 
-  placed-live : (g : List (List ℕ)) → LiveIn t g → LiveIn placed g
+  placed-live : (g : GapTable) → LiveIn t g → LiveIn placed g
   placed-live g l =
       record {
         gaps = gaps-live-same (t COUNTS) (placed COUNTS) g gaps-same (l .gaps);
@@ -68,7 +69,7 @@ module _ (s p : List ℕ) (t : Store) (c n : ℕ) (low : c < 2) where
         nodes = rw (placed-same PENDING-COUNT (omega arith), placed-same NODE-COUNT (omega arith)) (l .nodes);
       }
 
-  pub placed-apart : (top : ℕ) (g : List (List ℕ)) → Apart top 1 (gapsIn (t COUNTS) g) → Apart top 1 (gapsIn (placed COUNTS) g)
+  pub placed-apart : (top : ℕ) (g : GapTable) → Apart top 1 (gapsIn (t COUNTS) g) → Apart top 1 (gapsIn (placed COUNTS) g)
   placed-apart top g a = rw (placed-same GAP-COUNT (omega arith)) a
 
   pub placed-resolved : resolvedIn s placed ≡ resolvedIn s t
@@ -83,7 +84,7 @@ module _ (s p : List ℕ) (t : Store) (c n : ℕ) (low : c < 2) where
   pub placed-visits : visitsOwed s placed ≡ visitsOwed s t
   placed-visits = rw (placed-same VISITS (omega arith))
 
-  pub placed-asking : (g : List (List ℕ)) → Asking s p t g → Asking s p placed g
+  pub placed-asking : (g : GapTable) → Asking s p t g → Asking s p placed g
   placed-asking g a =
       let r = a .rests in
       record {
@@ -112,7 +113,7 @@ restFrom s u i mid = answerAll (namingsIn s) (constantsIn s) (suc (placeCount u)
 abbrev behind : List ℕ → List ℕ × Ready → Result Refusal (List ℕ × Ready)
 behind l r = good (l ++ r .0, r .1)
 
-pub record Replying (s p : List ℕ) (t u : Store) (g h : List (List ℕ)) (at i : ℕ) : Type 0 where
+pub record Replying (s p : List ℕ) (t u : Store) (g h : GapTable) (at i : ℕ) : Type 0 where
   pub few : i ≤ length (requests s)
   pub word : IsWord at
   pub turn :
@@ -132,7 +133,7 @@ good-again : (r : Result Refusal (List ℕ × Ready)) → r ≡ (r >>= behind []
 good-again (good a) = refl
 good-again (bad e) = refl
 
-pub replying-begin : (s p : List ℕ) (t : Store) (g : List (List ℕ)) (at : ℕ) → at ≡ getD (t COUNTS) AT 0 → IsWord at → Asking s p t g → Replying s p t t g g at 0
+pub replying-begin : (s p : List ℕ) (t : Store) (g : GapTable) (at : ℕ) → at ≡ getD (t COUNTS) AT 0 → IsWord at → Asking s p t g → Replying s p t t g g at 0
 replying-begin s p t g at is word asking =
     record {
       few = omega arith;
@@ -162,7 +163,7 @@ take-agree (suc i) (x ∷ l) [] h k same = absurd (omega arith)
 take-agree (suc i) (x ∷ l) (y ∷ m) h k same =
     rw (same 0 (omega arith), take-agree i l m (omega arith) (omega arith) (λ j a. same (suc j) (omega arith)))
 
-module _ (s p : List ℕ) (t u : Store) (g h : List (List ℕ)) (at i : ℕ) (l : Replying s p t u g h at i) where
+module _ (s p : List ℕ) (t u : Store) (g h : GapTable) (at i : ℕ) (l : Replying s p t u g h at i) where
   abbrev counted : Store
   counted = put u COUNTS PLACE (placeCount u + 1)
 
@@ -209,7 +210,7 @@ module _ (s p : List ℕ) (t u : Store) (g h : List (List ℕ)) (at i : ℕ) (l 
 
     -- it is answered, or refused
     module _
-        (all : RequestsAt s (getD (t COUNTS) AT 0)) (v : Store) (o : List (List ℕ)) (r : ℕ)
+        (all : RequestsAt s (getD (t COUNTS) AT 0)) (v : Store) (o : GapTable) (r : ℕ)
         (replied : WhatRequest s at (λ q. Replied s p q i counted v h o r)) (counts-long : PLACE < length (u COUNTS)) where
       -- which one
       chosen : (q : Request) × (getElem? (requests s) i ≡ some q) × Replied s p q i counted v h o r
@@ -360,7 +361,7 @@ pub counted-is : (u x : Store) (r : ℕ) → r ≡ placeCount u → x ≡ put u 
 counted-is u x r e f = f ∙ ap (λ (n : ℕ). put u COUNTS PLACE (n + 1)) e
 
 pub replied-on :
-    (s p : List ℕ) (at i : ℕ) (x y v : Store) (h o : List (List ℕ)) (r : ℕ) → x ≡ y →
+    (s p : List ℕ) (at i : ℕ) (x y v : Store) (h o : GapTable) (r : ℕ) → x ≡ y →
     WhatRequest s at (λ q. Replied s p q i x v h o r) → WhatRequest s at (λ q. Replied s p q i y v h o r)
 replied-on s p at i x y v h o r e told q next f c = subst (λ (z : Store). Replied s p q i z v h o r) e (told q next f c)
 
@@ -379,7 +380,7 @@ requests-counted s p work =
     }
 
 pub ended :
-    (s p : List ℕ) (t u : Store) (g h : List (List ℕ)) (at i : ℕ) → Replying s p t u g h at i → length (jobIn s .requests) ≤ i →
+    (s p : List ℕ) (t u : Store) (g h : GapTable) (at i : ℕ) → Replying s p t u g h at i → length (jobIn s .requests) ≤ i →
     length (u ANSWERS) ≡ length (jobIn s .requests) → length (u COUNTS) ≡ 20 →
     (x y : Store) → x ≡ put u COUNTS PLACE (placeCount u + 1) → length (x COUNTS) ≡ 20 → y ≡ put x COUNTS AT at → RepliedAll s p t y g h 0
 ended s p t u g h at i l over answers counts x y e long f =

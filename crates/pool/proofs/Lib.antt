@@ -15,3 +15,4 @@ pub mod InTurn
 pub mod Meeting
 pub mod Sparing
 pub mod Fitting
+pub mod Walks

@@ -14,6 +14,7 @@ use Rattle.definition.specs.Resolving.{Node, firstNode}
 use Rattle.definition.specs.Slots.{slotFor}
 use Rattle.definition.specs.Building.{Pool, noSlot, give, allocate, slotOf}
 use Rattle.laws.proofs.slots.SlotRequest.{allocate-new, allocate-old}
+use Rattle.slots.specs.Gaps.{GapTable}
 use Rattle.store.specs.Store.{Store, size, IsWord}
 use Rattle.store.specs.JobIn.{entriesIn}
 use Rattle.store.specs.Regions.{COUNTS, GIVEN, PENDING, NODE-COUNT, PENDING-COUNT, Work}
@@ -65,7 +66,7 @@ no-slot-some true = omega arith
 no-slot-some false = omega arith
 
 -- A CHILD THAT HAS A SLOT keeps it
-pub slotted-old : (s : List ℕ) (ldc : Bool) (child : ℕ) (t : Store) (g : List (List ℕ)) → Has (t GIVEN) child → Slotted s ldc child t t g g 0
+pub slotted-old : (s : List ℕ) (ldc : Bool) (child : ℕ) (t : Store) (g : GapTable) → Has (t GIVEN) child → Slotted s ldc child t t g g 0
 slotted-old s ldc child t g has =
     record {
       met = λ pool q z. (pool, is pool q has, q);
@@ -83,7 +84,7 @@ slotted-old s ldc child t g has =
 
 -- ONE THAT HAS NONE gets the one that was asked for
 module _
-    (s : List ℕ) (ldc wide : Bool) (child k slot r : ℕ) (t v u : Store) (g h : List (List ℕ)) (is : k ≡ child - ENTRY)
+    (s : List ℕ) (ldc wide : Bool) (child k slot r : ℕ) (t v u : Store) (g h : GapTable) (is : k ≡ child - ENTRY)
     (lacks : Lacks (t GIVEN) child) (live : LiveIn t g) (width : wide ≡ isWide (tagAt (nodesIn s t) k)) (took : Took wide ldc t v g h slot) where
   live-still : LiveIn v h
   live-still = goes-took wide ldc t v g h slot took .live live

@@ -11,13 +11,14 @@ use Rattle.laws.specs.Gaps.{Apart}
 use Rattle.slots.specs.declared.Positions.{Positions}
 use Rattle.slots.specs.declared.Allocated.{Allocated}
 use Rattle.slots.specs.declared.Allocated.the-variants.{Slot, None}
-use Rattle.slots.specs.Gaps.{gapsAt, ends, AtMost, slotsAt, answerOf, Answered}
+use Rattle.slots.specs.declared.Found.{Found}
+use Rattle.slots.specs.Gaps.{GapTable, gapsAt, ends, AtMost, slotsAt, answerOf, Answered, foundIn, movedBy, Taken}
 use Rattle.slots.proofs.Rows.{gaps-length}
 use Rattle.slots.proofs.Given.{apart-most, wide-given, narrow-given}
 use Rattle.store.specs.Store.{Store, put, among, Kept, IsWord}
 use Rattle.store.specs.Regions.{COUNTS, GAP-COUNT, ODD, WIDE, PLAIN}
 use Rattle.store.proofs.Keeping.{kept-put}
-use Rattle.pool.specs.Pooled.{positionsIn, gapsIn, slotsIn, GapsLive, withPositions, movedTo, slotFound, Took}
+use Rattle.pool.specs.Pooled.{positionsIn, gapsIn, slotsIn, GapsLive, withPositions, slotFound, Took}
 use Rattle.pool.proofs.Words.{not-among}
 use Rattle.pool.proofs.Within.{Within, slot-within, apart-few}
 
@@ -57,7 +58,7 @@ module _ (counts : List ℕ) (q : Positions) where
 
 -- WHAT IS ASKED
 
-module _ (counts : List ℕ) (g : List (List ℕ)) (live : GapsLive counts g) where
+module _ (counts : List ℕ) (g : GapTable) (live : GapsLive counts g) where
   pub live-most : AtMost highestSlot (ends (gapsIn counts g))
   live-most = apart-most highestSlot (gapsIn counts g) (omega arith) (live .apart)
 
@@ -73,7 +74,7 @@ module _ (counts : List ℕ) (g : List (List ℕ)) (live : GapsLive counts g) wh
 
   -- WHAT IS ANSWERED
 
-  module _ (wide ldc : Bool) (h : List (List ℕ)) where
+  module _ (wide ldc : Bool) (h : GapTable) where
     -- a slot that is given
     module _ (n : ℕ) (q : Positions) (w : Answered (slotFor wide ldc (slotsIn counts g)) (getD counts GAP-COUNT 0) g h (Slot n q)) where
       given : (top : ℕ) → Apart top 1 (gapsIn counts g) → (1 ≤ n) × Apart top 1 (gapsAt h (getD counts GAP-COUNT 0))
@@ -100,15 +101,15 @@ module _ (counts : List ℕ) (g : List (List ℕ)) (live : GapsLive counts g) wh
     -- the positions are words
     pub moved-words :
         (a : Allocated) → length h ≡ length g → Answered (slotFor wide ldc (slotsIn counts g)) (getD counts GAP-COUNT 0) g h a →
-        IsWord (movedTo a (positionsIn counts) .odd) × IsWord (movedTo a (positionsIn counts) .wide) × IsWord (movedTo a (positionsIn counts) .plain)
-    unfolding movedTo
+        IsWord (movedBy a (positionsIn counts) .odd) × IsWord (movedBy a (positionsIn counts) .wide) × IsWord (movedBy a (positionsIn counts) .plain)
+    unfolding movedBy
     moved-words (Slot n q) e w =
         let (x, y, z) = moved-within n q w e in
         let f = few in
         (omega arith, omega arith, omega arith)
     moved-words None e w = let f = few in (omega (arith, live .odd), omega (arith, live .wide), omega (arith, live .plain))
 
-module _ (t : Store) (g : List (List ℕ)) (live : GapsLive (t COUNTS) g) (size : PLAIN < length (t COUNTS)) (wide ldc : Bool) (h : List (List ℕ)) where
+module _ (t : Store) (g : GapTable) (live : GapsLive (t COUNTS) g) (size : PLAIN < length (t COUNTS)) (wide ldc : Bool) (h : GapTable) where
   abbrev count : ℕ
   count = getD (t COUNTS) GAP-COUNT 0
 
@@ -127,9 +128,9 @@ module _ (t : Store) (g : List (List ℕ)) (live : GapsLive (t COUNTS) g) (size 
   pub took :
       (a : Allocated) (r : ℕ) → length h ≡ length g →
       Answered (slotFor wide ldc (slotsIn (t COUNTS) g)) count g h a →
-      r ≡ slotFound a → r < 65536 →
-      Took wide ldc t (withPositions (movedTo a (positionsIn (t COUNTS))) t) g h r
-  unfolding slotFound movedTo answerOf
+      r ≡ slotFound (foundIn a) → r < 65536 →
+      Took wide ldc t (withPositions (movedBy a (positionsIn (t COUNTS))) t) g h r
+  unfolding slotFound foundIn movedBy answerOf
   took (Slot n q) r e w is low =
       let moved = moved-within (t COUNTS) g live wide ldc h n q w e in
       let p = positions-are (t COUNTS) q size in
@@ -177,19 +178,20 @@ module _ (t : Store) (g : List (List ℕ)) (live : GapsLive (t COUNTS) g) (size 
 -- AS THE CODE HAS IT
 
 pub slot-asks :
-    (counts : List ℕ) (g : List (List ℕ)) (count : ℕ) → GapsLive counts g → count ≡ getD counts GAP-COUNT 0 →
+    (counts : List ℕ) (g : GapTable) (count : ℕ) → GapsLive counts g → count ≡ getD counts GAP-COUNT 0 →
     (count ≤ length g) × AtMost highestSlot (ends (gapsAt g count))
 slot-asks counts g count live e = rw e (live .inside, live-most counts g live)
 
 module _
-    (t : Store) (g h : List (List ℕ)) (wide ldc : Bool) (live : GapsLive (t COUNTS) g) (before : Positions) (count : ℕ) (a : Allocated)
+    (t : Store) (g h : GapTable) (wide ldc : Bool) (live : GapsLive (t COUNTS) g) (before : Positions) (count : ℕ) (found : Found)
     (is : before ≡ positionsIn (t COUNTS)) (counted : count ≡ getD (t COUNTS) GAP-COUNT 0) (long : length h ≡ length g)
-    (w : Answered (slotFor wide ldc (slotsAt g count before)) count g h a) (q : Positions) (moved : q ≡ movedTo a before) where
-  answered : Answered (slotFor wide ldc (slotsIn (t COUNTS) g)) (getD (t COUNTS) GAP-COUNT 0) g h a
-  answered = rw (counted, is) at w
+    (q : Positions) (taken : Taken (slotFor wide ldc (slotsAt g count before)) count g h before q found) where
+  answered : Answered (slotFor wide ldc (slotsIn (t COUNTS) g)) (getD (t COUNTS) GAP-COUNT 0) g h (taken .by-value)
+  answered = rw (counted, is) at (taken .answered)
 
   pub save-asks : IsWord (q .odd) × IsWord (q .wide) × IsWord (q .plain)
-  save-asks = rw (moved, is) (moved-words (t COUNTS) g live wide ldc h a long answered)
+  save-asks = rw (taken .moved, is) (moved-words (t COUNTS) g live wide ldc h (taken .by-value) long answered)
 
-  pub took-all : PLAIN < length (t COUNTS) → (u : Store) (r : ℕ) → u ≡ withPositions q t → r ≡ slotFound a → r < 65536 → Took wide ldc t u g h r
-  took-all size u r e f low = rw (e, moved, is) (took t g live size wide ldc h a r long answered f low)
+  pub took-all : PLAIN < length (t COUNTS) → (u : Store) (r : ℕ) → u ≡ withPositions q t → r ≡ slotFound found → r < 65536 → Took wide ldc t u g h r
+  took-all size u r e f low =
+      rw (e, taken .moved, is) (took t g live size wide ldc h (taken .by-value) r long answered (f ∙ ap slotFound (taken .found)) low)

@@ -13,9 +13,9 @@ use Rattle.definition.specs.Slots.{highestSlot, Gap, Slots, slotFor}
 use Rattle.definition.specs.Building.{Pool, noSlot, slotOf, slotsOf, kidsOf}
 use Rattle.laws.specs.Gaps.{Apart}
 use Rattle.slots.specs.declared.Positions.{Positions}
-use Rattle.slots.specs.declared.Allocated.{Allocated}
-use Rattle.slots.specs.declared.Allocated.the-variants.{Slot, None}
-use Rattle.slots.specs.Gaps.{gapsAt, slotsAt}
+use Rattle.slots.specs.declared.Found.{Found}
+use Rattle.slots.specs.declared.Found.the-variants.{Slot, None}
+use Rattle.slots.specs.Gaps.{GapTable, gapsAt, slotsAt}
 use Rattle.store.specs.Store.{Store, size, put, among, Kept}
 use Rattle.store.specs.Regions.{COUNTS, GIVEN, NODE-HEADS, PENDING, NODE-COUNT, GAP-COUNT, ODD, WIDE, PLAIN, PENDING-COUNT, Work}
 use Rattle.store.specs.Words.{ENTRY, childSlot}
@@ -47,25 +47,25 @@ abbrev pub positionsIn : List ℕ → Positions
 positionsIn counts = record { odd = getD counts ODD 0; wide = getD counts WIDE 0; plain = getD counts PLAIN 0 }
 
 -- the gaps in use, and the definition's allocator
-abbrev pub gapsIn : List ℕ → List (List ℕ) → List Gap
+abbrev pub gapsIn : List ℕ → GapTable → List Gap
 gapsIn counts gaps = gapsAt gaps (getD counts GAP-COUNT 0)
 
-abbrev pub slotsIn : List ℕ → List (List ℕ) → Slots
+abbrev pub slotsIn : List ℕ → GapTable → Slots
 slotsIn counts gaps = slotsAt gaps (getD counts GAP-COUNT 0) (positionsIn counts)
 
 -- THE POOL
 
 -- a pool that the words are. They don't tell in which order slots were given, nor which slot a node on the stack stands there with
-pub record Pooled (pool : Pool) (counts words stack : List ℕ) (table : List (List ℕ)) : Type 0 where
+pub record Pooled (pool : Pool) (counts words stack : List ℕ) (table : GapTable) : Type 0 where
   pub slots : slotsIn counts table ≡ pool .slots
   pub given : (k : ℕ) → lookup k (pool .given) ≡ slotWord (getD words k 0)
   pub pending : map (λ r. r .1) (pool .pending) ≡ reverse (take (getD counts PENDING-COUNT 0) stack)
 
-abbrev pub PooledIn : Pool → Store → List (List ℕ) → Type 0
+abbrev pub PooledIn : Pool → Store → GapTable → Type 0
 PooledIn pool t gaps = Pooled pool (t COUNTS) (t GIVEN) (t PENDING) gaps
 
 -- what the allocator asks
-pub record GapsLive (counts : List ℕ) (table : List (List ℕ)) : Type 0 where
+pub record GapsLive (counts : List ℕ) (table : GapTable) : Type 0 where
   pub inside : getD counts GAP-COUNT 0 ≤ length table
   pub apart : Apart highestSlot 1 (gapsIn counts table)
   pub odd : getD counts ODD 0 ≤ getD counts GAP-COUNT 0
@@ -73,12 +73,12 @@ pub record GapsLive (counts : List ℕ) (table : List (List ℕ)) : Type 0 where
   pub plain : getD counts PLAIN 0 ≤ getD counts GAP-COUNT 0
 
 -- and the building stack: there is room for every node that has no slot yet, and what stands on it are nodes
-pub record Live (counts words stack : List ℕ) (table : List (List ℕ)) : Type 0 where
+pub record Live (counts words stack : List ℕ) (table : GapTable) : Type 0 where
   pub gaps : GapsLive counts table
   pub room : getD counts PENDING-COUNT 0 + zeros words ≤ length stack
   pub nodes : (i : ℕ) → i < getD counts PENDING-COUNT 0 → getD stack i 0 < getD counts NODE-COUNT 0
 
-abbrev pub LiveIn : Store → List (List ℕ) → Type 0
+abbrev pub LiveIn : Store → GapTable → Type 0
 LiveIn t gaps = Live (t COUNTS) (t GIVEN) (t PENDING) gaps
 
 -- the nodes of a job are there
@@ -103,12 +103,8 @@ abbrev pub withPending : ℕ → Store → Store
 withPending k t = put (put t COUNTS PENDING-COUNT (pendingCount t + 1)) PENDING (pendingCount t) k
 
 -- what a request for a slot found
-unfoldable pub movedTo : Allocated → Positions → Positions
-movedTo (Slot n after) before = after
-movedTo None before = before
-
-unfoldable pub slotFound : Allocated → ℕ
-slotFound (Slot n after) = n
+unfoldable pub slotFound : Found → ℕ
+slotFound (Slot n) = n
 slotFound None = 0
 
 -- the counters that change while slots are given
@@ -116,7 +112,7 @@ abbrev pub moving : List ℕ
 moving = ODD ∷ WIDE ∷ PLAIN ∷ PENDING-COUNT ∷ []
 
 -- what stays while slots are given: t and the gap table g before, u and h after
-pub record Goes (t u : Store) (g h : List (List ℕ)) : Type 0 where
+pub record Goes (t u : Store) (g h : GapTable) : Type 0 where
   pub live : LiveIn t g → LiveIn u h
   pub apart : (top : ℕ) → Apart top 1 (gapsIn (t COUNTS) g) → Apart top 1 (gapsIn (u COUNTS) h)
   pub long : length h ≡ length g
@@ -126,7 +122,7 @@ pub record Goes (t u : Store) (g h : List (List ℕ)) : Type 0 where
   pub kept : Kept (COUNTS ∷ GIVEN ∷ PENDING ∷ []) t u
 
 -- a slot was asked for: r is it, or 0
-pub record Took (wide ldc : Bool) (t u : Store) (g h : List (List ℕ)) (r : ℕ) : Type 0 where
+pub record Took (wide ldc : Bool) (t u : Store) (g h : GapTable) (r : ℕ) : Type 0 where
   pub unmet : r ≡ 0 → slotFor wide ldc (slotsIn (t COUNTS) g) ≡ none
   pub met : 0 < r → slotFor wide ldc (slotsIn (t COUNTS) g) ≡ some (r, slotsIn (u COUNTS) h)
   pub small : r < 65536
@@ -142,7 +138,7 @@ Gave k slot ldc t u r =
     ((slot ≡ 0) × (r ≡ noSlot ldc) × (u ≡ t)) ⊎ ((0 < slot) × (r ≡ 0) × (u ≡ withPending k (put t GIVEN k slot)))
 
 -- a child has a slot from then on, or r is the refusal's number
-pub record Slotted (s : List ℕ) (ldc : Bool) (child : ℕ) (t u : Store) (g h : List (List ℕ)) (r : ℕ) : Type 0 where
+pub record Slotted (s : List ℕ) (ldc : Bool) (child : ℕ) (t u : Store) (g h : GapTable) (r : ℕ) : Type 0 where
   pub met :
       (pool : Pool) → PooledIn pool t g → r ≡ 0 →
       (after : Pool) × (slotOf (nodesIn s t) ldc child pool ≡ good (childSlot (u GIVEN) child, after)) × PooledIn after u h
@@ -151,7 +147,7 @@ pub record Slotted (s : List ℕ) (ldc : Bool) (child : ℕ) (t u : Store) (g h 
   pub goes : Goes t u g h
 
 -- so have all children of node k
-pub record SlottedAll (s : List ℕ) (k : ℕ) (t u : Store) (g h : List (List ℕ)) (r : ℕ) : Type 0 where
+pub record SlottedAll (s : List ℕ) (k : ℕ) (t u : Store) (g h : GapTable) (r : ℕ) : Type 0 where
   pub met :
       (pool : Pool) → PooledIn pool t g → r ≡ 0 →
       (after : Pool)
@@ -164,12 +160,12 @@ pub record SlottedAll (s : List ℕ) (k : ℕ) (t u : Store) (g h : List (List �
 -- node r left the building stack
 pub record Popped (t u : Store) (r : ℕ) : Type 0 where
   pub pools :
-      (pool : Pool) (g : List (List ℕ)) → PooledIn pool t g →
+      (pool : Pool) (g : GapTable) → PooledIn pool t g →
       (slot : ℕ)
       × (rest : List (ℕ × ℕ))
       × (pool .pending ≡ (slot, r) ∷ rest)
       × PooledIn (record { slots = pool .slots; given = pool .given; pending = rest }) u g
-  pub live : (g : List (List ℕ)) → LiveIn t g → LiveIn u g × (r < getD (t COUNTS) NODE-COUNT 0)
+  pub live : (g : GapTable) → LiveIn t g → LiveIn u g × (r < getD (t COUNTS) NODE-COUNT 0)
   pub fewer : pendingCount u + 1 ≡ pendingCount t
   pub counters : (c : ℕ) → (c ≡ PENDING-COUNT → ⊥) → getD (u COUNTS) c 0 ≡ getD (t COUNTS) c 0
   pub kept : Kept (COUNTS ∷ []) t u

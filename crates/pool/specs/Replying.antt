@@ -15,6 +15,7 @@ use Rattle.definition.specs.Building.{Pool}
 use Rattle.definition.specs.Layout.{Ready, answer, answerAll}
 use Rattle.laws.specs.Gaps.{Apart}
 use Rattle.job.specs.Stored.{Found, InTurn, anyRequest}
+use Rattle.slots.specs.Gaps.{GapTable}
 use Rattle.store.specs.Store.{Store, size, put, among, Kept}
 use Rattle.store.specs.JobIn.{jobIn, entriesIn, constantsIn, namingsIn, linkedIn}
 use Rattle.store.specs.Regions.{COUNTS, MARKS, GIVEN, NAME-HEADS, NODE-HEADS, NODE-LINKS, CHILDREN, NAME-GOALS, NODES, STACK, PENDING, ANSWERS, PLACE, AT, NODE-COUNT, VISITS, ODD, WIDE, PLAIN, PENDING-COUNT}
@@ -54,7 +55,7 @@ KeptAnswer ldc slot i t u r = ((r ≡ 0) × (low ldc slot ≡ good tt) × (u ≡
 abbrev pub readyIn : List ℕ → Store → Pool → Ready
 readyIn s t pool = record { table = linkedIn s; resolved = resolvedIn s t; pool = pool }
 
-pub record Asking (s p : List ℕ) (t : Store) (g : List (List ℕ)) : Type 0 where
+pub record Asking (s p : List ℕ) (t : Store) (g : GapTable) : Type 0 where
   pub table : Table s t
   pub rests : AtRest (size p NODE-HEADS) s t
   pub names : AllNames (size p NAME-HEADS) s t
@@ -69,7 +70,7 @@ abbrev pub askedRegions : List ℕ
 askedRegions = COUNTS ∷ MARKS ∷ GIVEN ∷ NODE-HEADS ∷ NODE-LINKS ∷ CHILDREN ∷ NODES ∷ STACK ∷ PENDING ∷ ANSWERS ∷ []
 
 -- a request is answered, as answer i, or r is the refusal's number
-pub record Replied (s p : List ℕ) (q : Request) (i : ℕ) (t u : Store) (g h : List (List ℕ)) (r : ℕ) : Type 0 where
+pub record Replied (s p : List ℕ) (q : Request) (i : ℕ) (t u : Store) (g h : GapTable) (r : ℕ) : Type 0 where
   pub met :
       (pool : Pool) → PooledIn pool t g → r ≡ 0 →
       (after : Pool) × (answer (q .ldc) (goalFor s q) (readyIn s t pool) ≡ good (getD (u ANSWERS) i 0, readyIn s u after)) × PooledIn after u h
@@ -98,7 +99,7 @@ abbrev pub answeredIn : List ℕ → Store → Pool → Result Refusal (List ℕ
 answeredIn s t pool = answerAll (namingsIn s) (constantsIn s) (suc (placeCount t)) (jobIn s .requests) (readyIn s t pool)
 
 -- all are answered, or r is the refusal's number and PLACE tells the record: t before, u after
-pub record RepliedAll (s p : List ℕ) (t u : Store) (g h : List (List ℕ)) (r : ℕ) : Type 0 where
+pub record RepliedAll (s p : List ℕ) (t u : Store) (g h : GapTable) (r : ℕ) : Type 0 where
   pub met :
       (pool : Pool) → PooledIn pool t g → r ≡ 0 →
       (after : Pool) × (answeredIn s t pool ≡ good (u ANSWERS, readyIn s u after)) × PooledIn after u h

@@ -13,6 +13,7 @@ use Rattle.definition.specs.Building.{Pool}
 use Rattle.definition.specs.Layout.{starters, nodeAt}
 use Rattle.facts.specs.Lists.{Rising, keys}
 use Rattle.laws.specs.Gaps.{Apart}
+use Rattle.slots.specs.Gaps.{GapTable}
 use Rattle.store.specs.Store.{Store, size, among, Kept, IsWord}
 use Rattle.store.specs.Regions.{COUNTS, MARKS, GIVEN, RAW-KEYS, RAW-ENTRIES, ORDER, PENDING, NODE-COUNT, GAP-COUNT, ODD, WIDE, PLAIN, PENDING-COUNT}
 use Rattle.store.specs.Words.{HALF, markWord}
@@ -83,7 +84,7 @@ pub record RawsPushed (t u : Store) (n : ℕ) : Type 0 where
 -- THE START
 
 -- the raw slots of a job are in order and resolved, nothing was given yet, and there is room for the gaps and for the stack
-pub record CanStart (p : List ℕ) (constants top : ℕ) (held : List (ℕ × Held)) (indexes : List (ℕ × ℕ)) (t : Store) (g : List (List ℕ)) : Type 0 where
+pub record CanStart (p : List ℕ) (constants top : ℕ) (held : List (ℕ × Held)) (indexes : List (ℕ × ℕ)) (t : Store) (g : GapTable) : Type 0 where
   pub few : top ≤ highestSlot
   pub ordered : Ordered constants top held indexes (t RAW-KEYS) (t RAW-ENTRIES) (t ORDER) (rawCount t)
   pub rising : Rising 1 top (keys held)
@@ -105,11 +106,11 @@ pub record CanStart (p : List ℕ) (constants top : ℕ) (held : List (ℕ × He
   pub given : (k : ℕ) → getD (t GIVEN) k 0 ≡ 0
 
 -- so they are, for some. It is shut, so that a search takes it whole from the premises
-unfoldable pub SomeStart : List ℕ → ℕ → Store → List (List ℕ) → Type 0
+unfoldable pub SomeStart : List ℕ → ℕ → Store → GapTable → Type 0
 SomeStart p top t g = (constants : ℕ) × (held : List (ℕ × Held)) × (indexes : List (ℕ × ℕ)) × CanStart p constants top held indexes t g
 
 -- the pool is there: t and the gap table g before, u and h after
-pub record PoolStarted (p : List ℕ) (top : ℕ) (t u : Store) (g h : List (List ℕ)) : Type 0 where
+pub record PoolStarted (p : List ℕ) (top : ℕ) (t u : Store) (g h : GapTable) : Type 0 where
   pub pooled :
       (constants : ℕ) (held : List (ℕ × Held)) (indexes : List (ℕ × ℕ)) → CanStart p constants top held indexes t g →
       PooledIn (startPool top held (map markWord (t MARKS))) u h

@@ -2,7 +2,8 @@
 use raws::raw_entry;
 use raws::raw_key;
 use resolver::node_of;
-use slots::Allocated;
+use slots::Found;
+use slots::Gap;
 use slots::Positions;
 use store::ANSWERS;
 use store::AT;
@@ -43,7 +44,7 @@ ghost use Rattle.store.specs.Regions.{COUNTS, GIVEN, NAME-HEADS, NAME-GOALS, RA
 ghost use Rattle.store.specs.JobIn.{jobIn};
 ghost use Rattle.store.specs.Words.{ENTRY, childSlot};
 ghost use Rattle.interner.specs.Nodes.{nodeCount, nodesIn};
-ghost use Rattle.pool.specs.Pooled.{Has, Lacks, positionsIn, GapsLive, NodesThere, withPositions, pendingCount, withPending, movedTo, slotFound, LiveIn, KidsThere, Took, Gave, Slotted, SlottedAll, Popped};
+ghost use Rattle.pool.specs.Pooled.{Has, Lacks, positionsIn, GapsLive, NodesThere, withPositions, pendingCount, withPending, slotFound, LiveIn, KidsThere, Took, Gave, Slotted, SlottedAll, Popped};
 ghost use Rattle.raws.specs.Raws.{heldCount};
 ghost use Rattle.pool.specs.Starting.{orderKeys, rawAt, CanPush, RawPushed, CanPushAll, RawsPushed, SomeStart, PoolStarted};
 ghost use Rattle.sym_refs.specs.Names.{Goals};
@@ -117,35 +118,25 @@ fn save_positions(w: &mut [u32], p: &[usize], q: Positions)
     save(w, p, COUNTS, PLAIN, q.plain);
 }
 
-// The positions behind a request for a slot.
-fn moved(a: Allocated, before: Positions) -> Positions
-    ensures { λ r. ⌜ r ≡ movedTo a before ⌝ }
-{
-    match a {
-        Allocated::Slot { slot: _, positions } => positions,
-        Allocated::None => before,
-    }
-}
-
 // The slot found, 0 for none.
-fn slot_found(a: Allocated) -> usize
-    ensures { λ r. ⌜ (r ≡ slotFound a) × (r < 65536) ⌝ }
+fn slot_found(found: Found) -> usize
+    ensures { λ r. ⌜ (r ≡ slotFound found) × (r < 65536) ⌝ }
 {
-    match a {
-        Allocated::Slot { slot, positions: _ } => slot as usize,
-        Allocated::None => 0,
+    match found {
+        Found::Slot(slot) => slot as usize,
+        Found::None => 0,
     }
 }
 
 // One slot request: the slot, or 0 if there is none.
-pub fn take_slot(w: &mut [u32], p: &[usize], gaps: &mut [[u16; 2]], wide: bool, ldc: bool) -> usize
+pub fn take_slot(w: &mut [u32], p: &[usize], gaps: &mut [Gap], wide: bool, ldc: bool) -> usize
     requires { ⌜ On (now p) (length (now w)) × (PLAIN < size (now p) COUNTS) × GapsLive (store (now p) (now w) COUNTS) (now gaps) ⌝ }
     ensures { λ r. ⌜ Took wide ldc (store (now (p .entry)) (now (w .entry))) (store (now (p .entry)) (now (w .exit))) (now (gaps .entry)) (now (gaps .exit)) r ⌝ }
 {
-    let before = load_positions(w, p);
+    let mut q = load_positions(w, p);
     let count = load(w, p, COUNTS, GAP_COUNT);
-    let found = slots::slot_for(gaps, count, before, wide, ldc);
-    save_positions(w, p, moved(found, before));
+    let found = slots::take_slot(gaps, count, &mut q, wide, ldc);
+    save_positions(w, p, q);
     slot_found(found)
 }
 
@@ -194,7 +185,7 @@ pub fn slot_of(
     job: &[u8],
     w: &mut [u32],
     p: &[usize],
-    gaps: &mut [[u16; 2]],
+    gaps: &mut [Gap],
     child: usize,
     ldc: bool,
 ) -> usize
@@ -211,7 +202,7 @@ pub fn slot_of(
 }
 
 // Node k's children have slots from then on, left to right, 0, or 14.
-pub fn slots_of(job: &[u8], w: &mut [u32], p: &[usize], gaps: &mut [[u16; 2]], k: usize) -> usize
+pub fn slots_of(job: &[u8], w: &mut [u32], p: &[usize], gaps: &mut [Gap], k: usize) -> usize
     requires { ⌜ On (now p) (length (now w)) × NodesThere (now job) (now p) (store (now p) (now w)) × LiveIn (store (now p) (now w)) (now gaps) × (k < nodeCount (store (now p) (now w))) × KidsThere (now job) (store (now p) (now w)) k ⌝ }
     ensures { λ r. ⌜ SlottedAll (now (job .entry)) k (store (now (p .entry)) (now (w .entry))) (store (now (p .entry)) (now (w .exit))) (now (gaps .entry)) (now (gaps .exit)) r ⌝ }
 {
@@ -240,7 +231,7 @@ pub fn pop_pending(w: &mut [u32], p: &[usize]) -> usize
 }
 
 // The longest free runs between the slots of the first n places of the order, which rise. How many there are.
-fn gaps_between(gaps: &mut [[u16; 2]], w: &[u32], p: &[usize], n: usize, top: usize) -> usize
+fn gaps_between(gaps: &mut [Gap], w: &[u32], p: &[usize], n: usize, top: usize) -> usize
     requires { ⌜ On (now p) (length (now w)) × (n ≤ size (now p) ORDER) × ((i : ℕ) → i < n → getD (store (now p) (now w) ORDER) i 0 < size (now p) RAW-KEYS) × AtMost 65535 (orderKeys (store (now p) (now w) RAW-KEYS) (store (now p) (now w) ORDER) n) × (top ≤ 65535) ⌝ }
     requires room { ⌜ length (gapsFrom top 1 (orderKeys (store (now p) (now w) RAW-KEYS) (store (now p) (now w) ORDER) n)) ≤ length (now gaps) ⌝ }
     ensures { λ r. ⌜ Written (gapsFrom top 1 (orderKeys (store (now (p .entry)) (now (w .entry)) RAW-KEYS) (store (now (p .entry)) (now (w .entry)) ORDER) n)) (now (gaps .entry)) (now (gaps .exit)) r ⌝ }
@@ -284,7 +275,7 @@ fn push_raws(w: &mut [u32], p: &[usize])
 }
 
 // Gaps, positions and stack before the first request.
-pub fn start_pool(w: &mut [u32], p: &[usize], gaps: &mut [[u16; 2]], top: usize)
+pub fn start_pool(w: &mut [u32], p: &[usize], gaps: &mut [Gap], top: usize)
     requires { ⌜ On (now p) (length (now w)) × SomeStart (now p) top (store (now p) (now w)) (now gaps) ⌝ }
     ensures { λ _. ⌜ PoolStarted (now (p .entry)) top (store (now (p .entry)) (now (w .entry))) (store (now (p .entry)) (now (w .exit))) (now (gaps .entry)) (now (gaps .exit)) ⌝ }
 {
@@ -332,14 +323,7 @@ fn keep_answer(w: &mut [u32], p: &[usize], i: usize, child: usize, ldc: bool) ->
 }
 
 // The request at a place becomes answer i, 0, or a refusal's number.
-fn answer(
-    job: &[u8],
-    w: &mut [u32],
-    p: &[usize],
-    gaps: &mut [[u16; 2]],
-    at: usize,
-    i: usize,
-) -> usize
+fn answer(job: &[u8], w: &mut [u32], p: &[usize], gaps: &mut [Gap], at: usize, i: usize) -> usize
     requires { ⌜ On (now p) (length (now w)) × Work (now job) (now p) × Asking (now job) (now p) (store (now p) (now w)) (now gaps) × RequestAt (now job) at × (i < size (now p) ANSWERS) × IsWord (visitsOwed (now job) (store (now p) (now w)) + 1) ⌝ }
     ensures { λ r. ⌜ WhatRequest (now (job .entry)) at (λ q. Replied (now (job .entry)) (now (p .entry)) q i (store (now (p .entry)) (now (w .entry))) (store (now (p .entry)) (now (w .exit))) (now (gaps .entry)) (now (gaps .exit)) r) ⌝ }
 {
@@ -358,7 +342,7 @@ fn answer(
 }
 
 // The requests in turn, 0, or a refusal's number. Then record 60 is in turn.
-pub fn answer_all(job: &[u8], w: &mut [u32], p: &[usize], gaps: &mut [[u16; 2]]) -> usize
+pub fn answer_all(job: &[u8], w: &mut [u32], p: &[usize], gaps: &mut [Gap]) -> usize
     requires { ⌜ On (now p) (length (now w)) × Work (now job) (now p) × Asking (now job) (now p) (store (now p) (now w)) (now gaps) × RequestsAt (now job) (getD (store (now p) (now w) COUNTS) AT 0) × IsWord (visitsOwed (now job) (store (now p) (now w)) + length (jobIn (now job) .requests) + 1) × IsWord (placeCount (store (now p) (now w)) + length (jobIn (now job) .requests) + 1) ⌝ }
     ensures { λ r. ⌜ RepliedAll (now (job .entry)) (now (p .entry)) (store (now (p .entry)) (now (w .entry))) (store (now (p .entry)) (now (w .exit))) (now (gaps .entry)) (now (gaps .exit)) r ⌝ }
 {

@@ -14,6 +14,7 @@ use cpool::Outcome;
 use libc::STDERR_FILENO;
 use libc::STDIN_FILENO;
 use libc::STDOUT_FILENO;
+use slots::Gap;
 ghost use mathlib.Core.Path.{_≡_};
 ghost use Prim.Native.Nat.{_+_, _*_, _/_, _≤_};
 ghost use lib.ListN.{length};
@@ -249,7 +250,7 @@ fn run_job(
     job: &[u8],
     n: usize,
     work: &mut [u32],
-    gaps: &mut [[u16; 2]],
+    gaps: &mut [Gap],
     answers: &mut [u16],
     pool: &mut [u8],
     bootstraps: &mut [u8],
@@ -288,7 +289,8 @@ fn long_run(text: &mut [u8; 65536], job: &[u8], n: usize) -> u8
     requires { ⌜ (n ≤ 1048576) × (n ≤ length (now job)) ⌝ }
 {
     let mut work = long_words();
-    let mut gaps = [[0u16; 2]; 209717];
+    let gap = slots::no_gap();
+    let mut gaps = [gap; 209717];
     let mut answers = [0u16; 349526];
     let mut pool = long_bytes();
     let mut bootstraps = long_bytes();
@@ -322,7 +324,7 @@ fn short_run(
     n: usize,
     job: &[u8],
     work: &mut [u32],
-    gaps: &mut [[u16; 2]],
+    gaps: &mut [Gap],
     answers: &mut [u16],
     pool: &mut [u8],
     bootstraps: &mut [u8],
@@ -385,7 +387,7 @@ fn next_job(
     text: &mut [u8; 65536],
     job: &mut [u8],
     work: &mut [u32],
-    gaps: &mut [[u16; 2]],
+    gaps: &mut [Gap],
     answers: &mut [u16],
     pool: &mut [u8],
     bootstraps: &mut [u8],
@@ -430,7 +432,7 @@ fn batch(
     text: &mut [u8; 65536],
     job: &mut [u8],
     work: &mut [u32],
-    gaps: &mut [[u16; 2]],
+    gaps: &mut [Gap],
     answers: &mut [u16],
     pool: &mut [u8],
     bootstraps: &mut [u8],
@@ -447,11 +449,13 @@ fn batch(
     tell(how, jobs);
 }
 
-fn main() {
+// All jobs, over memory for short ones.
+fn short_jobs() {
     let mut text = [0u8; 65536];
     let mut job = [0u8; 65536];
     let mut work = [0u32; 394240];
-    let mut gaps = [[0u16; 2]; 13109];
+    let gap = slots::no_gap();
+    let mut gaps = [gap; 13109];
     let mut answers = [0u16; 21846];
     let mut pool = [0u8; 1048576];
     let mut bootstraps = [0u8; 1048576];
@@ -466,4 +470,8 @@ fn main() {
         &mut bootstraps,
         &mut class_name,
     );
+}
+
+fn main() {
+    short_jobs();
 }

@@ -3,3 +3,4 @@ pub mod Decimals
 pub mod Texts
 pub mod Reading
 pub mod Running
+pub mod Walks

@@ -3,6 +3,7 @@
 use blocks::BlocksRead;
 use cpool::ClassLength;
 use cpool::Outcome;
+use slots::Gap;
 ghost use mathlib.Core.Path.{_≡_};
 ghost use mathlib.Core.List.{[], _∷_, _++_};
 ghost use mathlib.Core.Option.{none, some};
@@ -287,7 +288,7 @@ fn run_over(
     n: usize,
     out: &mut [u8],
     work: &mut [u32],
-    gaps: &mut [[u16; 2]],
+    gaps: &mut [Gap],
     answers: &mut [u16],
     pool: &mut [u8],
     bootstraps: &mut [u8],
@@ -307,7 +308,8 @@ fn run_text(job: &[u8], n: usize, out: &mut [u8]) -> usize
     ensures { λ r. ⌜ Counts r (now (out .exit)) × (take r (now (out .exit)) ≡ printed (run poolrunLent (take n (now (job .entry))))) ⌝ }
 {
     let mut work = [0u32; 16384];
-    let mut gaps = [[0u16; 2]; 514];
+    let gap = slots::no_gap();
+    let mut gaps = [gap; 514];
     let mut answers = [0u16; 32768];
     let mut pool = [0u8; 65536];
     let mut bootstraps = [0u8; 65536];

@@ -29,6 +29,7 @@ use Rattle.laws.proofs.slots.SlotsToHold.{toHold}
 use Rattle.laws.proofs.building.ChildNumbers.{SlotFor, given-held}
 use Rattle.laws.proofs.building.AfterRecord50.{rawGoals, rawsOf}
 use Rattle.laws.proofs.building.AfterRequests.{Going, Further, Answered, answerAll-going}
+use Rattle.slots.specs.Gaps.{GapTable}
 use Rattle.store.specs.Store.{Store, size}
 use Rattle.store.specs.JobIn.{jobIn, definitionsIn, tableOf, numberedIn, constantsIn, namingsIn, linkedIn}
 use Rattle.store.specs.Regions.{MARKS, GIVEN, OFFSETS, FIRSTS, SIZES, GOALS, RAW-KEYS, RAW-ENTRIES, ANSWERS, Work}
@@ -116,7 +117,7 @@ module _ (s p : List ℕ) (work : Work s p) (bytes : IsBytes s) (top : ℕ) (t :
         low a child (inr (l, e)) =
             omega (arith, f .raws .few, given-low top (d .held) _ pool (sound (all-going .0 .pooled .occurs)) _ a e)
 
-    module _ (g : List (List ℕ)) (pooled : PooledIn pool v g) where
+    module _ (g : GapTable) (pooled : PooledIn pool v g) where
       held-waits : (slot k : ℕ) → Among (slot, k) (toHold (pool .given) raws) → OnStack v k
       held-waits slot k a = on-stack pool v g slot k pooled (subst (Among (slot, k)) (sym (all-going .0 .pooled .stack)) a)
 

@@ -10,6 +10,7 @@ use Rattle.definition.specs.Building.{Pool}
 use Rattle.definition.specs.Layout.{Ready, answerAll}
 use Rattle.laws.specs.Statements.{IsBytes}
 use Rattle.laws.specs.Faithful.{Faithful}
+use Rattle.slots.specs.Gaps.{GapTable}
 use Rattle.store.specs.Store.{Store, size, IsWord}
 use Rattle.store.specs.JobIn.{jobIn, definitionsIn, countsIn, constantsIn, namingsIn, linkedIn}
 use Rattle.store.specs.Regions.{COUNTS, MARKS, NAME-HEADS, NODE-HEADS, NAME-LINKS, NODE-LINKS, OFFSETS, FIRSTS, SIZES, GOALS, CHILDREN, NAME-PLACES, NAME-GOALS, NODES, PLACE, AT, NAME-COUNT, NODE-COUNT, VISITS, Work}
@@ -29,7 +30,7 @@ use Rattle.pool.proofs.Meeting.{requests-stand}
 use Rattle.pool.proofs.InTurn.{requests-counted}
 use Rattle.requests.specs.Asked.{requestsIn, askedIn}
 
-module _ (s p : List ℕ) (top : ℕ) (t u : Store) (d : Defined) (f : AtFifty p top s t d) (g h : List (List ℕ)) (started : PoolStarted p top t u g h) where
+module _ (s p : List ℕ) (top : ℕ) (t u : Store) (d : Defined) (f : AtFifty p top s t d) (g h : GapTable) (started : PoolStarted p top t u g h) where
   same-nodes : nodesIn s u ≡ nodesIn s t
   same-nodes =
       let k = started .kept in

@@ -4,3 +4,4 @@ pub mod Handing
 pub mod Waiting
 pub mod Answers
 pub mod Words
+pub mod Walks

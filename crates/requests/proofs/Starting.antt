@@ -7,6 +7,7 @@ use Rattle.definition.specs.Numbering.{constantsOf}
 use Rattle.definition.specs.Definitions.{Defined}
 use Rattle.definition.specs.Resolving.{tableEntry}
 use Rattle.laws.specs.Statements.{IsBytes}
+use Rattle.slots.specs.Gaps.{GapTable}
 use Rattle.store.specs.Store.{Store}
 use Rattle.store.specs.JobIn.{constantsIn}
 use Rattle.store.specs.Regions.{ODD, WIDE, PLAIN, PENDING-COUNT, Work}
@@ -19,7 +20,7 @@ use Rattle.pool.proofs.Fitting.{gaps-fit, stack-fits}
 use Rattle.requests.proofs.Settling.{fifty-going, entry-done, slot-starts, start-goal}
 
 module _ (s p : List ℕ) (work : Work s p) (bytes : IsBytes s) (top : ℕ) (low : top < 65535) (t : Store) (d : Defined) (f : AtFifty p top s t d) where
-  pub can-start : (g : List (List ℕ)) → length s / 5 + 2 ≤ length g → CanStart p (constantsIn s) top (d .held) (d .indexes) t g
+  pub can-start : (g : GapTable) → length s / 5 + 2 ≤ length g → CanStart p (constantsIn s) top (d .held) (d .indexes) t g
   unfolding recordsIn
   can-start g room =
       let well = work-formed s p work in
@@ -53,6 +54,6 @@ module _ (s p : List ℕ) (work : Work s p) (bytes : IsBytes s) (top : ℕ) (low
         given = f .given;
       }
 
-  pub some-start : (g : List (List ℕ)) → length s / 5 + 2 ≤ length g → SomeStart p top t g
+  pub some-start : (g : GapTable) → length s / 5 + 2 ≤ length g → SomeStart p top t g
   unfolding SomeStart
   some-start g room = (constantsIn s, d .held, d .indexes, can-start g room)

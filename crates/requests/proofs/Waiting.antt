@@ -20,13 +20,14 @@ use Rattle.facts.proofs.Sums.{run, run-has, once, times, total-times, among-tim
 use Rattle.laws.specs.Statements.{givenSlots}
 use Rattle.laws.proofs.slots.SlotRequest.{width}
 use Rattle.laws.proofs.slots.PoolsThatOccur.{Sound, total-all, given-cons}
+use Rattle.slots.specs.Gaps.{GapTable}
 use Rattle.store.specs.Store.{Store}
 use Rattle.store.specs.Regions.{PENDING}
 use Rattle.pool.specs.Pooled.{PooledIn, pendingCount}
 use Rattle.pool.specs.Owning.{OnStack}
 
 -- THE STACK: what the definition's has is on the words'
-pub on-stack : (pool : Pool) (t : Store) (g : List (List ℕ)) (slot k : ℕ) → PooledIn pool t g → Among (slot, k) (pool .pending) → OnStack t k
+pub on-stack : (pool : Pool) (t : Store) (g : GapTable) (slot k : ℕ) → PooledIn pool t g → Among (slot, k) (pool .pending) → OnStack t k
 on-stack pool t g slot k pooled (i, at) =
     let n = pendingCount t in
     let named : Among k (map (λ r. r .1) (pool .pending)) = (i, map-at (λ (r : ℕ × ℕ). r .1) (pool .pending) i (slot, k) at) in

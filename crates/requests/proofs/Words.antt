@@ -11,6 +11,7 @@ use Rattle.definition.specs.Job.{readBuild}
 use Rattle.definition.specs.Definitions.{Defined}
 use Rattle.definition.specs.Building.{Pool}
 use Rattle.laws.specs.Statements.{IsBytes}
+use Rattle.slots.specs.Gaps.{GapTable}
 use Rattle.store.specs.Store.{Store, among, On}
 use Rattle.store.specs.JobIn.{jobIn, constantsIn}
 use Rattle.store.specs.Regions.{COUNTS, INDEXES, RAW-HEADS, ROW-HEADS, OWNER-HEADS, RAW-LINKS, RAW-KEYS, RAW-ENTRIES, ORDER, PENDING, ANSWERS, PLACE, AT, RAW-COUNT, HELD-COUNT, GAP-COUNT, PENDING-COUNT, ROW-COUNT, WRITTEN-COUNT, INLINE-COUNT, NAME-SLOT, Work}
@@ -26,14 +27,14 @@ use Rattle.requests.proofs.Handing.{started-at, started-place, firstPoo
 use Rattle.requests.proofs.Answers.{still-settled, answers-small, owners-wait}
 
 -- refused up to record 50
-pub asked-refused : (p : List ℕ) (words top : ℕ) (s : List ℕ) (u : Store) (g : List (List ℕ)) (r : ℕ) → 0 < r → Begun p words top s u r → AskedAll p words top s u g r
+pub asked-refused : (p : List ℕ) (words top : ℕ) (s : List ℕ) (u : Store) (g : GapTable) (r : ℕ) → 0 < r → Begun p words top s u r → AskedAll p words top s u g r
 unfolding askedIn
 asked-refused p words top s u g r h b =
     record { places = b .places; through = λ e. absurd (omega arith); refused = λ _. ap (λ x. x >>= requestsIn s) (b .refused h) }
 
 module _
     (s p : List ℕ) (work : Work s p) (bytes : IsBytes s) (top : ℕ) (t u v : Store) (d : Defined) (f : AtFifty p top s t d)
-    (g h k : List (List ℕ)) (started : PoolStarted p top t u g h) where
+    (g h k : GapTable) (started : PoolStarted p top t u g h) where
   -- all requests are answered
   module _ (replied : RepliedAll s p u v h k 0) where
     same-counter : (c : ℕ) → among c (GAP-COUNT ∷ PENDING-COUNT ∷ []) ≡ false → among c (PLACE ∷ AT ∷ askedCounters) ≡ false → getD (v COUNTS) c 0 ≡ getD (t COUNTS) c 0

@@ -11,6 +11,7 @@ use Rattle.definition.specs.Definitions.{Defined}
 use Rattle.definition.specs.Building.{Pool}
 use Rattle.definition.specs.Layout.{Ready, answerAll, endDefinitions}
 use Rattle.laws.specs.Gaps.{Apart}
+use Rattle.slots.specs.Gaps.{GapTable}
 use Rattle.store.specs.Store.{Store, size, On}
 use Rattle.store.specs.JobIn.{jobIn, definitionsIn, constantsIn, entriesIn, linkedIn}
 use Rattle.store.specs.Regions.{COUNTS, MARKS, INDEXES, NODE-HEADS, ROW-HEADS, OWNER-HEADS, RAW-KEYS, RAW-ENTRIES, ORDER, ANSWERS, AT, ROW-COUNT, WRITTEN-COUNT, INLINE-COUNT, NAME-SLOT, Work}
@@ -43,7 +44,7 @@ RawDone s t i =
     × (getD (t MARKS) (getD (t RAW-ENTRIES) i 0) 0 < nodeCount t + 2))
 
 -- the words that building starts from, d being what was defined
-pub record AskedWords (p : List ℕ) (top : ℕ) (s : List ℕ) (u : Store) (h : List (List ℕ)) (d : Defined) : Type 0 where
+pub record AskedWords (p : List ℕ) (top : ℕ) (s : List ℕ) (u : Store) (h : GapTable) (d : Defined) : Type 0 where
   pub table : Table s u
   pub rests : AtRest (size p NODE-HEADS) s u
   pub raws : RawsIn p (constantsIn s) top (d .held) (d .indexes) u
@@ -68,7 +69,7 @@ pub record AskedWords (p : List ℕ) (top : ℕ) (s : List ℕ) (u : Store) (h :
   pub small : (i : ℕ) → i < size p ANSWERS → getD (u ANSWERS) i 0 < 65536
 
 -- all requests are answered, and the words are the definition's answers, resolved state and pool
-pub record Asked (p : List ℕ) (top : ℕ) (s : List ℕ) (u : Store) (h : List (List ℕ)) (d : Defined) (ready : Ready) (pool : Pool) : Type 0 where
+pub record Asked (p : List ℕ) (top : ℕ) (s : List ℕ) (u : Store) (h : GapTable) (d : Defined) (ready : Ready) (pool : Pool) : Type 0 where
   pub isDefined : definedIn top s ≡ good d
   pub isReady : endDefinitions top (linkedIn s) (constantsIn s) d ≡ good ready
   pub isAsked : askedIn top s ≡ good (d, ready, u ANSWERS, readyIn s u pool)
@@ -76,7 +77,7 @@ pub record Asked (p : List ℕ) (top : ℕ) (s : List ℕ) (u : Store) (h : List
   pub words : AskedWords p top s u h d
 
 -- r is 0 and they are, or the job is refused with r, at the record in turn; the places are the job's
-pub record AskedAll (p : List ℕ) (words top : ℕ) (s : List ℕ) (u : Store) (h : List (List ℕ)) (r : ℕ) : Type 0 where
+pub record AskedAll (p : List ℕ) (words top : ℕ) (s : List ℕ) (u : Store) (h : GapTable) (r : ℕ) : Type 0 where
   pub places : Work s p × On p words
   pub through : r ≡ 0 → (d : Defined) × (ready : Ready) × (pool : Pool) × Asked p top s u h d ready pool
   pub refused : 0 < r → askedIn top s ≡ bad (record { code = r; place = placeCount u })

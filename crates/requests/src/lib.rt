@@ -1,5 +1,6 @@
 // A job up to its last request: the definitions, record 50, the pool's start, the requests.
 use job::JobCounts;
+use slots::Gap;
 ghost use mathlib.Core.Path.{_≡_};
 ghost use Prim.Native.Nat.{_+_, _*_, _/_, _≤_, _<_};
 ghost use lib.ListN.{length};
@@ -12,7 +13,7 @@ pub fn ask(
     job: &[u8],
     w: &mut [u32],
     p: &mut [usize],
-    gaps: &mut [[u16; 2]],
+    gaps: &mut [Gap],
     c: JobCounts,
     top: usize,
 ) -> usize

@@ -15,13 +15,13 @@ use Rattle.laws.proofs.slots.SlotRequest.{hasTwo, odd-one}
 use Rattle.slots.specs.declared.Positions.{Positions}
 use Rattle.slots.specs.declared.Allocated.{Allocated}
 use Rattle.slots.specs.declared.Allocated.the-variants.{Slot, None}
-use Rattle.slots.specs.Gaps.{rowOf, gapAt, gapsAt, ends, AtMost, slotsAt, rowsLess, answerOf, Answered}
+use Rattle.slots.specs.Gaps.{GapTable, rowOf, gapAt, gapsAt, ends, AtMost, slotsAt, rowsLess, answerOf, Answered}
 use Rattle.slots.proofs.Rows.{gaps-length, gap-place, end-place, gaps-set}
 use Rattle.facts.proofs.Lists.{place-out, map-set}
 
 -- WHERE A SEARCH ENDS
 
-module _ (p : Gap → Bool) (rows : List (List ℕ)) (count from at : ℕ) (fits : count ≤ length rows) (e : at ≡ scan p from (gapsAt rows count)) where
+module _ (p : Gap → Bool) (rows : GapTable) (count from at : ℕ) (fits : count ≤ length rows) (e : at ≡ scan p from (gapsAt rows count)) where
   nothing : count ≤ at → getElem? (gapsAt rows count) (scan p from (gapsAt rows count)) ≡ none
   nothing h = rw (← e) (place-out (gapsAt rows count) at (rw (gaps-length rows count fits) h))
 
@@ -33,7 +33,7 @@ module _ (p : Gap → Bool) (rows : List (List ℕ)) (count from at : ℕ) (fits
 
 -- TAKING FROM A GAP
 
-module _ (rows : List (List ℕ)) (count at n : ℕ) (fits : count ≤ length rows) (h : at < count) where
+module _ (rows : GapTable) (count at n : ℕ) (fits : count ≤ length rows) (h : at < count) where
   gaps-less : gapsAt (rowsLess n at rows) count ≡ cut n at (gapsAt rows count)
   unfolding rowsLess
   gaps-less =
@@ -59,7 +59,7 @@ module _ (rows : List (List ℕ)) (count at n : ℕ) (fits : count ≤ length ro
 
   -- the answer that takes them
   answer-less :
-      (o : Option (ℕ × Slots)) (p : Positions) (slot : ℕ) (after : List (List ℕ)) →
+      (o : Option (ℕ × Slots)) (p : Positions) (slot : ℕ) (after : GapTable) →
       (slot ≡ gapAt rows at .first) × (after ≡ rowsLess n at rows) →
       o ≡ some (gapAt rows at .first, record { gaps = cut n at (gapsAt rows count); odd = p .odd; wide = p .wide; plain = p .plain }) →
       Answered o count rows after (Slot slot p)
@@ -73,7 +73,7 @@ module _ (rows : List (List ℕ)) (count at n : ℕ) (fits : count ≤ length ro
       })
 
 -- no answer takes nothing
-pub no-answer : (o : Option (ℕ × Slots)) (rows : List (List ℕ)) (count : ℕ) → o ≡ none → Answered o count rows rows None
+pub no-answer : (o : Option (ℕ × Slots)) (rows : GapTable) (count : ℕ) → o ≡ none → Answered o count rows rows None
 unfolding answerOf
 no-answer o rows count e =
     record {
@@ -84,7 +84,7 @@ no-answer o rows count e =
 
 -- WIDE
 
-module _ (rows : List (List ℕ)) (count : ℕ) (p : Positions) (at : ℕ) (fits : count ≤ length rows) (e : at ≡ scan hasTwo (p .wide) (gapsAt rows count)) where
+module _ (rows : GapTable) (count : ℕ) (p : Positions) (at : ℕ) (fits : count ≤ length rows) (e : at ≡ scan hasTwo (p .wide) (gapsAt rows count)) where
   pub wide-unmet : count ≤ at → Answered (wideSlot (slotsAt rows count p)) count rows rows None
   unfolding wideSlot slotsAt
   wide-unmet h = no-answer (wideSlot (slotsAt rows count p)) rows count (rw (nothing hasTwo rows count (p .wide) at fits e h, wideSlot))
@@ -94,7 +94,7 @@ module _ (rows : List (List ℕ)) (count : ℕ) (p : Positions) (at : ℕ) (fits
       fits-less rows count at 2 fits h low (leb-true 2 (size (gapAt rows at)) (passes hasTwo rows count (p .wide) at fits e h)) (omega arith)
 
   pub wide-met :
-      (slot : ℕ) (after : List (List ℕ)) →
+      (slot : ℕ) (after : GapTable) →
       at < count →
       (slot ≡ gapAt rows at .first) × (after ≡ rowsLess 2 at rows) →
       Answered (wideSlot (slotsAt rows count p)) count rows after (Slot slot (record { odd = p .odd; wide = at; plain = p .plain }))
@@ -116,7 +116,7 @@ unfolding plainEnds
 plain-one ldc g e t = leb-true 1 (size g) (rw (t, plainEnds) at e)
 
 module _
-    (rows : List (List ℕ)) (count : ℕ) (p : Positions) (ldc : Bool) (at : ℕ)
+    (rows : GapTable) (count : ℕ) (p : Positions) (ldc : Bool) (at : ℕ)
     (fits : count ≤ length rows) (e : at ≡ scan (plainEnds ldc) (p .plain) (gapsAt rows count)) where
   pub plain-unmet : count ≤ at → Answered (plainSlot ldc (slotsAt rows count p)) count rows rows None
   unfolding plainSlot slotsAt
@@ -139,7 +139,7 @@ module _
         (omega arith)
 
     pub plain-met :
-        (slot : ℕ) (after : List (List ℕ)) →
+        (slot : ℕ) (after : GapTable) →
         high ≡ false →
         (slot ≡ gapAt rows at .first) × (after ≡ rowsLess 1 at rows) →
         Answered (plainSlot ldc (slotsAt rows count p)) count rows after (Slot slot (record { odd = p .odd; wide = p .wide; plain = at }))
@@ -160,11 +160,11 @@ abbrev pub oddAt : ℕ → Positions → Positions
 oddAt at p = record { odd = at; wide = p .wide; plain = p .plain }
 
 module _
-    (rows : List (List ℕ)) (count : ℕ) (p : Positions) (ldc : Bool) (at : ℕ)
+    (rows : GapTable) (count : ℕ) (p : Positions) (ldc : Bool) (at : ℕ)
     (fits : count ≤ length rows) (e : at ≡ scan isOdd (p .odd) (gapsAt rows count)) where
   -- with no odd gap, or one that is too high, the plain search from there decides
   pub narrow-past :
-      (after : List (List ℕ)) (r : Allocated) →
+      (after : GapTable) (r : Allocated) →
       count ≤ at →
       Answered (plainSlot ldc (slotsAt rows count (oddAt at p))) count rows after r →
       Answered (narrowSlot ldc (slotsAt rows count p)) count rows after r
@@ -176,7 +176,7 @@ module _
     odd-there = something isOdd rows count (p .odd) at fits e h
 
     pub narrow-high :
-        (after : List (List ℕ)) (r : Allocated) →
+        (after : GapTable) (r : Allocated) →
         high ≡ true →
         Answered (plainSlot ldc (slotsAt rows count (oddAt at p))) count rows after r →
         Answered (narrowSlot ldc (slotsAt rows count p)) count rows after r
@@ -188,7 +188,7 @@ module _
         fits-less rows count at 1 fits h low (odd-one (gapAt rows at) (passes isOdd rows count (p .odd) at fits e h)) (omega arith)
 
     pub narrow-met :
-        (slot : ℕ) (after : List (List ℕ)) →
+        (slot : ℕ) (after : GapTable) →
         high ≡ false →
         (slot ≡ gapAt rows at .first) × (after ≡ rowsLess 1 at rows) →
         Answered (narrowSlot ldc (slotsAt rows count p)) count rows after (Slot slot (oddAt (at + 1) p))

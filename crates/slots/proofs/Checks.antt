@@ -7,31 +7,31 @@ use native.Mathlib.Nat.{le-refl}
 use native.Mathlib.Numerals.{add-one}
 use native.Mathlib.Omega.{arith}
 use lib.ListN.{length, drop, drop-of-length-le}
-use borrow.Author.Tests.{le-leb, lt-leb, leb-true}
+use borrow.Author.Tests.{leb-true}
 use Rattle.definition.specs.Basics.{every}
 use Rattle.definition.specs.Slots.{highestSlot, Gap, slotFor}
 use Rattle.facts.proofs.Lists.{both-true}
 use Rattle.slots.specs.declared.Positions.{Positions}
 use Rattle.slots.specs.declared.Allocated.{Allocated}
 use Rattle.slots.specs.declared.Allocated.the-variants.{None}
-use Rattle.slots.specs.Gaps.{gapAt, gapsAt, ends, AtMost, slotsAt, Answered, endFits, requested}
+use Rattle.slots.specs.Gaps.{GapTable, gapAt, gapsAt, ends, AtMost, slotsAt, Answered, endFits, requested}
 use Rattle.slots.proofs.Rows.{gaps-length, gaps-from}
 use Rattle.slots.proofs.Answers.{no-answer}
 
 -- the check's loop: the gaps from here on decide
-abbrev pub Left : List (List ℕ) → ℕ → Type 0
+abbrev pub Left : GapTable → ℕ → Type 0
 Left rows i = every endFits (drop i (gapsAt rows (length rows))) ≡ every endFits (gapsAt rows (length rows))
 
-module _ (rows : List (List ℕ)) (i : ℕ) (r : Left rows i) where
-  pub check-more : i < length rows → gapAt rows i .last ≤ 65534 → Left rows (i + 1)
-  unfolding every endFits
+module _ (rows : GapTable) (i : ℕ) (r : Left rows i) where
+  pub check-more : i < length rows → endFits (gapAt rows i) ≡ true → Left rows (i + 1)
+  unfolding every
   check-more h t =
       rw add-one
-      (rw (gaps-from rows (length rows) i (le-refl (length rows)) h, le-leb (gapAt rows i .last) 65534 t) at r)
+      (rw (gaps-from rows (length rows) i (le-refl (length rows)) h, t) at r)
 
-  pub check-fails : i < length rows → 65534 < gapAt rows i .last → false ≡ every endFits (gapsAt rows (length rows))
-  unfolding every endFits
-  check-fails h t = rw (gaps-from rows (length rows) i (le-refl (length rows)) h, lt-leb (gapAt rows i .last) 65534 t) at r
+  pub check-fails : i < length rows → endFits (gapAt rows i) ≡ false → false ≡ every endFits (gapsAt rows (length rows))
+  unfolding every
+  check-fails h t = rw (gaps-from rows (length rows) i (le-refl (length rows)) h, t) at r
 
   pub check-ends : length rows ≤ i → true ≡ every endFits (gapsAt rows (length rows))
   unfolding every
@@ -45,9 +45,9 @@ checked [] e i = omega arith
 checked (g ∷ gaps) e zero = leb-true (g .last) highestSlot (both-true (endFits g) (every endFits gaps) e .0)
 checked (g ∷ gaps) e (suc i) = checked gaps (both-true (endFits g) (every endFits gaps) e .1) i
 
-module _ (rows : List (List ℕ)) (p : Positions) (wide ldc ok : Bool) (e : ok ≡ every endFits (gapsAt rows (length rows))) where
+module _ (rows : GapTable) (p : Positions) (wide ldc ok : Bool) (e : ok ≡ every endFits (gapsAt rows (length rows))) where
   pub request-met :
-      (after : List (List ℕ)) (r : Allocated) →
+      (after : GapTable) (r : Allocated) →
       ok ≡ true →
       Answered (slotFor wide ldc (slotsAt rows (length rows) p)) (length rows) rows after r →
       Answered (requested wide ldc (slotsAt rows (length rows) p)) (length rows) rows after r

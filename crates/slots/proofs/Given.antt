@@ -17,7 +17,7 @@ use Rattle.laws.specs.Gaps.{Apart}
 use Rattle.laws.proofs.slots.SlotRequest.{Taken, wide-taken, narrow-taken}
 use Rattle.slots.specs.declared.Positions.{Positions}
 use Rattle.slots.specs.declared.Allocated.the-variants.{Slot}
-use Rattle.slots.specs.Gaps.{gapsAt, ends, AtMost, slotsAt, answerOf, Answered, Written}
+use Rattle.slots.specs.Gaps.{GapTable, gapsAt, ends, AtMost, slotsAt, answerOf, Answered, Written}
 
 -- WHAT THE SLOT FUNCTIONS ASK, from gaps that lie apart
 
@@ -36,7 +36,7 @@ apart-most top gaps h a i = le-trans (rising-most 0 top (ends gaps) (apart-ends 
 
 -- the first gaps lie so
 pub written-apart :
-    (top : ℕ) (held : List ℕ) (before after : List (List ℕ)) (count : ℕ) →
+    (top : ℕ) (held : List ℕ) (before after : GapTable) (count : ℕ) →
     Rising 1 top held →
     Written (gapsFrom top 1 held) before after count →
     Apart top 1 (gapsAt after count)
@@ -87,7 +87,7 @@ given top count n s s′ a t =
 
 -- what `alloc_wide` and `alloc` gave
 module _
-    (top count n : ℕ) (before after : List (List ℕ)) (p p′ : Positions)
+    (top count n : ℕ) (before after : GapTable) (p p′ : Positions)
     (a : Apart top 1 (gapsAt before count)) where
   pub wide-given :
       Answered (wideSlot (slotsAt before count p)) count before after (Slot n p′) → Given top n 2 (gapsAt before count) (gapsAt after count)

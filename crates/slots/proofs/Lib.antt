@@ -5,4 +5,5 @@ pub mod Writing
 pub mod Counting
 pub mod Given
 pub mod Checks
+pub mod Walks
 pub mod Single

@@ -1,5 +1,5 @@
 -- Facts on the gap table as the definition's gaps. Assumes nothing.
-use mathlib.Core.List.{List, [], _∷_, _++_, map-append}
+use mathlib.Core.List.{[], _∷_, _++_, map-append}
 use mathlib.Core.Option.{some}
 use mathlib.Core.Path.{_≡_, _∙_}
 use Prim.Native.Nat.{ℕ, suc, _≤_, _<_}
@@ -8,9 +8,9 @@ use lib.ListN.{length, getD, take, drop, set, getElem?, length-map}
 use lib.Seq.{length-take-le, getD-take, take-suc, take-set-lt, take-suc-set}
 use Rattle.definition.specs.Slots.{Gap}
 use Rattle.facts.proofs.Lists.{place-map, get-map, map-set, drop-place}
-use Rattle.slots.specs.Gaps.{gapOf, rowOf, gapAt, gapsAt, ends}
+use Rattle.slots.specs.Gaps.{GapTable, gapOf, rowOf, noGap, gapAt, gapsAt, ends}
 
-module _ (rows : List (List ℕ)) (count : ℕ) where
+module _ (rows : GapTable) (count : ℕ) where
   pub gaps-length : count ≤ length rows → length (gapsAt rows count) ≡ count
   unfolding gapsAt
   gaps-length h = length-map (take count rows) gapOf ∙ length-take-le count rows h
@@ -20,7 +20,7 @@ module _ (rows : List (List ℕ)) (count : ℕ) where
   unfolding gapsAt
   gap-place i h l =
       let k : i < length (take count rows) = omega (arith, length-take-le count rows h) in
-      place-map gapOf (take count rows) i [] k ∙ rw (getD-take count rows i [] l)
+      place-map gapOf (take count rows) i noGap k ∙ rw (getD-take count rows i noGap l)
 
   -- it and those behind it
   pub gaps-from : (i : ℕ) → count ≤ length rows → i < count → drop i (gapsAt rows count) ≡ gapAt rows i ∷ drop (suc i) (gapsAt rows count)
@@ -41,6 +41,6 @@ module _ (rows : List (List ℕ)) (count : ℕ) where
   gaps-snoc g l = rw (take-suc-set rows count (rowOf g) l) (map-append gapOf (take count rows) (rowOf g ∷ []))
 
 -- the last gap in use
-pub gaps-last : (rows : List (List ℕ)) (j : ℕ) → j < length rows → gapsAt rows (suc j) ≡ gapsAt rows j ++ (gapAt rows j ∷ [])
+pub gaps-last : (rows : GapTable) (j : ℕ) → j < length rows → gapsAt rows (suc j) ≡ gapsAt rows j ++ (gapAt rows j ∷ [])
 unfolding gapsAt
-gaps-last rows j h = rw (take-suc rows j [] h) (map-append gapOf (take j rows) (getD rows j [] ∷ []))
+gaps-last rows j h = rw (take-suc rows j noGap h) (map-append gapOf (take j rows) (getD rows j noGap ∷ []))

@@ -2,34 +2,16 @@
 use mathlib.Core.Bool.{Bool, true, false}
 use mathlib.Core.List.{List, []}
 use mathlib.Core.Path.{_≡_, _∙_, ap}
-use Prim.Native.Nat.{ℕ, suc, _+_, _%_, _≤_, _<_}
+use Prim.Native.Nat.{ℕ, suc, _+_, _≤_, _<_}
 use native.Mathlib.Numerals.{add-one}
 use native.Mathlib.Omega.{arith}
 use lib.Dec.{leb}
 use lib.ListN.{length, drop, drop-of-length-le}
-use borrow.Author.Tests.{eq-eqb, ne-eqb, le-leb, lt-leb}
 use Rattle.definition.specs.Basics.{position}
-use Rattle.definition.specs.Slots.{Gap, size, scan, tooHigh, isOdd, plainEnds}
+use Rattle.definition.specs.Slots.{Gap, size, scan, tooHigh, plainEnds}
 use Rattle.facts.proofs.Lists.{position-here, position-later}
-use Rattle.slots.specs.Gaps.{gapAt, gapsAt}
+use Rattle.slots.specs.Gaps.{GapTable, gapAt, gapsAt}
 use Rattle.slots.proofs.Rows.{gaps-length, gaps-from}
-
--- THE TESTS, from the number of slots that the code counts
-
-module _ (n : ℕ) (g : Gap) (e : n ≡ size g) where
-  pub is-odd : n % 2 ≡ 1 → isOdd g ≡ true
-  unfolding isOdd
-  is-odd t = eq-eqb (size g % 2) 1 (rw (← e) t)
-
-  pub is-even : (n % 2 ≡ 1 → ⊥) → isOdd g ≡ false
-  unfolding isOdd
-  is-even t = ne-eqb (size g % 2) 1 (rw (← e) t)
-
-  pub has : (few : ℕ) → few ≤ n → leb few (size g) ≡ true
-  has few t = le-leb few (size g) (rw (← e) t)
-
-  pub lacks : (few : ℕ) → n < few → leb few (size g) ≡ false
-  lacks few t = lt-leb few (size g) (rw (← e) t)
 
 -- the plain search ends at a gap that is too high, and else goes by the gap's slots
 module _ (ldc high : Bool) (g : Gap) (t : high ≡ tooHigh ldc g) where
@@ -42,10 +24,10 @@ module _ (ldc high : Bool) (g : Gap) (t : high ≡ tooHigh ldc g) where
   low-ends n b h e f = rw (← t, h, ← e, plainEnds) f
 
 -- what a search's loop keeps: the search from here on ends where the whole search does
-abbrev pub Rest : (Gap → Bool) → List (List ℕ) → ℕ → ℕ → ℕ → Type 0
+abbrev pub Rest : (Gap → Bool) → GapTable → ℕ → ℕ → ℕ → Type 0
 Rest p rows count at i = scan p i (gapsAt rows count) ≡ scan p at (gapsAt rows count)
 
-module _ (p : Gap → Bool) (rows : List (List ℕ)) (count at i : ℕ) (fits : count ≤ length rows) (r : Rest p rows count at i) where
+module _ (p : Gap → Bool) (rows : GapTable) (count at i : ℕ) (fits : count ≤ length rows) (r : Rest p rows count at i) where
   pub passed : i < count → p (gapAt rows i) ≡ false → Rest p rows count at (i + 1)
   unfolding scan
   passed l t =

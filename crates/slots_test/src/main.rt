@@ -3,6 +3,7 @@ ghost use Prim.Native.Nat.{_≤_, _+_, _*_};
 ghost use lib.ListN.{length};
 use libc::STDOUT_FILENO;
 use slots::Allocated;
+use slots::Gap;
 use slots::Positions;
 
 // The digit at a place, or 0 where there is none.
@@ -43,20 +44,30 @@ fn positions_after(answer: Allocated, before: Positions) -> Positions {
     }
 }
 
-// Gaps are written as first and last slot, 12 bytes each.
-fn load(gaps: &mut [[u16; 2]], text: &[u8])
+// The gap whose first and last slot are written at a place.
+fn gap_at(text: &[u8], at: usize) -> Gap
+    requires { ⌜ at + 6 ≤ length (now text) ⌝ }
+{
+    Gap {
+        first: slot_at(text, at),
+        last: slot_at(text, at + 6),
+    }
+}
+
+// Gaps are written in 12 bytes each.
+fn load(gaps: &mut [Gap], text: &[u8])
     requires { ⌜ 12 * length (now gaps) ≤ length (now text) + 1 ⌝ }
 {
     let mut i = 0;
     while i < gaps.len() {
-        gaps[i] = [slot_at(text, 12 * i), slot_at(text, 12 * i + 6)];
+        gaps[i] = gap_at(text, 12 * i);
         i += 1;
     }
 }
 
 // Requests are written as a letter and the answer, 7 bytes each: n for a narrow slot, l for one that ldc can name, w for two; 0 for
 // no slot. How many answers differ?
-fn wrong_answers(gaps: &mut [[u16; 2]], text: &[u8], n: usize) -> usize
+fn wrong_answers(gaps: &mut [Gap], text: &[u8], n: usize) -> usize
     requires { ⌜ 7 * n ≤ length (now text) + 1 ⌝ }
     ensures { λ r. ⌜ r ≤ n ⌝ }
 {
@@ -80,7 +91,8 @@ fn wrong_answers(gaps: &mut [[u16; 2]], text: &[u8], n: usize) -> usize
 }
 
 fn try_table(gap_text: &[u8], request_text: &[u8]) {
-    let mut rows = [[0u16; 2]; 8];
+    let gap = slots::no_gap();
+    let mut rows = [gap; 8];
     let gaps = (gap_text.len() + 1) / 12;
     let requests = (request_text.len() + 1) / 7;
     let mut wrong = requests;

@@ -1,9 +1,11 @@
 -- `builder::lay_out` meets its contract: each call gets what the one before it left. Assumes nothing.
+mod Lts
+mod Tie
 use mathlib.Core.Path.{_∙_}
 use native.Mathlib.Omega.{arith}
 use Rattle.builder.proofs.JoinLaying.{laid-asked, to-build, laid-built, to-end, laid-named, to-own, laid-all}
 use Rattle.builder.proofs.lay_out.Statement.{statement}
-use Rattle.builder.proofs.lay_out.Tie as tie
+use Rattle.builder.proofs.lay_out.Proof.Tie as tie
 
 ask-requires : tie.Need-ask-requires
 ask-requires c κs = let q = c .before .before .before .before .before .before .pre in (q .0, q .1, q .2, q .3, q .4, omega arith)

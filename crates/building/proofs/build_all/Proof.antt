@@ -1,11 +1,13 @@
 -- `building::build_all` meets its contract. Assumes nothing.
+mod Lts
+mod Tie
 use Rattle.building.proofs.Whole.{standing-first, raws-refused, working-first, owners-first, built}
 use Rattle.store.proofs.Stores.{length-store}
 use Rattle.store.specs.Regions.{NODES}
 use Rattle.store.specs.Store.{store}
 use borrow.Author.Needs.{needs}
 use Rattle.building.proofs.build_all.Statement.{statement}
-use Rattle.building.proofs.build_all.Tie as tie
+use Rattle.building.proofs.build_all.Proof.Tie as tie
 
 slot-raw-rows-requires : tie.Need-slot-raw-rows-requires
 slot-raw-rows-requires c κs = let a = c .before .before .before .before .before .args in let q = c .before .before .before .before .before .pre in let s = a .job .now in let p = a .p .now in let t = store p (a .w .now) in (search needs, q .1, standing-first s p t (a .gaps .now) (q .1) (q .2), q .2 .live)

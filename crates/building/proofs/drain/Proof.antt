@@ -1,4 +1,6 @@
 -- `building::drain` meets its contract. The loop keeps that what is left on the stack, with fuel for it, is the whole. Assumes nothing.
+mod Lts
+mod Tie
 use Rattle.building.proofs.Emptying.{Emptying, emptying-begin, emptying-end, turn-asks, turn-less, emptying-refused, emptying-next}
 use Rattle.building.specs.Working.{owing}
 use Rattle.rows.proofs.Starting.{row-room}
@@ -10,7 +12,7 @@ use mathlib.Core.Path.{_≡_, refl}
 use native.Mathlib.Omega.{arith}
 use borrow.Author.Needs.{needs}
 use Rattle.building.proofs.drain.Statement.{statement}
-use Rattle.building.proofs.drain.Tie as tie
+use Rattle.building.proofs.drain.Proof.Tie as tie
 
 abbrev Inv-loop : tie.InvT-loop
 Inv-loop job w₀ p gaps₀ w gaps = (length w ≡ length w₀) × (length gaps ≡ length gaps₀) × Emptying job p (store p w₀) (store p w) gaps₀ gaps

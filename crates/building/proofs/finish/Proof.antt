@@ -1,4 +1,6 @@
 -- `building::finish` meets its contract. The loop keeps that what the rest of the children gives, behind the numbers of those passed, is the whole. Assumes nothing.
+mod Lts
+mod Tie
 use Rattle.building.proofs.Fields.{Numbering, numbering-begin, numbering-end, numbering-refused, numbering-next, fields-many, fields-room, field-is, field-there}
 use Rattle.building.proofs.Lasting.{there-now}
 use Rattle.pool.proofs.Nodal.{node-place, entry-places}
@@ -11,7 +13,7 @@ use mathlib.Core.Path.{_≡_, refl}
 use native.Mathlib.Omega.{arith}
 use borrow.Author.Needs.{needs}
 use Rattle.building.proofs.finish.Statement.{statement}
-use Rattle.building.proofs.finish.Tie as tie
+use Rattle.building.proofs.finish.Proof.Tie as tie
 
 abbrev Inv-loop : tie.InvT-loop
 Inv-loop job w₀ p gaps₀ k first n i₀ w gaps i = (length w ≡ length w₀) × (length gaps ≡ length gaps₀) × Numbering job p k (store p w₀) (store p w) gaps₀ gaps i

@@ -1,4 +1,6 @@
 -- `building::number_bootstrap` meets its contract. Assumes nothing.
+mod Lts
+mod Tie
 use Rattle.building.proofs.Stepping.{bootstrap-had, bootstrap-refused, bootstrap-indexed}
 use Rattle.building.proofs.Kids.{kids-now}
 use Rattle.building.proofs.Lasting.{there-now, working-goes, boot-goes}
@@ -6,18 +8,20 @@ use Rattle.rows.proofs.Starting.{row-room}
 use Rattle.store.proofs.Stores.{length-store}
 use Rattle.store.specs.Regions.{NODES}
 use Rattle.store.specs.Store.{store}
+use mathlib.Core.Path.{sym, _∙_}
 use borrow.Author.Needs.{needs}
+use borrow.Author.Tests.{ltb-true}
 use Rattle.building.proofs.number_bootstrap.Statement.{statement}
-use Rattle.building.proofs.number_bootstrap.Tie as tie
+use Rattle.building.proofs.number_bootstrap.Proof.Tie as tie
 
-index-of-requires : tie.Need-index-of-requires
-index-of-requires c κs = let a = c .before .before .before .before .args in let q = c .before .before .before .before .pre in let s = a .job .now in let p = a .p .now in let t = store p (a .w .now) in (search needs, row-room s p (q .1), kids-now s p t (q .1) (q .2 .standing) (length-store p (a .w .now) NODES), q .3)
+has-index-requires : tie.Need-has-index-requires
+has-index-requires c κs = let a = c .before .before .before .before .args in let q = c .before .before .before .before .pre in let s = a .job .now in let p = a .p .now in let t = store p (a .w .now) in (search needs, row-room s p (q .1), kids-now s p t (q .1) (q .2 .standing) (length-store p (a .w .now) NODES), q .3)
 
 same-length : tie.Need-same-length
 same-length c = search needs
 
 returns : tie.Need-returns
-returns c = let a = c .before .before .before .before .before .before .args in let q = c .before .before .before .before .before .before .pre in let p = a .p .now in bootstrap-had (a .job .now) p (store p (a .w .now)) (a .gaps .now) (q .1) (q .2) (length-store p (a .w .now) NODES) (a .k) (q .3) (c .before .index-of .result) (c .before .index-of .ensures .0) (c .if1 .taken)
+returns c = let a = c .before .before .before .before .before .before .args in let q = c .before .before .before .before .before .before .pre in let p = a .p .now in bootstrap-had (a .job .now) p (store p (a .w .now)) (a .gaps .now) (q .1) (q .2) (length-store p (a .w .now) NODES) (a .k) (q .3) (ltb-true _ _ (sym (c .before .has-index .ensures) ∙ c .if1 .taken))
 
 slots-of-requires : tie.Need-slots-of-requires
 slots-of-requires c κs = let a = c .before .before .before .before .before .before .before .before .args in let q = c .before .before .before .before .before .before .before .before .pre in let s = a .job .now in let p = a .p .now in (search needs, there-now s p (store p (a .w .now)) (q .1) (q .2 .standing), q .2 .live, q .3 .made, q .2 .standing .kids (a .k) (q .3 .made))
@@ -47,7 +51,7 @@ pub number-bootstrap-spec : {M : Type 1} → statement M
 number-bootstrap-spec =
     tie.close
     (tie.spec
-    index-of-requires
+    has-index-requires
     same-length
     returns
     slots-of-requires

@@ -1,4 +1,6 @@
 -- `building::number_child` meets its contract. Assumes nothing.
+mod Lts
+mod Tie
 use Rattle.building.proofs.Stepping.{child-bootstrap, child-slotted}
 use Rattle.building.proofs.Kids.{kids-now}
 use Rattle.building.proofs.Lasting.{there-now}
@@ -9,7 +11,7 @@ use Rattle.store.specs.Regions.{NODES, INDEXES}
 use Rattle.store.specs.Store.{store}
 use borrow.Author.Needs.{needs}
 use Rattle.building.proofs.number_child.Statement.{statement}
-use Rattle.building.proofs.number_child.Tie as tie
+use Rattle.building.proofs.number_child.Proof.Tie as tie
 
 is-bootstrap-requires : tie.Need-is-bootstrap-requires
 is-bootstrap-requires c κs = let a = c .before .before .before .before .args in let q = c .before .before .before .before .pre in let s = a .job .now in let p = a .p .now in (search needs, row-room s p (q .1), kids-now s p (store p (a .w .now)) (q .1) (q .2 .standing) (length-store p (a .w .now) NODES), q .3)

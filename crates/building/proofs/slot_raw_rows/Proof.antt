@@ -1,4 +1,6 @@
 -- `building::slot_raw_rows` meets its contract. The loop keeps that what the raw bootstraps below give, in front of the rows of those above, is the whole. Assumes nothing.
+mod Lts
+mod Tie
 use Rattle.building.proofs.Falling.{Falling, falling-begin, falling-end, next-raws, next-asks, falling-refused, falling-next}
 use Rattle.rows.proofs.Starting.{row-room}
 use lib.ListN.{length}
@@ -10,7 +12,7 @@ use mathlib.Core.Path.{_≡_, refl}
 use native.Mathlib.Omega.{arith}
 use borrow.Author.Needs.{needs}
 use Rattle.building.proofs.slot_raw_rows.Statement.{statement}
-use Rattle.building.proofs.slot_raw_rows.Tie as tie
+use Rattle.building.proofs.slot_raw_rows.Proof.Tie as tie
 
 abbrev Inv-loop : tie.InvT-loop
 Inv-loop job w₀ p gaps₀ i₀ w gaps i = (length w ≡ length w₀) × (length gaps ≡ length gaps₀) × Falling job (store p w₀) (store p w) gaps₀ gaps i

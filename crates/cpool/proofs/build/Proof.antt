@@ -1,4 +1,6 @@
 -- `cpool::build` meets its contract. Assumes nothing.
+mod Lts
+mod Tie
 use borrow.Author.Needs.{needs}
 use mathlib.Core.Path.{refl}
 use native.Mathlib.Omega.{arith}
@@ -7,7 +9,7 @@ use Rattle.cpool.specs.Stages.{outputs}
 use Rattle.cpool.proofs.Refusals.{layout-word}
 use Rattle.cpool.proofs.Ending.{gave-unlaid, gave-laid}
 use Rattle.cpool.proofs.build.Statement.{statement}
-use Rattle.cpool.proofs.build.Tie as tie
+use Rattle.cpool.proofs.build.Proof.Tie as tie
 
 slice-aggregate-lay-out : tie.Need-slice-aggregate-lay-out
 slice-aggregate-lay-out c = search needs

@@ -1,9 +1,11 @@
 -- `cpool::cpool_run` meets its contract: what run ensures, told by numbers. Assumes nothing.
+mod Lts
+mod Tie
 use borrow.Author.Needs.{needs}
 use Rattle.cpool.specs.Ran.{slices}
 use Rattle.cpool.proofs.Ending.{told-run}
 use Rattle.cpool.proofs.cpool_run.Statement.{statement}
-use Rattle.cpool.proofs.cpool_run.Tie as tie
+use Rattle.cpool.proofs.cpool_run.Proof.Tie as tie
 
 run-requires : tie.Need-run-requires
 run-requires c κs = tt

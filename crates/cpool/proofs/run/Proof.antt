@@ -1,13 +1,16 @@
 -- `cpool::run` meets its contract. Assumes nothing.
+mod Lts
+mod Tie
 use borrow.Author.Needs.{needs}
 use mathlib.Core.List.{[], _∷_}
 use mathlib.Core.Path.{_∙_, ap}
 use lib.ListN.{replicate}
 use native.Mathlib.Omega.{arith}
+use Rattle.slots.specs.Gaps.{noGap}
 use Rattle.cpool.specs.Ran.{slices}
 use Rattle.cpool.proofs.Ending.{ran-long, ran-few-words, ran-few-gaps, ran-on}
 use Rattle.cpool.proofs.run.Statement.{statement}
-use Rattle.cpool.proofs.run.Tie as tie
+use Rattle.cpool.proofs.run.Proof.Tie as tie
 
 returns : tie.Need-returns
 returns c = let a = c .before .before .before .before .before .before .before .args in ran-long (a .job .now) (slices (a .work .now) (a .gaps .now) (a .answers .now) (a .pool .now) (a .bootstraps .now) (a .class-name .now)) (omega (arith, c .if1 .taken))
@@ -55,7 +58,7 @@ same-length-6 : tie.Need-same-length-6
 same-length-6 c = search needs
 
 returns-4 : tie.Need-returns-4
-returns-4 c = let a = c .before .before .before .before .before .before .before .before .before .before .before .before .before .before .before .before .before .before .before .before .before .before .before .before .before .before .before .before .before .before .before .before .before .before .args in let f = c .before .before .before .before .before .before .before .before .before .before .before .before .before .before .before .before .before .before .run-formed in ran-on (a .job .now) (slices (a .work .now) (a .gaps .now) (a .answers .now) (a .pool .now) (a .bootstraps .now) (a .class-name .now)) (slices (c .before .before .before .before .before .clear-words .last .0) (c .before .clear-gaps .last .0) (f .last .1 .1 .1 .0) (f .last .1 .1 .1 .1 .0) (f .last .1 .1 .1 .1 .1 .0) (f .last .1 .1 .1 .1 .1 .1 .0)) (f .result) (λ i. c .before .before .before .before .before .before .before .before .before .before .before .before .before .before .before .before .before .before .before .before .before .before .before .before .before .before .before .before .before .before .before .before .before .shared-slice-known .given i .fits) (omega (arith, c .before .before .before .before .before .before .before .before .before .before .before .before .before .before .before .before .before .before .before .before .before .before .before .before .before .before .before .if1 .left)) (omega (arith, c .before .before .before .before .before .before .before .before .before .before .before .before .before .before .before .before .before .before .before .before .before .before .before .before .before .before .if2 .left)) (omega (arith, c .before .before .before .before .before .before .before .before .before .before .before .before .before .before .before .before .before .before .before .before .before .before .before .before .before .if3 .left)) (f .ensures) (c .before .before .before .before .before .clear-words .ensures ∙ ap (λ n. replicate n 0) (f .kept .1 .0)) (c .before .clear-gaps .ensures ∙ ap (λ n. replicate n (0 ∷ 0 ∷ [])) (f .kept .1 .1 .0))
+returns-4 c = let a = c .before .before .before .before .before .before .before .before .before .before .before .before .before .before .before .before .before .before .before .before .before .before .before .before .before .before .before .before .before .before .before .before .before .before .args in let f = c .before .before .before .before .before .before .before .before .before .before .before .before .before .before .before .before .before .before .run-formed in ran-on (a .job .now) (slices (a .work .now) (a .gaps .now) (a .answers .now) (a .pool .now) (a .bootstraps .now) (a .class-name .now)) (slices (c .before .before .before .before .before .clear-words .last .0) (c .before .clear-gaps .last .0) (f .last .1 .1 .1 .0) (f .last .1 .1 .1 .1 .0) (f .last .1 .1 .1 .1 .1 .0) (f .last .1 .1 .1 .1 .1 .1 .0)) (f .result) (λ i. c .before .before .before .before .before .before .before .before .before .before .before .before .before .before .before .before .before .before .before .before .before .before .before .before .before .before .before .before .before .before .before .before .before .shared-slice-known .given i .fits) (omega (arith, c .before .before .before .before .before .before .before .before .before .before .before .before .before .before .before .before .before .before .before .before .before .before .before .before .before .before .before .if1 .left)) (omega (arith, c .before .before .before .before .before .before .before .before .before .before .before .before .before .before .before .before .before .before .before .before .before .before .before .before .before .before .if2 .left)) (omega (arith, c .before .before .before .before .before .before .before .before .before .before .before .before .before .before .before .before .before .before .before .before .before .before .before .before .before .if3 .left)) (f .ensures) (c .before .before .before .before .before .clear-words .ensures ∙ ap (λ n. replicate n 0) (f .kept .1 .0)) (c .before .clear-gaps .ensures ∙ ap (λ n. replicate n noGap) (f .kept .1 .1 .0))
 
 pub run-spec : {M : Type 1} → statement M
 run-spec =

@@ -1,10 +1,12 @@
 -- `cpool::run_formed` meets its contract. Assumes nothing.
+mod Lts
+mod Tie
 use borrow.Author.Needs.{needs}
 use mathlib.Core.Path.{_∙_, sym}
 use Rattle.cpool.specs.Stages.{outputs}
 use Rattle.cpool.proofs.Ending.{counted, gave-unformed}
 use Rattle.cpool.proofs.run_formed.Statement.{statement}
-use Rattle.cpool.proofs.run_formed.Tie as tie
+use Rattle.cpool.proofs.run_formed.Proof.Tie as tie
 
 form-requires : tie.Need-form-requires
 form-requires c κs = tt

@@ -1,4 +1,6 @@
 -- `ending::end_pool` meets its contract: the count goes by the gaps that the name leaves. Assumes nothing.
+mod Lts
+mod Tie
 use Rattle.ending.proofs.Counting.{can-name, count-asks, count-small, ended}
 use Rattle.store.proofs.Laying.{work-sizes}
 use Rattle.store.proofs.Stores.{length-store}
@@ -7,7 +9,7 @@ use Rattle.store.specs.Store.{store}
 use native.Mathlib.Omega.{arith}
 use borrow.Author.Needs.{needs}
 use Rattle.ending.proofs.end_pool.Statement.{statement}
-use Rattle.ending.proofs.end_pool.Tie as tie
+use Rattle.ending.proofs.end_pool.Proof.Tie as tie
 
 name-slot-requires : tie.Need-name-slot-requires
 name-slot-requires c κs = let a = c .before .before .before .before .before .args in let q = c .before .before .before .before .before .pre in (q .0, can-name (a .job .now) (a .p .now) (a .top) (store (a .p .now) (a .w .now)) (a .gaps .now) (q .1))

@@ -1,4 +1,6 @@
 -- `ending::name_slot` meets its contract: no name, the slot that the text's node has, or one that is taken. Assumes nothing.
+mod Lts
+mod Tie
 use Rattle.ending.proofs.Naming.{not-named, named-shared, named-new}
 use Rattle.store.proofs.Laying.{work-sizes}
 use Rattle.store.proofs.Stores.{length-store}
@@ -8,7 +10,7 @@ use borrow.Author.Tests.{not-true, not-false}
 use native.Mathlib.Omega.{arith}
 use borrow.Author.Needs.{needs}
 use Rattle.ending.proofs.name_slot.Statement.{statement}
-use Rattle.ending.proofs.name_slot.Tie as tie
+use Rattle.ending.proofs.name_slot.Proof.Tie as tie
 
 name-wanted-requires : tie.Need-name-wanted-requires
 name-wanted-requires c κs = let q = c .before .before .before .before .pre in (q .0, q .1 .nodes .0, q .1 .raws, q .1 .build)

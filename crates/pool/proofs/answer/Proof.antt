@@ -1,4 +1,6 @@
 -- `pool::answer` meets its contract. Resolved, given a slot, kept, or refused at the first that fails. Assumes nothing.
+mod Lts
+mod Tie
 use native.Mathlib.Omega.{arith}
 use Rattle.store.proofs.Stores.{length-store}
 use Rattle.store.specs.Store.{size, store}
@@ -7,7 +9,7 @@ use Rattle.pool.proofs.Slotting.{node-given}
 use Rattle.pool.proofs.Answering.{replied-unresolved, became, there-now, live-now, child-there, replied-unslotted, replied-kept, at-zero}
 use borrow.Author.Needs.{needs}
 use Rattle.pool.proofs.answer.Statement.{statement}
-use Rattle.pool.proofs.answer.Tie as tie
+use Rattle.pool.proofs.answer.Proof.Tie as tie
 
 request-goal-requires : tie.Need-request-goal-requires
 request-goal-requires c κs = let q = c .before .before .before .before .pre in (search needs, q .1, q .2 .names, q .2 .goals, q .3)

@@ -1,4 +1,6 @@
 -- `pool::answer_all` meets its contract. The loop keeps that what the rest of the requests gives, behind the answers so far, is the whole. Assumes nothing.
+mod Lts
+mod Tie
 use native.Mathlib.Omega.{arith}
 use mathlib.Core.Path.{_≡_, refl, sym, _∙_}
 use Prim.Native.Nat.{_-_}
@@ -10,7 +12,7 @@ use Rattle.pool.proofs.Asked.{request-inside, refers}
 use Rattle.pool.proofs.InTurn.{Replying, replying-begin, in-turn, turn-next, place-next, answer-asks, replying-refused, replying-next, counted-is, replied-on, requests-counted, ended}
 use borrow.Author.Needs.{needs}
 use Rattle.pool.proofs.answer_all.Statement.{statement}
-use Rattle.pool.proofs.answer_all.Tie as tie
+use Rattle.pool.proofs.answer_all.Proof.Tie as tie
 
 abbrev Inv-loop : tie.InvT-loop
 Inv-loop job w₀ p gaps₀ n at₀ i₀ w gaps at i = (length w ≡ length w₀) × (length gaps ≡ length gaps₀) × Replying job p (store p w₀) (store p w) gaps₀ gaps at i

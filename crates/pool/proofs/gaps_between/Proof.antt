@@ -1,4 +1,6 @@
 -- `pool::gaps_between` meets its contract. The loop keeps `Between`, that what is written and what the rest will give are the whole. Assumes nothing.
+mod Lts
+mod Tie
 use Rattle.store.proofs.Stores.{length-store}
 use Rattle.store.specs.Store.{store}
 use Rattle.store.specs.Regions.{RAW-KEYS, ORDER}
@@ -9,7 +11,7 @@ use native.Mathlib.Omega.{arith}
 use Prim.Native.Nat.{_-_}
 use borrow.Author.Needs.{needs}
 use Rattle.pool.proofs.gaps_between.Statement.{statement}
-use Rattle.pool.proofs.gaps_between.Tie as tie
+use Rattle.pool.proofs.gaps_between.Proof.Tie as tie
 
 abbrev Inv-loop : tie.InvT-loop
 Inv-loop gaps₀ w p n top count₀ first₀ i₀ gaps count first i = Between (gapsFrom top 1 (orderKeys (store p w RAW-KEYS) (store p w ORDER) n)) (orderKeys (store p w RAW-KEYS) (store p w ORDER) n) top gaps₀ gaps i count first

@@ -4,8 +4,8 @@ use borrow.Author.Needs.{needs}
 use Rattle.pool.proofs.slot_found.Statement.{statement}
 use Rattle.pool.proofs.slot_found.Tie as tie
 
-enum-known-a : tie.Need-enum-known-a
-enum-known-a c = search needs
+enum-known-found : tie.Need-enum-known-found
+enum-known-found c = search needs
 
 cast-result : tie.Need-cast-result
 cast-result c = search needs
@@ -22,4 +22,4 @@ unfolding slotFound
 returns-2 c = search needs
 
 pub slot-found-spec : {M : Type 1} → statement M
-slot-found-spec = tie.close (tie.spec enum-known-a cast-result enum-told returns returns-2)
+slot-found-spec = tie.close (tie.spec enum-known-found cast-result enum-told returns returns-2)

@@ -1,4 +1,6 @@
 -- `pool::slot_of` meets its contract. A child that has a slot keeps it, and else the one that was found is given. Assumes nothing.
+mod Lts
+mod Tie
 use native.Mathlib.Omega.{arith}
 use mathlib.Core.Path.{refl}
 use Rattle.store.proofs.Stores.{length-store}
@@ -7,7 +9,7 @@ use Rattle.store.specs.Regions.{COUNTS, GIVEN, PENDING}
 use Rattle.pool.proofs.Slotting.{pool-sizes, node-given, slotted-old, give-asks, slotted}
 use borrow.Author.Needs.{needs}
 use Rattle.pool.proofs.slot_of.Statement.{statement}
-use Rattle.pool.proofs.slot_of.Tie as tie
+use Rattle.pool.proofs.slot_of.Proof.Tie as tie
 
 has-slot-requires : tie.Need-has-slot-requires
 has-slot-requires c κs = let a = c .before .before .before .before .args in (search needs, omega (arith, c .before .before .before .before .pre .3, node-given (a .job .now) (a .p .now) (store (a .p .now) (a .w .now)) (c .before .before .before .before .pre .1)))

@@ -1,4 +1,6 @@
 -- `pool::slots_of` meets its contract. The loop keeps that what the rest of the children gives, behind what those passed have, is the whole. Assumes nothing.
+mod Lts
+mod Tie
 use native.Mathlib.Omega.{arith}
 use mathlib.Core.Path.{_≡_, refl}
 use Prim.Native.Nat.{_-_}
@@ -10,7 +12,7 @@ use Rattle.pool.proofs.Children.{Slotting, slotting-begin, slotting-end
 use Rattle.pool.proofs.Nodal.{node-place, entry-places}
 use borrow.Author.Needs.{needs}
 use Rattle.pool.proofs.slots_of.Statement.{statement}
-use Rattle.pool.proofs.slots_of.Tie as tie
+use Rattle.pool.proofs.slots_of.Proof.Tie as tie
 
 abbrev Inv-loop : tie.InvT-loop
 Inv-loop job w₀ p gaps₀ k first n i₀ w gaps i = (length w ≡ length w₀) × (length gaps ≡ length gaps₀) × Slotting job k (store p w₀) (store p w) gaps₀ gaps i

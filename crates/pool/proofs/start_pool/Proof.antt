@@ -1,4 +1,6 @@
 -- `pool::start_pool` meets its contract. Gaps and stack are those of the raw slots in their order. Assumes nothing.
+mod Lts
+mod Tie
 use Rattle.store.proofs.Stores.{length-store}
 use Rattle.store.specs.Store.{store}
 use Rattle.store.specs.Regions.{COUNTS, GIVEN, ORDER, PENDING}
@@ -6,7 +8,7 @@ use Rattle.pool.proofs.Beginning.{start-counts, some-between, some-few,
 use native.Mathlib.Omega.{arith}
 use borrow.Author.Needs.{needs}
 use Rattle.pool.proofs.start_pool.Statement.{statement}
-use Rattle.pool.proofs.start_pool.Tie as tie
+use Rattle.pool.proofs.start_pool.Proof.Tie as tie
 
 load-requires : tie.Need-load-requires
 load-requires c κs = let a = c .before .before .before .args in (search needs, omega (arith, start-counts (a .p .now) (a .top) (store (a .p .now) (a .w .now)) (a .gaps .now) (c .before .before .before .pre .1)))

@@ -1,10 +1,12 @@
 -- `poolbatch::batch` meets its contract. The loop keeps the lengths. Assumes nothing.
+mod Lts
+mod Tie
 use mathlib.Core.Path.{_≡_}
 use Prim.Native.Nat.{_-_}
 use lib.ListN.{length}
 use borrow.Author.Needs.{needs}
 use Rattle.poolbatch.proofs.batch.Statement.{statement}
-use Rattle.poolbatch.proofs.batch.Tie as tie
+use Rattle.poolbatch.proofs.batch.Proof.Tie as tie
 
 abbrev Inv-loop : tie.InvT-loop
 Inv-loop text₀ job₀ work₀ gaps₀ answers₀ pool₀ bootstraps₀ class-name₀ jobs₀ how₀ text job work gaps answers pool bootstraps class-name jobs how =

@@ -1,11 +1,13 @@
 -- `poolbatch::run_job` meets its contract. Assumes nothing.
+mod Lts
+mod Tie
 use mathlib.Core.Path.{sym}
 use Prim.Native.Nat.{_+_, _*_, _/_}
 use native.Mathlib.Omega.{arith}
 use lib.Seq.{length-take-le}
 use borrow.Author.Needs.{needs}
 use Rattle.poolbatch.proofs.run_job.Statement.{statement}
-use Rattle.poolbatch.proofs.run_job.Tie as tie
+use Rattle.poolbatch.proofs.run_job.Proof.Tie as tie
 
 mul-words : tie.Need-mul-words
 mul-words c = search needs

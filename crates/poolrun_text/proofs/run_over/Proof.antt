@@ -1,4 +1,6 @@
 -- `poolrun_text::run_over` meets its contract. What `run` promises is what the definition prints. Assumes nothing.
+mod Lts
+mod Tie
 use Rattle.poolrun_text.proofs.Running.{fits-ran, text-over}
 use Rattle.cpool.specs.Ran.{slices}
 use lib.Seq.{length-take-le}
@@ -7,7 +9,7 @@ use native.Mathlib.Omega.{arith}
 use mathlib.Core.Path.{sym, _∙_}
 use borrow.Author.Needs.{needs}
 use Rattle.poolrun_text.proofs.run_over.Statement.{statement}
-use Rattle.poolrun_text.proofs.run_over.Tie as tie
+use Rattle.poolrun_text.proofs.run_over.Proof.Tie as tie
 
 slice-aggregate-run : tie.Need-slice-aggregate-run
 slice-aggregate-run c =

@@ -1,4 +1,6 @@
 -- `requests::ask` meets its contract. Record 50 hands to the pool's start, and that to the requests. Assumes nothing.
+mod Lts
+mod Tie
 use native.Mathlib.Omega.{arith}
 use mathlib.Core.Path.{_∙_}
 use Rattle.laws.specs.Statements.{IsBytes}
@@ -8,7 +10,7 @@ use Rattle.requests.proofs.Handing.{started-asking, requests-at, few-vi
 use Rattle.requests.proofs.Words.{asked-refused, asked-all}
 use borrow.Author.Needs.{needs}
 use Rattle.requests.proofs.ask.Statement.{statement}
-use Rattle.requests.proofs.ask.Tie as tie
+use Rattle.requests.proofs.ask.Proof.Tie as tie
 
 begin-requires : tie.Need-begin-requires
 begin-requires c κs = search needs

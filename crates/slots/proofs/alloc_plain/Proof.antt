@@ -1,11 +1,13 @@
 -- `slots::alloc_plain` meets its contract: with a gap that isn't too high by `plain-met`, and without one by `plain-high` and `plain-unmet`. Assumes nothing.
+mod Lts
+mod Tie
 use mathlib.Core.Logic.{⊎-elim}
 use native.Mathlib.Omega.{arith}
 use borrow.Author.Needs.{needs}
 use borrow.Author.Tests.{not-true, not-false}
 use Rattle.slots.proofs.Answers.{plain-unmet, plain-high, plain-fits, plain-met}
 use Rattle.slots.proofs.alloc_plain.Statement.{statement}
-use Rattle.slots.proofs.alloc_plain.Tie as tie
+use Rattle.slots.proofs.alloc_plain.Proof.Tie as tie
 
 find-plain-requires : tie.Need-find-plain-requires
 find-plain-requires c κs = c .before .pre .0
@@ -25,15 +27,22 @@ take-front-requires c κs =
     let low = plain-fits _ _ (start .args .p) _ _ (start .pre .0) (c .before .before .before .before .before .find-plain .ensures) _ (c .before .before .too-high .ensures) (c .before .before .before .before .if1 .taken) (start .pre .1) in
     (omega arith, low (not-true _ (c .before .if2 .taken)))
 
+plain-from-requires : tie.Need-plain-from-requires
+plain-from-requires c κs = tt
+
 same-length : tie.Need-same-length
 same-length c = search needs
 
 returns : tie.Need-returns
 returns c =
-    let start = c .before .before .before .before .before .before .before .before .before in
-    plain-met _ _ (start .args .p) _ _ (start .pre .0) (c .before .before .before .before .before .before .before .find-plain .ensures) _ (c .before .before .before .before .too-high .ensures) (c .before .before .before .before .before .before .if1 .taken) _ _
-    (not-true _ (c .before .before .before .if2 .taken))
-    (c .before .take-front .ensures)
+    let taken = c .before .before in
+    let high = taken .before .before .before in
+    let found = high .before .before .before in
+    let start = found .before .before in
+    rw (c .plain-from .ensures)
+    (plain-met _ _ (start .args .p) _ _ (start .pre .0) (found .find-plain .ensures) _ (high .too-high .ensures) (high .before .before .if1 .taken) _ _
+    (not-true _ (taken .before .before .if2 .taken))
+    (taken .take-front .ensures))
 
 same-length-2 : tie.Need-same-length-2
 same-length-2 c = search needs
@@ -56,6 +65,7 @@ alloc-plain-spec =
     slice-copy-out-too-high
     too-high-requires
     take-front-requires
+    plain-from-requires
     same-length
     returns
     same-length-2

@@ -1,12 +1,14 @@
 -- `slots::ends_fit` meets its contract: the loop keeps `Left`, that the gaps from here on decide. Assumes nothing.
+mod Lts
+mod Tie
 use Prim.Native.Nat.{_-_}
-use mathlib.Core.Path.{refl}
+use mathlib.Core.Path.{refl, sym, _∙_}
 use lib.ListN.{length}
 use borrow.Author.Needs.{needs}
-use Rattle.slots.specs.Gaps.{gapOf}
+use borrow.Author.Tests.{not-true, not-false}
 use Rattle.slots.proofs.Checks.{Left, check-more, check-fails, check-ends}
 use Rattle.slots.proofs.ends_fit.Statement.{statement}
-use Rattle.slots.proofs.ends_fit.Tie as tie
+use Rattle.slots.proofs.ends_fit.Proof.Tie as tie
 
 abbrev Inv-loop : tie.InvT-loop
 Inv-loop gaps i₀ i = Left gaps i
@@ -17,18 +19,19 @@ abbrev μ-loop : tie.MeasureT-loop
 loop-holds : tie.Need-loop-holds Inv-loop μ-loop
 loop-holds c = refl
 
-mul-if1 : tie.Need-mul-if1 Inv-loop μ-loop
-mul-if1 c = search needs
+mul-end-fits : tie.Need-mul-end-fits Inv-loop μ-loop
+mul-end-fits c = search needs
 
-index-1-if1 : tie.Need-index-1-if1 Inv-loop μ-loop
-index-1-if1 c = search needs
+shared-slice-copy-out-end-fits : tie.Need-shared-slice-copy-out-end-fits Inv-loop μ-loop
+shared-slice-copy-out-end-fits c = search needs
 
-index-2-if1 : tie.Need-index-2-if1 Inv-loop μ-loop
-index-2-if1 c = search needs
+end-fits-requires : tie.Need-end-fits-requires Inv-loop μ-loop
+end-fits-requires c κs = tt
 
 returns : tie.Need-returns Inv-loop μ-loop
-unfolding gapOf
-returns c = check-fails _ _ (c .before .before .before .loop .inv) (c .before .before .loop-test .taken) (c .if1 .taken)
+returns c =
+    let turn = c .before .before .before in
+    check-fails _ _ (turn .before .loop .inv) (turn .loop-test .taken) (sym (c .before .end-fits .ensures) ∙ not-true _ (c .if1 .taken))
 
 add-i : tie.Need-add-i Inv-loop μ-loop
 add-i c = search needs
@@ -37,8 +40,9 @@ loop-less : tie.Need-loop-less Inv-loop μ-loop
 loop-less c = search needs
 
 loop-again : tie.Need-loop-again Inv-loop μ-loop
-unfolding gapOf
-loop-again c = check-more _ _ (c .before .before .before .loop .inv) (c .before .before .loop-test .taken) (c .if1 .left)
+loop-again c =
+    let turn = c .before .before .before in
+    check-more _ _ (turn .before .loop .inv) (turn .loop-test .taken) (sym (c .before .end-fits .ensures) ∙ not-false _ (c .if1 .left))
 
 returns-2 : tie.Need-returns-2 Inv-loop μ-loop
 returns-2 c = check-ends _ _ (c .before .loop .inv) (c .loop-test .left)
@@ -50,9 +54,9 @@ ends-fit-spec =
     Inv-loop
     μ-loop
     loop-holds
-    mul-if1
-    index-1-if1
-    index-2-if1
+    mul-end-fits
+    shared-slice-copy-out-end-fits
+    end-fits-requires
     returns
     add-i
     loop-less

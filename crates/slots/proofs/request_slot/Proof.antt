@@ -1,10 +1,12 @@
 -- `slots::request_slot` meets its contract: the check gives what `slot_for` asks, and both ways out are those of `requested`. Assumes nothing.
+mod Lts
+mod Tie
 use mathlib.Core.Path.{sym, _∙_}
 use native.Mathlib.Omega.{arith}
 use borrow.Author.Needs.{needs}
 use Rattle.slots.proofs.Checks.{checked, request-met, request-none}
 use Rattle.slots.proofs.request_slot.Statement.{statement}
-use Rattle.slots.proofs.request_slot.Tie as tie
+use Rattle.slots.proofs.request_slot.Proof.Tie as tie
 
 ends-fit-requires : tie.Need-ends-fit-requires
 ends-fit-requires c κs = search needs

@@ -1,8 +1,10 @@
 -- `slots::slot_for` meets its contract: `slotFor` goes by the same test. Assumes nothing.
+mod Lts
+mod Tie
 use borrow.Author.Needs.{needs}
 use Rattle.definition.specs.Slots.{slotFor}
 use Rattle.slots.proofs.slot_for.Statement.{statement}
-use Rattle.slots.proofs.slot_for.Tie as tie
+use Rattle.slots.proofs.slot_for.Proof.Tie as tie
 
 alloc-wide-requires : tie.Need-alloc-wide-requires
 alloc-wide-requires c κs = search needs

@@ -1,56 +1,49 @@
 -- `slots::take_front` meets its contract: the one row that is written is that of `rowsLess`. Assumes nothing.
+mod Lts
+mod Tie
+use mathlib.Core.Path.{ap}
+use lib.ListN.{set}
+use denote.Ref.{now}
 use borrow.Author.Needs.{needs}
 use Rattle.slots.specs.Gaps.{gapOf, rowOf, rowsLess}
 use Rattle.slots.proofs.take_front.Statement.{statement}
-use Rattle.slots.proofs.take_front.Tie as tie
+use Rattle.slots.proofs.take_front.Proof.Tie as tie
 
-mul-first : tie.Need-mul-first
-mul-first c = search needs
+mul-gap : tie.Need-mul-gap
+mul-gap c = search needs
 
-index-1-first : tie.Need-index-1-first
-index-1-first c = search needs
+slice-copy-out-gap : tie.Need-slice-copy-out-gap
+slice-copy-out-gap c = search needs
 
-index-2-first : tie.Need-index-2-first
-index-2-first c = search needs
-
-mul-last : tie.Need-mul-last
-mul-last c = search needs
-
-index-1-last : tie.Need-index-1-last
-index-1-last c = search needs
-
-index-2-last : tie.Need-index-2-last
-index-2-last c = search needs
-
-add-t10 : tie.Need-add-t10
+shorter-requires : tie.Need-shorter-requires
 unfolding gapOf
-add-t10 c = search needs
+shorter-requires c κs = c .before .pre .1
 
-mul-t6 : tie.Need-mul-t6
-mul-t6 c = search needs
+mul-t5 : tie.Need-mul-t5
+mul-t5 c = search needs
 
 slice-set-from-gaps : tie.Need-slice-set-from-gaps
 slice-set-from-gaps c = search needs
+
+first-of-requires : tie.Need-first-of-requires
+first-of-requires c κs = search needs
 
 same-length : tie.Need-same-length
 same-length c = search needs
 
 returns : tie.Need-returns
 unfolding rowsLess gapOf rowOf
-returns c = search needs
+returns c = (c .first-of .ensures, ap (set (now (c .before .before .before .args .gaps)) (c .before .before .before .args .at)) (c .before .shorter .ensures))
 
 pub take-front-spec : {M : Type 1} → statement M
 take-front-spec =
     tie.close
     (tie.spec
-    mul-first
-    index-1-first
-    index-2-first
-    mul-last
-    index-1-last
-    index-2-last
-    add-t10
-    mul-t6
+    mul-gap
+    slice-copy-out-gap
+    shorter-requires
+    mul-t5
     slice-set-from-gaps
+    first-of-requires
     same-length
     returns)

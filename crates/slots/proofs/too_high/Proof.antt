@@ -5,16 +5,13 @@ use Rattle.slots.specs.Gaps.{gapOf}
 use Rattle.slots.proofs.too_high.Statement.{statement}
 use Rattle.slots.proofs.too_high.Tie as tie
 
-array-read-result : tie.Need-array-read-result
-array-read-result c = search needs
-
 returns : tie.Need-returns
 unfolding tooHigh gapOf
-returns c = rw (c .if1 .taken)
+returns c = rw (c .before .if1 .taken)
 
 returns-2 : tie.Need-returns-2
 unfolding tooHigh gapOf
 returns-2 c = search needs
 
 pub too-high-spec : {M : Type 1} → statement M
-too-high-spec = tie.close (tie.spec array-read-result returns returns-2)
+too-high-spec = tie.close (tie.spec returns returns-2)

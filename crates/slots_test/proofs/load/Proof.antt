@@ -1,11 +1,13 @@
 -- `slots_test::load` meets its contract: the loop keeps the table's length. Assumes nothing.
+mod Lts
+mod Tie
 use Prim.Native.Nat.{_-_}
 use mathlib.Core.Path.{_≡_, refl}
 use native.Mathlib.Omega.{arith}
 use lib.ListN.{length, length-set}
 use borrow.Author.Needs.{needs}
 use Rattle.slots_test.proofs.load.Statement.{statement}
-use Rattle.slots_test.proofs.load.Tie as tie
+use Rattle.slots_test.proofs.load.Proof.Tie as tie
 
 abbrev Inv-loop : tie.InvT-loop
 Inv-loop gaps₀ text i₀ gaps i = length gaps ≡ length gaps₀
@@ -16,23 +18,14 @@ abbrev μ-loop : tie.MeasureT-loop
 loop-holds : tie.Need-loop-holds Inv-loop μ-loop
 loop-holds c = refl
 
-mul-slot-at : tie.Need-mul-slot-at Inv-loop μ-loop
-mul-slot-at c = omega arith
+mul-gap-at : tie.Need-mul-gap-at Inv-loop μ-loop
+mul-gap-at c = omega arith
 
-slot-at-requires : tie.Need-slot-at-requires Inv-loop μ-loop
-slot-at-requires c κs = omega arith
+gap-at-requires : tie.Need-gap-at-requires Inv-loop μ-loop
+gap-at-requires c κs = omega arith
 
-mul-slot-at-2 : tie.Need-mul-slot-at-2 Inv-loop μ-loop
-mul-slot-at-2 c = omega arith
-
-add-slot-at : tie.Need-add-slot-at Inv-loop μ-loop
-add-slot-at c = omega arith
-
-slot-at-requires-2 : tie.Need-slot-at-requires-2 Inv-loop μ-loop
-slot-at-requires-2 c κs = omega arith
-
-mul-t11 : tie.Need-mul-t11 Inv-loop μ-loop
-mul-t11 c = search needs
+mul-t7 : tie.Need-mul-t7 Inv-loop μ-loop
+mul-t7 c = search needs
 
 slice-set-from-gaps : tie.Need-slice-set-from-gaps Inv-loop μ-loop
 slice-set-from-gaps c = omega arith
@@ -59,12 +52,9 @@ load-spec =
     Inv-loop
     μ-loop
     loop-holds
-    mul-slot-at
-    slot-at-requires
-    mul-slot-at-2
-    add-slot-at
-    slot-at-requires-2
-    mul-t11
+    mul-gap-at
+    gap-at-requires
+    mul-t7
     slice-set-from-gaps
     add-i
     loop-less

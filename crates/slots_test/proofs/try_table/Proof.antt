@@ -1,11 +1,16 @@
 -- `slots_test::try_table` meets its contract: the rows that are lent are as many as the text has gaps. Assumes nothing.
+mod Lts
+mod Tie
 use mathlib.Core.Path.{sym}
 use native.Mathlib.Omega.{arith}
 use lib.ListN.{length-take}
 use lib.Seq.{length-take-le}
 use borrow.Author.Needs.{needs}
 use Rattle.slots_test.proofs.try_table.Statement.{statement}
-use Rattle.slots_test.proofs.try_table.Tie as tie
+use Rattle.slots_test.proofs.try_table.Proof.Tie as tie
+
+no-gap-requires : tie.Need-no-gap-requires
+no-gap-requires c κs = tt
 
 add-gaps : tie.Need-add-gaps
 add-gaps c = search needs
@@ -50,6 +55,7 @@ pub try-table-spec : {M : Type 1} → statement M
 try-table-spec =
     tie.close
     (tie.spec
+    no-gap-requires
     add-gaps
     add-requests
     array-borrow-prefix-rows

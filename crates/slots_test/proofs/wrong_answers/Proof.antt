@@ -1,4 +1,6 @@
 -- `slots_test::wrong_answers` meets its contract: the loop keeps the table's length, and no more are wrong than were asked. Assumes nothing.
+mod Lts
+mod Tie
 use Prim.Native.Nat.{_-_, _≤_}
 use mathlib.Core.Logic.{⊎-elim}
 use mathlib.Core.Path.{_≡_, refl}
@@ -6,7 +8,7 @@ use native.Mathlib.Omega.{arith}
 use lib.ListN.{length}
 use borrow.Author.Needs.{needs}
 use Rattle.slots_test.proofs.wrong_answers.Statement.{statement}
-use Rattle.slots_test.proofs.wrong_answers.Tie as tie
+use Rattle.slots_test.proofs.wrong_answers.Proof.Tie as tie
 
 abbrev Inv-loop : tie.InvT-loop
 Inv-loop gaps₀ text n p₀ wrong₀ i₀ gaps p wrong i = (i ≤ n) × (wrong ≤ i) × (length gaps ≡ length gaps₀)

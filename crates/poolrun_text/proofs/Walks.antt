@@ -1,0 +1,3 @@
+-- Made by walks.py.
+pub mod run_over
+pub mod run_text

@@ -1,0 +1,11 @@
+-- Made by walks.py out of what the borrow checker makes of the same function over arrays. Assumes nothing.
+use borrow.Fn.Kinds
+use borrow.Kind.ShrSlice
+use mathlib.Core.List
+use Rattle.slots.proofs.Walks.Gap_
+
+abbrev pub ps : List.List (Kinds.PK 1)
+ps = List._∷_ (ShrSlice.pShrS Gap_.row 0 tt) List.[]
+
+abbrev pub r : Kinds.RK 1
+r = Kinds.rBool
