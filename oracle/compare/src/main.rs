@@ -41,7 +41,9 @@ fn main() -> ExitCode {
     for part in &parts {
         let tally = compare(part, threads, start);
         tally.differences.iter().for_each(|text| println!("{text}"));
-        rows.push(row(part, &tally));
+        let row = row(part, &tally);
+        println!("{row}");
+        rows.push(row);
         different += tally.different;
     }
     println!("{}", rows.join("\n"));
@@ -85,9 +87,7 @@ fn compare(part: &Part, threads: usize, start: Instant) -> Tally {
             scope.spawn(move || work(part, shared, seed as u64, start));
         }
     });
-    let (tally, _) = shared.done.into_inner().unwrap();
-    tell(part, &tally, start);
-    tally
+    shared.done.into_inner().unwrap().0
 }
 
 /// Takes batches of jobs until none is left.

@@ -16,11 +16,11 @@ pub struct Part {
 
 /// What is compared when no part is named: ten million generated jobs, and all of the fixed ones.
 const WHOLE: [(&str, u64, usize); 5] = [
-    ("small", 8101, 5_000_000),
-    ("damaged", 8102, 3_000_000),
-    ("pairs", 8103, 900_000),
-    ("orders", 8104, 900_000),
-    ("ldcfull", 8105, 200_000),
+    ("small", 8101, 2_000_000),
+    ("pairs", 8102, 500_000),
+    ("orders", 8103, 500_000),
+    ("ldcfull", 8104, 100_000),
+    ("damaged", 8105, 6_900_000),
 ];
 const FIXED: [&str; 2] = ["heavy", "short"];
 
