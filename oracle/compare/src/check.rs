@@ -152,9 +152,11 @@ fn for_refused(job: &[u8]) -> Sizes {
     }
 }
 
+type SizeOf = fn(&mut Sizes) -> &mut usize;
+
 /// For each output that isn't empty, the sizes with it one short.
 fn one_short(exact: &Sizes) -> Vec<(Sizes, &'static str)> {
-    let outputs: [(fn(&mut Sizes) -> &mut usize, _); 4] = [
+    let outputs: [(SizeOf, _); 4] = [
         (|sizes| &mut sizes.answers, "answers one short"),
         (|sizes| &mut sizes.pool, "pool one short"),
         (|sizes| &mut sizes.bootstraps, "bootstraps one short"),

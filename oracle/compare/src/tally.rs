@@ -65,10 +65,11 @@ impl Tally {
 }
 
 pub const HEAD: &str = "\
-| Kind | Seed | Jobs | Equal | Built | Refused, number: how often | At record 50, one number possible / several | Runs, plain / leftovers / an output short / work or gaps short | Different |
+| Kind | Seed | Jobs | Equal | Built | Refused, number: how often | Record 50 | Runs | Different |
 |---|---|---|---|---|---|---|---|---|";
 
-/// A row of the table under `HEAD`.
+/// A row of the table under `HEAD`. At record 50 there was one number possible, or several; runs were plain, with leftovers, with
+/// an output short, and with work or gaps short.
 pub fn row(part: &Part, tally: &Tally) -> String {
     let refused: Vec<String> = tally
         .refused
@@ -109,7 +110,7 @@ pub fn grouped(number: u64) -> String {
     let digits = number.to_string();
     let mut text = String::new();
     for (place, digit) in digits.chars().enumerate() {
-        if place > 0 && (digits.len() - place) % 3 == 0 {
+        if place > 0 && (digits.len() - place).is_multiple_of(3) {
             text.push(',');
         }
         text.push(digit);
