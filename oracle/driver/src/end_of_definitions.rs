@@ -1,7 +1,7 @@
 //! What the module can refuse at record 50, where it takes raw definitions in a hash map's order.
 
 use crate::Outcome;
-use crate::run::run_plain;
+use crate::run::refusal_of_definitions;
 use jobs::record::Record;
 
 /// The numbers of the faults that record 50 can meet: of the raw constants by rising slot, or, where none of them fails,
@@ -37,7 +37,7 @@ fn faults_of(records: &[Record], key: fn(&Record) -> Option<u16>) -> Vec<u8> {
 
 /// The number that a job with one raw definition is refused with at record 50.
 fn fault_of(records: &[Record]) -> Option<u8> {
-    match run_plain(records) {
+    match refusal_of_definitions(records)? {
         Outcome::Refused { code, place } if records[place] == Record::EndOfDefinitions => {
             Some(code)
         }

@@ -30,7 +30,7 @@ pub struct Stop {
 }
 
 /// A run's end; the outer error is a panic's message.
-type Ending = Result<Result<Finished, Stop>, String>;
+type Ending<T> = Result<Result<T, Stop>, String>;
 
 /// The driver of one copy. The copies' types differ, so the one text is made for each.
 macro_rules! driver_of {
@@ -162,6 +162,11 @@ macro_rules! driver_of {
                 finish(resolver, plan.name, class_slot, answers).map_err(stop(build))
             }
 
+            /// Runs the definitions and record 50 alone.
+            pub fn execute_definitions(plan: Plan<'_>) -> Result<(), Stop> {
+                define(plan.definitions).map(|_| ())
+            }
+
             fn stop(place: usize) -> impl Fn(Error) -> Stop {
                 move |error| Stop {
                     place,
@@ -245,10 +250,7 @@ pub fn run(records: &[Record]) -> Outcome {
     // Planned outside of `caught`, so that only the module's own panics are caught.
     let plan = plain::plan(&named);
     let plain_ending = caught(|| plain::execute(plan));
-    let plan = with_count::plan(&named);
-    counted::reset_visits();
-    let counted_ending = caught(|| with_count::execute(plan));
-    let visits = counted::visits();
+    let (counted_ending, visits) = counted_run(&named);
     let outcome = settled(plain_ending, visits);
     let counted_outcome = settled(counted_ending, visits);
     assert!(
@@ -260,11 +262,28 @@ pub fn run(records: &[Record]) -> Outcome {
     outcome
 }
 
-/// The outcome of the plain copy alone, with no visits.
-pub fn run_plain(records: &[Record]) -> Outcome {
+/// The outcome of the counted copy alone: `run` in less time.
+pub fn run_counted(records: &[Record]) -> Outcome {
+    let (ending, visits) = counted_run(&with_hex_names(records));
+    settled(ending, visits)
+}
+
+fn counted_run(named: &[Record]) -> (Ending<Finished>, u64) {
+    let plan = with_count::plan(named);
+    counted::reset_visits();
+    let ending = caught(|| with_count::execute(plan));
+    (ending, counted::visits())
+}
+
+/// The refusal, if the plain copy gives one up to record 50.
+pub fn refusal_of_definitions(records: &[Record]) -> Option<Outcome> {
     let named = with_hex_names(records);
     let plan = plain::plan(&named);
-    settled(caught(|| plain::execute(plan)), 0)
+    match caught(|| plain::execute_definitions(plan)) {
+        Ok(Ok(())) => None,
+        Ok(Err(stop)) => Some(stopped(stop)),
+        Err(message) => Some(Outcome::Panicked(message)),
+    }
 }
 
 /// Record 50 resolves in a hash map's order, which differs from run to run: with several faults
@@ -345,7 +364,7 @@ fn quiet_caught_panics() {
 }
 
 /// Runs the module, turning a panic into its message.
-pub fn caught(execute: impl FnOnce() -> Result<Finished, Stop>) -> Ending {
+pub fn caught<T>(execute: impl FnOnce() -> Result<T, Stop>) -> Ending<T> {
     quiet_caught_panics();
     PANICS_ARE_CAUGHT.set(true);
     let ending = panic::catch_unwind(AssertUnwindSafe(execute));
@@ -357,7 +376,7 @@ pub fn caught(execute: impl FnOnce() -> Result<Finished, Stop>) -> Ending {
     })
 }
 
-fn settled(ending: Ending, visits: u64) -> Outcome {
+fn settled(ending: Ending<Finished>, visits: u64) -> Outcome {
     match ending {
         Ok(Ok(finished)) => Outcome::Built {
             answers: finished.answers,
@@ -368,11 +387,15 @@ fn settled(ending: Ending, visits: u64) -> Outcome {
             class_name: finished.class_name,
             visits,
         },
-        Ok(Err(Stop { place, message })) => match refusal_number(&message) {
-            Some(code) => Outcome::Refused { code, place },
-            None => Outcome::UnknownMessage { message, place },
-        },
+        Ok(Err(stop)) => stopped(stop),
         Err(message) => Outcome::Panicked(message),
+    }
+}
+
+fn stopped(Stop { place, message }: Stop) -> Outcome {
+    match refusal_number(&message) {
+        Some(code) => Outcome::Refused { code, place },
+        None => Outcome::UnknownMessage { message, place },
     }
 }
 

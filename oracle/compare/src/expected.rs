@@ -1,0 +1,136 @@
+//! What the Rust says of a job, and so what the library must say.
+
+use driver::end_of_definitions::faults;
+use driver::{Outcome, form, run};
+use jobs::record::Record;
+use rotblossom::{Built, Refusal};
+
+/// How a run must end.
+#[derive(Clone)]
+pub enum End {
+    Built(Built),
+    Refused(Refusal),
+}
+
+/// Whether record 50 refused the job, where the Rust's order is a hash map's.
+#[derive(Clone, Copy, Debug, PartialEq, Eq)]
+pub enum AtEndOfDefinitions {
+    No,
+    /// Only this number was possible.
+    OneNumber,
+    /// 12 and 13 both were: the first one in document 01's order must be given.
+    SeveralNumbers,
+}
+
+pub struct Expected {
+    pub end: End,
+    /// The number of the build record, in a well-formed job.
+    pub build_record: usize,
+    pub at_end_of_definitions: AtEndOfDefinitions,
+}
+
+/// Runs the job through one copy of the module, or through both. The error says what document 01 has no number for.
+pub fn expected(job: &[u8], both_copies: bool) -> Result<Expected, String> {
+    let records = match form::decode(job) {
+        Ok(records) => records,
+        Err(form::Fault { code, place }) => return Ok(refused(code, place)),
+    };
+    let outcome = match both_copies {
+        true => run::run(&records),
+        false => run::run_counted(&records),
+    };
+    match outcome {
+        Outcome::Refused { code, place } if records[place] == Record::EndOfDefinitions => {
+            refused_by_raw_definitions(code, place, &faults(&records))
+        }
+        Outcome::Refused { code, place } => Ok(refused(code, place)),
+        outcome => Ok(Expected {
+            end: End::Built(built(outcome)?),
+            build_record: records.len() - 1,
+            at_end_of_definitions: AtEndOfDefinitions::No,
+        }),
+    }
+}
+
+fn refused(code: u8, place: usize) -> Expected {
+    Expected {
+        end: End::Refused(Refusal {
+            code: code.into(),
+            place,
+        }),
+        build_record: 0,
+        at_end_of_definitions: AtEndOfDefinitions::No,
+    }
+}
+
+/// The Rust's own number must be one of those that are possible; the first of them is expected.
+fn refused_by_raw_definitions(code: u8, place: usize, possible: &[u8]) -> Result<Expected, String> {
+    if !possible.contains(&code) {
+        return Err(format!(
+            "refused {code} {place}, and possible are {possible:?}"
+        ));
+    }
+    let first = possible[0];
+    let alike = possible.iter().all(|number| *number == first);
+    Ok(Expected {
+        at_end_of_definitions: match alike {
+            true => AtEndOfDefinitions::OneNumber,
+            false => AtEndOfDefinitions::SeveralNumbers,
+        },
+        ..refused(first, place)
+    })
+}
+
+fn built(outcome: Outcome) -> Result<Built, String> {
+    match outcome {
+        Outcome::Built {
+            answers,
+            pool,
+            bootstrap_count,
+            bootstraps,
+            name_slot,
+            class_name,
+            visits,
+        } => Ok(Built {
+            answers,
+            pool,
+            bootstrap_count: bootstrap_count.into(),
+            bootstraps,
+            name_slot: name_slot.into(),
+            class_name,
+            visits: visits as usize,
+        }),
+        other => Err(other.line()),
+    }
+}
+
+#[cfg(test)]
+mod tests {
+    use super::*;
+
+    fn given(code: u8, possible: &[u8]) -> Option<(u32, AtEndOfDefinitions)> {
+        let expected = refused_by_raw_definitions(code, 5, possible).ok()?;
+        match expected.end {
+            End::Refused(Refusal { code, place: 5 }) => {
+                Some((code, expected.at_end_of_definitions))
+            }
+            _ => None,
+        }
+    }
+
+    #[test]
+    fn the_first_possible_number_is_expected() {
+        let several = AtEndOfDefinitions::SeveralNumbers;
+        assert_eq!(given(12, &[13, 12]), Some((13, several)));
+        assert_eq!(given(13, &[13, 12]), Some((13, several)));
+        assert_eq!(given(12, &[12, 13, 12]), Some((12, several)));
+        let one = AtEndOfDefinitions::OneNumber;
+        assert_eq!(given(12, &[12, 12]), Some((12, one)));
+    }
+
+    #[test]
+    fn an_impossible_number_of_the_rust_is_an_error() {
+        assert_eq!(given(12, &[13]), None);
+        assert_eq!(given(12, &[]), None);
+    }
+}

@@ -1,0 +1,146 @@
+//! Holds the proved library to Krakatau's module: the same jobs through both, in one process.
+//!
+//! `compare` takes the whole, `compare KIND SEED COUNT`, `compare heavy` or `compare short` a part; `--threads N` comes first.
+
+mod check;
+mod expected;
+mod memory;
+mod parts;
+mod tally;
+
+use check::{Checker, hex, line};
+use expected::expected;
+use parts::{Jobs, Part};
+use std::process::ExitCode;
+use std::sync::Mutex;
+use std::thread;
+use std::time::{Duration, Instant};
+use tally::{HEAD, Tally, grouped, row};
+
+const USAGE: &str = "usage: compare [--threads N] [heavy | short | KIND SEED COUNT]
+       KIND is small, damaged, pairs, orders or ldcfull";
+
+/// So many jobs are taken by a thread at once.
+const BATCH: usize = 16;
+
+/// One generated job of so many is chosen.
+const EVERY: usize = 16;
+
+const BETWEEN_LINES: Duration = Duration::from_secs(30);
+
+fn main() -> ExitCode {
+    let arguments: Vec<String> = std::env::args().skip(1).collect();
+    let arguments: Vec<&str> = arguments.iter().map(String::as_str).collect();
+    let Some((threads, parts)) = wanted(&arguments) else {
+        eprintln!("{USAGE}");
+        return ExitCode::from(2);
+    };
+    let start = Instant::now();
+    let mut rows = vec![HEAD.to_string()];
+    let mut different = 0;
+    for part in &parts {
+        let tally = compare(part, threads, start);
+        tally.differences.iter().for_each(|text| println!("{text}"));
+        let row = row(part, &tally);
+        println!("{row}");
+        rows.push(row);
+        different += tally.different;
+    }
+    println!("{}", rows.join("\n"));
+    println!(
+        "{different} differences, {threads} threads, {} s",
+        start.elapsed().as_secs()
+    );
+    match different {
+        0 => ExitCode::SUCCESS,
+        _ => ExitCode::FAILURE,
+    }
+}
+
+fn wanted(arguments: &[&str]) -> Option<(usize, Vec<Part>)> {
+    let (threads, rest) = match arguments {
+        ["--threads", threads, rest @ ..] => (threads.parse().ok().filter(|n| *n > 0)?, rest),
+        rest => (thread::available_parallelism().map_or(1, usize::from), rest),
+    };
+    let parts = match rest {
+        [] => parts::whole(),
+        rest => vec![Part::of(rest)?],
+    };
+    Some((threads, parts))
+}
+
+/// The jobs that are left of a part, and what those that are done came to.
+struct Shared {
+    jobs: Mutex<std::iter::Enumerate<Jobs>>,
+    done: Mutex<(Tally, Instant)>,
+}
+
+fn compare(part: &Part, threads: usize, start: Instant) -> Tally {
+    let jobs = part.jobs().expect("the part is known");
+    let shared = Shared {
+        jobs: Mutex::new(jobs.enumerate()),
+        done: Mutex::new((Tally::default(), Instant::now())),
+    };
+    thread::scope(|scope| {
+        for seed in 0..threads {
+            let shared = &shared;
+            scope.spawn(move || work(part, shared, seed as u64, start));
+        }
+    });
+    shared.done.into_inner().unwrap().0
+}
+
+/// Takes batches of jobs until none is left.
+fn work(part: &Part, shared: &Shared, seed: u64, start: Instant) {
+    let mut checker = Checker::new(rotblossom::run, seed);
+    loop {
+        let batch: Vec<(usize, Vec<u8>)> =
+            shared.jobs.lock().unwrap().by_ref().take(BATCH).collect();
+        if batch.is_empty() {
+            return;
+        }
+        let mut tally = Tally::default();
+        for (number, job) in &batch {
+            let is_chosen = part.kind == "heavy" || number.is_multiple_of(EVERY);
+            if let Err(text) = compare_job(&mut checker, job, is_chosen, &mut tally) {
+                let kind = &part.kind;
+                tally.add_difference(format!("{kind} job {number}: {}\n  {text}", hex(job)));
+            }
+        }
+        tally.add_calls(std::mem::take(&mut checker.calls));
+        let (sum, told) = &mut *shared.done.lock().unwrap();
+        sum.add(tally);
+        if told.elapsed() >= BETWEEN_LINES {
+            *told = Instant::now();
+            tell(part, sum, start);
+        }
+    }
+}
+
+/// A job that is chosen runs through both copies of the module, and is lent too little work and gaps as well. The error tells
+/// both outcomes.
+fn compare_job(
+    checker: &mut Checker,
+    job: &[u8],
+    is_chosen: bool,
+    tally: &mut Tally,
+) -> Result<(), String> {
+    tally.jobs += 1;
+    let expected = expected(job, is_chosen).map_err(|text| format!("the Rust: {text}"))?;
+    tally.add_end(&expected);
+    let mut checked = checker.check(job, &expected);
+    if checked.is_ok() && is_chosen {
+        checked = checker.check_short_memory(job);
+    }
+    checked.map_err(|text| format!("expected: {}\n  {text}", line(&expected.end)))
+}
+
+fn tell(part: &Part, tally: &Tally, start: Instant) {
+    println!(
+        "{}: {} jobs, {} different, {} s",
+        part.kind,
+        grouped(tally.jobs),
+        tally.different,
+        start.elapsed().as_secs()
+    );
+}
