@@ -1,5 +1,6 @@
 //! Generated jobs: the module answers every one of them, and pairs agree as the request says.
 
+use driver::end_of_definitions::faults;
 use driver::{Outcome, run_job};
 use jobs::random::Random;
 use jobs::record::{Record, encode};
@@ -24,6 +25,34 @@ fn small_jobs_are_well_formed_and_meet_the_refusals_of_small_jobs() {
     let mut random = Random::new(1);
     let met = codes(4_000, || encode(&small::small_job(&mut random)));
     assert_eq!(met, BTreeSet::from([0, 6, 7, 8, 9, 10, 11, 12, 13, 16]));
+}
+
+/// Small jobs in which 12 and 13 are both possible at record 50, with either as the first by document 01's order.
+#[test]
+fn small_jobs_have_several_faults_at_record_50() {
+    let mut random = Random::new(5);
+    let mut first_of_both = vec![];
+    for _ in 0..4_000 {
+        let records = small::small_job(&mut random);
+        let Outcome::Refused { place, .. } = run_job(&encode(&records)) else {
+            continue;
+        };
+        if records[place] == Record::EndOfDefinitions {
+            let possible = faults(&records);
+            if [12, 13].iter().all(|number| possible.contains(number)) {
+                first_of_both.push(possible[0]);
+            }
+        }
+    }
+    for number in [12, 13] {
+        assert!(
+            first_of_both
+                .iter()
+                .filter(|first| **first == number)
+                .count()
+                >= 10
+        );
+    }
 }
 
 #[test]

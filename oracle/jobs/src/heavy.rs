@@ -20,6 +20,7 @@ pub const LIST: &[(&str, Heavy)] = &[
         tables::too_long_unknown_kind,
     ),
     ("constants_65536", tables::constants_full),
+    ("constants_65536_last_cited", tables::last_constant_cited),
     ("constants_65537_refusal_5", tables::constants_over),
     ("constant_65537_cut_refusal_3", tables::constant_over_cut),
     (
@@ -27,6 +28,7 @@ pub const LIST: &[(&str, Heavy)] = &[
         tables::constant_over_cites_missing,
     ),
     ("bootstraps_65536", tables::bootstraps_full),
+    ("bootstraps_65536_last_cited", tables::last_bootstrap_cited),
     ("bootstraps_65537_refusal_5", tables::bootstraps_over),
     (
         "bootstrap_65537_cites_missing_refusal_5",
@@ -98,6 +100,22 @@ pub const LIST: &[(&str, Heavy)] = &[
         bootstraps::middle_free_two,
     ),
     (
+        "indexes_but_last_raw_equal_numbers",
+        bootstraps::last_free_equal_numbers,
+    ),
+    (
+        "indexes_but_middle_raw_equal_numbers",
+        bootstraps::middle_free_equal_numbers,
+    ),
+    (
+        "indexes_but_first_raw_equal_numbers",
+        bootstraps::first_free_equal_numbers,
+    ),
+    (
+        "indexes_but_last_raw_equal_numbers_and_another_refusal_17",
+        bootstraps::last_free_equal_numbers_and_another,
+    ),
+    (
         "slots_and_indexes_all_raw_inline_handle_refusal_14",
         bootstraps::nothing_left_inline_handle,
     ),
@@ -127,6 +145,7 @@ pub const LIST: &[(&str, Heavy)] = &[
     ("bootstrap_alias_chain_60000", names::bootstrap_chain),
     ("names_60000_first_doubled_refusal_11", names::first_doubled),
     ("names_with_equal_sums", names::equal_sums),
+    ("names_255_bytes_alike_to_the_end", names::alike_to_the_end),
     ("class_tower_65534", towers::classes_full),
     ("class_tower_65535_refusal_14", towers::classes_over),
     (
@@ -140,6 +159,10 @@ pub const LIST: &[(&str, Heavy)] = &[
     ("arguments_65535", volume::one_wide_bootstrap),
     ("arguments_five_times_65535", volume::five_wide_bootstraps),
     (
+        "arguments_65535_alike_to_the_end",
+        volume::alike_wide_bootstraps,
+    ),
+    (
         "dynamics_1000_over_20000_arguments",
         volume::dynamics_over_wide_bootstrap,
     ),
@@ -147,6 +170,7 @@ pub const LIST: &[(&str, Heavy)] = &[
     ("text_1000_raw_5000_times", volume::repeated_text),
     ("ints_with_equal_low_halves", volume::equal_low_halves),
     ("texts_with_equal_sums", volume::equal_sums),
+    ("texts_65535_bytes_alike_to_the_end", volume::alike_texts),
     ("equal_ints_60000", volume::equal_ints),
 ];
 

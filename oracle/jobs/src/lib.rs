@@ -8,6 +8,7 @@ pub mod pairs;
 pub mod random;
 pub mod record;
 pub mod small;
+pub mod stream;
 
 /// The longest job that is not refused for its length.
 pub const JOB_LIMIT: usize = 1_048_576;

@@ -1,5 +1,6 @@
 //! Small well-formed jobs, full of what document 01 calls easy to get wrong.
 
+mod alike;
 mod faults;
 mod layout;
 mod plan;
@@ -12,8 +13,8 @@ use faults::FAULTS;
 use plan::{ClassWish, Plan, Target};
 use scenes::SCENES;
 
-/// No small job is longer than this.
-pub const SMALL_LIMIT: usize = 600;
+/// No small job is longer than this: names of 255 bytes make few of them long.
+pub const SMALL_LIMIT: usize = 1_200;
 /// No job with full low slots is longer than this.
 pub const LDC_FULL_LIMIT: usize = 2048;
 

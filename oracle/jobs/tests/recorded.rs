@@ -9,12 +9,12 @@ use jobs::small::{ldc_full_job, small_job};
 use jobs::{heavy, large};
 
 const RECORDED: [(&str, u64); 7] = [
-    ("small", 0xb5cf_36a5_5d8f_93d3),
+    ("small", 0x5fcf_6225_2c0d_5d9f),
     ("ldcfull", 0xa876_3ac8_7897_08b0),
-    ("damaged", 0x63c2_0749_b864_22c1),
-    ("pairs", 0x0540_69ce_b496_1a1c),
-    ("orders", 0x1bef_3308_6247_9fe2),
-    ("heavy", 0xda20_8480_3ddc_305a),
+    ("damaged", 0x9c60_baef_6933_cfba),
+    ("pairs", 0xec52_5e9d_35c8_98ad),
+    ("orders", 0x1af7_24aa_7bbd_deb7),
+    ("heavy", 0xae62_233d_2cf4_5a4d),
     ("large", 0xb587_779e_3f02_253b),
 ];
 

@@ -2,7 +2,8 @@
 
 use jobs::random::Random;
 use jobs::record::encode;
-use jobs::{damaged, heavy, large, pairs, small};
+use jobs::stream::{frame, heavy_jobs, seeded};
+use jobs::{heavy, large};
 use std::io::{self, BufWriter, Write};
 use std::process::ExitCode;
 
@@ -38,7 +39,9 @@ enum Trouble {
 
 fn run(arguments: &[&str], out: &mut impl Write) -> Result<(), Trouble> {
     match arguments {
-        ["heavy"] => heavy_jobs(out).map_err(Trouble::Output),
+        ["heavy"] => heavy_jobs()
+            .try_for_each(|job| frame(out, &job))
+            .map_err(Trouble::Output),
         ["heavy", "--names"] => heavy_names(out).map_err(Trouble::Output),
         ["large", kind, count] => {
             let kind = large::KINDS
@@ -69,38 +72,8 @@ fn number(argument: &str) -> Result<u64, Trouble> {
     argument.parse().map_err(|_| Trouble::Arguments)
 }
 
-/// One step of a seeded kind: a job, or two that belong together.
-type Step = fn(&mut Random) -> Vec<Vec<u8>>;
-
-fn seeded(kind: &str) -> Option<Step> {
-    Some(match kind {
-        "small" => |random| vec![encode(&small::small_job(random))],
-        "ldcfull" => |random| vec![encode(&small::ldc_full_job(random))],
-        "damaged" => |random| vec![damaged::damaged_job(random)],
-        "pairs" => |random| both(pairs::literal_pair(random)),
-        "orders" => |random| both(pairs::order_pair(random)),
-        _ => return None,
-    })
-}
-
-fn both((first, second): pairs::Pair) -> Vec<Vec<u8>> {
-    vec![encode(&first), encode(&second)]
-}
-
-fn heavy_jobs(out: &mut impl Write) -> io::Result<()> {
-    heavy::LIST
-        .iter()
-        .try_for_each(|(_, make)| frame(out, &make()))
-}
-
 fn heavy_names(out: &mut impl Write) -> io::Result<()> {
     heavy::LIST
         .iter()
         .try_for_each(|(name, _)| writeln!(out, "{name}"))
-}
-
-fn frame(out: &mut impl Write, job: &[u8]) -> io::Result<()> {
-    let length = u32::try_from(job.len()).expect("a job's length fits four bytes");
-    out.write_all(&length.to_be_bytes())?;
-    out.write_all(job)
 }

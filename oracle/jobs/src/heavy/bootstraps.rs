@@ -51,6 +51,39 @@ pub fn middle_free_two() -> Vec<u8> {
     raw_but(Some(MIDDLE), &[handle_of_raw(2), handle_of_raw(3)])
 }
 
+/// Bootstrap 0 raw at all indexes but one, and inline ones with the handle's slot: the Int, which gets slot 1 as it is asked
+/// for first, then these raw numbers. Equal entries are one bootstrap, so only numbers can be equal.
+fn raw_but_handles(free: u16, raw_handles: &[u16]) -> Vec<u8> {
+    let mut definitions = vec![int(1), handle_of_raw(9), bootstrap(entry(0), vec![])];
+    definitions.extend(raw_handles.iter().map(|number| handle_of_raw(*number)));
+    let inline_count = 1 + raw_handles.len();
+    definitions.extend((1..=inline_count).map(|i| dynamic(entry(i), Reference::Raw(1))));
+    definitions.extend(
+        (0..INDEXES)
+            .filter(|index| *index != free)
+            .map(|index| raw_bootstrap(index, 0)),
+    );
+    let requests = (0..=inline_count).map(|i| ask(number(i))).collect();
+    encode(&job(definitions, requests, NAME_IF_PRESENT))
+}
+
+pub fn last_free_equal_numbers() -> Vec<u8> {
+    raw_but_handles(INDEXES - 1, &[1])
+}
+
+pub fn middle_free_equal_numbers() -> Vec<u8> {
+    raw_but_handles(MIDDLE, &[1])
+}
+
+pub fn first_free_equal_numbers() -> Vec<u8> {
+    raw_but_handles(0, &[1])
+}
+
+/// The Dynamic that was asked for last is built first: two share the last index, and a third is left without one.
+pub fn last_free_equal_numbers_and_another() -> Vec<u8> {
+    raw_but_handles(INDEXES - 1, &[2, 1])
+}
+
 /// No slot and no index is free; a raw Dynamic has an inline bootstrap with this handle.
 fn nothing_left(handle: Reference) -> Vec<u8> {
     let mut definitions = vec![int(1), handle_of_raw(1), bootstrap(handle, vec![])];

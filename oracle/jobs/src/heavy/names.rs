@@ -116,3 +116,12 @@ pub fn equal_sums() -> Vec<u8> {
     let requests = (0..10_000).map(|i| ask_for(named(&name_of(i)))).collect();
     encode(&job(definitions, requests, NAME_NEVER))
 }
+
+/// Names of 255 bytes that differ in their last two alone.
+pub fn alike_to_the_end() -> Vec<u8> {
+    let name_of = |i: u16| [&[b'n'; 253][..], &i.to_be_bytes()].concat();
+    let mut definitions: Vec<Record> = (0..1_500).map(int).collect();
+    definitions.extend((0..1_500).map(|i| name(&name_of(i), entry(i as usize))));
+    let requests = (0..1_500).map(|i| ask_for(named(&name_of(i)))).collect();
+    encode(&job(definitions, requests, NAME_NEVER))
+}

@@ -1,6 +1,6 @@
 //! Length, and tables of 65,536 entries.
 
-use super::{entry, number};
+use super::{ask_for, entry, named, number};
 use crate::JOB_LIMIT;
 use crate::make::*;
 use crate::record::{Record, Reference, encode};
@@ -53,6 +53,23 @@ pub fn constants_full() -> Vec<u8> {
     ))
 }
 
+/// Number 65,535 in every kind of record that can cite a constant.
+pub fn last_constant_cited() -> Vec<u8> {
+    let mut definitions = classes(FULL);
+    definitions.extend([
+        bootstrap(entry(FULL - 1), vec![entry(FULL - 2), entry(FULL - 1)]),
+        name(b"last", entry(FULL - 1)),
+        raw(9, number(FULL - 1)),
+        raw_bootstrap(1, 0),
+    ]);
+    let requests = vec![
+        ask_for(named(b"last")),
+        ask_ldc(number(FULL - 1)),
+        ask(number(FULL - 2)),
+    ];
+    encode(&job(definitions, requests, NAME_IF_PRESENT))
+}
+
 pub fn constants_over() -> Vec<u8> {
     encode(&job(classes(FULL + 1), vec![ask(0)], NAME_NEVER))
 }
@@ -75,6 +92,18 @@ pub fn bootstraps_full() -> Vec<u8> {
     definitions.push(dynamic(entry(65_535), Reference::Raw(1)));
     definitions.push(raw_bootstrap(3, 65_535));
     encode(&job(definitions, vec![ask(0)], NAME_IF_PRESENT))
+}
+
+/// Number 65,535 in every kind of record that can cite a bootstrap.
+pub fn last_bootstrap_cited() -> Vec<u8> {
+    let mut definitions = small_bootstraps(FULL);
+    definitions.extend([
+        Record::NameBootstrap(b"last".to_vec(), entry(FULL - 1)),
+        dynamic(named(b"last"), Reference::Raw(1)),
+        dynamic(entry(FULL - 1), Reference::Raw(2)),
+        raw_bootstrap(1, number(FULL - 1)),
+    ]);
+    encode(&job(definitions, vec![ask(0), ask(1)], NAME_IF_PRESENT))
 }
 
 pub fn bootstraps_over() -> Vec<u8> {

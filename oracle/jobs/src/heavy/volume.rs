@@ -29,6 +29,22 @@ pub fn five_wide_bootstraps() -> Vec<u8> {
     ))
 }
 
+/// Bootstraps of 65,535 arguments that differ in the order of the last two, and in the last.
+pub fn alike_wide_bootstraps() -> Vec<u8> {
+    let mut definitions = vec![int(0), int(1), int(2)];
+    for last_two in [[1, 2], [2, 1], [1, 1]] {
+        let mut arguments = vec![entry(0); 65_533];
+        arguments.extend(last_two.map(entry));
+        definitions.push(bootstrap(entry(0), arguments));
+    }
+    definitions.extend((0..3).map(|i| dynamic(entry(i), Reference::Raw(1))));
+    encode(&job(
+        definitions,
+        (3..6).map(ask).collect(),
+        NAME_IF_PRESENT,
+    ))
+}
+
 pub fn dynamics_over_wide_bootstrap() -> Vec<u8> {
     let mut definitions = vec![int(0), bootstrap(entry(0), vec![entry(0); 20_000])];
     definitions.extend((0..1_000).map(|i| dynamic(entry(0), Reference::Raw(i))));
@@ -63,6 +79,13 @@ pub fn repeated_text() -> Vec<u8> {
 fn ask_each(definitions: Vec<Record>) -> Vec<u8> {
     let requests = (0..definitions.len()).map(|i| ask(number(i))).collect();
     encode(&job(definitions, requests, NAME_NEVER))
+}
+
+/// Texts of 65,535 bytes that differ in the last, and one that lacks it.
+pub fn alike_texts() -> Vec<u8> {
+    let ends: [&[u8]; 3] = [b"x", b"y", b""];
+    let texts = ends.map(|end| text(&[&[b't'; 65_534][..], end].concat()));
+    ask_each(texts.to_vec())
 }
 
 pub fn equal_low_halves() -> Vec<u8> {

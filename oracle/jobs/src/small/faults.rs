@@ -17,6 +17,8 @@ pub const FAULTS: &[(usize, Fault)] = &[
     (6, circle_reached),
     (2, two_bad_children),
     (4, ldc_above_255),
+    (6, several_at_the_end),
+    (2, almost_defined),
 ];
 
 /// Refusal 6, also where the slot is taken.
@@ -155,4 +157,30 @@ fn ldc_above_255(plan: &mut Plan, random: &mut Random) {
     };
     plan.requests.insert(0, ordinary);
     plan.ask(true, target);
+}
+
+/// Refusal 12 or 13 at record 50, where several raw definitions fail: the lowest slot decides, or, where no raw constant
+/// fails, the lowest index.
+fn several_at_the_end(plan: &mut Plan, random: &mut Random) {
+    for _ in 0..2 + random.below(3) {
+        let bad = random.pick(&[Target::Missing, Target::Circle]).clone();
+        let node = match random.below(4) {
+            0 => plan.ring(random),
+            1 => plan.unsound_bootstrap(bad, random),
+            _ => plan.unsound(bad, random),
+        };
+        if plan.nodes[node].tag().is_none() {
+            plan.place_bootstrap(*random.pick(&[0, 1, 2, 5, 65534]), node);
+        } else {
+            plan.place(*random.pick(&[1, 2, 3, 5, 7, 254, 300, 65534]), node);
+        }
+    }
+}
+
+/// Refusal 12: a name of 254 or 255 bytes that another one is alike to but for the last.
+fn almost_defined(plan: &mut Plan, random: &mut Random) {
+    plan.long_names = true;
+    let node = plan.leaf(INT, random);
+    plan.idle_names.push((false, Target::Node(node)));
+    plan.ask(random.chance(1, 4), Target::Missing);
 }

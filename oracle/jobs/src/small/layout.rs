@@ -19,6 +19,15 @@ const NAMES: &[&[u8]] = &[
     b"\xc3\xa9",
 ];
 
+/// What stands behind the first 254 bytes of a long name, which are all the same.
+const LAST_BYTES: &[&[u8]] = &[b"", b"x", b"y", b"z"];
+
+fn long_name(random: &mut Random) -> Vec<u8> {
+    let mut name = vec![b'n'; 254];
+    name.extend_from_slice(*random.pick(LAST_BYTES));
+    name
+}
+
 struct Definition {
     name: Vec<u8>,
     /// What the name leads to in the end.
@@ -124,9 +133,10 @@ impl Layout<'_> {
 
     /// A reference from the entry at `place`; entries from there on can be reached by name only.
     fn reference(&mut self, bootstrap: bool, target: &Target, place: usize) -> Reference {
+        let numbered = if self.plan.long_names { 1 } else { 2 };
         match *target {
             Target::Raw(number) if self.random.chance(5, 6) => Reference::Raw(number),
-            Target::Node(n) if self.places[n] < place && self.random.chance(2, 3) => {
+            Target::Node(n) if self.places[n] < place && self.random.chance(numbered, 3) => {
                 Reference::Entry(self.numbers[n])
             }
             _ => Reference::Name(self.name_for(bootstrap, target)),
@@ -221,9 +231,12 @@ impl Layout<'_> {
 
     fn fresh_name(&mut self, bootstrap: bool) -> Vec<u8> {
         for _ in 0..8 {
-            let name = *self.random.pick(NAMES);
-            if !self.is_taken(bootstrap, name) {
-                return name.to_vec();
+            let name = match self.plan.long_names && self.random.chance(1, 2) {
+                true => long_name(self.random),
+                false => self.random.pick(NAMES).to_vec(),
+            };
+            if !self.is_taken(bootstrap, &name) {
+                return name;
             }
         }
         loop {

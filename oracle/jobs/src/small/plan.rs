@@ -50,6 +50,8 @@ pub struct Plan {
     pub idle_names: Vec<(bool, Target)>,
     /// How many names get a second definition.
     pub doubled_names: usize,
+    /// Names are often of 254 or 255 bytes, and used more often than numbers.
+    pub long_names: bool,
     pub name_byte: u8,
     pub class: ClassWish,
 }
@@ -155,6 +157,7 @@ impl Plan {
             requests: vec![],
             idle_names: vec![],
             doubled_names: 0,
+            long_names: false,
             name_byte: NAME_NEVER,
             class: ClassWish::Slot(0),
         }
@@ -313,6 +316,15 @@ impl Plan {
     /// An entry that must not be reached: one of its references is bad, or it reaches itself.
     pub fn unsound(&mut self, bad: Target, random: &mut Random) -> usize {
         let node = self.any_or_bootstrap(random);
+        self.spoil(node, bad, random)
+    }
+
+    pub fn unsound_bootstrap(&mut self, bad: Target, random: &mut Random) -> usize {
+        let node = self.new_bootstrap(0, random);
+        self.spoil(node, bad, random)
+    }
+
+    fn spoil(&mut self, node: usize, bad: Target, random: &mut Random) -> usize {
         let place = random.below(self.nodes[node].children.len());
         self.nodes[node].children[place] = bad;
         self.nodes[node].sound = false;

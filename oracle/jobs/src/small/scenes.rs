@@ -1,5 +1,6 @@
 //! Scenes: things that are easy to get wrong, each added to a plan without a fault.
 
+use super::alike::*;
 use super::plan::{ClassWish, Plan, Target};
 use crate::make::*;
 use crate::random::Random;
@@ -21,6 +22,12 @@ pub const SCENES: &[(usize, Scene)] = &[
     (2, bootstrap_methods_text),
     (2, equal_bits),
     (3, unreached),
+    (2, alike_texts),
+    (2, alike_numbers),
+    (2, alike_handles),
+    (3, same_children),
+    (2, argument_orders),
+    (1, long_names),
 ];
 
 /// A few constants of any tag, most of them asked for.
@@ -166,7 +173,7 @@ fn class_slots(plan: &mut Plan, random: &mut Random) {
         3 => raw_text(plan, slot, text),
         4 => second_half(plan, slot, random),
         5 => Target::Raw(*random.pick(&[0, 9, 65535])),
-        6 => Target::Raw(*random.pick(&[1, 2, 3, 4])),
+        6 => slot_of_the_name(plan, random),
         _ => plan.child(&[], 0, random),
     };
     let class = plan.add_constant(CLASS, &[], vec![of]);
@@ -188,6 +195,12 @@ fn second_half(plan: &mut Plan, slot: u16, random: &mut Random) -> Target {
     let wide = plan.leaf(*random.pick(&[LONG, DOUBLE]), random);
     plan.place(slot, wide);
     Target::Raw(slot + 1)
+}
+
+/// A low slot that the name may get, which has its slot before the class name is read.
+fn slot_of_the_name(plan: &mut Plan, random: &mut Random) -> Target {
+    plan.name_byte = *random.pick(&[NAME_ALWAYS, NAME_ALWAYS, NAME_IF_PRESENT, NAME_NEVER]);
+    Target::Raw(*random.pick(&[1, 2, 3, 4]))
 }
 
 fn asked_class(plan: &mut Plan, node: usize, random: &mut Random) -> ClassWish {
@@ -270,9 +283,14 @@ fn equal_bits(plan: &mut Plan, random: &mut Random) {
         (LONG, b"12345678"),
         (DOUBLE, b"12345678"),
     ];
+    ask_leaves(plan, &constants, random);
+}
+
+/// Asks for most of these constants, each of a tag and a literal.
+pub fn ask_leaves(plan: &mut Plan, constants: &[(u8, &[u8])], random: &mut Random) {
     for (tag, literal) in constants {
         if random.chance(2, 3) {
-            let node = plan.add_constant(tag, literal, vec![]);
+            let node = plan.add_constant(*tag, literal, vec![]);
             plan.ask(random.chance(1, 5), Target::Node(node));
         }
     }
