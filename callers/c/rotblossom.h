@@ -7,9 +7,9 @@
  * - each pointer points to as many elements as the length behind it says, aligned as its type, and isn't NULL, also where that
  *   length is 0;
  * - no two of the things pointed to overlap;
- * - nobody else reads or writes them during the call.
+ * - during the call nobody else writes what is const here, or reads or writes the rest.
  * No job is wrong to give, and no length: what is too short is refused. The functions keep to the lengths, end for every input, keep
- * nothing between calls and allocate nothing; calls on different memory may run at the same time.
+ * nothing between calls, allocate nothing and take less than 4 KB of stack; calls on different memory may run at the same time.
  */
 #ifndef ROTBLOSSOM_H
 #define ROTBLOSSOM_H

@@ -2,6 +2,7 @@
 //! folder.
 
 use std::env;
+use std::path::Path;
 
 fn main() {
     let beside = format!("{}/../../target/staticlib", env!("CARGO_MANIFEST_DIR"));
@@ -9,7 +10,12 @@ fn main() {
     println!("cargo:rerun-if-env-changed=ROTBLOSSOM_LIBRARY");
     println!("cargo:rustc-link-search=native={folder}");
     for name in ["cpool", "blocks"] {
-        println!("cargo:rerun-if-changed={folder}/lib{name}.a");
+        let archive = format!("{folder}/lib{name}.a");
+        println!("cargo:rerun-if-changed={archive}");
+        assert!(
+            Path::new(&archive).exists(),
+            "{archive} isn't there: `rt staticlib {name}` writes it"
+        );
         println!("cargo:rustc-link-lib=static={name}");
     }
 }

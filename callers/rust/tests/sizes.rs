@@ -85,6 +85,30 @@ fn a_long_text_at_1000_slots() {
     builds(&repeated_text(1000), expected);
 }
 
+/// The empty name leads to raw slot 5, and a request for it has three bytes, the fewest: 30,000 answers, a visit each.
+#[test]
+fn as_many_answers_as_a_job_can_have() {
+    let mut job = bytes("41 00 00 0005 50");
+    job.extend(bytes("51 02 00").repeat(30_000));
+    job.extend(bytes("60 02 00 0000"));
+    builds(&job, plain(&[5; 30_000], bytes("0001"), 30_000));
+}
+
+/// Case b with a text of 65,535 bytes.
+#[test]
+fn the_longest_class_name() {
+    let text = long_text(65_535, b'n');
+    let mut job = text.clone();
+    job.extend(bytes("07 01 0000 50 51 01 0001 60 02 01 0000"));
+    let mut pool = bytes("0003 070002");
+    pool.extend_from_slice(&text);
+    let expected = Built {
+        class_name: Some(vec![b'n'; 65_535]),
+        ..plain(&[1], pool, 4)
+    };
+    builds(&job, expected);
+}
+
 /// 262,140 bytes of bootstraps, and 13,369,140.
 #[test]
 fn a_bootstrap_at_every_index() {
