@@ -1,12 +1,21 @@
-//! Links the proved library. `rt staticlib cpool` writes it; ROTBLOSSOM_LIBRARY names another folder.
+//! Links the proved libraries. `rt staticlib cpool` and `rt staticlib blocks` write them; ROTBLOSSOM_LIBRARY names another
+//! folder.
 
 use std::env;
+use std::path::Path;
 
 fn main() {
     let beside = format!("{}/../../target/staticlib", env!("CARGO_MANIFEST_DIR"));
     let folder = env::var("ROTBLOSSOM_LIBRARY").unwrap_or(beside);
     println!("cargo:rerun-if-env-changed=ROTBLOSSOM_LIBRARY");
-    println!("cargo:rerun-if-changed={folder}/libcpool.a");
     println!("cargo:rustc-link-search=native={folder}");
-    println!("cargo:rustc-link-lib=static=cpool");
+    for name in ["cpool", "blocks"] {
+        let archive = format!("{folder}/lib{name}.a");
+        println!("cargo:rerun-if-changed={archive}");
+        assert!(
+            Path::new(&archive).exists(),
+            "{archive} isn't there: `rt staticlib {name}` writes it"
+        );
+        println!("cargo:rustc-link-lib=static={name}");
+    }
 }

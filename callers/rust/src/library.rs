@@ -1,4 +1,4 @@
-//! The proved function, as its C form is declared.
+//! The proved functions, as their C forms are declared: a slice is a pointer and a length.
 
 use crate::{Gap, Lent, Refusal, Told};
 
@@ -20,9 +20,27 @@ unsafe extern "C" {
         class_name_length: usize,
         numbers: *mut [usize; 9],
     ) -> u32;
+
+    fn blocks_read(
+        file: *const u8,
+        file_length: usize,
+        job: *mut u8,
+        job_length: usize,
+        place: *mut usize,
+        size: *mut usize,
+    ) -> u32;
+
+    fn blocks_write(
+        job: *const u8,
+        job_length: usize,
+        file: *mut u8,
+        file_length: usize,
+        place: *mut usize,
+        size: *mut usize,
+    ) -> u32;
 }
 
-/// Calls it, and puts its nine numbers in their places.
+/// Calls `cpool_run`, and puts its nine numbers in their places.
 pub fn run(job: &[u8], lent: Lent<'_>) -> Result<Told, Refusal> {
     let mut numbers = [0; 9];
     // SAFETY: the slices live through the call and no two overlap, since all but `job` are borrowed to be changed; the
@@ -69,4 +87,35 @@ pub fn run(job: &[u8], lent: Lent<'_>) -> Result<Told, Refusal> {
         class_name: (class_given != 0).then_some(class_name),
         visits,
     })
+}
+
+pub fn read_blocks(file: &[u8], job: &mut [u8]) -> Result<usize, Refusal> {
+    convert(blocks_read, file, job)
+}
+
+pub fn write_blocks(job: &[u8], file: &mut [u8]) -> Result<usize, Refusal> {
+    convert(blocks_write, job, file)
+}
+
+type BlockFunction =
+    unsafe extern "C" fn(*const u8, usize, *mut u8, usize, *mut usize, *mut usize) -> u32;
+
+fn convert(function: BlockFunction, given: &[u8], out: &mut [u8]) -> Result<usize, Refusal> {
+    let (mut place, mut size) = (0, 0);
+    // SAFETY: both slices and both numbers live through the call and no two overlap; the proved function keeps to the
+    // slices' lengths.
+    let code = unsafe {
+        function(
+            given.as_ptr(),
+            given.len(),
+            out.as_mut_ptr(),
+            out.len(),
+            &mut place,
+            &mut size,
+        )
+    };
+    match code {
+        0 => Ok(size),
+        code => Err(Refusal { code, place }),
+    }
 }

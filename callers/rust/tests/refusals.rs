@@ -1,0 +1,71 @@
+//! A job for each refusal that no known job shows, through `build`; 2 and 18 are in lent.rs. The numbers are document 01's.
+
+mod common;
+
+use common::*;
+use rotblossom::LONGEST_JOB;
+
+/// A byte too many is 1 whatever the job holds; one fewer is read, and kind 0 is unknown.
+#[test]
+fn a_job_too_long_is_1() {
+    let longest = rotblossom::build(&vec![0; LONGEST_JOB]);
+    assert_eq!(longest, Err(refusal(3, 0)));
+    let too_long = rotblossom::build(&vec![0; LONGEST_JOB + 1]);
+    assert_eq!(too_long, Err(refusal(1, 0)));
+    let far_too_long = rotblossom::build(&vec![0; 10 * LONGEST_JOB]);
+    assert_eq!(far_too_long, Err(refusal(1, 0)));
+}
+
+#[test]
+fn form_is_3() {
+    assert_eq!(build(""), Err(refusal(3, 0)), "no record");
+    assert_eq!(build("50"), Err(refusal(3, 1)), "no build");
+    assert_eq!(build("02"), Err(refusal(3, 0)), "an unknown kind");
+    assert_eq!(build("07 03 0000"), Err(refusal(3, 0)), "a form byte");
+    assert_eq!(build("50 60 02"), Err(refusal(3, 1)), "a cut record");
+    assert_eq!(build("51 00 0001"), Err(refusal(3, 0)), "out of place");
+    let behind = build("50 60 02 00 0000 00");
+    assert_eq!(behind, Err(refusal(3, 2)), "a byte behind the build");
+}
+
+#[test]
+fn a_number_that_is_not_there_is_4() {
+    assert_eq!(build("07 01 0000"), Err(refusal(4, 0)), "itself");
+    let request = build("50 60 02 01 0000");
+    assert_eq!(request, Err(refusal(4, 1)), "request 0 of none");
+}
+
+#[test]
+fn entry_65537_is_5() {
+    let ints = bytes("03 00000001").repeat(65_537);
+    assert_eq!(rotblossom::build(&ints), Err(refusal(5, 65_536)));
+}
+
+#[test]
+fn a_raw_constant_at_0_or_65535_is_6() {
+    for slot in ["0000", "ffff"] {
+        let job = format!("03 00000001 43 {slot} 0000 50 60 02 00 0000");
+        assert_eq!(build(&job), Err(refusal(6, 1)), "{slot}");
+    }
+}
+
+#[test]
+fn raw_bootstraps_out_of_range_or_doubled_are_9_and_10() {
+    let out_of_range = build("40 00 0001 0000 44 ffff 0000 50 60 02 00 0000");
+    assert_eq!(out_of_range, Err(refusal(9, 1)));
+    let doubled = build("40 00 0001 0000 44 fffe 0000 44 fffe 0000 50 60 02 00 0000");
+    assert_eq!(doubled, Err(refusal(10, 2)));
+}
+
+/// A name of each kind, then the first kind's again.
+#[test]
+fn a_name_defined_twice_is_11() {
+    let job = "41 01 78 00 0001 42 01 78 00 0001 41 01 78 00 0001 50 60 02 00 0000";
+    assert_eq!(build(job), Err(refusal(11, 2)));
+}
+
+#[test]
+fn a_refusal_reads_as_poolrun_prints_it() {
+    let refused = build("07 01 0000").unwrap_err();
+    assert_eq!(refused.to_string(), "refused 4 0");
+}
