@@ -1,29 +1,24 @@
 -- The job in a file whose blocks are right: its length, and the loop that copies it. Assumes nothing.
 use mathlib.Core.Path.{_≡_, sym, ap, _∙_}
-use mathlib.Core.Bool.{Bool, true, false, _&&_}
+use mathlib.Core.Bool.{true, _&&_}
 use mathlib.Core.List.{List}
 use mathlib.Core.Logic.{⊎-elim}
 use Prim.Native.Nat.{ℕ, suc, _+_, _*_, _-_, _<_, _≤_}
 use native.Mathlib.Nat.{eq-or-lt-of-le}
 use native.Mathlib.Omega.{arith}
-use borrow.Author.Tests.{ne-eqb, eqb-true}
+use borrow.Author.Tests.{ne-eqb}
 use lib.Dec.{eqb}
 use lib.ListN.{length, take, drop, length-append, length-drop}
 use lib.Seq.{paste, take-take, take-add, drop-at, drop-drop, length-take-le}
 use Rattle.definition.specs.Basics.{same}
 use Rattle.definition.specs.Bytes.{be2, be4}
 use Rattle.definition.specs.Run.{overwrite}
-use Rattle.definition.specs.Blocks.{weighted, blockAt, usedIn, rightUse, rightBlock, blockData}
+use Rattle.definition.specs.Blocks.{weighted, blockAt, usedIn, rightUse, padding, allZero, rightBlock, blockData}
 use Rattle.facts.proofs.Lists.{both-true}
 use Rattle.facts.proofs.Chunks.{joined, joined-more, length-joined}
 use Rattle.facts.proofs.Copies.{paste-front, part-more}
-use Rattle.laws.proofs.blocks.OneBlock.{used-most}
+use Rattle.laws.proofs.blocks.OneBlock.{used-most, used-full}
 use Rattle.blocks.specs.File.{dataOf, RightBelow}
-
--- the use of a block that isn't the last
-use-504 : (only last : Bool) (used : ℕ) → last ≡ false → rightUse only last used ≡ true → used ≡ 504
-unfolding rightUse
-use-504 only last used l e = eqb-true used 504 (rw l at e)
 
 module _ (n : ℕ) (file : List ℕ) (size : 512 * n ≤ length file) (rights : RightBelow n file n) where
   right-use : (j : ℕ) → j < n → rightUse (eqb n 1) (eqb (suc j) n) (usedIn (blockAt file j)) ≡ true
@@ -33,14 +28,15 @@ module _ (n : ℕ) (file : List ℕ) (size : 512 * n ≤ length file) (rights : 
       let check = same (drop 508 b) (be4 (weighted 0 (take 508 b))) in
       let number = same (take 2 b) (be2 j) in
       let uses = rightUse (eqb n 1) (eqb (suc j) n) (usedIn b) in
-      both-true number uses (both-true check (number && uses) (rights j inside) .1) .1
+      let zeros = allZero (padding b) in
+      both-true uses zeros (both-true number (uses && zeros) (both-true check (number && (uses && zeros)) (rights j inside) .1) .1) .0
 
   pub used-small : (j : ℕ) → j < n → usedIn (blockAt file j) ≤ 504
   used-small j inside = used-most (eqb n 1) (eqb (suc j) n) (usedIn (blockAt file j)) (right-use j inside)
 
   used-504 : (j : ℕ) → suc j < n → usedIn (blockAt file j) ≡ 504
   used-504 j more =
-      use-504 (eqb n 1) (eqb (suc j) n) (usedIn (blockAt file j)) (ne-eqb (suc j) n (λ e. omega arith)) (right-use j (omega arith))
+      used-full (eqb n 1) (eqb (suc j) n) (usedIn (blockAt file j)) (ne-eqb (suc j) n (λ e. omega arith)) (right-use j (omega arith))
 
   -- the used bytes of a block, where they stand in the file
   data-is : (j : ℕ) → j < n → take (usedIn (blockAt file j)) (drop (512 * j + 4) file) ≡ dataOf file j

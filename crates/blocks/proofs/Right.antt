@@ -3,14 +3,15 @@ use mathlib.Core.Path.{_≡_, refl, sym, ap, _∙_}
 use mathlib.Core.Bool.{true, false, _&&_, _||_}
 use mathlib.Core.List.{List}
 use Prim.Native.Nat.{ℕ, suc, _+_, _*_, _-_, _/_, _%_, _<_, _≤_}
+use native.Mathlib.Numerals.{add-one}
 use native.Mathlib.Omega.{arith}
 use borrow.Author.Tests.{eq-eqb, ne-eqb, le-leb, lt-leb}
 use lib.Dec.{eqb, leb, ltb}
-use lib.ListN.{length, getD, take, drop, length-drop}
-use lib.Seq.{take-take, take-add, drop-at, drop-drop, getD-take, getD-drop, length-take-le}
-use Rattle.definition.specs.Basics.{same}
+use lib.ListN.{length, getD, take, drop, length-drop, drop-of-length-le}
+use lib.Seq.{take-take, take-add, drop-at, drop-drop, drop-cons, getD-take, getD-drop, length-take-le}
+use Rattle.definition.specs.Basics.{same, every}
 use Rattle.definition.specs.Bytes.{be2, be4}
-use Rattle.definition.specs.Blocks.{weighted, blockAt, usedIn, rightUse, rightBlock}
+use Rattle.definition.specs.Blocks.{weighted, blockAt, usedIn, rightUse, padding, allZero, rightBlock}
 use Rattle.facts.proofs.Lists.{same-coded}
 use Rattle.writer.specs.Numbers.{number2, number4}
 use Rattle.writer.proofs.Laws.{be4-halves, be2-number, be4-number}
@@ -74,15 +75,17 @@ module _ (file : List ℕ) (k : ℕ) (bytes : (i : ℕ) → getD file i 0 < 256)
       ∙ ap (λ n. same (be2 n) (be2 k)) (sym en)
       ∙ same-coded be2 (λ l. number2 l 0) number k (back2 number (omega arith)) (back2 k (omega arith))
 
-  -- the three ends of the tests on a block
+  -- the four ends of the tests on a block
   module _ (n check sum : ℕ) (small : k < 2081) (fits : sum < 4294967296) (ec : check ≡ number4 file (512 * k + 508))
       (es : sum ≡ weighted 0 (take (512 * k + 508 - 512 * k) (drop (512 * k) file))) where
     tests :
         (number : ℕ) → number ≡ number2 file (512 * k) →
-        rightBlock n file k ≡ (eqb check sum && (eqb number k && rightUse (eqb n 1) (eqb (suc k) n) (usedIn (blockAt file k))))
+        rightBlock n file k
+        ≡ (eqb check sum && (eqb number k && (rightUse (eqb n 1) (eqb (suc k) n) (usedIn (blockAt file k)) && allZero (padding (blockAt file k)))))
     unfolding rightBlock
     tests number en =
-        λ i. check-is check sum fits ec es i && (number-is number small en i && rightUse (eqb n 1) (eqb (suc k) n) (usedIn (blockAt file k)))
+        let b = blockAt file k in
+        λ i. check-is check sum fits ec es i && (number-is number small en i && (rightUse (eqb n 1) (eqb (suc k) n) (usedIn b) && allZero (padding b)))
 
     pub wrong-check : (check ≡ sum → ⊥) → false ≡ rightBlock n file k
     wrong-check wrong = rw (tests (number2 file (512 * k)) refl, ne-eqb check sum wrong)
@@ -90,10 +93,14 @@ module _ (file : List ℕ) (k : ℕ) (bytes : (i : ℕ) → getD file i 0 < 256)
     pub wrong-number : (number : ℕ) → number ≡ number2 file (512 * k) → check ≡ sum → (number ≡ k → ⊥) → false ≡ rightBlock n file k
     wrong-number number en right wrong = rw (tests number en, eq-eqb check sum right, ne-eqb number k wrong)
 
-    pub as-use :
-        (number : ℕ) → number ≡ number2 file (512 * k) → check ≡ sum → number ≡ k →
-        rightUse (eqb n 1) (eqb (suc k) n) (usedIn (blockAt file k)) ≡ rightBlock n file k
-    as-use number en right right′ = rw (tests number en, eq-eqb check sum right, eq-eqb number k right′)
+    -- check and number are right: use and padding decide
+    module _ (number : ℕ) (en : number ≡ number2 file (512 * k)) (right : check ≡ sum) (right′ : number ≡ k)
+        (used : ℕ) (eu : used ≡ usedIn (blockAt file k)) where
+      pub wrong-use : rightUse (eqb n 1) (eqb (suc k) n) used ≡ false → false ≡ rightBlock n file k
+      wrong-use wrong = rw (tests number en, eq-eqb check sum right, eq-eqb number k right′, ← eu, wrong)
+
+      pub as-padding : rightUse (eqb n 1) (eqb (suc k) n) used ≡ true → allZero (padding (blockAt file k)) ≡ rightBlock n file k
+      as-padding uses = rw (tests number en, eq-eqb check sum right, eq-eqb number k right′, ← eu, uses)
 
 -- the use that is read from a block
 pub block-at : (file : List ℕ) (k i : ℕ) → i < 512 → getD (blockAt file k) i 0 ≡ getD file (512 * k + i) 0
@@ -126,3 +133,48 @@ module _ (n k used : ℕ) where
 
   pub use-some : k < n → n ≤ k + 1 → used ≤ 504 → (n ≡ 1 → ⊥) → ltb 0 used ≡ rightUse (eqb n 1) (eqb (suc k) n) used
   use-some inside last fits more = rw (use-last inside last, le-leb used 504 fits, ne-eqb n 1 more)
+
+-- the loop over the padding of a block: it is all zero exactly if what is left from byte i of the content on is
+module _ (file : List ℕ) (k : ℕ) where
+  pub content : List ℕ
+  content = take 504 (drop 4 (blockAt file k))
+
+  abbrev pub Rest : ℕ → Type 0
+  Rest i = allZero (padding (blockAt file k)) ≡ allZero (drop i content)
+
+  pub rest-all : Rest (usedIn (blockAt file k))
+  unfolding padding content
+  rest-all = refl
+
+  module _ (inside : 512 * k + 512 ≤ length file) where
+    content-length : length content ≡ 504
+    unfolding content blockAt
+    content-length =
+        let block-length : length (blockAt file k) ≡ 512 = length-take-le 512 (drop (512 * k) file) (rw length-drop (omega arith)) in
+        length-take-le 504 (drop 4 (blockAt file k)) (rw (length-drop, block-length) (omega arith))
+
+    content-at : (i : ℕ) → i < 504 → getD content i 0 ≡ getD file (512 * k + 4 + i) 0
+    unfolding content
+    content-at i low =
+        let place : 512 * k + (4 + i) ≡ 512 * k + 4 + i = omega arith in
+        getD-take 504 (drop 4 (blockAt file k)) i 0 low
+        ∙ getD-drop 4 (blockAt file k) i 0
+        ∙ block-at file k (4 + i) (omega arith)
+        ∙ ap (λ j. getD file j 0) place
+
+    rest-cons : (i : ℕ) → i < 504 → allZero (drop i content) ≡ (eqb (getD file (512 * k + 4 + i) 0) 0 && allZero (drop (i + 1) content))
+    unfolding allZero every
+    rest-cons i low = rw (drop-cons content i 0 (omega (arith, content-length)), add-one i, content-at i low)
+
+    module _ (i : ℕ) (rest : Rest i) where
+      pub rest-more : i < 504 → getD file (512 * k + 4 + i) 0 ≡ 0 → Rest (i + 1)
+      rest-more low zero = rest ∙ rw (rest-cons i low, eq-eqb (getD file (512 * k + 4 + i) 0) 0 zero)
+
+      pub rest-not : i < 504 → (getD file (512 * k + 4 + i) 0 ≡ 0 → ⊥) → false ≡ allZero (padding (blockAt file k))
+      rest-not low other = sym (rest ∙ rw (rest-cons i low, ne-eqb (getD file (512 * k + 4 + i) 0) 0 other))
+
+      pub rest-none : 504 ≤ i → true ≡ allZero (padding (blockAt file k))
+      unfolding allZero every
+      rest-none past =
+          let behind : length content ≤ i = omega (arith, content-length) in
+          sym (rest ∙ rw (drop-of-length-le content behind))

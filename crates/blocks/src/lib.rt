@@ -8,7 +8,7 @@ ghost use lib.Seq.{paste};
 ghost use Rattle.definition.specs.Basics.{concat, from};
 ghost use Rattle.definition.specs.Run.{overwrite};
 ghost use Rattle.definition.specs.Blocks.{weighted, blocksFor, writtenBlock, writeBlocks};
-ghost use Rattle.definition.specs.Blocks.{rightUse, rightBlock, blockAt, usedIn, readBlocks, blocksAfter};
+ghost use Rattle.definition.specs.Blocks.{rightUse, padding, allZero, rightBlock, blockAt, usedIn, readBlocks, blocksAfter};
 ghost use Rattle.blocks.specs.Answers.{readAnswer, writtenAnswer, lengthOf, numbersOf, Told};
 ghost use Rattle.blocks.specs.File.{dataOf, RightBelow};
 
@@ -153,6 +153,22 @@ fn used_in(file: &[u8], k: usize) -> usize
     writer::get_u16(file, BLOCK * k + 2) as usize
 }
 
+// Whether the bytes of block k behind the used ones are zero.
+fn zero_padding(file: &[u8], k: usize) -> bool
+    requires { ⌜ 512 * k + 512 ≤ length (now file) ⌝ }
+    ensures { λ r. ⌜ r ≡ allZero (padding (blockAt (now (file .entry)) k)) ⌝ }
+{
+    let content = BLOCK * k + HEAD;
+    let mut i = used_in(file, k);
+    while i < CONTENT {
+        if file[content + i] != 0 {
+            return false;
+        }
+        i += 1;
+    }
+    true
+}
+
 fn right_block(file: &[u8], n: usize, k: usize) -> bool
     requires { ⌜ (k < n) × (k < 2081) × (512 * k + 512 ≤ length (now file)) ⌝ }
     ensures { λ r. ⌜ r ≡ rightBlock n (now (file .entry)) k ⌝ }
@@ -165,7 +181,11 @@ fn right_block(file: &[u8], n: usize, k: usize) -> bool
     if writer::get_u16(file, base) as usize != k {
         return false;
     }
-    right_use(n, k, used_in(file, k))
+    let used = used_in(file, k);
+    if !right_use(n, k, used) {
+        return false;
+    }
+    zero_padding(file, k)
 }
 
 // The first block that isn't right, or n.

@@ -141,6 +141,10 @@ fn line(what: &[u8], n: usize, room: usize, code: u32, place: usize, size: usize
     io::print_decimal(1, place as u64);
     io::write_all(1, b" ");
     io::print_decimal(1, size as u64);
+    verdict(right);
+}
+
+fn verdict(right: bool) {
     if right {
         io::write_all(1, b" ok\n");
     } else {
@@ -272,7 +276,7 @@ const DAMAGES: [[usize; 5]; 10] = [
     [1010, 1023, 0xde, 1023, 0xde],
     // a byte of block 1
     [1010, 516, 3, 516, 3],
-    // a byte of block 2 that isn't used; then its check too, which is right again
+    // a byte of block 2 that isn't used; then its check too, which is right again: only the padding is wrong
     [1010, 1124, 1, 1124, 1],
     [1010, 1124, 1, 1535, 0x92],
     // block 1 with number 2, and its check
@@ -299,6 +303,99 @@ fn damages(job: &mut [u8], file: &mut [u8]) {
     }
 }
 
+// Reads a file that ends with block k: 1 if it is refused with 19 at that block, else 0.
+fn refused_at(file: &[u8], out: &mut [u8], k: usize) -> usize
+    ensures { λ r. ⌜ r ≤ 1 ⌝ }
+{
+    let mut place = 9;
+    let mut size = 9;
+    let code = blocks::blocks_read(file, out, &mut place, &mut size);
+    if code != 19 {
+        return 0;
+    }
+    if place != k {
+        return 0;
+    }
+    if size != 0 {
+        return 0;
+    }
+    1
+}
+
+fn put_check(file: &mut [u8], at: usize, check: usize)
+    requires { ⌜ at < 65536 ⌝ }
+{
+    put(file, at, (check / 16777216 % 256) as u8);
+    put(file, at + 1, (check / 65536 % 256) as u8);
+    put(file, at + 2, (check / 256 % 256) as u8);
+    put(file, at + 3, (check % 256) as u8);
+}
+
+// How many of the values 1 to 255 at a place of block k, with the check that goes with them, are refused.
+fn refused_values(file: &mut [u8], out: &mut [u8], k: usize, place: usize, check: usize) -> usize
+    requires { ⌜ k < 100 ⌝ }
+    requires { ⌜ place < 508 ⌝ }
+    ensures { λ r. ⌜ r ≤ 255 ⌝ }
+{
+    let mut refused = 0;
+    let mut value: usize = 0;
+    let mut sum = check % 4294967296;
+    while value < 255 {
+        value += 1;
+        sum += place + 1;
+        put(file, 512 * k + place, value as u8);
+        put_check(file, 512 * k + 508, sum);
+        refused += refused_at(file, out, k);
+    }
+    put(file, 512 * k + place, 0);
+    refused
+}
+
+// Old memory in the last block of a job's file: each value at each place behind the used bytes is refused, and nothing is written.
+fn old_memory(file: &mut [u8], out: &mut [u8], size: usize) {
+    let k = size / 504 % 100;
+    let used = used_of(size, k);
+    let check = check_of(k, used);
+    fill(file, FILE, size, 512 * (k + 1));
+    fill(out, JOB, 0, 0);
+    let mut refused = 0;
+    let mut place = 4 + used;
+    while place < 508 {
+        refused += refused_values(file, out, k, place, check);
+        place += 1;
+    }
+    count_line(size, refused, 255 * (504 - used), k, holds(out, JOB, 0, 0));
+}
+
+// How many of the files were refused at block k, and whether the output is as it was.
+fn count_line(size: usize, refused: usize, files: usize, k: usize, right: bool) {
+    io::write_all(1, b"old memory behind ");
+    io::print_decimal(1, size as u64);
+    io::write_all(1, b" bytes: ");
+    io::print_decimal(1, refused as u64);
+    io::write_all(1, b" of ");
+    io::print_decimal(1, files as u64);
+    io::write_all(1, b" refused at block ");
+    io::print_decimal(1, k as u64);
+    verdict(right);
+}
+
+// Old memory in a file of n bytes.
+fn remember(file: &mut [u8], n: usize, out: &mut [u8], room: usize, size: usize) {
+    if n <= file.len() {
+        if room <= out.len() {
+            old_memory(&mut file[..n], &mut out[..room], size);
+        }
+    }
+}
+
+// An empty job, and jobs of three blocks with much padding and with one byte of it.
+fn old_memories(job: &mut [u8], file: &mut [u8]) {
+    remember(file, 512, job, 20, 0);
+    remember(file, 1536, job, 1600, 1010);
+    remember(file, 1536, job, 1600, 1511);
+}
+
 fn case_b(job: &mut [u8], file: &mut [u8]) {
     write(job, JOB_B, 18, file, FILE_B, 513);
     fill(file, FILE_B, 0, 512);
@@ -310,6 +407,7 @@ fn run(job: &mut [u8], file: &mut [u8]) {
     writes(job, file);
     reads(job, file);
     damages(job, file);
+    old_memories(job, file);
 }
 
 fn main() {

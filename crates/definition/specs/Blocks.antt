@@ -5,7 +5,7 @@ use mathlib.Core.Option.{Option, none, some}
 use Prim.Native.Nat.{ℕ, zero, suc, _+_, _*_, _-_, _/_, _%_}
 use lib.Dec.{eqb, leb, ltb}
 use lib.ListN.{length, take, drop, getD, replicate}
-use Rattle.definition.specs.Basics.{Result, good, bad, _>>=_, Refusal, atRecord, unless, same, concat, from}
+use Rattle.definition.specs.Basics.{Result, good, bad, _>>=_, Refusal, atRecord, unless, same, every, concat, from}
 use Rattle.definition.specs.Bytes.{be2, be4}
 use Rattle.definition.specs.Ascii.{ascii, decimal, hex}
 use Rattle.definition.specs.Run.{Built, Lent, longestJob, run, overwrite}
@@ -36,11 +36,19 @@ unfoldable pub rightUse : Bool → Bool → ℕ → Bool
 rightUse only false used = eqb used 504
 rightUse only true used = leb used 504 && (only || leb 1 used)
 
--- block k of n is right: its check, its number and its use
+-- the unused bytes of a block: those of its 504 behind the used ones
+unfoldable pub padding : List ℕ → List ℕ
+padding b = drop (usedIn b) (take 504 (drop 4 b))
+
+unfoldable pub allZero : List ℕ → Bool
+allZero bytes = every (λ b. eqb b 0) bytes
+
+-- block k of n is right: its check, its number, its use, and then its padding, which must be zero
 unfoldable pub rightBlock : ℕ → List ℕ → ℕ → Bool
 rightBlock n file k =
     let b = blockAt file k in
-    same (drop 508 b) (be4 (weighted 0 (take 508 b))) && (same (take 2 b) (be2 k) && rightUse (eqb n 1) (eqb (suc k) n) (usedIn b))
+    same (drop 508 b) (be4 (weighted 0 (take 508 b)))
+    && (same (take 2 b) (be2 k) && (rightUse (eqb n 1) (eqb (suc k) n) (usedIn b) && allZero (padding b)))
 
 -- 19 for the first block, from k on, that isn't right
 unfoldable pub blocksRight : ℕ → List ℕ → ℕ → ℕ → Result Refusal (Unit {0})

@@ -11,7 +11,7 @@ use mathlib.Core.Option.{Option, none, some, Option·map}
 use mathlib.Core.Path.{_≡_}
 use Prim.Native.Nat.{ℕ, zero, suc, _+_, _*_, _%_, _≤_, _<_}
 use lib.Dec.{eqb}
-use lib.ListN.{length, take, getD, getElem?}
+use lib.ListN.{length, getD, getElem?}
 use Rattle.definition.specs.Basics.{good, bad, Refusal, only, concat, lookup, from}
 use Rattle.definition.specs.Shapes.{Kind, bootstrap, bootstrapTag, Entry, withLiteral, isWide}
 use Rattle.definition.specs.Job.{Reference, entry, Definition, define, named, placed, Request, Build, Job}
@@ -24,7 +24,7 @@ use Rattle.definition.specs.Building.{Pool, allocate, Row, Rows, indexOf, rowIn
 use Rattle.definition.specs.Layout.{Ready, endDefinitions, classSlotOf, Layout, indexNodes, layout}
 use Rattle.definition.specs.Run.{shown, Built, render, Lent, Memory, lentOf, longestJob, memoryAfter, run}
 use Rattle.definition.specs.Jvms.{Shown}
-use Rattle.definition.specs.Blocks.{block, blockCount, blockAt, blockData, rightUse, rightBlock, mostBlocks}
+use Rattle.definition.specs.Blocks.{blockCount, blockAt, blockData, rightBlock, mostBlocks}
 use Rattle.definition.specs.Blocks.{readBlocks, blocksFor, writeBlocks, blocksAfter}
 use Rattle.facts.specs.Lists.{Among}
 use Rattle.jvms.specs.Pool.{Slot, BootstrapMethod, read-pool, read-bootstrap-methods}
@@ -273,15 +273,18 @@ Holds =
     × (read-bootstrap-methods (b .bootstrapCount) (b .bootstraps) ≡ some methods)
     × HeldBy (record { definitions = job .definitions; pool = map asShown pool; bootstraps = map asRow methods }) (job .requests) (job .build) b
 
--- BLOCKS READ: a file of bytes is accepted exactly if it is the blocks of n parts, at most 2,081, and the job is their used bytes, joined,
--- isn't too long and has room. A part has 504 bytes; all but the last use 504, the last at least 1, and 0 only if it is the only one
+-- BLOCKS READ: reading accepts exactly what writing produces. A file of bytes is read as a job exactly if the job has room and writing it,
+-- with room for the file, gives that file
 abbrev pub BlocksRead : Type 0
 BlocksRead =
-    (room : ℕ) (file job : List ℕ) → IsBytes file → (readBlocks room file ≡ good job)
-    ↔ ((n : ℕ) × (used : ℕ → ℕ) × (part : ℕ → List ℕ) × (1 ≤ n) × (n ≤ mostBlocks)
-    × ((k : ℕ) → k < n → (length (part k) ≡ 504) × (rightUse (eqb n 1) (eqb (suc k) n) (used k) ≡ true))
-    × (file ≡ concat (from (λ k. block k (used k) (part k)) 0 n)) × (job ≡ concat (from (λ k. take (used k) (part k)) 0 n))
-    × (length job ≤ longestJob) × (length job ≤ room))
+    (room room′ : ℕ) (file job : List ℕ) → IsBytes file → length file ≤ room′ →
+    (readBlocks room file ≡ good job) ↔ ((length job ≤ room) × (writeBlocks room′ job ≡ good file))
+
+-- ONE FILE: one job has one file. Two files of bytes that are read as the same job are the same
+abbrev pub OneFile : Type 0
+OneFile =
+    (room room′ : ℕ) (file file′ job : List ℕ) → IsBytes file → IsBytes file′ →
+    readBlocks room file ≡ good job → readBlocks room′ file′ ≡ good job → file ≡ file′
 
 -- BLOCKS BACK: reading what writing wrote gives the job back
 abbrev pub BlocksBack : Type 0

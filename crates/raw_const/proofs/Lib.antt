@@ -1,4 +1,5 @@
 pub mod Shaped
+pub mod Table
 pub mod Writes
 pub mod Rows
 pub mod Readers

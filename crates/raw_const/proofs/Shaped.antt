@@ -8,13 +8,13 @@ use Rattle.definition.specs.Basics.{lookup}
 use Rattle.definition.specs.Bytes.{be2}
 use Rattle.definition.specs.Shapes.{constant, bootstrap, Field, text, bits, byte, to, toMany, shapes, Entry, writeFields}
 use Rattle.definition.specs.Run.{entryBytes}
-use Rattle.raw_const.specs.Entries.{fieldsOf, listed, references, entryOf, LiteralFits, Wrote, lengthOf}
+use Rattle.raw_const.specs.Entries.{fieldsOf, listed, references, entryOf, LiteralFits, lengthOf}
 use Rattle.raw_const.specs.declared.Shape.{Shape}
 use Rattle.raw_const.specs.declared.Shape.the-variants.{Text, Bits, One, Two, Dynamic, KindOne, Unknown}
 use Rattle.facts.proofs.Tables.{looked-up}
 
 -- the bytes of an entry of a shape
-abbrev pub shapeBytes : Shape → ℕ → ℕ → List ℕ → ℕ → ℕ → List ℕ
+abbrev shapeBytes : Shape → ℕ → ℕ → List ℕ → ℕ → ℕ → List ℕ
 shapeBytes Text tag kind literal first second = tag ∷ be2 (length literal) ++ literal
 shapeBytes (Bits size) tag kind literal first second = tag ∷ literal
 shapeBytes One tag kind literal first second = tag ∷ be2 first
@@ -69,22 +69,11 @@ module _ (tag kind : ℕ) (literal : List ℕ) (first second : ℕ) where
   kids-taken KindOne = refl
   kids-taken Unknown = refl
 
-  module _ (s : Shape) (known : fieldsOf s ≡ lookup tag shapes) where
-    parts-bytes : entryBytes (entryOf tag kind literal first second) ≡ shapeBytes s tag kind literal first second
-    unfolding entryOf
-    parts-bytes = entry-bytes s (entryOf tag kind literal first second) known ∙ rw (← known) (kids-taken s)
-
-    -- what was written is the entry
-    pub wrote-entry :
-        {d d₁ : List ℕ} {at r : ℕ} →
-        Wrote d at (shapeBytes s tag kind literal first second) d₁ r → Wrote d at (entryBytes (entryOf tag kind literal first second)) d₁ r
-    wrote-entry w = rw parts-bytes w
-
-    -- how many bytes it takes
-    pub entry-room :
-        (size : ℕ) → LiteralFits (lookup tag shapes) size → length literal ≡ size →
-        lengthOf s size ≡ length (entryBytes (entryOf tag kind literal first second))
-    entry-room size fits n = rw (parts-bytes, ← n) (shape-size s tag kind literal first second (rw (known, n) fits))
+  parts-bytes :
+      (s : Shape) → fieldsOf s ≡ lookup tag shapes →
+      entryBytes (entryOf tag kind literal first second) ≡ shapeBytes s tag kind literal first second
+  unfolding entryOf
+  parts-bytes s known = entry-bytes s (entryOf tag kind literal first second) known ∙ rw (← known) (kids-taken s)
 
 -- the shape that fields are of
 abbrev pub shapeFor : List Field → Shape

@@ -1,5 +1,5 @@
 -- Bytes written at a place, piece by piece. Assumes nothing.
-use mathlib.Core.Path.{_≡_, refl, sym, _∙_}
+use mathlib.Core.Path.{_≡_, refl, sym, subst, _∙_}
 use mathlib.Core.List.{List, [], _∷_, _++_}
 use Prim.Native.Nat.{ℕ, _+_, _<_, _≤_}
 use native.Mathlib.Nat.{le-refl, add-assoc, add-zero}
@@ -20,6 +20,10 @@ wrote-then {d} {a = a} {b} {at} first room second =
       out = rw (second .out, first .next, first .out, length-append) (paste-paste d a b at (length b) room);
       next = rw (second .next, first .next, length-append) (add-assoc at (length a) (length b));
     }
+
+-- the same bytes
+pub wrote-as : {d d₁ a b : List ℕ} {at r : ℕ} → a ≡ b → Wrote d at a d₁ r → Wrote d at b d₁ r
+wrote-as {d} {d₁} {at = at} {r} e = subst (λ (l : List ℕ). Wrote d at l d₁ r) e
 
 -- no bytes
 pub wrote-nothing : (d : List ℕ) (at : ℕ) → Wrote d at [] d at

@@ -1,11 +1,14 @@
 -- The code's shapes beside the definition's table, entries from their parts, and what the writers and the reader say. Assumes nothing.
 use mathlib.Core.Path.{_≡_}
-use mathlib.Core.List.{List, [], _∷_}
+use mathlib.Core.Bool.{true, false}
+use mathlib.Core.List.{List, [], _∷_, _++_, tail}
 use mathlib.Core.Option.{Option, none, some}
 use Prim.Native.Nat.{ℕ, suc, _+_, _-_, _<_}
+use lib.Dec.{eqb}
 use lib.ListN.{length, take, drop}
 use lib.Seq.{paste}
 use Rattle.definition.specs.Basics.{lookup}
+use Rattle.definition.specs.Bytes.{be2}
 use Rattle.definition.specs.Shapes.{constant, bootstrap, Field, text, bits, byte, to, toMany, shapes, Entry}
 use Rattle.definition.specs.Run.{entryBytes, rowBytes}
 use Rattle.definition.specs.Jvms.{cpInfo}
@@ -13,6 +16,39 @@ use Rattle.raw_const.specs.declared.Shape.{Shape}
 use Rattle.raw_const.specs.declared.Shape.the-variants.{Text, Bits, One, Two, Dynamic, KindOne, Unknown}
 use Rattle.raw_const.specs.declared.Extent.{Extent}
 use Rattle.raw_const.specs.declared.Extent.the-variants.{Entry as Whole, Bad}
+
+-- a field's code in the code's table, and the row that a tag has there by its fields: the tag and two codes, 0 for what isn't there
+abbrev pub codeOf : Field → ℕ
+codeOf text = 1
+codeOf (bits size) = elim (eqb size 4) [ true ↦ 2 | false ↦ 3 ]
+codeOf byte = 4
+codeOf (to constant) = 5
+codeOf (to bootstrap) = 6
+codeOf toMany = 7
+
+abbrev pub codeAt : List Field → ℕ
+codeAt [] = 0
+codeAt (field ∷ fields) = codeOf field
+
+abbrev pub rowOf : ℕ → Option (List Field) → List ℕ
+rowOf tag none = 0 ∷ 0 ∷ 0 ∷ []
+rowOf tag (some fields) = tag ∷ codeAt fields ∷ codeAt (tail fields) ∷ []
+
+-- the bytes of the field with a code, by the literal, the kind byte and the reference that are to stand in it
+abbrev pub bytesFound : Option (List ℕ) → List ℕ
+bytesFound none = []
+bytesFound (some bytes) = bytes
+
+abbrev pub fieldTable : ℕ → List ℕ → ℕ → List (ℕ × List ℕ)
+fieldTable kind literal index =
+    (1, be2 (length literal) ++ literal) ∷ (2, literal) ∷ (3, literal) ∷ (4, kind ∷ []) ∷ (5, be2 index) ∷ (6, be2 index) ∷ []
+
+abbrev pub fieldBytes : ℕ → ℕ → List ℕ → ℕ → List ℕ
+fieldBytes code kind literal index = bytesFound (lookup code (fieldTable kind literal index))
+
+-- the reference behind the first field: behind a kind byte it is the first one
+abbrev pub secondIndex : ℕ → ℕ → ℕ → ℕ
+secondIndex code first second = elim (eqb code 4) [ true ↦ first | false ↦ second ]
 
 -- the fields that a shape stands for, none where there is no such tag
 abbrev pub fieldsOf : Shape → Option (List Field)

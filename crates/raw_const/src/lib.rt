@@ -8,7 +8,67 @@ ghost use Rattle.definition.specs.Basics.{lookup, concat};
 ghost use Rattle.definition.specs.Bytes.{two, be2};
 ghost use Rattle.definition.specs.Shapes.{isWide, shapes};
 ghost use Rattle.definition.specs.Run.{entryBytes, rowBytes};
-ghost use Rattle.raw_const.specs.Entries.{fieldsOf, entryOf, LiteralFits, Wrote, EntryTakes, RowTakes, lengthOf, numberRead, ReadAt};
+ghost use Rattle.raw_const.specs.Entries.{rowOf, fieldBytes, secondIndex, fieldsOf, entryOf, LiteralFits, Wrote, EntryTakes, RowTakes, lengthOf, numberRead, ReadAt};
+
+// THE TABLE OF JVMS 4.4: a row for each tag, with its fields in the page's order, at the place of its number. Everything here that goes
+// by a tag goes by its row.
+const ENTRIES: [[u8; 3]; 21] = [
+    NO_ENTRY, // 0
+    [1, TEXT, NONE], // 4.4.7 CONSTANT_Utf8: length, bytes
+    NO_ENTRY, // 2
+    [3, BITS_32, NONE], // 4.4.4 CONSTANT_Integer: bytes
+    [4, BITS_32, NONE], // 4.4.4 CONSTANT_Float: bytes
+    [5, BITS_64, NONE], // 4.4.5 CONSTANT_Long: high_bytes, low_bytes
+    [6, BITS_64, NONE], // 4.4.5 CONSTANT_Double: high_bytes, low_bytes
+    [7, INDEX, NONE], // 4.4.1 CONSTANT_Class: name_index
+    [8, INDEX, NONE], // 4.4.3 CONSTANT_String: string_index
+    [9, INDEX, INDEX], // 4.4.2 CONSTANT_Fieldref: class_index, name_and_type_index
+    [10, INDEX, INDEX], // 4.4.2 CONSTANT_Methodref: class_index, name_and_type_index
+    [11, INDEX, INDEX], // 4.4.2 CONSTANT_InterfaceMethodref: class_index, name_and_type_index
+    [12, INDEX, INDEX], // 4.4.6 CONSTANT_NameAndType: name_index, descriptor_index
+    NO_ENTRY, // 13
+    NO_ENTRY, // 14
+    [15, KIND, INDEX], // 4.4.8 CONSTANT_MethodHandle: reference_kind, reference_index
+    [16, INDEX, NONE], // 4.4.9 CONSTANT_MethodType: descriptor_index
+    [17, BOOTSTRAP, INDEX], // 4.4.10 CONSTANT_Dynamic: bootstrap_method_attr_index, name_and_type_index
+    [18, BOOTSTRAP, INDEX], // 4.4.10 CONSTANT_InvokeDynamic: bootstrap_method_attr_index, name_and_type_index
+    [19, INDEX, NONE], // 4.4.11 CONSTANT_Module: name_index
+    [20, INDEX, NONE], // 4.4.12 CONSTANT_Package: name_index
+];
+
+// There is no entry with this tag.
+const NO_ENTRY: [u8; 3] = [0, NONE, NONE];
+
+// A field of an entry. None, or none further.
+const NONE: u8 = 0;
+
+// Two bytes of length, then so many bytes of a text.
+const TEXT: u8 = 1;
+
+// A number's bits, in four bytes or eight.
+const BITS_32: u8 = 2;
+
+const BITS_64: u8 = 3;
+
+// One byte, a method handle's kind.
+const KIND: u8 = 4;
+
+// Two bytes, the index of a constant.
+const INDEX: u8 = 5;
+
+// Two bytes, the index of a bootstrap method.
+const BOOTSTRAP: u8 = 6;
+
+// The row of a tag.
+fn row_of(tag: u8) -> [u8; 3]
+    ensures { λ r. ⌜ r ≡ rowOf tag (lookup tag shapes) ⌝ }
+{
+    if tag < 21 {
+        ENTRIES[tag as usize]
+    } else {
+        NO_ENTRY
+    }
+}
 
 // What follows an entry's tag.
 pub enum Shape {
@@ -36,39 +96,32 @@ pub enum Extent {
     Bad,
 }
 
-// Long and Double take two slots (JVMS 4.4.5).
+// Long and Double, the numbers of eight bytes, take two slots (JVMS 4.4.5).
 pub fn is_long(tag: u8) -> bool
     ensures { λ r. ⌜ r ≡ isWide tag ⌝ }
 {
-    match tag {
-        5 => true,
-        6 => true,
-        _ => false,
-    }
+    let row = row_of(tag);
+    row[1] == BITS_64
 }
 
-// The table of JVMS 4.4, tag by tag.
+// The fields of a tag's row as one of the shapes that they make.
 pub fn shape_of(tag: u8) -> Shape
     ensures { λ r. ⌜ fieldsOf r ≡ lookup tag shapes ⌝ }
 {
-    match tag {
-        1 => Shape::Text, // 4.4.7 Utf8: length, bytes
-        3 => Shape::Bits(4), // 4.4.4 Integer: bytes
-        4 => Shape::Bits(4), // 4.4.4 Float: bytes
-        5 => Shape::Bits(8), // 4.4.5 Long: high_bytes, low_bytes
-        6 => Shape::Bits(8), // 4.4.5 Double: high_bytes, low_bytes
-        7 => Shape::One, // 4.4.1 Class: name_index
-        8 => Shape::One, // 4.4.3 String: string_index
-        9 => Shape::Two, // 4.4.2 Fieldref: class_index, name_and_type_index
-        10 => Shape::Two, // 4.4.2 Methodref: class_index, name_and_type_index
-        11 => Shape::Two, // 4.4.2 InterfaceMethodref: class_index, name_and_type_index
-        12 => Shape::Two, // 4.4.6 NameAndType: name_index, descriptor_index
-        15 => Shape::KindOne, // 4.4.8 MethodHandle: reference_kind, reference_index
-        16 => Shape::One, // 4.4.9 MethodType: descriptor_index
-        17 => Shape::Dynamic, // 4.4.10 Dynamic: bootstrap_method_attr_index, name_and_type_index
-        18 => Shape::Dynamic, // 4.4.10 InvokeDynamic: bootstrap_method_attr_index, name_and_type_index
-        19 => Shape::One, // 4.4.11 Module: name_index
-        20 => Shape::One, // 4.4.12 Package: name_index
+    let row = row_of(tag);
+    match row[1] {
+        TEXT => Shape::Text,
+        BITS_32 => Shape::Bits(4),
+        BITS_64 => Shape::Bits(8),
+        KIND => Shape::KindOne,
+        INDEX => {
+            if row[2] == NONE {
+                Shape::One
+            } else {
+                Shape::Two
+            }
+        }
+        BOOTSTRAP => Shape::Dynamic,
         _ => Shape::Unknown,
     }
 }
@@ -97,7 +150,7 @@ pub fn entry_length(tag: u8, literal: usize) -> usize
     shape_length(shape_of(tag), literal)
 }
 
-// The pieces of an entry, and then entries by their shapes: each returns the place behind what it wrote.
+// The pieces of an entry: each returns the place behind what it wrote.
 fn write_byte(out: &mut [u8], at: usize, x: u8) -> usize
     requires { ⌜ at < length (now out) ⌝ }
     ensures { λ r. ⌜ Wrote (now (out .entry)) at (x ∷ []) (now (out .exit)) r ⌝ }
@@ -123,52 +176,51 @@ fn write_bytes(out: &mut [u8], at: usize, text: &[u8], from: usize, size: usize)
     at + size
 }
 
-fn write_text(out: &mut [u8], at: usize, tag: u8, text: &[u8], from: usize, size: usize) -> usize
+fn write_text(out: &mut [u8], at: usize, text: &[u8], from: usize, size: usize) -> usize
     requires { ⌜ size < 65536 ⌝ }
     requires { ⌜ from + size ≤ length (now text) ⌝ }
-    requires { ⌜ at + 3 + size ≤ length (now out) ⌝ }
-    ensures { λ r. ⌜ Wrote (now (out .entry)) at (tag ∷ be2 size ++ take size (drop from (now (text .entry)))) (now (out .exit)) r ⌝ }
+    requires { ⌜ at + 2 + size ≤ length (now out) ⌝ }
+    ensures { λ r. ⌜ Wrote (now (out .entry)) at (be2 size ++ take size (drop from (now (text .entry)))) (now (out .exit)) r ⌝ }
 {
-    let next = write_byte(out, at, tag);
-    let next = write_short(out, next, size as u16);
+    let next = write_short(out, at, size as u16);
     write_bytes(out, next, text, from, size)
 }
 
-fn write_bits(out: &mut [u8], at: usize, tag: u8, text: &[u8], from: usize, size: usize) -> usize
+// Writes one field of a row: a literal is `size` bytes of `text`.
+fn write_field(
+    out: &mut [u8],
+    at: usize,
+    field: u8,
+    kind: u8,
+    text: &[u8],
+    from: usize,
+    size: usize,
+    index: u16,
+) -> usize
+    requires { ⌜ (field ≡ 1 → size < 65536) ⌝ }
     requires { ⌜ from + size ≤ length (now text) ⌝ }
-    requires { ⌜ at + 1 + size ≤ length (now out) ⌝ }
-    ensures { λ r. ⌜ Wrote (now (out .entry)) at (tag ∷ take size (drop from (now (text .entry)))) (now (out .exit)) r ⌝ }
+    requires { ⌜ at + length (fieldBytes field kind (take size (drop from (now text))) index) ≤ length (now out) ⌝ }
+    ensures { λ r. ⌜ Wrote (now (out .entry)) at (fieldBytes field kind (take size (drop from (now (text .entry)))) index) (now (out .exit)) r ⌝ }
 {
-    let next = write_byte(out, at, tag);
-    write_bytes(out, next, text, from, size)
+    match field {
+        TEXT => write_text(out, at, text, from, size),
+        BITS_32 => write_bytes(out, at, text, from, size),
+        BITS_64 => write_bytes(out, at, text, from, size),
+        KIND => write_byte(out, at, kind),
+        INDEX => write_short(out, at, index),
+        BOOTSTRAP => write_short(out, at, index),
+        _ => at,
+    }
 }
 
-fn write_one(out: &mut [u8], at: usize, tag: u8, first: u16) -> usize
-    requires { ⌜ at + 3 ≤ length (now out) ⌝ }
-    ensures { λ r. ⌜ Wrote (now (out .entry)) at (tag ∷ be2 first) (now (out .exit)) r ⌝ }
+// The reference behind a row's first field: behind a kind byte it is the first one.
+fn second_index(field: u8, first: u16, second: u16) -> u16
+    ensures { λ r. ⌜ r ≡ secondIndex field first second ⌝ }
 {
-    let next = write_byte(out, at, tag);
-    write_short(out, next, first)
+    if field == KIND { first } else { second }
 }
 
-fn write_two(out: &mut [u8], at: usize, tag: u8, first: u16, second: u16) -> usize
-    requires { ⌜ at + 5 ≤ length (now out) ⌝ }
-    ensures { λ r. ⌜ Wrote (now (out .entry)) at (tag ∷ be2 first ++ be2 second) (now (out .exit)) r ⌝ }
-{
-    let next = write_one(out, at, tag, first);
-    write_short(out, next, second)
-}
-
-// What follows the tag is laid out as an entry of one index, with the kind byte in the tag's place.
-fn write_kind_one(out: &mut [u8], at: usize, tag: u8, kind: u8, first: u16) -> usize
-    requires { ⌜ at + 4 ≤ length (now out) ⌝ }
-    ensures { λ r. ⌜ Wrote (now (out .entry)) at (tag ∷ kind ∷ be2 first) (now (out .exit)) r ⌝ }
-{
-    let next = write_byte(out, at, tag);
-    write_one(out, next, kind, first)
-}
-
-// Writes the entry of a tag whose literal is `size` bytes of `text`, with its kind byte and its references, as far as it has them.
+// Writes the entry of a tag along its row: a literal of `size` bytes of `text`, its kind byte and its references, as far as it has them.
 // A tag that isn't there writes nothing.
 pub fn write_entry(
     out: &mut [u8],
@@ -186,16 +238,14 @@ pub fn write_entry(
     requires { ⌜ at + length (entryBytes (entryOf tag kind (take size (drop from (now text))) first second)) ≤ length (now out) ⌝ }
     ensures { λ r. ⌜ Wrote (now (out .entry)) at (entryBytes (entryOf tag kind (take size (drop from (now (text .entry)))) first second)) (now (out .exit)) r ⌝ }
 {
-    let fields = shape_of(tag);
-    match fields {
-        Shape::Text => write_text(out, at, tag, text, from, size),
-        Shape::Bits(_) => write_bits(out, at, tag, text, from, size),
-        Shape::One => write_one(out, at, tag, first),
-        Shape::Two => write_two(out, at, tag, first, second),
-        Shape::Dynamic => write_two(out, at, tag, first, second),
-        Shape::KindOne => write_kind_one(out, at, tag, kind, first),
-        Shape::Unknown => at,
+    let row = row_of(tag);
+    if row[1] == NONE {
+        return at;
     }
+    let next = write_byte(out, at, row[0]);
+    let next = write_field(out, next, row[1], kind, text, from, size, first);
+    let index = second_index(row[1], first, second);
+    write_field(out, next, row[2], kind, text, from, size, index)
 }
 
 // How many bytes a bootstrap row of so many numbers takes, a handle and its arguments.

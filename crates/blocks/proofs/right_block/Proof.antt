@@ -1,7 +1,9 @@
--- `blocks::right_block` meets its contract. Check, number and use, as numbers, decide as the definition's bytes do. Assumes nothing.
+-- `blocks::right_block` meets its contract. Check, number and use, as numbers, and the padding decide as the definition's bytes do. Assumes nothing.
+use mathlib.Core.Path.{sym, _∙_}
 use native.Mathlib.Omega.{arith}
 use borrow.Author.Needs.{needs}
-use Rattle.blocks.proofs.Right.{wrong-check, wrong-number, as-use}
+use borrow.Author.Tests.{not-true, not-false}
+use Rattle.blocks.proofs.Right.{wrong-check, wrong-number, wrong-use, as-padding}
 use Rattle.blocks.proofs.right_block.Statement.{statement}
 use Rattle.blocks.proofs.right_block.Tie as tie
 
@@ -85,7 +87,8 @@ right-use-requires c κs = search needs
 
 returns-3 : tie.Need-returns-3
 returns-3 c =
-    let used = c .before in
+    let uses = c .before in
+    let used = uses .before in
     let tested′ = used .before in
     let numbered = tested′ .before in
     let tested = numbered .before in
@@ -93,8 +96,7 @@ returns-3 c =
     let checked = summed .before .before in
     let known = checked .before in
     let start = known .before in
-    rw (c .right-use .ensures, used .used-in .ensures)
-    (as-use
+    wrong-use
     (start .args .file .now)
     (start .args .k)
     (λ i. known .shared-slice-known .given i .fits)
@@ -109,7 +111,46 @@ returns-3 c =
     (numbered .get-u16 .result)
     (numbered .get-u16 .ensures)
     (tested .if1 .left)
-    (tested′ .if2 .left))
+    (tested′ .if2 .left)
+    (used .used-in .result)
+    (used .used-in .ensures)
+    (sym (uses .right-use .ensures) ∙ not-true (uses .right-use .result) (c .if3 .taken))
+
+zero-padding-requires : tie.Need-zero-padding-requires
+zero-padding-requires c κs = search needs
+
+returns-4 : tie.Need-returns-4
+returns-4 c =
+    let right = c .before in
+    let uses = right .before in
+    let used = uses .before in
+    let tested′ = used .before in
+    let numbered = tested′ .before in
+    let tested = numbered .before in
+    let summed = tested .before in
+    let checked = summed .before .before in
+    let known = checked .before in
+    let start = known .before in
+    c .zero-padding .ensures
+    ∙ as-padding
+    (start .args .file .now)
+    (start .args .k)
+    (λ i. known .shared-slice-known .given i .fits)
+    (start .pre .2)
+    (start .args .n)
+    (checked .get-u32 .result)
+    (summed .weighted-sum .result)
+    (start .pre .1)
+    (omega arith)
+    (checked .get-u32 .ensures)
+    (summed .weighted-sum .ensures)
+    (numbered .get-u16 .result)
+    (numbered .get-u16 .ensures)
+    (tested .if1 .left)
+    (tested′ .if2 .left)
+    (used .used-in .result)
+    (used .used-in .ensures)
+    (sym (uses .right-use .ensures) ∙ not-false (uses .right-use .result) (right .if3 .left))
 
 pub right-block-spec : {M : Type 1} → statement M
 right-block-spec =
@@ -128,4 +169,6 @@ right-block-spec =
     returns-2
     used-in-requires
     right-use-requires
-    returns-3)
+    returns-3
+    zero-padding-requires
+    returns-4)

@@ -6,10 +6,10 @@ use Prim.Native.Nat.{ℕ, suc, _+_, _*_, _≤_, _<_}
 use native.Mathlib.Nat.{zero-add}
 use native.Mathlib.Omega.{arith}
 use lib.Dec.{eqb}
-use lib.ListN.{length, take}
+use lib.ListN.{length, take, drop}
 use Rattle.definition.specs.Basics.{good, concat, from}
 use Rattle.definition.specs.Run.{longestJob}
-use Rattle.definition.specs.Blocks.{block, blockCount, blockAt, rightUse, rightBlock, blockData, mostBlocks, readBlocks}
+use Rattle.definition.specs.Blocks.{block, blockCount, blockAt, rightUse, allZero, rightBlock, blockData, mostBlocks, readBlocks}
 use Rattle.facts.proofs.Chunks.{from-same, length-joined, cut-out}
 use Rattle.laws.proofs.blocks.ReadingTests.{jobIn, isRead}
 use Rattle.laws.proofs.blocks.OneBlock.{length-block, block-data, used-most, block-right}
@@ -27,7 +27,8 @@ theirJob n p = concat (from (λ i. take (p i .0) (p i .1)) 0 n)
 
 -- they are as described
 abbrev pub Described : ℕ → (ℕ → Part) → Type 0
-Described n p = (i : ℕ) → i < n → (length (p i .1) ≡ 504) × (rightUse (eqb n 1) (eqb (suc i) n) (p i .0) ≡ true)
+Described n p =
+    (i : ℕ) → i < n → (length (p i .1) ≡ 504) × (rightUse (eqb n 1) (eqb (suc i) n) (p i .0) ≡ true) × (allZero (drop (p i .0) (p i .1)) ≡ true)
 
 module _ (n : ℕ) (p : ℕ → Part) (d : Described n p) where
   -- each block has 512 bytes, so the file has n blocks, and block i of it is the block of part i
@@ -49,7 +50,7 @@ module _ (n : ℕ) (p : ℕ → Part) (d : Described n p) where
   -- each block is right, and its data are the used bytes of its part
   file-right : (i : ℕ) → i < n → rightBlock n (theirFile n p) (0 + i) ≡ true
   file-right i h =
-      rw zero-add (block-right n (theirFile n p) i (p i .0) (p i .1) (file-block i h) (d i h .0) (d i h .1))
+      rw zero-add (block-right n (theirFile n p) i (p i .0) (p i .1) (file-block i h) (d i h .0) (d i h .1) (d i h .2))
 
   file-data : (i : ℕ) → i < n → blockData (blockAt (theirFile n p) i) ≡ take (p i .0) (p i .1)
   file-data i h =

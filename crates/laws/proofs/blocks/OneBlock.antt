@@ -2,14 +2,15 @@
 use mathlib.Core.Bool.{Bool, true, false, _||_}
 use mathlib.Core.List.{List, [], _∷_, _++_}
 use mathlib.Core.Path.{_≡_, refl, sym, ap, _∙_}
-use Prim.Native.Nat.{ℕ, suc, _+_, _*_, _/_, _%_, _≤_, _<_}
+use Prim.Native.Nat.{ℕ, zero, suc, _+_, _*_, _/_, _%_, _≤_, _<_}
 use native.Mathlib.Omega.{arith}
 use lib.Dec.{eqb, leb}
-use lib.ListN.{length, take, drop, getD, length-append, take-append-drop}
+use lib.ListN.{length, take, drop, getD, replicate, length-append, take-append-drop}
 use lib.Seq.{take-at, drop-at, take-append-le}
 use borrow.Author.Tests.{eqb-true, leb-true}
+use Rattle.definition.specs.Basics.{every}
 use Rattle.definition.specs.Bytes.{be2, be4}
-use Rattle.definition.specs.Blocks.{weighted, block, blockAt, usedIn, rightUse, rightBlock, blockData}
+use Rattle.definition.specs.Blocks.{weighted, block, blockAt, usedIn, rightUse, padding, allZero, rightBlock, blockData}
 use Rattle.facts.proofs.Lists.{both-true, same-refl}
 
 -- what stands in front of a block's check
@@ -50,23 +51,39 @@ module _ (k used : ℕ) (content : List ℕ) where
   unfolding block blockData be2 frontOf
   block-data l u = rw (block-used u) (take-append-le used content (be4 (weighted 0 (frontOf k used content))) (omega arith))
 
+  -- its padding is the rest of its content
+  pub block-padding : length content ≡ 504 → used ≤ 504 → padding (block k used content) ≡ drop used content
+  unfolding block padding be2 frontOf
+  block-padding l u =
+      rw (block-used u) (ap (drop used) (take-at content (be4 (weighted 0 (frontOf k used content))) 504 l))
+
 -- at most 504 bytes are used
 pub used-most : (only last : Bool) (used : ℕ) → rightUse only last used ≡ true → used ≤ 504
 unfolding rightUse
 used-most only false used e = omega (arith, eqb-true used 504 e)
 used-most only true used e = leb-true used 504 (both-true (leb used 504) (only || leb 1 used) e .0)
 
--- a file's block that is a block with its number and a right use is right
+-- 504 if the block isn't the last, and at least one if it is the last of several
+pub used-full : (only last : Bool) (used : ℕ) → last ≡ false → rightUse only last used ≡ true → used ≡ 504
+unfolding rightUse
+used-full only last used l e = eqb-true used 504 (rw l at e)
+
+pub used-some : (only last : Bool) (used : ℕ) → only ≡ false → last ≡ true → rightUse only last used ≡ true → 1 ≤ used
+unfolding rightUse
+used-some only last used o l e = leb-true 1 used (both-true (leb used 504) (leb 1 used) (rw (o, l) at e) .1)
+
+-- a file's block that is a block with its number, a right use and zeros behind it is right
 pub block-right :
     (n : ℕ) (file : List ℕ) (k used : ℕ) (content : List ℕ) →
     blockAt file k ≡ block k used content →
     length content ≡ 504 →
     rightUse (eqb n 1) (eqb (suc k) n) used ≡ true →
+    allZero (drop used content) ≡ true →
     rightBlock n file k ≡ true
 unfolding rightBlock
-block-right n file k used content e l u =
+block-right n file k used content e l u z =
     let most = used-most (eqb n 1) (eqb (suc k) n) used u in
-    rw (e, block-check k used content l, block-front k used content l, same-refl, block-number, same-refl, block-used k used content most) u
+    rw (e, block-check k used content l, block-front k used content l, same-refl, block-number, same-refl, block-used k used content most, u, block-padding k used content l most) z
 
 -- two bytes are the number that they make
 pub be2-bytes : (a b : ℕ) → a < 256 → b < 256 → be2 (256 * a + b) ≡ a ∷ b ∷ []
@@ -98,3 +115,16 @@ pub block-is :
 unfolding block frontOf
 block-is k b l x y number check =
     ap (λ (f : List ℕ). f ++ be4 (weighted 0 f)) (front-is k b l x y number) ∙ ap (λ (c : List ℕ). take 508 b ++ c) (sym check) ∙ take-append-drop 508 b
+
+-- bytes that are all zero are so many zeros, and zeros are
+pub zeros-are : (l : List ℕ) → allZero l ≡ true → l ≡ replicate (length l) 0
+unfolding allZero every
+zeros-are [] e = refl
+zeros-are (x ∷ l) e =
+    let t = both-true (eqb x 0) (every (λ b. eqb b 0) l) e in
+    λ i. eqb-true x 0 (t .0) i ∷ zeros-are l (t .1) i
+
+pub are-zeros : (n : ℕ) → allZero (replicate n 0) ≡ true
+unfolding allZero every
+are-zeros zero = refl
+are-zeros (suc n) = are-zeros n

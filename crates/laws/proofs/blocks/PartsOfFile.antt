@@ -10,7 +10,7 @@ use lib.ListN.{length, take, drop, getD, length-drop}
 use lib.Seq.{take-take, take-all, length-take-le, getD-drop, getD-take}
 use Rattle.definition.specs.Basics.{same, concat}
 use Rattle.definition.specs.Bytes.{be2, be4}
-use Rattle.definition.specs.Blocks.{weighted, block, blockCount, blockAt, usedIn, rightUse, rightBlock, blockData}
+use Rattle.definition.specs.Blocks.{weighted, block, blockCount, blockAt, usedIn, rightUse, padding, allZero, rightBlock, blockData}
 use Rattle.facts.proofs.Lists.{both-true, same-true}
 use Rattle.facts.proofs.Chunks.{from-same, cut-join}
 use Rattle.laws.specs.Statements.{IsBytes}
@@ -40,22 +40,26 @@ module _ (room : ℕ) (file job : List ℕ) (bytes : IsBytes file) (a : Accepted
   unfolding blockAt
   own-byte k i h = rw (getD-take, getD-drop) (bytes (512 * k + i))
 
-  -- each of its blocks is right: check, number and use
+  -- each of its blocks is right: check, number, use and padding
   own-tests :
       (k : ℕ) →
       k < blockCount file →
       (drop 508 (blockAt file k) ≡ be4 (weighted 0 (take 508 (blockAt file k))))
       × (take 2 (blockAt file k) ≡ be2 k)
       × (rightUse (eqb (blockCount file) 1) (eqb (suc k) (blockCount file)) (usedIn (blockAt file k)) ≡ true)
+      × (allZero (padding (blockAt file k)) ≡ true)
   unfolding rightBlock
   own-tests k h =
       let b = blockAt file k in
       let n = blockCount file in
       let check = same (drop 508 b) (be4 (weighted 0 (take 508 b))) in
       let number = same (take 2 b) (be2 k) in
-      let t = both-true check (number && rightUse (eqb n 1) (eqb (suc k) n) (usedIn b)) (rw zero-add at (a .right k h)) in
-      let u = both-true number (rightUse (eqb n 1) (eqb (suc k) n) (usedIn b)) (t .1) in
-      (same-true (drop 508 b) (be4 (weighted 0 (take 508 b))) (t .0), same-true (take 2 b) (be2 k) (u .0), u .1)
+      let uses = rightUse (eqb n 1) (eqb (suc k) n) (usedIn b) in
+      let zeros = allZero (padding b) in
+      let t = both-true check (number && (uses && zeros)) (rw zero-add at (a .right k h)) in
+      let u = both-true number (uses && zeros) (t .1) in
+      let v = both-true uses zeros (u .1) in
+      (same-true (drop 508 b) (be4 (weighted 0 (take 508 b))) (t .0), same-true (take 2 b) (be2 k) (u .0), v .0, v .1)
 
   -- each of its blocks is the block of its part
   own-block : (k : ℕ) → k < blockCount file → block k (partIn file k .0) (partIn file k .1) ≡ blockAt file k
@@ -65,9 +69,10 @@ module _ (room : ℕ) (file job : List ℕ) (bytes : IsBytes file) (a : Accepted
 
   -- its parts are as described
   pub own-described : Described (blockCount file) (partIn file)
+  unfolding padding
   own-described k h =
       let l = own-length k h in
-      (length-take-le 504 (drop 4 (blockAt file k)) (rw length-drop (omega arith)), own-tests k h .2)
+      (length-take-le 504 (drop 4 (blockAt file k)) (rw length-drop (omega arith)), own-tests k h .2, own-tests k h .3)
 
   -- the file is its parts' file, and its job theirs
   pub own-file : theirFile (blockCount file) (partIn file) ≡ file

@@ -7,13 +7,14 @@ use Prim.Native.Nat.{ℕ, zero, suc, _+_, _*_, _-_, _≤_, _<_, min}
 use native.Mathlib.Omega.{arith}
 use lib.Dec.{eqb, leb}
 use lib.ListN.{length, take, drop, replicate, length-append, length-take, length-drop, length-replicate}
-use lib.Seq.{take-append-seam, take-all}
+use lib.Seq.{take-append-seam, take-all, drop-at}
 use borrow.Author.Tests.{eqb-true, eqb-false, eq-eqb, leb-true, le-leb}
 use Rattle.definition.specs.Basics.{good, concat, from}
 use Rattle.definition.specs.Run.{longestJob}
 use Rattle.definition.specs.Blocks.{rightUse, mostBlocks, blocksFor, writtenBlock, writeBlocks}
 use Rattle.facts.proofs.Chunks.{from-same, cut-join}
 use Rattle.facts.proofs.Results.{good-inj, guarded, passed}
+use Rattle.laws.proofs.blocks.OneBlock.{are-zeros}
 use Rattle.laws.proofs.blocks.BlocksOfParts.{Part, theirFile, theirJob, Described}
 
 -- the parts of a job: up to 504 bytes of it, padded with zeros
@@ -86,6 +87,7 @@ module _ (job : List ℕ) where
       let used : length part ≡ min 504 (length job - 504 * i) = length-take 504 (drop (504 * i) job) ∙ ap (min 504) (length-drop (504 * i) job) in (
         length-append part (replicate (504 - length part) 0) ∙ rw length-replicate (omega arith),
         right-use (length job) (blocksFor (length job)) i (length part) h (blocks-hold (length job)) (blocks-needed (length job)) used,
+        rw (drop-at part (replicate (504 - length part) 0) (length part) refl) (are-zeros (504 - length part)),
       )
 
   -- the parts' job is the job

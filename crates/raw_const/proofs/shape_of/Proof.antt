@@ -1,88 +1,71 @@
--- `raw_const::shape_of` meets its contract: each arm's tag is a key of the definition's table, and the last arm's is none of them.
--- Assumes nothing.
-use mathlib.Core.Path.{sym}
+-- `raw_const::shape_of` meets its contract: the codes of a row make the shape of its fields. Assumes nothing.
+use borrow.Author.Needs.{needs}
 use Rattle.definition.specs.Basics.{lookup}
-use Rattle.definition.specs.Shapes.{shapes}
-use Rattle.facts.proofs.Tables.{passed}
+use Rattle.raw_const.proofs.Table.{by-first, by-one, by-two, by-none}
 use Rattle.raw_const.proofs.shape_of.Statement.{statement}
 use Rattle.raw_const.proofs.shape_of.Tie as tie
 
+row-of-requires : tie.Need-row-of-requires
+row-of-requires c κs = search needs
+
+array-read-match : tie.Need-array-read-match
+array-read-match c = search needs
+
+array-read-if1 : tie.Need-array-read-if1
+array-read-if1 c = search needs
+
 returns : tie.Need-returns
-unfolding lookup shapes
-returns c = rw (c .match .keys1)
+unfolding lookup
+returns c =
+    let found = c .before in
+    by-first (found .before .args .tag) (found .row-of .result) (found .row-of .ensures) 1 (c .match .keys1)
 
 returns-2 : tie.Need-returns-2
-unfolding lookup shapes
-returns-2 c = rw (c .match .keys2)
+unfolding lookup
+returns-2 c =
+    let found = c .before in
+    by-first (found .before .args .tag) (found .row-of .result) (found .row-of .ensures) 2 (c .match .keys2)
 
 returns-3 : tie.Need-returns-3
-unfolding lookup shapes
-returns-3 c = rw (c .match .keys3)
+unfolding lookup
+returns-3 c =
+    let found = c .before in
+    by-first (found .before .args .tag) (found .row-of .result) (found .row-of .ensures) 3 (c .match .keys3)
 
 returns-4 : tie.Need-returns-4
-unfolding lookup shapes
-returns-4 c = rw (c .match .keys4)
+unfolding lookup
+returns-4 c =
+    let found = c .before in
+    by-first (found .before .args .tag) (found .row-of .result) (found .row-of .ensures) 4 (c .match .keys4)
 
 returns-5 : tie.Need-returns-5
-unfolding lookup shapes
-returns-5 c = rw (c .match .keys5)
+returns-5 c =
+    let found = c .before .before in
+    by-one (found .before .args .tag) (found .row-of .result) (found .row-of .ensures) (c .before .match .keys5) (c .if1 .taken)
 
 returns-6 : tie.Need-returns-6
-unfolding lookup shapes
-returns-6 c = rw (c .match .keys6)
+returns-6 c =
+    let found = c .before .before in
+    by-two (found .before .args .tag) (found .row-of .result) (found .row-of .ensures) (c .before .match .keys5) (c .if1 .left)
 
 returns-7 : tie.Need-returns-7
-unfolding lookup shapes
-returns-7 c = rw (c .match .keys7)
+unfolding lookup
+returns-7 c =
+    let found = c .before in
+    by-first (found .before .args .tag) (found .row-of .result) (found .row-of .ensures) 6 (c .match .keys6)
 
 returns-8 : tie.Need-returns-8
-unfolding lookup shapes
-returns-8 c = rw (c .match .keys8)
-
-returns-9 : tie.Need-returns-9
-unfolding lookup shapes
-returns-9 c = rw (c .match .keys9)
-
-returns-10 : tie.Need-returns-10
-unfolding lookup shapes
-returns-10 c = rw (c .match .keys10)
-
-returns-11 : tie.Need-returns-11
-unfolding lookup shapes
-returns-11 c = rw (c .match .keys11)
-
-returns-12 : tie.Need-returns-12
-unfolding lookup shapes
-returns-12 c = rw (c .match .keys12)
-
-returns-13 : tie.Need-returns-13
-unfolding lookup shapes
-returns-13 c = rw (c .match .keys13)
-
-returns-14 : tie.Need-returns-14
-unfolding lookup shapes
-returns-14 c = rw (c .match .keys14)
-
-returns-15 : tie.Need-returns-15
-unfolding lookup shapes
-returns-15 c = rw (c .match .keys15)
-
-returns-16 : tie.Need-returns-16
-unfolding lookup shapes
-returns-16 c = rw (c .match .keys16)
-
-returns-17 : tie.Need-returns-17
-unfolding lookup shapes
-returns-17 c = rw (c .match .keys17)
-
-returns-18 : tie.Need-returns-18
-unfolding shapes
-returns-18 c = sym (passed (c .before .args .tag) (Unit {0}) shapes (c .match .rest) .1)
+returns-8 c =
+    let found = c .before in
+    by-none (found .before .args .tag) (found .row-of .result) (found .row-of .ensures) (c .match .rest)
 
 pub shape-of-spec : {M : Type 1} → statement M
 shape-of-spec =
     tie.close
     (tie.spec
+    row-of-requires
+    array-read-match
+    array-read-if1
     returns
     returns-2
     returns-3
@@ -90,14 +73,4 @@ shape-of-spec =
     returns-5
     returns-6
     returns-7
-    returns-8
-    returns-9
-    returns-10
-    returns-11
-    returns-12
-    returns-13
-    returns-14
-    returns-15
-    returns-16
-    returns-17
-    returns-18)
+    returns-8)

@@ -1,13 +1,10 @@
--- `raw_const::write_text` meets its contract: a tag, a length and a text, one behind the other. Assumes nothing.
-use borrow.Author.Needs.{needs}
+-- `raw_const::write_text` meets its contract: a length and a text, one behind the other. Assumes nothing.
 use native.Mathlib.Omega.{arith}
+use borrow.Author.Needs.{needs}
 use Rattle.definition.specs.Bytes.{be2}
 use Rattle.raw_const.proofs.Writes.{wrote-then}
 use Rattle.raw_const.proofs.write_text.Statement.{statement}
 use Rattle.raw_const.proofs.write_text.Tie as tie
-
-write-byte-requires : tie.Need-write-byte-requires
-write-byte-requires c κs = search needs
 
 cast-write-short : tie.Need-cast-write-short
 cast-write-short c = search needs
@@ -27,18 +24,8 @@ unfolding be2
 returns c =
     let text = c .before .before in
     let size = text .before .before .before .before in
-    let tag = size .before .before .before .before in
-    let room = tag .before .before .before .before .pre .1 .1 in
-    let head = wrote-then (tag .write-byte .ensures) (omega (arith, room)) (size .write-short .ensures) in
-    wrote-then head (omega (arith, room)) (text .write-bytes .ensures)
+    let room = size .before .before .before .before .pre .1 .1 in
+    wrote-then (size .write-short .ensures) (omega (arith, room)) (text .write-bytes .ensures)
 
 pub write-text-spec : {M : Type 1} → statement M
-write-text-spec =
-    tie.close
-    (tie.spec
-    write-byte-requires
-    cast-write-short
-    write-short-requires
-    write-bytes-requires
-    same-length
-    returns)
+write-text-spec = tie.close (tie.spec cast-write-short write-short-requires write-bytes-requires same-length returns)
