@@ -15,6 +15,13 @@ sevens = (0 ∷ 0 ∷ 1 ∷ 0xf8 ∷ []) ++ replicate 504 7 ++ (0 ∷ 0x0d ∷ 0
 unfoldable pub oneSeven : ℕ → ℕ → ℕ → List ℕ
 oneSeven number used check = (0 ∷ number ∷ 0 ∷ used ∷ 7 ∷ []) ++ replicate 503 0 ++ (0 ∷ 0 ∷ 0 ∷ check ∷ [])
 
+-- block 1 with nothing in it, and with one seven and old memory behind it
+unfoldable pub nothing : List ℕ
+nothing = (0 ∷ 1 ∷ []) ++ replicate 506 0 ++ (0 ∷ 0 ∷ 0 ∷ 2 ∷ [])
+
+unfoldable pub oldMemory : List ℕ
+oldMemory = (0 ∷ 1 ∷ 0 ∷ 1 ∷ 7 ∷ 9 ∷ []) ++ replicate 502 0 ++ (0 ∷ 0 ∷ 0 ∷ 95 ∷ [])
+
 unfoldable pub refused : ℕ → ℕ → Result Refusal (List ℕ)
 refused code place = bad (record { code = code; place = place })
 
@@ -36,17 +43,18 @@ pub oneBlock :
 unfolding opened sevens refused
 oneBlock = (refl, refl, refl, refl)
 
--- 19 at the block: a wrong check, a wrong number, use 0 of two blocks, one before the last that isn't full
+-- 19 at the block: a wrong check, a wrong number, use 0 of two blocks, padding that isn't zero, one before the last that isn't full
 pub wrongBlocks :
     map
     (readBlocks 1024)
     ((sevens ++ oneSeven 1 1 42)
     ∷ (sevens ++ oneSeven 2 1 43)
-    ∷ (sevens ++ oneSeven 1 0 37)
+    ∷ (sevens ++ nothing)
+    ∷ (sevens ++ oldMemory)
     ∷ (oneSeven 0 1 39 ++ oneSeven 1 1 41)
     ∷ [])
-    ≡ refused 19 1 ∷ refused 19 1 ∷ refused 19 1 ∷ refused 19 0 ∷ []
-unfolding opened sevens oneSeven refused
+    ≡ refused 19 1 ∷ refused 19 1 ∷ refused 19 1 ∷ refused 19 1 ∷ refused 19 0 ∷ []
+unfolding opened sevens oneSeven nothing oldMemory refused
 wrongBlocks = refl
 
 -- 20: no bytes, and a byte too few, though the check is wrong as well
