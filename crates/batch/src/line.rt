@@ -1,9 +1,9 @@
 // A job's line, as the driver of oracle/ prints it: `refused CODE PLACE`, or `built answers N A.. pool LENGTH HEX bootstraps COUNT LENGTH
 // HEX name SLOT class LENGTH HEX visits V`. Text waits in a buffer, `at` bytes of it, and is written once the buffer is full.
+use super::least;
 use cpool::ClassLength;
 use cpool::Outcome;
 use libc::STDOUT_FILENO;
-ghost use Prim.Native.Nat.{_≤_};
 
 const WAITING: usize = 16384;
 
@@ -54,12 +54,6 @@ fn digit(n: u8) -> u8 {
 fn put_byte(text: &mut [u8; 16384], start: usize, b: u8) -> usize {
     let at = put(text, start, digit(b / 16));
     put(text, at, digit(b % 16))
-}
-
-fn least(a: usize, b: usize) -> usize
-    ensures { λ r. ⌜ r ≤ b ⌝ }
-{
-    if a < b { a } else { b }
 }
 
 // The first n bytes in hex behind their number; no bytes are a dash.

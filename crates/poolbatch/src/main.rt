@@ -3,8 +3,8 @@
 //
 // The stack: a job of at most 65,536 bytes whose pool and bootstraps have at most 1,048,576 bytes each runs on the usual 8 MB. Any other
 // needs `ulimit -s 65536`, because the language has no memory but the stack and a job of 1,048,576 bytes must be lent 25 MB of work;
-// there pool and bootstraps have 8,388,608 bytes each, and what doesn't fit is `refused 18 PLACE`. From Rust or C any job runs over
-// heap memory (callers/rust).
+// there pool and bootstraps have 8,388,608 bytes each, and what doesn't fit is `refused 18 PLACE`, with a word about it on standard
+// error. From Rust or C any job runs over heap memory (callers/rust).
 //
 // The language has no exit status. The last line on standard error stands in for it: `whole stream, N jobs`, or `cut frame` or
 // `output failed` behind so many jobs; the script `run` beside src/ turns it into a status. A read that fails counts as the input's end.
