@@ -9,11 +9,11 @@ use jobs::small::{ldc_full_job, small_job};
 use jobs::{heavy, large};
 
 const RECORDED: [(&str, u64); 7] = [
-    ("small", 0x5fcf_6225_2c0d_5d9f),
+    ("small", 0x9264_b943_53df_e0fd),
     ("ldcfull", 0xa876_3ac8_7897_08b0),
-    ("damaged", 0x9c60_baef_6933_cfba),
-    ("pairs", 0xec52_5e9d_35c8_98ad),
-    ("orders", 0x1af7_24aa_7bbd_deb7),
+    ("damaged", 0xb7ab_379a_cd71_7249),
+    ("pairs", 0xcbf9_1237_966f_5ab3),
+    ("orders", 0x1dbc_ac22_2798_3339),
     ("heavy", 0xae62_233d_2cf4_5a4d),
     ("large", 0xb587_779e_3f02_253b),
 ];

@@ -152,7 +152,7 @@ impl Bench<'_> {
         })
     }
 
-    /// Compiles a builder, changed or not, and runs it over all sets.
+    /// Compiles a builder, changed or not, and runs it over all sets, up to one that takes it too long.
     fn differences(
         &self,
         name: &str,
@@ -164,10 +164,16 @@ impl Bench<'_> {
             edit.apply(&scratch.0)?;
         }
         let program = self.toolchain.compile(&scratch.0)?;
-        self.sets
-            .iter()
-            .map(|set| difference(&program, set))
-            .collect()
+        let mut differences = Vec::new();
+        for set in &self.sets {
+            let found = difference(&program, set)?;
+            let is_over = found.end == End::RanTooLong;
+            differences.push(found);
+            if is_over {
+                break;
+            }
+        }
+        Ok(differences)
     }
 }
 

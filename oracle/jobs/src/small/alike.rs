@@ -111,13 +111,16 @@ pub fn argument_orders(plan: &mut Plan, random: &mut Random) {
 /// Names of 254 and 255 bytes that are alike but for the last: two are defined, and used or not.
 pub fn long_names(plan: &mut Plan, random: &mut Random) {
     plan.long_names = true;
-    let of_bootstraps = random.chance(1, 4);
+    if random.chance(1, 3) {
+        let for_bootstraps = [5, 6].map(|number| (true, Target::Raw(number)));
+        plan.idle_names.extend(for_bootstraps);
+        return;
+    }
     for _ in 0..2 {
-        let node = plan.leaf(*random.pick(&[INT, TEXT]), random);
+        let target = Target::Node(plan.leaf(*random.pick(&[INT, TEXT]), random));
         match random.chance(1, 2) {
-            true if of_bootstraps => plan.idle_names.push((true, Target::Raw(5))),
-            true => plan.idle_names.push((false, Target::Node(node))),
-            false => plan.ask(false, Target::Node(node)),
+            true => plan.idle_names.push((false, target)),
+            false => plan.ask(false, target),
         }
     }
 }

@@ -27,7 +27,7 @@ pub const SCENES: &[(usize, Scene)] = &[
     (2, alike_handles),
     (3, same_children),
     (2, argument_orders),
-    (1, long_names),
+    (2, long_names),
 ];
 
 /// A few constants of any tag, most of them asked for.
