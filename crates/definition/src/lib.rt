@@ -1,1 +1,1 @@
-// Definitions only: document 01 stands in specs/, and contracts and laws cite it from there.
+// No code: document 01 stands in specs/ as definitions, which contracts and laws cite, and proofs/ computes jobs with them.
