@@ -47,17 +47,13 @@ module _ (s : List ℕ) (at tag : ℕ) (is : WhatEntry s at (λ e. tag ≡ e .ta
   unfolding literalEnd
   text-end e = ended _ (rw e)
 
-  pub five-end : tag ≡ 5 → Behind s at (at + 9)
-  unfolding literalEnd isWide
-  five-end e = ended _ (rw e)
+  pub wide-end : (tag ≡ 1 → ⊥) → isWide tag ≡ true → Behind s at (at + 9)
+  unfolding literalEnd
+  wide-end other wide = ended _ (rw (ne-eqb tag 1 other, literalEnd, wide))
 
-  pub six-end : tag ≡ 6 → Behind s at (at + 9)
-  unfolding literalEnd isWide
-  six-end e = ended _ (rw e)
-
-  pub four-end : (tag ≡ 1 → ⊥) → (tag ≡ 5 → ⊥) → (tag ≡ 6 → ⊥) → Behind s at (at + 5)
-  unfolding literalEnd isWide
-  four-end a b c = ended _ (rw (ne-eqb tag 1 a, literalEnd, ne-eqb tag 5 b, ne-eqb tag 6 c))
+  pub narrow-end : (tag ≡ 1 → ⊥) → isWide tag ≡ false → Behind s at (at + 5)
+  unfolding literalEnd
+  narrow-end other narrow = ended _ (rw (ne-eqb tag 1 other, literalEnd, narrow))
 
 -- the answer of a record
 pub answer-yes : (code next : ℕ) → code ≡ 0 → next ≡ answered code next

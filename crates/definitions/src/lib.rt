@@ -76,7 +76,11 @@ fn first_place(tag: u8, at: usize) -> usize
     requires { ⌜ at ≤ 1048576 ⌝ }
     ensures { λ r. ⌜ r ≡ firstPlace tag at ⌝ }
 {
-    if tag == 15 { at + 2 } else { at + 1 }
+    if raw_const::is_handle(tag) {
+        at + 2
+    } else {
+        at + 1
+    }
 }
 
 // The place behind a reference, or behind the count that follows a bootstrap's first.
@@ -93,11 +97,14 @@ fn after_literal(job: &[u8], at: usize) -> usize
     requires { ⌜ ((x : Entry (List ℕ) Reference) × (next : ℕ) × Found anyDefinition (now job) at (define x) next × (length (x .kids) ≡ 0)) × (length (now job) ≤ 1048576) ⌝ }
     ensures { λ r. ⌜ ((x : Entry (List ℕ) Reference) (next : ℕ) → Found anyDefinition (now (job .entry)) at (define x) next → length (x .kids) ≡ 0 → r ≡ next) ⌝ }
 {
-    match job::tag_at(job, at) {
-        1 => at + 3 + writer::get_u16(job, at + 1) as usize,
-        5 => at + 9,
-        6 => at + 9,
-        _ => at + 5,
+    let tag = job::tag_at(job, at);
+    if raw_const::is_text(tag) {
+        return at + 3 + writer::get_u16(job, at + 1) as usize;
+    }
+    if raw_const::is_long(tag) {
+        at + 9
+    } else {
+        at + 5
     }
 }
 
@@ -114,7 +121,7 @@ fn read_references(
     ensures { λ r. ⌜ ReadsAll (now (job .entry)) (store (now (p .entry)) (now (w .entry))) (store (now (p .entry)) (now (w .exit))) at n first r ⌝ }
 {
     let tag = job::tag_at(job, at);
-    let dynamic = (tag == 17) | (tag == 18);
+    let dynamic = raw_const::is_dynamic(tag);
     let bootstrap = tag == 0x40;
     let mut from = first_place(tag, at);
     let mut i = 0;

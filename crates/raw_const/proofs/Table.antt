@@ -1,5 +1,5 @@
 -- The code's table beside the definition's: the row of a tag, its shape, and the bytes that a walk along it writes. Assumes nothing.
-use mathlib.Core.Bool.{true, false}
+use mathlib.Core.Bool.{true, false, _||_}
 use mathlib.Core.List.{List, [], _∷_, _++_}
 use mathlib.Core.Logic.{⊎-elim}
 use mathlib.Core.Option.{Option, none, some}
@@ -55,6 +55,34 @@ row-wide tag row is =
     ∙ ⊎-elim
     (λ (low : tag < 21). one-of tag 21 low (((((((((((((((((((((tt, λ e. rw e), λ e. rw e), λ e. rw e), λ e. rw e), λ e. rw e), λ e. rw e), λ e. rw e), λ e. rw e), λ e. rw e), λ e. rw e), λ e. rw e), λ e. rw e), λ e. rw e), λ e. rw e), λ e. rw e), λ e. rw e), λ e. rw e), λ e. rw e), λ e. rw e), λ e. rw e), λ e. rw e))
     (λ (high : 21 ≤ tag). rw (no-shape tag high, ne-eqb tag 5 (λ e. omega arith), ne-eqb tag 6 (λ e. omega arith)))
+    (order tag 21)
+
+-- which rows begin with a text, a kind byte and the index of a bootstrap
+pub row-text : (tag : ℕ) (row : List ℕ) → row ≡ rowOf tag (lookup tag shapes) → eqb (getD row 1 0) 1 ≡ eqb tag 1
+unfolding lookup shapes
+row-text tag row is =
+    ap (λ r. eqb (getD r 1 0) 1) is
+    ∙ ⊎-elim
+    (λ (low : tag < 21). one-of tag 21 low (((((((((((((((((((((tt, λ e. rw e), λ e. rw e), λ e. rw e), λ e. rw e), λ e. rw e), λ e. rw e), λ e. rw e), λ e. rw e), λ e. rw e), λ e. rw e), λ e. rw e), λ e. rw e), λ e. rw e), λ e. rw e), λ e. rw e), λ e. rw e), λ e. rw e), λ e. rw e), λ e. rw e), λ e. rw e), λ e. rw e))
+    (λ (high : 21 ≤ tag). rw (no-shape tag high, ne-eqb tag 1 (λ e. omega arith)))
+    (order tag 21)
+
+pub row-handle : (tag : ℕ) (row : List ℕ) → row ≡ rowOf tag (lookup tag shapes) → eqb (getD row 1 0) 4 ≡ eqb tag 15
+unfolding lookup shapes
+row-handle tag row is =
+    ap (λ r. eqb (getD r 1 0) 4) is
+    ∙ ⊎-elim
+    (λ (low : tag < 21). one-of tag 21 low (((((((((((((((((((((tt, λ e. rw e), λ e. rw e), λ e. rw e), λ e. rw e), λ e. rw e), λ e. rw e), λ e. rw e), λ e. rw e), λ e. rw e), λ e. rw e), λ e. rw e), λ e. rw e), λ e. rw e), λ e. rw e), λ e. rw e), λ e. rw e), λ e. rw e), λ e. rw e), λ e. rw e), λ e. rw e), λ e. rw e))
+    (λ (high : 21 ≤ tag). rw (no-shape tag high, ne-eqb tag 15 (λ e. omega arith)))
+    (order tag 21)
+
+pub row-dynamic : (tag : ℕ) (row : List ℕ) → row ≡ rowOf tag (lookup tag shapes) → eqb (getD row 1 0) 6 ≡ (eqb tag 17 || eqb tag 18)
+unfolding lookup shapes
+row-dynamic tag row is =
+    ap (λ r. eqb (getD r 1 0) 6) is
+    ∙ ⊎-elim
+    (λ (low : tag < 21). one-of tag 21 low (((((((((((((((((((((tt, λ e. rw e), λ e. rw e), λ e. rw e), λ e. rw e), λ e. rw e), λ e. rw e), λ e. rw e), λ e. rw e), λ e. rw e), λ e. rw e), λ e. rw e), λ e. rw e), λ e. rw e), λ e. rw e), λ e. rw e), λ e. rw e), λ e. rw e), λ e. rw e), λ e. rw e), λ e. rw e), λ e. rw e))
+    (λ (high : 21 ≤ tag). rw (no-shape tag high, ne-eqb tag 17 (λ e. omega arith), ne-eqb tag 18 (λ e. omega arith)))
     (order tag 21)
 
 -- ---- its shape

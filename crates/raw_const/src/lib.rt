@@ -1,8 +1,10 @@
 // Entries of a constant pool and rows of a bootstrap table as bytes: Krakatau's raw_const.rs (document 01, "Building"; JVMS 4.4, 4.7.23).
 // That JVMS's reader finds again what is written here is `cpInfo-entryBytes` of the crate laws.
 ghost use mathlib.Core.Path.{_≡_};
+ghost use mathlib.Core.Bool.{_||_};
 ghost use mathlib.Core.List.{[], _∷_, _++_, map};
 ghost use Prim.Native.Nat.{ℕ, _+_, _*_, _≤_, _<_};
+ghost use lib.Dec.{eqb};
 ghost use lib.ListN.{length, take, drop, getD};
 ghost use Rattle.definition.specs.Basics.{lookup, concat};
 ghost use Rattle.definition.specs.Bytes.{two, be2};
@@ -102,6 +104,30 @@ pub fn is_long(tag: u8) -> bool
 {
     let row = row_of(tag);
     row[1] == BITS_64
+}
+
+// A text: the only entry whose length goes by what it holds.
+pub fn is_text(tag: u8) -> bool
+    ensures { λ r. ⌜ r ≡ eqb tag 1 ⌝ }
+{
+    let row = row_of(tag);
+    row[1] == TEXT
+}
+
+// A method handle: its reference stands behind a kind byte.
+pub fn is_handle(tag: u8) -> bool
+    ensures { λ r. ⌜ r ≡ eqb tag 15 ⌝ }
+{
+    let row = row_of(tag);
+    row[1] == KIND
+}
+
+// Dynamic or InvokeDynamic: its first reference is to a bootstrap.
+pub fn is_dynamic(tag: u8) -> bool
+    ensures { λ r. ⌜ r ≡ eqb tag 17 || eqb tag 18 ⌝ }
+{
+    let row = row_of(tag);
+    row[1] == BOOTSTRAP
 }
 
 // The fields of a tag's row as one of the shapes that they make.

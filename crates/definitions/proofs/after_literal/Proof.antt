@@ -1,12 +1,17 @@
 -- `definitions::after_literal` meets its contract. Assumes nothing.
-use Rattle.definitions.proofs.Reading.{text-end, five-end, six-end, four-end}
+use Rattle.definitions.proofs.Reading.{text-end, wide-end, narrow-end}
+use mathlib.Core.Path.{sym, _∙_}
 use native.Mathlib.Omega.{arith}
 use borrow.Author.Needs.{needs}
+use borrow.Author.Tests.{eqb-true, eqb-false}
 use Rattle.definitions.proofs.after_literal.Statement.{statement}
 use Rattle.definitions.proofs.after_literal.Tie as tie
 
 tag-at-requires : tie.Need-tag-at-requires
 tag-at-requires c κs = search needs
+
+is-text-requires : tie.Need-is-text-requires
+is-text-requires c κs = search needs
 
 add-result : tie.Need-add-result
 add-result c = search needs
@@ -15,7 +20,14 @@ add-get-u16 : tie.Need-add-get-u16
 add-get-u16 c = search needs
 
 get-u16-requires : tie.Need-get-u16-requires
-get-u16-requires c κs = let h = c .before .before .before .pre .0 in omega (arith, text-end (c .before .before .before .args .job .now) (c .before .before .before .args .at) (c .before .tag-at .result) (c .before .tag-at .ensures) (c .match .keys1) (h .0) (h .1) (h .2) (h .3), h .2 .within)
+get-u16-requires c κs =
+    let text = c .before in
+    let tag = text .before in
+    let start = tag .before .before in
+    let h = start .pre .0 in
+    let is = eqb-true (tag .tag-at .result) 1 (sym (text .is-text .ensures) ∙ c .if1 .taken) in
+    omega
+    (arith, text-end (start .args .job .now) (start .args .at) (tag .tag-at .result) (tag .tag-at .ensures) is (h .0) (h .1) (h .2) (h .3), h .2 .within)
 
 cast-result : tie.Need-cast-result
 cast-result c = search needs
@@ -23,41 +35,58 @@ cast-result c = search needs
 add-result-2 : tie.Need-add-result-2
 add-result-2 c = search needs
 
+returns : tie.Need-returns
+returns c =
+    let branch = c .before in
+    let text = branch .before in
+    let tag = text .before in
+    let start = tag .before .before in
+    let is = eqb-true (tag .tag-at .result) 1 (sym (text .is-text .ensures) ∙ branch .if1 .taken) in
+    rw (c .get-u16 .ensures) (text-end (start .args .job .now) (start .args .at) (tag .tag-at .result) (tag .tag-at .ensures) is)
+
+is-long-requires : tie.Need-is-long-requires
+is-long-requires c κs = search needs
+
 add-result-3 : tie.Need-add-result-3
 add-result-3 c = search needs
 
 add-result-4 : tie.Need-add-result-4
 add-result-4 c = search needs
 
-add-result-5 : tie.Need-add-result-5
-add-result-5 c = search needs
-
-returns : tie.Need-returns
-returns c = rw (c .get-u16 .ensures) (text-end (c .before .before .before .before .args .job .now) (c .before .before .before .before .args .at) (c .before .before .tag-at .result) (c .before .before .tag-at .ensures) (c .before .match .keys1))
-
 returns-2 : tie.Need-returns-2
-returns-2 c = five-end (c .before .before .before .args .job .now) (c .before .before .before .args .at) (c .before .tag-at .result) (c .before .tag-at .ensures) (c .match .keys2)
+returns-2 c =
+    let long = c .before in
+    let branch = long .before in
+    let text = branch .before in
+    let tag = text .before in
+    let start = tag .before .before in
+    let other = eqb-false (tag .tag-at .result) 1 (sym (text .is-text .ensures) ∙ branch .if1 .left) in
+    wide-end (start .args .job .now) (start .args .at) (tag .tag-at .result) (tag .tag-at .ensures) other (sym (long .is-long .ensures) ∙ c .if2 .taken)
 
 returns-3 : tie.Need-returns-3
-returns-3 c = six-end (c .before .before .before .args .job .now) (c .before .before .before .args .at) (c .before .tag-at .result) (c .before .tag-at .ensures) (c .match .keys3)
-
-returns-4 : tie.Need-returns-4
-returns-4 c = let r = c .match .rest in four-end (c .before .before .before .args .job .now) (c .before .before .before .args .at) (c .before .tag-at .result) (c .before .tag-at .ensures) (r .0 .0 .1) (r .0 .1) (r .1)
+returns-3 c =
+    let long = c .before in
+    let branch = long .before in
+    let text = branch .before in
+    let tag = text .before in
+    let start = tag .before .before in
+    let other = eqb-false (tag .tag-at .result) 1 (sym (text .is-text .ensures) ∙ branch .if1 .left) in
+    narrow-end (start .args .job .now) (start .args .at) (tag .tag-at .result) (tag .tag-at .ensures) other (sym (long .is-long .ensures) ∙ c .if2 .left)
 
 pub after-literal-spec : {M : Type 1} → statement M
 after-literal-spec =
     tie.close
     (tie.spec
     tag-at-requires
+    is-text-requires
     add-result
     add-get-u16
     get-u16-requires
     cast-result
     add-result-2
+    returns
+    is-long-requires
     add-result-3
     add-result-4
-    add-result-5
-    returns
     returns-2
-    returns-3
-    returns-4)
+    returns-3)
