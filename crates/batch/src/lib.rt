@@ -10,6 +10,7 @@ use cpool::Outcome;
 use libc::STDERR_FILENO;
 use libc::STDIN_FILENO;
 pub use line::print_refusal;
+use slots::Gap;
 ghost use Prim.Native.Nat.{_≤_};
 
 pub const LONGEST_JOB: usize = 1048576;
@@ -69,7 +70,7 @@ fn run_within(
     words: usize,
     most: usize,
     work: &mut [u32],
-    gaps: &mut [[u16; 2]],
+    gaps: &mut [Gap],
     answers: &mut [u16],
     pool: &mut [u8],
     bootstraps: &mut [u8],
@@ -94,7 +95,7 @@ fn run_lent(
     n: usize,
     lent: Lent,
     work: &mut [u32],
-    gaps: &mut [[u16; 2]],
+    gaps: &mut [Gap],
     answers: &mut [u16],
     pool: &mut [u8],
     bootstraps: &mut [u8],
@@ -131,7 +132,8 @@ fn tell_room(outcome: Outcome) {
 // Any job, over memory for the longest one; whether its line was written.
 pub fn long_run(job: &[u8], n: usize, lent: Lent) -> bool {
     let mut work = memory::long_words();
-    let mut gaps = memory::long_gaps();
+    let gap = slots::no_gap();
+    let mut gaps = [gap; 209717];
     let mut answers = memory::long_answers();
     let mut pool = memory::long_bytes();
     let mut bootstraps = memory::long_bytes();
@@ -162,7 +164,8 @@ pub fn short_run(
 ) -> bool
     requires { ⌜ n ≤ 65536 ⌝ }
 {
-    let mut gaps = memory::short_gaps();
+    let gap = slots::no_gap();
+    let mut gaps = [gap; 13109];
     let mut answers = memory::short_answers();
     let mut class_name = io::large_buffer();
     let outcome = run_lent(

@@ -4,12 +4,6 @@ ghost use mathlib.Core.Path.{_≡_};
 ghost use lib.ListN.{length};
 
 // For a job of 65,536 bytes.
-pub fn short_gaps() -> [[u16; 2]; 13109]
-    ensures { λ r. ⌜ 13109 ≡ length r ⌝ }
-{
-    [[0; 2]; 13109]
-}
-
 pub fn short_answers() -> [u16; 21846]
     ensures { λ r. ⌜ 21846 ≡ length r ⌝ }
 {
@@ -21,12 +15,6 @@ pub fn long_words() -> [u32; 6292480]
     ensures { λ r. ⌜ 6292480 ≡ length r ⌝ }
 {
     [0; 6292480]
-}
-
-pub fn long_gaps() -> [[u16; 2]; 209717]
-    ensures { λ r. ⌜ 209717 ≡ length r ⌝ }
-{
-    [[0; 2]; 209717]
 }
 
 pub fn long_answers() -> [u16; 349526]

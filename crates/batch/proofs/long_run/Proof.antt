@@ -1,13 +1,17 @@
 -- `batch::long_run` meets its contract. Assumes nothing.
+mod Lts
+mod Tie
 use mathlib.Core.Path.{sym, _∙_}
+use lib.ListN.{length-replicate}
+use Rattle.slots.specs.declared.Gap.{Gap}
 use Rattle.batch.proofs.long_run.Statement.{statement}
-use Rattle.batch.proofs.long_run.Tie as tie
+use Rattle.batch.proofs.long_run.Proof.Tie as tie
 
 long-words-requires : tie.Need-long-words-requires
 long-words-requires c κs = tt
 
-long-gaps-requires : tie.Need-long-gaps-requires
-long-gaps-requires c κs = tt
+no-gap-requires : tie.Need-no-gap-requires
+no-gap-requires c κs = tt
 
 long-answers-requires : tie.Need-long-answers-requires
 long-answers-requires c κs = tt
@@ -25,7 +29,7 @@ slice-aggregate-run-lent : tie.Need-slice-aggregate-run-lent
 slice-aggregate-run-lent c = c .before .before .before .before .before .before .long-words .ensures
 
 slice-aggregate-run-lent-2 : tie.Need-slice-aggregate-run-lent-2
-slice-aggregate-run-lent-2 c = c .before .before .before .before .before .before .long-gaps .ensures
+slice-aggregate-run-lent-2 c = sym (length-replicate {0} {A = Gap} 209717 (c .before .before .before .before .before .before .no-gap .result))
 
 slice-aggregate-run-lent-3 : tie.Need-slice-aggregate-run-lent-3
 slice-aggregate-run-lent-3 c = c .before .before .before .before .before .before .long-answers .ensures
@@ -68,7 +72,7 @@ long-run-spec =
     tie.close
     (tie.spec
     long-words-requires
-    long-gaps-requires
+    no-gap-requires
     long-answers-requires
     long-bytes-requires
     long-bytes-requires-2

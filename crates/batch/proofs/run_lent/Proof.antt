@@ -1,9 +1,11 @@
 -- `batch::run_lent` meets its contract. Assumes nothing.
+mod Lts
+mod Tie
 use mathlib.Core.Path.{sym}
 use lib.Seq.{length-take-le}
 use borrow.Author.Needs.{needs}
 use Rattle.batch.proofs.run_lent.Statement.{statement}
-use Rattle.batch.proofs.run_lent.Tie as tie
+use Rattle.batch.proofs.run_lent.Proof.Tie as tie
 
 least-requires : tie.Need-least-requires
 least-requires c κs = tt

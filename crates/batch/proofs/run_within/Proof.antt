@@ -1,9 +1,11 @@
 -- `batch::run_within` meets its contract. Assumes nothing.
+mod Lts
+mod Tie
 use mathlib.Core.Path.{sym}
 use lib.Seq.{length-take-le}
 use borrow.Author.Needs.{needs}
 use Rattle.batch.proofs.run_within.Statement.{statement}
-use Rattle.batch.proofs.run_within.Tie as tie
+use Rattle.batch.proofs.run_within.Proof.Tie as tie
 
 least-requires : tie.Need-least-requires
 least-requires c κs = tt

@@ -1,10 +1,14 @@
 -- `batch::short_run` meets its contract. Assumes nothing.
+mod Lts
+mod Tie
 use mathlib.Core.Path.{sym, _∙_}
+use lib.ListN.{length-replicate}
+use Rattle.slots.specs.declared.Gap.{Gap}
 use Rattle.batch.proofs.short_run.Statement.{statement}
-use Rattle.batch.proofs.short_run.Tie as tie
+use Rattle.batch.proofs.short_run.Proof.Tie as tie
 
-short-gaps-requires : tie.Need-short-gaps-requires
-short-gaps-requires c κs = tt
+no-gap-requires : tie.Need-no-gap-requires
+no-gap-requires c κs = tt
 
 short-answers-requires : tie.Need-short-answers-requires
 short-answers-requires c κs = tt
@@ -13,7 +17,7 @@ large-buffer-requires : tie.Need-large-buffer-requires
 large-buffer-requires c κs = tt
 
 slice-aggregate-run-lent : tie.Need-slice-aggregate-run-lent
-slice-aggregate-run-lent c = c .before .before .before .before .short-gaps .ensures
+slice-aggregate-run-lent c = sym (length-replicate {0} {A = Gap} 13109 (c .before .before .before .before .no-gap .result))
 
 slice-aggregate-run-lent-2 : tie.Need-slice-aggregate-run-lent-2
 slice-aggregate-run-lent-2 c = c .before .before .before .before .short-answers .ensures
@@ -49,7 +53,7 @@ pub short-run-spec : {M : Type 1} → statement M
 short-run-spec =
     tie.close
     (tie.spec
-    short-gaps-requires
+    no-gap-requires
     short-answers-requires
     large-buffer-requires
     slice-aggregate-run-lent
