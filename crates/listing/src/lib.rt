@@ -1,0 +1,1 @@
+// The listing of a finished pool (document 02, No. 1): so far its definition, in specs/Listing.antt.

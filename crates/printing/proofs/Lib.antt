@@ -1,0 +1,4 @@
+pub mod Printing
+pub mod Decimals
+pub mod Shown
+pub mod Examples
