@@ -26,7 +26,7 @@ slice-aggregate-run-job : tie.Need-slice-aggregate-run-job
 slice-aggregate-run-job c = c .before .before .before .before .long-words .ensures
 
 slice-aggregate-run-job-2 : tie.Need-slice-aggregate-run-job-2
-slice-aggregate-run-job-2 c = sym (length-replicate {0} {A = Gap} 209717 _)
+slice-aggregate-run-job-2 c = sym (length-replicate {0} {A = Gap} 209717 (c .before .before .before .before .no-gap .result))
 
 slice-aggregate-run-job-3 : tie.Need-slice-aggregate-run-job-3
 slice-aggregate-run-job-3 c = sym (length-replicate {0} {A = ℕ} 349526 0)
@@ -46,7 +46,7 @@ run-job-requires c κs =
     let n = c .before .before .before .before .before .before .before .before .before .before .before .args .n in
     let words : 6 * n + 1024 ≤ 6292480 = omega arith in
     let most : n / 5 + 2 ≤ 209717 = omega arith in
-    (p .0, p .1, subst (λ k. 6 * n + 1024 ≤ k) (c .before .before .before .before .before .before .before .before .before .long-words .ensures) words, subst (λ k. n / 5 + 2 ≤ k) (sym (length-replicate {0} {A = Gap} 209717 _)) most)
+    (p .0, p .1, subst (λ k. 6 * n + 1024 ≤ k) (c .before .before .before .before .before .before .before .before .before .long-words .ensures) words, subst (λ k. n / 5 + 2 ≤ k) (sym (length-replicate {0} {A = Gap} 209717 (c .before .before .before .before .before .before .before .before .no-gap .result))) most)
 
 slice-aggregate-print-outcome : tie.Need-slice-aggregate-print-outcome
 slice-aggregate-print-outcome c = sym (c .before .before .before .before .before .before .before .before .run-job .kept .1 .1 .1 .1 .0 ∙ length-replicate {0} {A = ℕ} 349526 0)

@@ -19,7 +19,7 @@ slice-aggregate-batch-2 : tie.Need-slice-aggregate-batch-2
 slice-aggregate-batch-2 c = sym (length-replicate {0} {A = ℕ} 394240 0)
 
 slice-aggregate-batch-3 : tie.Need-slice-aggregate-batch-3
-slice-aggregate-batch-3 c = sym (length-replicate {0} {A = Gap} 13109 _)
+slice-aggregate-batch-3 c = sym (length-replicate {0} {A = Gap} 13109 (c .before .before .before .before .no-gap .result))
 
 slice-aggregate-batch-4 : tie.Need-slice-aggregate-batch-4
 slice-aggregate-batch-4 c = sym (length-replicate {0} {A = ℕ} 21846 0)
@@ -37,7 +37,7 @@ batch-requires : tie.Need-batch-requires
 batch-requires c κs = (
   subst (λ n. 65536 ≤ n) (sym (length-replicate {0} {A = ℕ} 65536 0)) (le-refl 65536),
   subst (λ n. 394240 ≤ n) (sym (length-replicate {0} {A = ℕ} 394240 0)) (le-refl 394240),
-  subst (λ n. 13109 ≤ n) (sym (length-replicate {0} {A = Gap} 13109 _)) (le-refl 13109),
+  subst (λ n. 13109 ≤ n) (sym (length-replicate {0} {A = Gap} 13109 (c .before .before .before .before .before .before .before .before .no-gap .result))) (le-refl 13109),
 )
 
 returns : tie.Need-returns

@@ -47,8 +47,11 @@ use prog.Wp
 use types.Kit
 use Rattle.slots.proofs.Walks.Gap_
 
+abbrev ty·46 : Sy.Ty
+ty·46 = Sy.tyArray Gap_.ty 13109
+
 abbrev ty·45 : Sy.Ty
-ty·45 = Sy.tyArray Gap_.ty 13109
+ty·45 = Sy.tyArray (Sy.tyInt Sy.w16) 21846
 
 abbrev ty·44 : Sy.Ty
 ty·44 = Sy.tyArray (Sy.tyInt Sy.w32) 394240
@@ -57,19 +60,19 @@ abbrev ty·43 : Sy.Ty
 ty·43 = Sy.tyArray (Sy.tyInt Sy.w8) 1048576
 
 abbrev ty·42 : Sy.Ty
-ty·42 = Sy.tyRef Sy.erased Sy.mut (Gap_.ty1846)
+ty·42 = Sy.tyRef Sy.erased Sy.mut Gap_.behind
 
 abbrev ty·41 : Sy.Ty
-ty·41 = Sy.tyRef Sy.erased Sy.mut Gap_.behind
+ty·41 = Sy.tyRef Sy.erased Sy.mut (Sy.tyArray Gap_.behind 13109)
 
 abbrev ty·40 : Sy.Ty
-ty·40 = Sy.tyRef Sy.erased Sy.mut (Sy.tyArray Gap_.behind 13109)
+ty·40 = Sy.tyRef Sy.erased Sy.mut (Sy.tyInt Sy.w16)
 
 abbrev ty·39 : Sy.Ty
-ty·39 = Sy.tyRef Sy.erased Sy.mut (Sy.tyInt Sy.w16)
+ty·39 = Sy.tyRef Sy.erased Sy.mut (Sy.tyInt Sy.w32)
 
 abbrev ty·38 : Sy.Ty
-ty·38 = Sy.tyRef Sy.erased Sy.mut (Sy.tyInt Sy.w32)
+ty·38 = Sy.tyRef Sy.erased Sy.mut ty·45
 
 abbrev ty·37 : Sy.Ty
 ty·37 = Sy.tyRef Sy.erased Sy.mut ty·44
@@ -99,25 +102,25 @@ abbrev row·3 : Ro.Row
 row·3 = Mut.msleft (Rf.rtF (Rf.fInt Sy.w8)) ty·34
 
 abbrev row·4 : Ro.Row
-row·4 = Rows'.any-gone (Sy.tyStruct (Li._∷_ 38 (Li._∷_ 91 (Li._∷_ 93 Li.[]))) (Sy.tcons ty·38 (Sy.tcons (Sy.tyInt Sy.w64) Sy.tnil)))
+row·4 = Rows'.any-gone (Sy.tyStruct (Li._∷_ 38 (Li._∷_ 91 (Li._∷_ 93 Li.[]))) (Sy.tcons ty·39 (Sy.tcons (Sy.tyInt Sy.w64) Sy.tnil)))
 
 abbrev row·5 : Ro.Row
 row·5 = Rows'.any-gone ty·37
 
 abbrev row·6 : Ro.Row
-row·6 = Rows'.any-gone (Sy.tyStruct (Li._∷_ 38 (Li._∷_ 91 (Li._∷_ 93 Li.[]))) (Sy.tcons ty·39 (Sy.tcons (Sy.tyInt Sy.w64) Sy.tnil)))
+row·6 = Rows'.any-gone (Sy.tyStruct (Li._∷_ 38 (Li._∷_ 91 (Li._∷_ 93 Li.[]))) (Sy.tcons ty·40 (Sy.tcons (Sy.tyInt Sy.w64) Sy.tnil)))
 
 abbrev row·7 : Ro.Row
-row·7 = Rows'.any-gone (Sy.tyStruct (Li._∷_ 38 (Li._∷_ 91 (Li._∷_ 93 Li.[]))) (Sy.tcons ty·41 (Sy.tcons (Sy.tyInt Sy.w64) Sy.tnil)))
+row·7 = Rows'.any-gone ty·38
 
 abbrev row·8 : Ro.Row
-row·8 = Rows'.any-gone ty·36
+row·8 = Rows'.any-gone (Sy.tyStruct (Li._∷_ 38 (Li._∷_ 91 (Li._∷_ 93 Li.[]))) (Sy.tcons ty·42 (Sy.tcons (Sy.tyInt Sy.w64) Sy.tnil)))
 
 abbrev row·9 : Ro.Row
-row·9 = Rows'.any-gone ty·40
+row·9 = Rows'.any-gone ty·36
 
 abbrev row·10 : Ro.Row
-row·10 = Rows'.any-gone ty·42
+row·10 = Rows'.any-gone ty·41
 
 abbrev row·11 : Ro.Row
 row·11 = Rows'.mref (Array'.Array (Rf.rtF (Rf.fInt Sy.w8)) 65536) ty·33 0
@@ -126,7 +129,7 @@ abbrev row·12 : Ro.Row
 row·12 = Rows'.any-gone Sy.tyUnit
 
 abbrev row·13 : Ro.Row
-row·13 = Mut.mslice (Rf.rtF (Rf.fInt Sy.w32)) ty·38 2
+row·13 = Mut.mslice (Rf.rtF (Rf.fInt Sy.w32)) ty·39 2
 
 abbrev row·14 : Ro.Row
 row·14 = Mut.mslice (Rf.rtF (Rf.fInt Sy.w8)) ty·34 1
@@ -165,25 +168,25 @@ abbrev row·25 : Ro.Row
 row·25 = Rows.arrF (Rf.rtF (Rf.fInt Sy.w8)) 1048576 0
 
 abbrev row·26 : Ro.Row
-row·26 = Mut.mslice (Rf.rtF (Rf.fInt Sy.w16)) ty·39 4
+row·26 = Mut.mslice (Rf.rtF (Rf.fInt Sy.w16)) ty·40 4
 
 abbrev row·27 : Ro.Row
-row·27 = Mut.mslice Gap_.row ty·41 3
+row·27 = Mut.mslice Gap_.row ty·42 3
 
 abbrev row·28 : Ro.Row
-row·28 = Mut.mslice (Rf.rtF (Rf.fInt Sy.w8)) ty·34 5
+row·28 = Rows'.any-gone ty·45
 
 abbrev row·29 : Ro.Row
-row·29 = Rows'.any-gone ty·45
+row·29 = Mut.mslice (Rf.rtF (Rf.fInt Sy.w8)) ty·34 5
 
 abbrev row·30 : Ro.Row
-row·30 = Rows.arr-owed Gap_.row 13109 3
+row·30 = Rows'.any-gone ty·46
 
 abbrev row·31 : Ro.Row
-row·31 = Rows'.whole (Array'.Array (Rf.rtF (Rf.fInt Sy.w8)) 65536)
+row·31 = Rows.arr-owed Gap_.row 13109 3
 
 abbrev row·32 : Ro.Row
-row·32 = Rows'.any-gone (Gap_.ty1846)
+row·32 = Rows'.whole (Array'.Array (Rf.rtF (Rf.fInt Sy.w8)) 65536)
 
 abbrev pub ps : Li.List (Kinds.PK 0)
 ps = Li.[]
@@ -192,7 +195,7 @@ abbrev pub r : Kinds.RK 0
 r = Unit'.rUnit
 
 abbrev pub xs : Li.List Sy.Ty
-xs = Li._∷_ ty·36 (Li._∷_ ty·36 (Li._∷_ ty·44 (Li._∷_ Gap_.ty (Li._∷_ ty·45 (Li._∷_ (Gap_.ty1846) (Li._∷_ ty·43 (Li._∷_ ty·43 (Li._∷_ ty·36 (Li._∷_ Sy.tyUnit (Li._∷_ ty·33 (Li._∷_ ty·33 (Li._∷_ (Sy.tyStruct (Li._∷_ 38 (Li._∷_ 91 (Li._∷_ 93 Li.[]))) (Sy.tcons ty·34 (Sy.tcons (Sy.tyInt Sy.w64) Sy.tnil))) (Li._∷_ ty·37 (Li._∷_ (Sy.tyStruct (Li._∷_ 38 (Li._∷_ 91 (Li._∷_ 93 Li.[]))) (Sy.tcons ty·38 (Sy.tcons (Sy.tyInt Sy.w64) Sy.tnil))) (Li._∷_ ty·40 (Li._∷_ (Sy.tyStruct (Li._∷_ 38 (Li._∷_ 91 (Li._∷_ 93 Li.[]))) (Sy.tcons ty·41 (Sy.tcons (Sy.tyInt Sy.w64) Sy.tnil))) (Li._∷_ ty·42 (Li._∷_ (Sy.tyStruct (Li._∷_ 38 (Li._∷_ 91 (Li._∷_ 93 Li.[]))) (Sy.tcons ty·39 (Sy.tcons (Sy.tyInt Sy.w64) Sy.tnil))) (Li._∷_ ty·35 (Li._∷_ (Sy.tyStruct (Li._∷_ 38 (Li._∷_ 91 (Li._∷_ 93 Li.[]))) (Sy.tcons ty·34 (Sy.tcons (Sy.tyInt Sy.w64) Sy.tnil))) (Li._∷_ ty·35 (Li._∷_ (Sy.tyStruct (Li._∷_ 38 (Li._∷_ 91 (Li._∷_ 93 Li.[]))) (Sy.tcons ty·34 (Sy.tcons (Sy.tyInt Sy.w64) Sy.tnil))) (Li._∷_ ty·33 (Li._∷_ (Sy.tyStruct (Li._∷_ 38 (Li._∷_ 91 (Li._∷_ 93 Li.[]))) (Sy.tcons ty·34 (Sy.tcons (Sy.tyInt Sy.w64) Sy.tnil))) Li.[]))))))))))))))))))))))))
+xs = Li._∷_ ty·36 (Li._∷_ ty·36 (Li._∷_ ty·44 (Li._∷_ Gap_.ty (Li._∷_ ty·46 (Li._∷_ ty·45 (Li._∷_ ty·43 (Li._∷_ ty·43 (Li._∷_ ty·36 (Li._∷_ Sy.tyUnit (Li._∷_ ty·33 (Li._∷_ ty·33 (Li._∷_ (Sy.tyStruct (Li._∷_ 38 (Li._∷_ 91 (Li._∷_ 93 Li.[]))) (Sy.tcons ty·34 (Sy.tcons (Sy.tyInt Sy.w64) Sy.tnil))) (Li._∷_ ty·37 (Li._∷_ (Sy.tyStruct (Li._∷_ 38 (Li._∷_ 91 (Li._∷_ 93 Li.[]))) (Sy.tcons ty·39 (Sy.tcons (Sy.tyInt Sy.w64) Sy.tnil))) (Li._∷_ ty·41 (Li._∷_ (Sy.tyStruct (Li._∷_ 38 (Li._∷_ 91 (Li._∷_ 93 Li.[]))) (Sy.tcons ty·42 (Sy.tcons (Sy.tyInt Sy.w64) Sy.tnil))) (Li._∷_ ty·38 (Li._∷_ (Sy.tyStruct (Li._∷_ 38 (Li._∷_ 91 (Li._∷_ 93 Li.[]))) (Sy.tcons ty·40 (Sy.tcons (Sy.tyInt Sy.w64) Sy.tnil))) (Li._∷_ ty·35 (Li._∷_ (Sy.tyStruct (Li._∷_ 38 (Li._∷_ 91 (Li._∷_ 93 Li.[]))) (Sy.tcons ty·34 (Sy.tcons (Sy.tyInt Sy.w64) Sy.tnil))) (Li._∷_ ty·35 (Li._∷_ (Sy.tyStruct (Li._∷_ 38 (Li._∷_ 91 (Li._∷_ 93 Li.[]))) (Sy.tcons ty·34 (Sy.tcons (Sy.tyInt Sy.w64) Sy.tnil))) (Li._∷_ ty·33 (Li._∷_ (Sy.tyStruct (Li._∷_ 38 (Li._∷_ 91 (Li._∷_ 93 Li.[]))) (Sy.tcons ty·34 (Sy.tcons (Sy.tyInt Sy.w64) Sy.tnil))) Li.[]))))))))))))))))))))))))
 
 abbrev pub m : Nat.ℕ
 m = 8
@@ -378,22 +381,22 @@ abbrev pub Claims : Type 1
 Claims = Kinds.In 0 ps·0 × Kinds.Out 0 ps·0 r·0 × Kinds.In 8 ps·1 × Kinds.Out 8 ps·1 r·1
 
 abbrev pub t0 : Li.List Ro.Entry
-t0 = Li._∷_ (0, row·12) (Li._∷_ (1, row·8) (Li._∷_ (2, row·8) (Li._∷_ (3, row·17) (Li._∷_ (4, Rows'.any-gone Gap_.ty) (Li._∷_ (5, row·29) (Li._∷_ (6, row·32) (Li._∷_ (7, row·18) (Li._∷_ (8, row·18) (Li._∷_ (9, row·8) (Li._∷_ (10, row·12) (Li._∷_ (11, row·1) (Li._∷_ (12, row·1) (Li._∷_ (13, row·0) (Li._∷_ (14, row·5) (Li._∷_ (15, row·4) Li.[])))))))))))))))
+t0 = Li._∷_ (0, row·12) (Li._∷_ (1, row·9) (Li._∷_ (2, row·9) (Li._∷_ (3, row·17) (Li._∷_ (4, Rows'.any-gone Gap_.ty) (Li._∷_ (5, row·30) (Li._∷_ (6, row·28) (Li._∷_ (7, row·18) (Li._∷_ (8, row·18) (Li._∷_ (9, row·9) (Li._∷_ (10, row·12) (Li._∷_ (11, row·1) (Li._∷_ (12, row·1) (Li._∷_ (13, row·0) (Li._∷_ (14, row·5) (Li._∷_ (15, row·4) Li.[])))))))))))))))
 
 abbrev pub t1 : Li.List Ro.Entry
-t1 = Li._∷_ (16, row·9) (Li._∷_ (17, row·7) (Li._∷_ (18, row·10) (Li._∷_ (19, row·6) (Li._∷_ (20, row·2) (Li._∷_ (21, row·0) (Li._∷_ (22, row·2) (Li._∷_ (23, row·0) (Li._∷_ (24, row·1) (Li._∷_ (25, row·0) Li.[])))))))))
+t1 = Li._∷_ (16, row·10) (Li._∷_ (17, row·8) (Li._∷_ (18, row·7) (Li._∷_ (19, row·6) (Li._∷_ (20, row·2) (Li._∷_ (21, row·0) (Li._∷_ (22, row·2) (Li._∷_ (23, row·0) (Li._∷_ (24, row·1) (Li._∷_ (25, row·0) Li.[])))))))))
 
 abbrev pub t2 : Li.List Ro.Entry
-t2 = Li._∷_ (0, Rows'.sc-here Ro.sUnit) (Li._∷_ (1, row·8) (Li._∷_ (2, row·8) (Li._∷_ (3, row·17) (Li._∷_ (4, Rows'.any-gone Gap_.ty) (Li._∷_ (5, row·29) (Li._∷_ (6, row·32) (Li._∷_ (7, row·18) (Li._∷_ (8, row·18) (Li._∷_ (9, row·8) (Li._∷_ (10, row·12) (Li._∷_ (11, row·1) (Li._∷_ (12, row·1) (Li._∷_ (13, row·0) (Li._∷_ (14, row·5) (Li._∷_ (15, row·4) Li.[])))))))))))))))
+t2 = Li._∷_ (0, Rows'.sc-here Ro.sUnit) (Li._∷_ (1, row·9) (Li._∷_ (2, row·9) (Li._∷_ (3, row·17) (Li._∷_ (4, Rows'.any-gone Gap_.ty) (Li._∷_ (5, row·30) (Li._∷_ (6, row·28) (Li._∷_ (7, row·18) (Li._∷_ (8, row·18) (Li._∷_ (9, row·9) (Li._∷_ (10, row·12) (Li._∷_ (11, row·1) (Li._∷_ (12, row·1) (Li._∷_ (13, row·0) (Li._∷_ (14, row·5) (Li._∷_ (15, row·4) Li.[])))))))))))))))
 
 abbrev pub t3 : Li.List Ro.Entry
-t3 = Ro.setRow 1 (1, row·31) (Ro.setRow 0 (0, row·12) t2)
+t3 = Ro.setRow 1 (1, row·32) (Ro.setRow 0 (0, row·12) t2)
 
 abbrev pub t4 : Li.List Ro.Entry
 t4 = Ro.setRow 1 (1, row·15) t3
 
 abbrev pub t5 : Li.List Ro.Entry
-t5 = Ro.setRow 2 (2, row·31) t4
+t5 = Ro.setRow 2 (2, row·32) t4
 
 abbrev pub t6 : Li.List Ro.Entry
 t6 = Ro.setRow 2 (2, row·15) t5
@@ -417,7 +420,7 @@ abbrev pub t12 : Li.List Ro.Entry
 t12 = Ro.setRow 4 (4, Rows'.any-gone Gap_.ty) t11
 
 abbrev pub t13 : Li.List Ro.Entry
-t13 = Ro.setRow 6 (6, Rows'.whole (Gap_.row1846)) t12
+t13 = Ro.setRow 6 (6, Rows'.whole (Array'.Array (Rf.rtF (Rf.fInt Sy.w16)) 21846)) t12
 
 abbrev pub t14 : Li.List Ro.Entry
 t14 = Ro.setRow 6 (6, Rows.arrF (Rf.rtF (Rf.fInt Sy.w16)) 21846 0) t13
@@ -435,7 +438,7 @@ abbrev pub t18 : Li.List Ro.Entry
 t18 = Ro.setRow 8 (8, row·25) t17
 
 abbrev pub t19 : Li.List Ro.Entry
-t19 = Ro.setRow 9 (9, row·31) t18
+t19 = Ro.setRow 9 (9, row·32) t18
 
 abbrev pub t20 : Li.List Ro.Entry
 t20 = Ro.setRow 9 (9, row·15) t19
@@ -456,70 +459,70 @@ abbrev pub t25 : Li.List Ro.Entry
 t25 = Ro.setRow 15 (15, row·13) (Ro.setRow 14 (14, row·5) t24)
 
 abbrev pub t26 : Li.List Ro.Entry
-t26 = Ro.setRow 5 (5, row·30) t25
+t26 = Ro.setRow 5 (5, row·31) t25
 
 abbrev pub t27 : Li.List Ro.Entry
-t27 = Li._∷_ (16, Relend.msptr Gap_.row ty·40 3) (Li._∷_ (17, row·7) (Li._∷_ (18, row·10) (Li._∷_ (19, row·6) (Li._∷_ (20, row·2) (Li._∷_ (21, row·0) (Li._∷_ (22, row·2) (Li._∷_ (23, row·0) (Li._∷_ (24, row·1) (Li._∷_ (25, row·0) Li.[])))))))))
+t27 = Li._∷_ (16, Relend.msptr Gap_.row ty·41 3) (Li._∷_ (17, row·8) (Li._∷_ (18, row·7) (Li._∷_ (19, row·6) (Li._∷_ (20, row·2) (Li._∷_ (21, row·0) (Li._∷_ (22, row·2) (Li._∷_ (23, row·0) (Li._∷_ (24, row·1) (Li._∷_ (25, row·0) Li.[])))))))))
 
 abbrev pub t28 : Li.List Ro.Entry
-t28 = Ro.setRow 1 (17, row·27) (Ro.setRow 0 (16, row·9) t27)
+t28 = Ro.setRow 1 (17, row·27) (Ro.setRow 0 (16, row·10) t27)
 
 abbrev pub t29 : Li.List Ro.Entry
-t29 = Li._∷_ (0, row·12) (Li._∷_ (1, row·16) (Li._∷_ (2, row·23) (Li._∷_ (3, row·19) (Li._∷_ (4, Rows'.any-gone Gap_.ty) (Li._∷_ (5, row·30) (Li._∷_ (6, row·22) (Li._∷_ (7, row·25) (Li._∷_ (8, row·25) (Li._∷_ (9, row·15) (Li._∷_ (10, row·12) (Li._∷_ (11, row·11) (Li._∷_ (12, row·1) (Li._∷_ (13, row·14) (Li._∷_ (14, row·5) (Li._∷_ (15, row·13) Li.[])))))))))))))))
+t29 = Li._∷_ (0, row·12) (Li._∷_ (1, row·16) (Li._∷_ (2, row·23) (Li._∷_ (3, row·19) (Li._∷_ (4, Rows'.any-gone Gap_.ty) (Li._∷_ (5, row·31) (Li._∷_ (6, row·22) (Li._∷_ (7, row·25) (Li._∷_ (8, row·25) (Li._∷_ (9, row·15) (Li._∷_ (10, row·12) (Li._∷_ (11, row·11) (Li._∷_ (12, row·1) (Li._∷_ (13, row·14) (Li._∷_ (14, row·5) (Li._∷_ (15, row·13) Li.[])))))))))))))))
 
 abbrev pub t30 : Li.List Ro.Entry
-t30 = Li._∷_ (16, row·9) (Li._∷_ (17, row·27) (Li._∷_ (18, Relend.msptr (Rf.rtF (Rf.fInt Sy.w16)) ty·42 4) (Li._∷_ (19, row·6) (Li._∷_ (20, row·2) (Li._∷_ (21, row·0) (Li._∷_ (22, row·2) (Li._∷_ (23, row·0) (Li._∷_ (24, row·1) (Li._∷_ (25, row·0) Li.[])))))))))
+t30 = Li._∷_ (16, row·10) (Li._∷_ (17, row·27) (Li._∷_ (18, Relend.msptr (Rf.rtF (Rf.fInt Sy.w16)) ty·38 4) (Li._∷_ (19, row·6) (Li._∷_ (20, row·2) (Li._∷_ (21, row·0) (Li._∷_ (22, row·2) (Li._∷_ (23, row·0) (Li._∷_ (24, row·1) (Li._∷_ (25, row·0) Li.[])))))))))
 
 abbrev pub t31 : Li.List Ro.Entry
-t31 = Ro.setRow 3 (19, row·26) (Ro.setRow 2 (18, row·10) t30)
+t31 = Ro.setRow 3 (19, row·26) (Ro.setRow 2 (18, row·7) t30)
 
 abbrev pub t32 : Li.List Ro.Entry
-t32 = Li._∷_ (0, row·12) (Li._∷_ (1, row·16) (Li._∷_ (2, row·23) (Li._∷_ (3, row·19) (Li._∷_ (4, Rows'.any-gone Gap_.ty) (Li._∷_ (5, row·30) (Li._∷_ (6, row·22) (Li._∷_ (7, row·20) (Li._∷_ (8, row·25) (Li._∷_ (9, row·15) (Li._∷_ (10, row·12) (Li._∷_ (11, row·11) (Li._∷_ (12, row·1) (Li._∷_ (13, row·14) (Li._∷_ (14, row·5) (Li._∷_ (15, row·13) Li.[])))))))))))))))
+t32 = Li._∷_ (0, row·12) (Li._∷_ (1, row·16) (Li._∷_ (2, row·23) (Li._∷_ (3, row·19) (Li._∷_ (4, Rows'.any-gone Gap_.ty) (Li._∷_ (5, row·31) (Li._∷_ (6, row·22) (Li._∷_ (7, row·20) (Li._∷_ (8, row·25) (Li._∷_ (9, row·15) (Li._∷_ (10, row·12) (Li._∷_ (11, row·11) (Li._∷_ (12, row·1) (Li._∷_ (13, row·14) (Li._∷_ (14, row·5) (Li._∷_ (15, row·13) Li.[])))))))))))))))
 
 abbrev pub t33 : Li.List Ro.Entry
-t33 = Li._∷_ (16, row·9) (Li._∷_ (17, row·27) (Li._∷_ (18, row·10) (Li._∷_ (19, row·26) (Li._∷_ (20, Relend.msptr (Rf.rtF (Rf.fInt Sy.w8)) ty·35 5) (Li._∷_ (21, row·0) (Li._∷_ (22, row·2) (Li._∷_ (23, row·0) (Li._∷_ (24, row·1) (Li._∷_ (25, row·0) Li.[])))))))))
+t33 = Li._∷_ (16, row·10) (Li._∷_ (17, row·27) (Li._∷_ (18, row·7) (Li._∷_ (19, row·26) (Li._∷_ (20, Relend.msptr (Rf.rtF (Rf.fInt Sy.w8)) ty·35 5) (Li._∷_ (21, row·0) (Li._∷_ (22, row·2) (Li._∷_ (23, row·0) (Li._∷_ (24, row·1) (Li._∷_ (25, row·0) Li.[])))))))))
 
 abbrev pub t34 : Li.List Ro.Entry
-t34 = Ro.setRow 5 (21, row·28) (Ro.setRow 4 (20, row·2) t33)
+t34 = Ro.setRow 5 (21, row·29) (Ro.setRow 4 (20, row·2) t33)
 
 abbrev pub t35 : Li.List Ro.Entry
-t35 = Li._∷_ (0, row·12) (Li._∷_ (1, row·16) (Li._∷_ (2, row·23) (Li._∷_ (3, row·19) (Li._∷_ (4, Rows'.any-gone Gap_.ty) (Li._∷_ (5, row·30) (Li._∷_ (6, row·22) (Li._∷_ (7, row·20) (Li._∷_ (8, row·21) (Li._∷_ (9, row·15) (Li._∷_ (10, row·12) (Li._∷_ (11, row·11) (Li._∷_ (12, row·1) (Li._∷_ (13, row·14) (Li._∷_ (14, row·5) (Li._∷_ (15, row·13) Li.[])))))))))))))))
+t35 = Li._∷_ (0, row·12) (Li._∷_ (1, row·16) (Li._∷_ (2, row·23) (Li._∷_ (3, row·19) (Li._∷_ (4, Rows'.any-gone Gap_.ty) (Li._∷_ (5, row·31) (Li._∷_ (6, row·22) (Li._∷_ (7, row·20) (Li._∷_ (8, row·21) (Li._∷_ (9, row·15) (Li._∷_ (10, row·12) (Li._∷_ (11, row·11) (Li._∷_ (12, row·1) (Li._∷_ (13, row·14) (Li._∷_ (14, row·5) (Li._∷_ (15, row·13) Li.[])))))))))))))))
 
 abbrev pub t36 : Li.List Ro.Entry
-t36 = Li._∷_ (16, row·9) (Li._∷_ (17, row·27) (Li._∷_ (18, row·10) (Li._∷_ (19, row·26) (Li._∷_ (20, row·2) (Li._∷_ (21, row·28) (Li._∷_ (22, Relend.msptr (Rf.rtF (Rf.fInt Sy.w8)) ty·35 6) (Li._∷_ (23, row·0) (Li._∷_ (24, row·1) (Li._∷_ (25, row·0) Li.[])))))))))
+t36 = Li._∷_ (16, row·10) (Li._∷_ (17, row·27) (Li._∷_ (18, row·7) (Li._∷_ (19, row·26) (Li._∷_ (20, row·2) (Li._∷_ (21, row·29) (Li._∷_ (22, Relend.msptr (Rf.rtF (Rf.fInt Sy.w8)) ty·35 6) (Li._∷_ (23, row·0) (Li._∷_ (24, row·1) (Li._∷_ (25, row·0) Li.[])))))))))
 
 abbrev pub t37 : Li.List Ro.Entry
 t37 = Ro.setRow 7 (23, Mut.mslice (Rf.rtF (Rf.fInt Sy.w8)) ty·34 6) (Ro.setRow 6 (22, row·2) t36)
 
 abbrev pub t38 : Li.List Ro.Entry
-t38 = Li._∷_ (0, row·12) (Li._∷_ (1, row·16) (Li._∷_ (2, row·23) (Li._∷_ (3, row·19) (Li._∷_ (4, Rows'.any-gone Gap_.ty) (Li._∷_ (5, row·30) (Li._∷_ (6, row·22) (Li._∷_ (7, row·20) (Li._∷_ (8, row·21) (Li._∷_ (9, row·24) (Li._∷_ (10, row·12) (Li._∷_ (11, row·11) (Li._∷_ (12, row·1) (Li._∷_ (13, row·14) (Li._∷_ (14, row·5) (Li._∷_ (15, row·13) Li.[])))))))))))))))
+t38 = Li._∷_ (0, row·12) (Li._∷_ (1, row·16) (Li._∷_ (2, row·23) (Li._∷_ (3, row·19) (Li._∷_ (4, Rows'.any-gone Gap_.ty) (Li._∷_ (5, row·31) (Li._∷_ (6, row·22) (Li._∷_ (7, row·20) (Li._∷_ (8, row·21) (Li._∷_ (9, row·24) (Li._∷_ (10, row·12) (Li._∷_ (11, row·11) (Li._∷_ (12, row·1) (Li._∷_ (13, row·14) (Li._∷_ (14, row·5) (Li._∷_ (15, row·13) Li.[])))))))))))))))
 
 abbrev pub t39 : Li.List Ro.Entry
-t39 = Li._∷_ (16, row·9) (Li._∷_ (17, row·27) (Li._∷_ (18, row·10) (Li._∷_ (19, row·26) (Li._∷_ (20, row·2) (Li._∷_ (21, row·28) (Li._∷_ (22, row·2) (Li._∷_ (23, Mut.mslice (Rf.rtF (Rf.fInt Sy.w8)) ty·34 6) (Li._∷_ (24, Relend.msptr (Rf.rtF (Rf.fInt Sy.w8)) ty·33 7) (Li._∷_ (25, row·0) Li.[])))))))))
+t39 = Li._∷_ (16, row·10) (Li._∷_ (17, row·27) (Li._∷_ (18, row·7) (Li._∷_ (19, row·26) (Li._∷_ (20, row·2) (Li._∷_ (21, row·29) (Li._∷_ (22, row·2) (Li._∷_ (23, Mut.mslice (Rf.rtF (Rf.fInt Sy.w8)) ty·34 6) (Li._∷_ (24, Relend.msptr (Rf.rtF (Rf.fInt Sy.w8)) ty·33 7) (Li._∷_ (25, row·0) Li.[])))))))))
 
 abbrev pub t40 : Li.List Ro.Entry
 t40 = Ro.setRow 9 (25, Mut.mslice (Rf.rtF (Rf.fInt Sy.w8)) ty·34 7) (Ro.setRow 8 (24, row·1) t39)
 
 abbrev pub t41 : Li.List Ro.Entry
-t41 = Li._∷_ (0, row·12) (Li._∷_ (1, row·16) (Li._∷_ (2, row·23) (Li._∷_ (3, row·19) (Li._∷_ (4, Rows'.any-gone Gap_.ty) (Li._∷_ (5, row·30) (Li._∷_ (6, row·22) (Li._∷_ (7, row·20) (Li._∷_ (8, row·21) (Li._∷_ (9, row·24) (Li._∷_ (10, Rows'.sc-here Ro.sUnit) (Li._∷_ (11, Rows'.mleft (Array'.Array (Rf.rtF (Rf.fInt Sy.w8)) 65536) ty·33) (Li._∷_ (12, row·1) (Li._∷_ (13, row·3) (Li._∷_ (14, row·5) (Li._∷_ (15, Mut.msleft (Rf.rtF (Rf.fInt Sy.w32)) ty·38) Li.[])))))))))))))))
+t41 = Li._∷_ (0, row·12) (Li._∷_ (1, row·16) (Li._∷_ (2, row·23) (Li._∷_ (3, row·19) (Li._∷_ (4, Rows'.any-gone Gap_.ty) (Li._∷_ (5, row·31) (Li._∷_ (6, row·22) (Li._∷_ (7, row·20) (Li._∷_ (8, row·21) (Li._∷_ (9, row·24) (Li._∷_ (10, Rows'.sc-here Ro.sUnit) (Li._∷_ (11, Rows'.mleft (Array'.Array (Rf.rtF (Rf.fInt Sy.w8)) 65536) ty·33) (Li._∷_ (12, row·1) (Li._∷_ (13, row·3) (Li._∷_ (14, row·5) (Li._∷_ (15, Mut.msleft (Rf.rtF (Rf.fInt Sy.w32)) ty·39) Li.[])))))))))))))))
 
 abbrev pub t42 : Li.List Ro.Entry
-t42 = Li._∷_ (16, row·9) (Li._∷_ (17, Mut.msleft Gap_.row ty·41) (Li._∷_ (18, row·10) (Li._∷_ (19, Mut.msleft (Rf.rtF (Rf.fInt Sy.w16)) ty·39) (Li._∷_ (20, row·2) (Li._∷_ (21, row·3) (Li._∷_ (22, row·2) (Li._∷_ (23, row·3) (Li._∷_ (24, row·1) (Li._∷_ (25, row·3) Li.[])))))))))
+t42 = Li._∷_ (16, row·10) (Li._∷_ (17, Mut.msleft Gap_.row ty·42) (Li._∷_ (18, row·7) (Li._∷_ (19, Mut.msleft (Rf.rtF (Rf.fInt Sy.w16)) ty·40) (Li._∷_ (20, row·2) (Li._∷_ (21, row·3) (Li._∷_ (22, row·2) (Li._∷_ (23, row·3) (Li._∷_ (24, row·1) (Li._∷_ (25, row·3) Li.[])))))))))
 
 abbrev pub t43 : Li.List Ro.Entry
-t43 = Li._∷_ (0, row·12) (Li._∷_ (1, row·16) (Li._∷_ (2, row·23) (Li._∷_ (3, row·19) (Li._∷_ (4, Rows'.any-gone Gap_.ty) (Li._∷_ (5, row·30) (Li._∷_ (6, row·22) (Li._∷_ (7, row·20) (Li._∷_ (8, row·21) (Li._∷_ (9, row·24) (Li._∷_ (10, row·12) (Li._∷_ (11, Rows'.mleft (Array'.Array (Rf.rtF (Rf.fInt Sy.w8)) 65536) ty·33) (Li._∷_ (12, row·1) (Li._∷_ (13, row·3) (Li._∷_ (14, row·5) (Li._∷_ (15, Mut.msleft (Rf.rtF (Rf.fInt Sy.w32)) ty·38) Li.[])))))))))))))))
+t43 = Li._∷_ (0, row·12) (Li._∷_ (1, row·16) (Li._∷_ (2, row·23) (Li._∷_ (3, row·19) (Li._∷_ (4, Rows'.any-gone Gap_.ty) (Li._∷_ (5, row·31) (Li._∷_ (6, row·22) (Li._∷_ (7, row·20) (Li._∷_ (8, row·21) (Li._∷_ (9, row·24) (Li._∷_ (10, row·12) (Li._∷_ (11, Rows'.mleft (Array'.Array (Rf.rtF (Rf.fInt Sy.w8)) 65536) ty·33) (Li._∷_ (12, row·1) (Li._∷_ (13, row·3) (Li._∷_ (14, row·5) (Li._∷_ (15, Mut.msleft (Rf.rtF (Rf.fInt Sy.w32)) ty·39) Li.[])))))))))))))))
 
 abbrev pub t44 : Li.List Ro.Entry
 t44 = Ro.setRow 11 (11, row·1) (Ro.setRow 1 (1, row·15) t43)
 
 abbrev pub t45 : Li.List Ro.Entry
-t45 = Ro.setRow 1 (1, row·8) t44
+t45 = Ro.setRow 1 (1, row·9) t44
 
 abbrev pub t46 : Li.List Ro.Entry
 t46 = Ro.setRow 13 (13, row·0) (Ro.setRow 2 (2, row·15) t45)
 
 abbrev pub t47 : Li.List Ro.Entry
-t47 = Ro.setRow 2 (2, row·8) t46
+t47 = Ro.setRow 2 (2, row·9) t46
 
 abbrev pub t48 : Li.List Ro.Entry
 t48 = Ro.setRow 15 (15, row·4) (Ro.setRow 3 (3, Rows.arrF (Rf.rtF (Rf.fInt Sy.w32)) 394240 0) t47)
@@ -531,37 +534,37 @@ abbrev pub t50 : Li.List Ro.Entry
 t50 = Ro.setRow 5 (5, Rows.arrF Gap_.row 13109 0) t49
 
 abbrev pub t51 : Li.List Ro.Entry
-t51 = Li._∷_ (16, row·9) (Li._∷_ (17, row·7) (Li._∷_ (18, row·10) (Li._∷_ (19, Mut.msleft (Rf.rtF (Rf.fInt Sy.w16)) ty·39) (Li._∷_ (20, row·2) (Li._∷_ (21, row·3) (Li._∷_ (22, row·2) (Li._∷_ (23, row·3) (Li._∷_ (24, row·1) (Li._∷_ (25, row·3) Li.[])))))))))
+t51 = Li._∷_ (16, row·10) (Li._∷_ (17, row·8) (Li._∷_ (18, row·7) (Li._∷_ (19, Mut.msleft (Rf.rtF (Rf.fInt Sy.w16)) ty·40) (Li._∷_ (20, row·2) (Li._∷_ (21, row·3) (Li._∷_ (22, row·2) (Li._∷_ (23, row·3) (Li._∷_ (24, row·1) (Li._∷_ (25, row·3) Li.[])))))))))
 
 abbrev pub t52 : Li.List Ro.Entry
-t52 = Li._∷_ (0, row·12) (Li._∷_ (1, row·8) (Li._∷_ (2, row·8) (Li._∷_ (3, row·17) (Li._∷_ (4, Rows'.any-gone Gap_.ty) (Li._∷_ (5, row·29) (Li._∷_ (6, row·22) (Li._∷_ (7, row·20) (Li._∷_ (8, row·21) (Li._∷_ (9, row·24) (Li._∷_ (10, row·12) (Li._∷_ (11, row·1) (Li._∷_ (12, row·1) (Li._∷_ (13, row·0) (Li._∷_ (14, row·5) (Li._∷_ (15, row·4) Li.[])))))))))))))))
+t52 = Li._∷_ (0, row·12) (Li._∷_ (1, row·9) (Li._∷_ (2, row·9) (Li._∷_ (3, row·17) (Li._∷_ (4, Rows'.any-gone Gap_.ty) (Li._∷_ (5, row·30) (Li._∷_ (6, row·22) (Li._∷_ (7, row·20) (Li._∷_ (8, row·21) (Li._∷_ (9, row·24) (Li._∷_ (10, row·12) (Li._∷_ (11, row·1) (Li._∷_ (12, row·1) (Li._∷_ (13, row·0) (Li._∷_ (14, row·5) (Li._∷_ (15, row·4) Li.[])))))))))))))))
 
 abbrev pub t53 : Li.List Ro.Entry
 t53 = Ro.setRow 6 (6, Rows.arrF (Rf.rtF (Rf.fInt Sy.w16)) 21846 0) t52
 
 abbrev pub t54 : Li.List Ro.Entry
-t54 = Li._∷_ (16, row·9) (Li._∷_ (17, row·7) (Li._∷_ (18, row·10) (Li._∷_ (19, row·6) (Li._∷_ (20, row·2) (Li._∷_ (21, row·3) (Li._∷_ (22, row·2) (Li._∷_ (23, row·3) (Li._∷_ (24, row·1) (Li._∷_ (25, row·3) Li.[])))))))))
+t54 = Li._∷_ (16, row·10) (Li._∷_ (17, row·8) (Li._∷_ (18, row·7) (Li._∷_ (19, row·6) (Li._∷_ (20, row·2) (Li._∷_ (21, row·3) (Li._∷_ (22, row·2) (Li._∷_ (23, row·3) (Li._∷_ (24, row·1) (Li._∷_ (25, row·3) Li.[])))))))))
 
 abbrev pub t55 : Li.List Ro.Entry
-t55 = Li._∷_ (0, row·12) (Li._∷_ (1, row·8) (Li._∷_ (2, row·8) (Li._∷_ (3, row·17) (Li._∷_ (4, Rows'.any-gone Gap_.ty) (Li._∷_ (5, row·29) (Li._∷_ (6, row·32) (Li._∷_ (7, row·20) (Li._∷_ (8, row·21) (Li._∷_ (9, row·24) (Li._∷_ (10, row·12) (Li._∷_ (11, row·1) (Li._∷_ (12, row·1) (Li._∷_ (13, row·0) (Li._∷_ (14, row·5) (Li._∷_ (15, row·4) Li.[])))))))))))))))
+t55 = Li._∷_ (0, row·12) (Li._∷_ (1, row·9) (Li._∷_ (2, row·9) (Li._∷_ (3, row·17) (Li._∷_ (4, Rows'.any-gone Gap_.ty) (Li._∷_ (5, row·30) (Li._∷_ (6, row·28) (Li._∷_ (7, row·20) (Li._∷_ (8, row·21) (Li._∷_ (9, row·24) (Li._∷_ (10, row·12) (Li._∷_ (11, row·1) (Li._∷_ (12, row·1) (Li._∷_ (13, row·0) (Li._∷_ (14, row·5) (Li._∷_ (15, row·4) Li.[])))))))))))))))
 
 abbrev pub t56 : Li.List Ro.Entry
 t56 = Ro.setRow 7 (7, row·25) t55
 
 abbrev pub t57 : Li.List Ro.Entry
-t57 = Li._∷_ (16, row·9) (Li._∷_ (17, row·7) (Li._∷_ (18, row·10) (Li._∷_ (19, row·6) (Li._∷_ (20, row·2) (Li._∷_ (21, row·0) (Li._∷_ (22, row·2) (Li._∷_ (23, row·3) (Li._∷_ (24, row·1) (Li._∷_ (25, row·3) Li.[])))))))))
+t57 = Li._∷_ (16, row·10) (Li._∷_ (17, row·8) (Li._∷_ (18, row·7) (Li._∷_ (19, row·6) (Li._∷_ (20, row·2) (Li._∷_ (21, row·0) (Li._∷_ (22, row·2) (Li._∷_ (23, row·3) (Li._∷_ (24, row·1) (Li._∷_ (25, row·3) Li.[])))))))))
 
 abbrev pub t58 : Li.List Ro.Entry
-t58 = Li._∷_ (0, row·12) (Li._∷_ (1, row·8) (Li._∷_ (2, row·8) (Li._∷_ (3, row·17) (Li._∷_ (4, Rows'.any-gone Gap_.ty) (Li._∷_ (5, row·29) (Li._∷_ (6, row·32) (Li._∷_ (7, row·18) (Li._∷_ (8, row·21) (Li._∷_ (9, row·24) (Li._∷_ (10, row·12) (Li._∷_ (11, row·1) (Li._∷_ (12, row·1) (Li._∷_ (13, row·0) (Li._∷_ (14, row·5) (Li._∷_ (15, row·4) Li.[])))))))))))))))
+t58 = Li._∷_ (0, row·12) (Li._∷_ (1, row·9) (Li._∷_ (2, row·9) (Li._∷_ (3, row·17) (Li._∷_ (4, Rows'.any-gone Gap_.ty) (Li._∷_ (5, row·30) (Li._∷_ (6, row·28) (Li._∷_ (7, row·18) (Li._∷_ (8, row·21) (Li._∷_ (9, row·24) (Li._∷_ (10, row·12) (Li._∷_ (11, row·1) (Li._∷_ (12, row·1) (Li._∷_ (13, row·0) (Li._∷_ (14, row·5) (Li._∷_ (15, row·4) Li.[])))))))))))))))
 
 abbrev pub t59 : Li.List Ro.Entry
 t59 = Ro.setRow 8 (8, row·25) t58
 
 abbrev pub t60 : Li.List Ro.Entry
-t60 = Li._∷_ (16, row·9) (Li._∷_ (17, row·7) (Li._∷_ (18, row·10) (Li._∷_ (19, row·6) (Li._∷_ (20, row·2) (Li._∷_ (21, row·0) (Li._∷_ (22, row·2) (Li._∷_ (23, row·0) (Li._∷_ (24, row·1) (Li._∷_ (25, row·3) Li.[])))))))))
+t60 = Li._∷_ (16, row·10) (Li._∷_ (17, row·8) (Li._∷_ (18, row·7) (Li._∷_ (19, row·6) (Li._∷_ (20, row·2) (Li._∷_ (21, row·0) (Li._∷_ (22, row·2) (Li._∷_ (23, row·0) (Li._∷_ (24, row·1) (Li._∷_ (25, row·3) Li.[])))))))))
 
 abbrev pub t61 : Li.List Ro.Entry
-t61 = Li._∷_ (0, row·12) (Li._∷_ (1, row·8) (Li._∷_ (2, row·8) (Li._∷_ (3, row·17) (Li._∷_ (4, Rows'.any-gone Gap_.ty) (Li._∷_ (5, row·29) (Li._∷_ (6, row·32) (Li._∷_ (7, row·18) (Li._∷_ (8, row·18) (Li._∷_ (9, row·24) (Li._∷_ (10, row·12) (Li._∷_ (11, row·1) (Li._∷_ (12, row·1) (Li._∷_ (13, row·0) (Li._∷_ (14, row·5) (Li._∷_ (15, row·4) Li.[])))))))))))))))
+t61 = Li._∷_ (0, row·12) (Li._∷_ (1, row·9) (Li._∷_ (2, row·9) (Li._∷_ (3, row·17) (Li._∷_ (4, Rows'.any-gone Gap_.ty) (Li._∷_ (5, row·30) (Li._∷_ (6, row·28) (Li._∷_ (7, row·18) (Li._∷_ (8, row·18) (Li._∷_ (9, row·24) (Li._∷_ (10, row·12) (Li._∷_ (11, row·1) (Li._∷_ (12, row·1) (Li._∷_ (13, row·0) (Li._∷_ (14, row·5) (Li._∷_ (15, row·4) Li.[])))))))))))))))
 
 abbrev pub t62 : Li.List Ro.Entry
 t62 = Ro.setRow 9 (9, row·15) t61
@@ -793,19 +796,19 @@ module _ (claims· : Claims) where
   s24 = λ bs. Borrow.k-arr-borrow (Rf.rtF (Rf.fInt Sy.w32)) T24 (Ro.hd 0 (Ro.tl (Ro.tl (Ro.tl bs)))) 3 14 394240 2 ty·37 λ x. x
 
   abbrev s25 : (bs : Li.List Nat.ℕ) → Ty.Asks T26 T27
-  s25 = λ bs. Relend.k-sl-aggregate (Rf.rtF (Rf.fInt Sy.w32)) (Relend.asMut (Rf.rtF (Rf.fInt Sy.w32))) T26 14 15 2 ty·37 ty·38 (λ x. x) (Sc.oBig Sy.w64 394240)
+  s25 = λ bs. Relend.k-sl-aggregate (Rf.rtF (Rf.fInt Sy.w32)) (Relend.asMut (Rf.rtF (Rf.fInt Sy.w32))) T26 14 15 2 ty·37 ty·39 (λ x. x) (Sc.oBig Sy.w64 394240)
 
   abbrev s27 : (bs : Li.List Nat.ℕ) → Ty.Gives T27 T29
-  s27 = λ bs. Borrow.k-arr-borrow Gap_.row T27 (Ro.hd 0 (Ro.tl (Ro.tl (Ro.tl (Ro.tl (Ro.tl bs)))))) 5 16 13109 3 ty·40 λ x. x
+  s27 = λ bs. Borrow.k-arr-borrow Gap_.row T27 (Ro.hd 0 (Ro.tl (Ro.tl (Ro.tl (Ro.tl (Ro.tl bs)))))) 5 16 13109 3 ty·41 λ x. x
 
   abbrev s28 : (bs : Li.List Nat.ℕ) → Ty.Asks T29 T30
-  s28 = λ bs. Relend.k-sl-aggregate Gap_.row (Relend.asMut Gap_.row) T29 16 17 3 ty·40 ty·41 (λ x. x) (Sc.oBig Sy.w64 13109)
+  s28 = λ bs. Relend.k-sl-aggregate Gap_.row (Relend.asMut Gap_.row) T29 16 17 3 ty·41 ty·42 (λ x. x) (Sc.oBig Sy.w64 13109)
 
   abbrev s30 : (bs : Li.List Nat.ℕ) → Ty.Gives T30 T32
-  s30 = λ bs. Borrow.k-arr-borrow (Rf.rtF (Rf.fInt Sy.w16)) T30 (Ro.hd 0 (Ro.tl (Ro.tl (Ro.tl (Ro.tl (Ro.tl (Ro.tl bs))))))) 6 18 21846 4 ty·42 λ x. x
+  s30 = λ bs. Borrow.k-arr-borrow (Rf.rtF (Rf.fInt Sy.w16)) T30 (Ro.hd 0 (Ro.tl (Ro.tl (Ro.tl (Ro.tl (Ro.tl (Ro.tl bs))))))) 6 18 21846 4 ty·38 λ x. x
 
   abbrev s31 : (bs : Li.List Nat.ℕ) → Ty.Asks T32 T33
-  s31 = λ bs. Relend.k-sl-aggregate (Rf.rtF (Rf.fInt Sy.w16)) (Relend.asMut (Rf.rtF (Rf.fInt Sy.w16))) T32 18 19 4 ty·42 ty·39 (λ x. x) (Sc.oBig Sy.w64 21846)
+  s31 = λ bs. Relend.k-sl-aggregate (Rf.rtF (Rf.fInt Sy.w16)) (Relend.asMut (Rf.rtF (Rf.fInt Sy.w16))) T32 18 19 4 ty·38 ty·40 (λ x. x) (Sc.oBig Sy.w64 21846)
 
   abbrev s33 : (bs : Li.List Nat.ℕ) → Ty.Gives T33 T35
   s33 = λ bs. Borrow.k-arr-borrow (Rf.rtF (Rf.fInt Sy.w8)) T33 (Ro.hd 0 (Ro.tl (Ro.tl (Ro.tl (Ro.tl (Ro.tl (Ro.tl (Ro.tl bs)))))))) 7 20 1048576 5 ty·35 λ x. x
@@ -844,22 +847,22 @@ module _ (claims· : Claims) where
   s50 = λ bs. Sc.n-room T50 2 ty·36
 
   abbrev s52 : (bs : Li.List Nat.ℕ) → Ty.Both T52 T54
-  s52 = λ bs. Borrow.k-back-arr (Rf.rtF (Rf.fInt Sy.w32)) T52 15 3 2 394240 ty·38 (λ x. x) λ x. x
+  s52 = λ bs. Borrow.k-back-arr (Rf.rtF (Rf.fInt Sy.w32)) T52 15 3 2 394240 ty·39 (λ x. x) λ x. x
 
   abbrev s54 : (bs : Li.List Nat.ℕ) → Ty.Mo T54 → Ty.Mo T56
   s54 = λ bs. Sc.n-room T54 3 ty·44
 
   abbrev s56 : (bs : Li.List Nat.ℕ) → Ty.Both T56 T58
-  s56 = λ bs. Borrow.k-back-arr Gap_.row T56 17 5 3 13109 ty·41 (λ x. x) λ x. x
+  s56 = λ bs. Borrow.k-back-arr Gap_.row T56 17 5 3 13109 ty·42 (λ x. x) λ x. x
 
   abbrev s58 : (bs : Li.List Nat.ℕ) → Ty.Mo T58 → Ty.Mo T60
-  s58 = λ bs. Sc.n-room T58 5 ty·45
+  s58 = λ bs. Sc.n-room T58 5 ty·46
 
   abbrev s60 : (bs : Li.List Nat.ℕ) → Ty.Both T60 T62
-  s60 = λ bs. Borrow.k-back-arr (Rf.rtF (Rf.fInt Sy.w16)) T60 19 6 4 21846 ty·39 (λ x. x) λ x. x
+  s60 = λ bs. Borrow.k-back-arr (Rf.rtF (Rf.fInt Sy.w16)) T60 19 6 4 21846 ty·40 (λ x. x) λ x. x
 
   abbrev s62 : (bs : Li.List Nat.ℕ) → Ty.Mo T62 → Ty.Mo T64
-  s62 = λ bs. Sc.n-room T62 6 (Gap_.ty1846)
+  s62 = λ bs. Sc.n-room T62 6 ty·45
 
   abbrev s64 : (bs : Li.List Nat.ℕ) → Ty.Both T64 T66
   s64 = λ bs. Borrow.k-back-arr (Rf.rtF (Rf.fInt Sy.w8)) T64 21 7 5 1048576 ty·34 (λ x. x) λ x. x
@@ -1435,7 +1438,7 @@ module _ (claims· : Claims) where
           E = Frame.EnvOf 𝓤 H (Li._∷_ (Kinds.tyR r) (Enter.tysP ps xs)) bs
 
           pub typed : Ty.Typed 𝓤 H A 𝓣 E (Function.Γin 0 ps r xs m κs qs) b52 (Function.Δret 0 ps r xs m κs qs) (Φ bs)
-          typed = (Ty.s-seq 𝓤 H A W 𝓣 E G0 G2 b0 b51 Δ0 (Ty.pass T0 T2 (s0 bs)) (at75 bs) (Repeat.t-repeat 𝓤 H A W E 𝓣 (Rf.rtF (Rf.fInt Sy.w8)) (Plain'.uint-lawful 𝓤 H A W Sy.w8) (Copies.cRf (Rf.fInt Sy.w8) .copy 𝓤 H A W) (Plain'.uint-makes 𝓤 H A W Sy.w8) 65536 G0 1 (Sc.oInt Sy.w8 0) (λ m. 0) (Reads.room-gone 𝓤 H A ty·36) tt Pa.refl λ m wa. (Pa.refl, Dec'.lit< tt)) (Ty.g-pre 𝓤 H A W 𝓣 E G2 G3 b51 Δ0 (Ty.pass T2 T3 (s1 bs)) (at74 bs) (AtSlots.g-as-by 𝓤 H A W E (λ ρ. Unit) G2 1 row·15 (λ x. x) (Own.told-none 𝓤 H A (G2 .slots)) λ ρ told. Repeat.whole-arr 𝓤 H A W (Rf.rtF (Rf.fInt Sy.w8)) 65536 tt ρ) (Ty.s-seq 𝓤 H A W 𝓣 E G3 G4 b1 b50 Δ0 (Ty.pass T3 T4 (s2 bs)) (at73 bs) (Repeat.t-repeat 𝓤 H A W E 𝓣 (Rf.rtF (Rf.fInt Sy.w8)) (Plain'.uint-lawful 𝓤 H A W Sy.w8) (Copies.cRf (Rf.fInt Sy.w8) .copy 𝓤 H A W) (Plain'.uint-makes 𝓤 H A W Sy.w8) 65536 G3 2 (Sc.oInt Sy.w8 0) (λ m. 0) (Reads.room-gone 𝓤 H A ty·36) tt Pa.refl λ m wa. (Pa.refl, Dec'.lit< tt)) (Ty.g-pre 𝓤 H A W 𝓣 E G4 G5 b50 Δ0 (Ty.pass T4 T5 (s3 bs)) (at72 bs) (AtSlots.g-as-by 𝓤 H A W E (λ ρ. Unit) G4 2 row·15 (λ x. x) (Own.told-none 𝓤 H A (G4 .slots)) λ ρ told. Repeat.whole-arr 𝓤 H A W (Rf.rtF (Rf.fInt Sy.w8)) 65536 tt ρ) (Ty.s-seq 𝓤 H A W 𝓣 E G5 G6 b2 b49 Δ0 (Ty.pass T5 T6 (s4 bs)) (at71 bs) (Repeat.t-repeat 𝓤 H A W E 𝓣 (Rf.rtF (Rf.fInt Sy.w32)) (Plain'.uint-lawful 𝓤 H A W Sy.w32) (Copies.cRf (Rf.fInt Sy.w32) .copy 𝓤 H A W) (Plain'.uint-makes 𝓤 H A W Sy.w32) 394240 G5 3 (Sc.oInt Sy.w32 0) (λ m. 0) (Reads.room-gone 𝓤 H A ty·44) tt Pa.refl λ m wa. (Pa.refl, Dec'.lit< tt)) (Ty.g-pre 𝓤 H A W 𝓣 E G6 G7 b49 Δ0 (Ty.pass T6 T7 (s5 bs)) (at70 bs) (AtSlots.g-as-by 𝓤 H A W E (λ ρ. Unit) G6 3 (Rows.arrF (Rf.rtF (Rf.fInt Sy.w32)) 394240 0) (λ x. x) (Own.told-none 𝓤 H A (G6 .slots)) λ ρ told. Repeat.whole-arr 𝓤 H A W (Rf.rtF (Rf.fInt Sy.w32)) 394240 tt ρ) (Ty.s-seq 𝓤 H A W 𝓣 E G7 G8 b3 b48 Δ0 (Ty.both (s6 bs)) (at69 bs) (Plain.t-call-plain 𝓤 H A W 𝓣 0 ps·0 r·0 (claims· .0) (claims· .1) "slots::no_gap" (known .0) E (λ pos β. β) G7 tt 4 Li.[] (Call.sub-id 𝓤 H A W (G7 .slots)) tt (Reads.room-gone 𝓤 H A Gap_.ty) tt Pa.refl) (Ty.s-seq 𝓤 H A W 𝓣 E G8 G9 b4 b47 Δ0 (Ty.pass T8 T9 (s7 bs)) (at68 bs) (Repeat.t-repeat-by 𝓤 H A W E 𝓣 Gap_.row (Gap_.lawful 𝓤 H A W) (Gap_.copies .copy 𝓤 H A W) 13109 G8 5 (Sc.oAt 4 Gap_.ty λ x. Steps.only (Gap_.copies .vals x)) (λ m. m .1 .1 .1 .1 .0) (λ ρ. Unit) (Reads.room-gone 𝓤 H A ty·45) (Gap_.reads 𝓤 H A W, Pa.refl) Pa.refl (Own.told-none 𝓤 H A (G8 .slots)) λ ρ m pf wa. Gives.elem-local 𝓤 H A W E ρ Gap_.row (λ x. Steps.only (Gap_.copies .vals x)) (Gap_.copies .tells) (Ro.out 5 (G8 .locals)) m (λ ρ. Unit) pf 4 Gap_.ty (λ x. x) (Yields.yields-copy 𝓤 H A W (λ ρ. Unit) Gap_.row Pa.refl (Gap_.copies .copy 𝓤 H A W) Gap_.whole (λ x. x) (λ x. x) (λ ρ told. Gap_.in-mem 𝓤 H A W ρ) λ ρ told. Gap_.of-mem 𝓤 H A W ρ)) (Ty.g-pre 𝓤 H A W 𝓣 E G9 G10 b47 Δ0 (Ty.pass T9 T10 (s8 bs)) (at67 bs) (AtSlots.g-as-by 𝓤 H A W E (λ ρ. Unit) G9 5 (Rows.arrF Gap_.row 13109 0) (λ x. x) (Own.told-none 𝓤 H A (G9 .slots)) λ ρ told. Repeat.whole-arr 𝓤 H A W Gap_.row 13109 tt ρ) (Ty.g-pre 𝓤 H A W 𝓣 E G10 G11 b47 Δ0 (Ty.pass T10 T11 (s9 bs)) (at66 bs) (Sc.g-room 𝓤 H A W E G10 4 Gap_.ty (Gap_.room 𝓤 H A W)) (Ty.s-seq 𝓤 H A W 𝓣 E G11 G12 b5 b46 Δ0 (Ty.pass T11 T12 (s10 bs)) (at65 bs) (Repeat.t-repeat 𝓤 H A W E 𝓣 (Rf.rtF (Rf.fInt Sy.w16)) (Plain'.uint-lawful 𝓤 H A W Sy.w16) (Copies.cRf (Rf.fInt Sy.w16) .copy 𝓤 H A W) (Plain'.uint-makes 𝓤 H A W Sy.w16) 21846 G11 6 (Sc.oInt Sy.w16 0) (λ m. 0) (Reads.room-gone 𝓤 H A (Gap_.ty1846)) tt Pa.refl λ m wa. (Pa.refl, Dec'.lit< tt)) (Ty.g-pre 𝓤 H A W 𝓣 E G12 G13 b46 Δ0 (Ty.pass T12 T13 (s11 bs)) (at64 bs) (AtSlots.g-as-by 𝓤 H A W E (λ ρ. Unit) G12 6 (Rows.arrF (Rf.rtF (Rf.fInt Sy.w16)) 21846 0) (λ x. x) (Own.told-none 𝓤 H A (G12 .slots)) λ ρ told. Repeat.whole-arr 𝓤 H A W (Rf.rtF (Rf.fInt Sy.w16)) 21846 tt ρ) (Ty.s-seq 𝓤 H A W 𝓣 E G13 G14 b6 b45 Δ0 (Ty.pass T13 T14 (s12 bs)) (at63 bs) (Repeat.t-repeat 𝓤 H A W E 𝓣 (Rf.rtF (Rf.fInt Sy.w8)) (Plain'.uint-lawful 𝓤 H A W Sy.w8) (Copies.cRf (Rf.fInt Sy.w8) .copy 𝓤 H A W) (Plain'.uint-makes 𝓤 H A W Sy.w8) 1048576 G13 7 (Sc.oInt Sy.w8 0) (λ m. 0) (Reads.room-gone 𝓤 H A ty·43) tt Pa.refl λ m wa. (Pa.refl, Dec'.lit< tt)) (Ty.g-pre 𝓤 H A W 𝓣 E G14 G15 b45 Δ0 (Ty.pass T14 T15 (s13 bs)) (at62 bs) (AtSlots.g-as-by 𝓤 H A W E (λ ρ. Unit) G14 7 row·25 (λ x. x) (Own.told-none 𝓤 H A (G14 .slots)) λ ρ told. Repeat.whole-arr 𝓤 H A W (Rf.rtF (Rf.fInt Sy.w8)) 1048576 tt ρ) (Ty.s-seq 𝓤 H A W 𝓣 E G15 G16 b7 b44 Δ0 (Ty.pass T15 T16 (s14 bs)) (at61 bs) (Repeat.t-repeat 𝓤 H A W E 𝓣 (Rf.rtF (Rf.fInt Sy.w8)) (Plain'.uint-lawful 𝓤 H A W Sy.w8) (Copies.cRf (Rf.fInt Sy.w8) .copy 𝓤 H A W) (Plain'.uint-makes 𝓤 H A W Sy.w8) 1048576 G15 8 (Sc.oInt Sy.w8 0) (λ m. 0) (Reads.room-gone 𝓤 H A ty·43) tt Pa.refl λ m wa. (Pa.refl, Dec'.lit< tt)) (Ty.g-pre 𝓤 H A W 𝓣 E G16 G17 b44 Δ0 (Ty.pass T16 T17 (s15 bs)) (at60 bs) (AtSlots.g-as-by 𝓤 H A W E (λ ρ. Unit) G16 8 row·25 (λ x. x) (Own.told-none 𝓤 H A (G16 .slots)) λ ρ told. Repeat.whole-arr 𝓤 H A W (Rf.rtF (Rf.fInt Sy.w8)) 1048576 tt ρ) (Ty.s-seq 𝓤 H A W 𝓣 E G17 G18 b8 b43 Δ0 (Ty.pass T17 T18 (s16 bs)) (at59 bs) (Repeat.t-repeat 𝓤 H A W E 𝓣 (Rf.rtF (Rf.fInt Sy.w8)) (Plain'.uint-lawful 𝓤 H A W Sy.w8) (Copies.cRf (Rf.fInt Sy.w8) .copy 𝓤 H A W) (Plain'.uint-makes 𝓤 H A W Sy.w8) 65536 G17 9 (Sc.oInt Sy.w8 0) (λ m. 0) (Reads.room-gone 𝓤 H A ty·36) tt Pa.refl λ m wa. (Pa.refl, Dec'.lit< tt)) (Ty.g-pre 𝓤 H A W 𝓣 E G18 G19 b43 Δ0 (Ty.pass T18 T19 (s17 bs)) (at58 bs) (AtSlots.g-as-by 𝓤 H A W E (λ ρ. Unit) G18 9 row·15 (λ x. x) (Own.told-none 𝓤 H A (G18 .slots)) λ ρ told. Repeat.whole-arr 𝓤 H A W (Rf.rtF (Rf.fInt Sy.w8)) 65536 tt ρ) (Ty.g-pre 𝓤 H A W 𝓣 E G19 G20 b43 Δ0 (λ Ψ. Ψ) (at57 bs) (Lifetime.g-begin 𝓤 H A W E G19 0 (tt, (tt, (tt, (tt, (tt, (tt, (tt, (tt, (tt, (tt, (tt, (tt, (tt, (tt, (tt, (tt, (tt, (tt, (tt, (tt, (tt, (tt, (tt, (tt, (tt, (tt, tt))))))))))))))))))))))))))) (Ty.s-seq 𝓤 H A W 𝓣 E G20 G21 b9 b42 Δ0 (Ty.give (s19 bs)) (at56 bs) (Local.t-sc-borrow 𝓤 H A W E 𝓣 G20 1 11 0 (Array'.Array (Rf.rtF (Rf.fInt Sy.w8)) 65536) ty·33 (λ x. x) (Whole.mem-arr 𝓤 H A W (Rf.rtF (Rf.fInt Sy.w8)) 65536) (Reads.room-gone 𝓤 H A ty·33) Pa.refl λ b o. tt) (Ty.g-pre 𝓤 H A W 𝓣 E G21 G22 b42 Δ0 (λ Ψ. Ψ) (at55 bs) (Lifetime.g-begin 𝓤 H A W E G21 1 (tt, (tt, (tt, (tt, (tt, (tt, (tt, (tt, (tt, (tt, (tt, (tt, (tt, (tt, (tt, (tt, (tt, (tt, (tt, (tt, (tt, (tt, (tt, (tt, (tt, (tt, tt))))))))))))))))))))))))))) (Ty.s-seq 𝓤 H A W 𝓣 E G22 G23 b10 b41 Δ0 (Ty.give (s21 bs)) (at54 bs) (Borrow.t-arr-borrow 𝓤 H A W E 𝓣 (Rf.rtF (Rf.fInt Sy.w8)) G22 2 12 65536 1 ty·33 (λ x. x) (Reads.as-is 𝓤 H A row·15) (Reads.room-gone 𝓤 H A ty·33) Pa.refl (λ b o. tt) (Dec'.lit< tt, Dec'.lit< tt)) (Ty.s-seq 𝓤 H A W 𝓣 E G23 G24 b11 b40 Δ0 (Ty.ask (s22 bs)) (at53 bs) (Relend.t-sl-aggregate 𝓤 H A W E (Rf.rtF (Rf.fInt Sy.w8)) 𝓣 (Relend.asMut (Rf.rtF (Rf.fInt Sy.w8))) G23 12 13 1 ty·33 ty·34 (λ x. x) (Sc.oBig Sy.w64 65536) (Reads.as-is 𝓤 H A (Relend.msptr (Rf.rtF (Rf.fInt Sy.w8)) ty·33 1)) (Reads.room-gone 𝓤 H A (Sy.tyStruct (Li._∷_ 38 (Li._∷_ 91 (Li._∷_ 93 Li.[]))) (Sy.tcons ty·34 (Sy.tcons (Sy.tyInt Sy.w64) Sy.tnil)))) record { lower = record { fits = Dec'.lit< tt } } Pa.refl Pa.refl λ b o k. tt) (Ty.g-pre 𝓤 H A W 𝓣 E G24 G25 b40 Δ0 (λ Ψ. Ψ) (at52 bs) (Lifetime.g-begin 𝓤 H A W E G24 2 (tt, (tt, (tt, (tt, (tt, (tt, (tt, (tt, (tt, (tt, (tt, (tt, (tt, (tt, (tt, (tt, (tt, (tt, (tt, (tt, (tt, (tt, (tt, (tt, (tt, (tt, tt))))))))))))))))))))))))))) (Ty.s-seq 𝓤 H A W 𝓣 E G25 G26 b12 b39 Δ0 (Ty.give (s24 bs)) (at51 bs) (Borrow.t-arr-borrow 𝓤 H A W E 𝓣 (Rf.rtF (Rf.fInt Sy.w32)) G25 3 14 394240 2 ty·37 (λ x. x) (Reads.as-is 𝓤 H A (Rows.arrF (Rf.rtF (Rf.fInt Sy.w32)) 394240 0)) (Reads.room-gone 𝓤 H A ty·37) Pa.refl (λ b o. tt) (Dec'.lit< tt, Dec'.lit< tt)) (Ty.s-seq 𝓤 H A W 𝓣 E G26 G27 b13 b38 Δ0 (Ty.ask (s25 bs)) (at50 bs) (Relend.t-sl-aggregate 𝓤 H A W E (Rf.rtF (Rf.fInt Sy.w32)) 𝓣 (Relend.asMut (Rf.rtF (Rf.fInt Sy.w32))) G26 14 15 2 ty·37 ty·38 (λ x. x) (Sc.oBig Sy.w64 394240) (Reads.as-is 𝓤 H A (Relend.msptr (Rf.rtF (Rf.fInt Sy.w32)) ty·37 2)) (Reads.room-gone 𝓤 H A (Sy.tyStruct (Li._∷_ 38 (Li._∷_ 91 (Li._∷_ 93 Li.[]))) (Sy.tcons ty·38 (Sy.tcons (Sy.tyInt Sy.w64) Sy.tnil)))) record { lower = record { fits = Dec'.lit< tt } } Pa.refl Pa.refl λ b o k. tt) (Ty.g-pre 𝓤 H A W 𝓣 E G27 G28 b38 Δ0 (λ Ψ. Ψ) (at49 bs) (Lifetime.g-begin 𝓤 H A W E G27 3 (tt, (tt, (tt, (tt, (tt, (tt, (tt, (tt, (tt, (tt, (tt, (tt, (tt, (tt, (tt, (tt, (tt, (tt, (tt, (tt, (tt, (tt, (tt, (tt, (tt, (tt, tt))))))))))))))))))))))))))) (Ty.s-seq 𝓤 H A W 𝓣 E G28 G29 b14 b37 Δ0 (Ty.give (s27 bs)) (at48 bs) (Borrow.t-arr-borrow 𝓤 H A W E 𝓣 Gap_.row G28 5 16 13109 3 ty·40 (λ x. x) (Reads.as-is 𝓤 H A (Rows.arrF Gap_.row 13109 0)) (Reads.room-gone 𝓤 H A ty·40) Pa.refl (λ b o. tt) (Dec'.lit< tt, Dec'.lit< tt)) (Ty.s-seq 𝓤 H A W 𝓣 E G29 G30 b15 b36 Δ0 (Ty.ask (s28 bs)) (at47 bs) (Relend.t-sl-aggregate 𝓤 H A W E Gap_.row 𝓣 (Relend.asMut Gap_.row) G29 16 17 3 ty·40 ty·41 (λ x. x) (Sc.oBig Sy.w64 13109) (Reads.as-is 𝓤 H A (Relend.msptr Gap_.row ty·40 3)) (Reads.room-gone 𝓤 H A (Sy.tyStruct (Li._∷_ 38 (Li._∷_ 91 (Li._∷_ 93 Li.[]))) (Sy.tcons ty·41 (Sy.tcons (Sy.tyInt Sy.w64) Sy.tnil)))) record { lower = record { fits = Dec'.lit< tt } } Pa.refl Pa.refl λ b o k. tt) (Ty.g-pre 𝓤 H A W 𝓣 E G30 G31 b36 Δ0 (λ Ψ. Ψ) (at46 bs) (Lifetime.g-begin 𝓤 H A W E G30 4 (tt, (tt, (tt, (tt, (tt, (tt, (tt, (tt, (tt, (tt, (tt, (tt, (tt, (tt, (tt, (tt, (tt, (tt, (tt, (tt, (tt, (tt, (tt, (tt, (tt, (tt, tt))))))))))))))))))))))))))) (Ty.s-seq 𝓤 H A W 𝓣 E G31 G32 b16 b35 Δ0 (Ty.give (s30 bs)) (at45 bs) (Borrow.t-arr-borrow 𝓤 H A W E 𝓣 (Rf.rtF (Rf.fInt Sy.w16)) G31 6 18 21846 4 ty·42 (λ x. x) (Reads.as-is 𝓤 H A (Rows.arrF (Rf.rtF (Rf.fInt Sy.w16)) 21846 0)) (Reads.room-gone 𝓤 H A ty·42) Pa.refl (λ b o. tt) (Dec'.lit< tt, Dec'.lit< tt)) (Ty.s-seq 𝓤 H A W 𝓣 E G32 G33 b17 b34 Δ0 (Ty.ask (s31 bs)) (at44 bs) (Relend.t-sl-aggregate 𝓤 H A W E (Rf.rtF (Rf.fInt Sy.w16)) 𝓣 (Relend.asMut (Rf.rtF (Rf.fInt Sy.w16))) G32 18 19 4 ty·42 ty·39 (λ x. x) (Sc.oBig Sy.w64 21846) (Reads.as-is 𝓤 H A (Relend.msptr (Rf.rtF (Rf.fInt Sy.w16)) ty·42 4)) (Reads.room-gone 𝓤 H A (Sy.tyStruct (Li._∷_ 38 (Li._∷_ 91 (Li._∷_ 93 Li.[]))) (Sy.tcons ty·39 (Sy.tcons (Sy.tyInt Sy.w64) Sy.tnil)))) record { lower = record { fits = Dec'.lit< tt } } Pa.refl Pa.refl λ b o k. tt) (Ty.g-pre 𝓤 H A W 𝓣 E G33 G34 b34 Δ0 (λ Ψ. Ψ) (at43 bs) (Lifetime.g-begin 𝓤 H A W E G33 5 (tt, (tt, (tt, (tt, (tt, (tt, (tt, (tt, (tt, (tt, (tt, (tt, (tt, (tt, (tt, (tt, (tt, (tt, (tt, (tt, (tt, (tt, (tt, (tt, (tt, (tt, tt))))))))))))))))))))))))))) (Ty.s-seq 𝓤 H A W 𝓣 E G34 G35 b18 b33 Δ0 (Ty.give (s33 bs)) (at42 bs) (Borrow.t-arr-borrow 𝓤 H A W E 𝓣 (Rf.rtF (Rf.fInt Sy.w8)) G34 7 20 1048576 5 ty·35 (λ x. x) (Reads.as-is 𝓤 H A row·25) (Reads.room-gone 𝓤 H A ty·35) Pa.refl (λ b o. tt) (Dec'.lit< tt, Dec'.lit< tt)) (Ty.s-seq 𝓤 H A W 𝓣 E G35 G36 b19 b32 Δ0 (Ty.ask (s34 bs)) (at41 bs) (Relend.t-sl-aggregate 𝓤 H A W E (Rf.rtF (Rf.fInt Sy.w8)) 𝓣 (Relend.asMut (Rf.rtF (Rf.fInt Sy.w8))) G35 20 21 5 ty·35 ty·34 (λ x. x) (Sc.oBig Sy.w64 1048576) (Reads.as-is 𝓤 H A (Relend.msptr (Rf.rtF (Rf.fInt Sy.w8)) ty·35 5)) (Reads.room-gone 𝓤 H A (Sy.tyStruct (Li._∷_ 38 (Li._∷_ 91 (Li._∷_ 93 Li.[]))) (Sy.tcons ty·34 (Sy.tcons (Sy.tyInt Sy.w64) Sy.tnil)))) record { lower = record { fits = Dec'.lit< tt } } Pa.refl Pa.refl λ b o k. tt) (Ty.g-pre 𝓤 H A W 𝓣 E G36 G37 b32 Δ0 (λ Ψ. Ψ) (at40 bs) (Lifetime.g-begin 𝓤 H A W E G36 6 (tt, (tt, (tt, (tt, (tt, (tt, (tt, (tt, (tt, (tt, (tt, (tt, (tt, (tt, (tt, (tt, (tt, (tt, (tt, (tt, (tt, (tt, (tt, (tt, (tt, (tt, tt))))))))))))))))))))))))))) (Ty.s-seq 𝓤 H A W 𝓣 E G37 G38 b20 b31 Δ0 (Ty.give (s36 bs)) (at39 bs) (Borrow.t-arr-borrow 𝓤 H A W E 𝓣 (Rf.rtF (Rf.fInt Sy.w8)) G37 8 22 1048576 6 ty·35 (λ x. x) (Reads.as-is 𝓤 H A row·25) (Reads.room-gone 𝓤 H A ty·35) Pa.refl (λ b o. tt) (Dec'.lit< tt, Dec'.lit< tt)) (Ty.s-seq 𝓤 H A W 𝓣 E G38 G39 b21 b30 Δ0 (Ty.ask (s37 bs)) (at38 bs) (Relend.t-sl-aggregate 𝓤 H A W E (Rf.rtF (Rf.fInt Sy.w8)) 𝓣 (Relend.asMut (Rf.rtF (Rf.fInt Sy.w8))) G38 22 23 6 ty·35 ty·34 (λ x. x) (Sc.oBig Sy.w64 1048576) (Reads.as-is 𝓤 H A (Relend.msptr (Rf.rtF (Rf.fInt Sy.w8)) ty·35 6)) (Reads.room-gone 𝓤 H A (Sy.tyStruct (Li._∷_ 38 (Li._∷_ 91 (Li._∷_ 93 Li.[]))) (Sy.tcons ty·34 (Sy.tcons (Sy.tyInt Sy.w64) Sy.tnil)))) record { lower = record { fits = Dec'.lit< tt } } Pa.refl Pa.refl λ b o k. tt) (Ty.g-pre 𝓤 H A W 𝓣 E G39 G40 b30 Δ0 (λ Ψ. Ψ) (at37 bs) (Lifetime.g-begin 𝓤 H A W E G39 7 (tt, (tt, (tt, (tt, (tt, (tt, (tt, (tt, (tt, (tt, (tt, (tt, (tt, (tt, (tt, (tt, (tt, (tt, (tt, (tt, (tt, (tt, (tt, (tt, (tt, (tt, tt))))))))))))))))))))))))))) (Ty.s-seq 𝓤 H A W 𝓣 E G40 G41 b22 b29 Δ0 (Ty.give (s39 bs)) (at36 bs) (Borrow.t-arr-borrow 𝓤 H A W E 𝓣 (Rf.rtF (Rf.fInt Sy.w8)) G40 9 24 65536 7 ty·33 (λ x. x) (Reads.as-is 𝓤 H A row·15) (Reads.room-gone 𝓤 H A ty·33) Pa.refl (λ b o. tt) (Dec'.lit< tt, Dec'.lit< tt)) (Ty.s-seq 𝓤 H A W 𝓣 E G41 G42 b23 b28 Δ0 (Ty.ask (s40 bs)) (at35 bs) (Relend.t-sl-aggregate 𝓤 H A W E (Rf.rtF (Rf.fInt Sy.w8)) 𝓣 (Relend.asMut (Rf.rtF (Rf.fInt Sy.w8))) G41 24 25 7 ty·33 ty·34 (λ x. x) (Sc.oBig Sy.w64 65536) (Reads.as-is 𝓤 H A (Relend.msptr (Rf.rtF (Rf.fInt Sy.w8)) ty·33 7)) (Reads.room-gone 𝓤 H A (Sy.tyStruct (Li._∷_ 38 (Li._∷_ 91 (Li._∷_ 93 Li.[]))) (Sy.tcons ty·34 (Sy.tcons (Sy.tyInt Sy.w64) Sy.tnil)))) record { lower = record { fits = Dec'.lit< tt } } Pa.refl Pa.refl λ b o k. tt) (Ty.s-seq 𝓤 H A W 𝓣 E G42 G43 b24 b27 Δ0 (Ty.both (s41 bs)) (at34 bs) (Plain.t-call-plain 𝓤 H A W 𝓣 8 ps·1 r·1 (claims· .2) (claims· .3) "poolbatch::batch" (known .1) E (λ pos β. β) G42 (record { pos = 11; ty = Sy.tyRef Sy.erased Sy.mut ty·36; ref = λ x. x }, (record { pos = 13; ty = Sy.tyRef Sy.erased Sy.mut (Sy.tyInt Sy.w8); ref = λ x. x }, (record { pos = 15; ty = Sy.tyRef Sy.erased Sy.mut (Sy.tyInt Sy.w32); ref = λ x. x }, (record { pos = 17; ty = Sy.tyRef Sy.erased Sy.mut Gap_.behind; ref = λ x. x }, (record { pos = 19; ty = Sy.tyRef Sy.erased Sy.mut (Sy.tyInt Sy.w16); ref = λ x. x }, (record { pos = 21; ty = Sy.tyRef Sy.erased Sy.mut (Sy.tyInt Sy.w8); ref = λ x. x }, (record { pos = 23; ty = Sy.tyRef Sy.erased Sy.mut (Sy.tyInt Sy.w8); ref = λ x. x }, (record { pos = 25; ty = Sy.tyRef Sy.erased Sy.mut (Sy.tyInt Sy.w8); ref = λ x. x }, tt)))))))) 10 (Li._∷_ 0 (Li._∷_ 1 (Li._∷_ 2 (Li._∷_ 3 (Li._∷_ 4 (Li._∷_ 5 (Li._∷_ 6 (Li._∷_ 7 Li.[])))))))) (Call.sub-id 𝓤 H A W (G42 .slots)) (Reads.as-is 𝓤 H A row·11, Reads.reads-mref 𝓤 H A W (Array'.Array (Rf.rtF (Rf.fInt Sy.w8)) 65536) ty·33 0, Pa.refl, (Reads.as-is 𝓤 H A row·14, Mut.reads-mslice 𝓤 H A W (Rf.rtF (Rf.fInt Sy.w8)) ty·34 1, Pa.refl, (Reads.as-is 𝓤 H A row·13, Mut.reads-mslice 𝓤 H A W (Rf.rtF (Rf.fInt Sy.w32)) ty·38 2, Pa.refl, (Reads.as-is 𝓤 H A row·27, Mut.reads-mslice 𝓤 H A W Gap_.row ty·41 3, Pa.refl, (Reads.as-is 𝓤 H A row·26, Mut.reads-mslice 𝓤 H A W (Rf.rtF (Rf.fInt Sy.w16)) ty·39 4, Pa.refl, (Reads.as-is 𝓤 H A row·28, Mut.reads-mslice 𝓤 H A W (Rf.rtF (Rf.fInt Sy.w8)) ty·34 5, Pa.refl, (Reads.as-is 𝓤 H A (Mut.mslice (Rf.rtF (Rf.fInt Sy.w8)) ty·34 6), Mut.reads-mslice 𝓤 H A W (Rf.rtF (Rf.fInt Sy.w8)) ty·34 6, Pa.refl, (Reads.as-is 𝓤 H A (Mut.mslice (Rf.rtF (Rf.fInt Sy.w8)) ty·34 7), Mut.reads-mslice 𝓤 H A W (Rf.rtF (Rf.fInt Sy.w8)) ty·34 7, Pa.refl, tt)))))))) (Reads.room-gone 𝓤 H A Sy.tyUnit) (tt, (tt, (tt, (tt, (tt, (tt, (tt, (tt, tt)))))))) Pa.refl) (Ty.g-pre 𝓤 H A W 𝓣 E G43 G44 b27 Δ0 (Ty.pass T43 T44 (s42 bs)) (at33 bs) (Sc.g-room 𝓤 H A W E G43 10 Sy.tyUnit (Sc.room-sc 𝓤 H A W Ro.sUnit)) (Ty.g-pre 𝓤 H A W 𝓣 E G44 G45 b27 Δ0 (λ Ψ. Ψ) (at32 bs) (Lifetime.g-end 𝓤 H A W E G44 0 Pa.refl) (Ty.g-pre 𝓤 H A W 𝓣 E G45 G46 b27 Δ0 (Ty.ask (s44 bs)) (at31 bs) (Local.g-back-sc 𝓤 H A W E G45 11 1 0 (Array'.Array (Rf.rtF (Rf.fInt Sy.w8)) 65536) ty·33 row·15 (λ x. x) (λ x. x) (λ x. x) (Reads.as-is 𝓤 H A (Rows'.mleft (Array'.Array (Rf.rtF (Rf.fInt Sy.w8)) 65536) ty·33)) (Reads.as-is 𝓤 H A row·16) (Whole.arr-mem 𝓤 H A W (Rf.rtF (Rf.fInt Sy.w8)) 65536 tt) Pa.refl) (Ty.g-pre 𝓤 H A W 𝓣 E G46 G47 b27 Δ0 (λ Ψ. Ψ) (at30 bs) (Lifetime.g-forget 𝓤 H A W E G46 0 Ro.dead Pa.refl) (Ty.g-pre 𝓤 H A W 𝓣 E G47 G48 b27 Δ0 (Ty.pass T46 T48 (s46 bs)) (at29 bs) (Sc.g-room 𝓤 H A W E G47 1 ty·36 (Init.room-arr 𝓤 H A W (Rf.rtF (Rf.fInt Sy.w8)) 65536 0 65536 Pa.refl)) (Ty.g-pre 𝓤 H A W 𝓣 E G48 G49 b27 Δ0 (λ Ψ. Ψ) (at28 bs) (Lifetime.g-end 𝓤 H A W E G48 1 Pa.refl) (Ty.g-pre 𝓤 H A W 𝓣 E G49 G50 b27 Δ0 (Ty.both (s48 bs)) (at27 bs) (Borrow.g-back-arr 𝓤 H A W E (Rf.rtF (Rf.fInt Sy.w8)) G49 13 2 1 65536 ty·34 (λ x. x) (λ x. x) (Reads.as-is 𝓤 H A row·3) (Reads.as-is 𝓤 H A row·23) Pa.refl) (Ty.g-pre 𝓤 H A W 𝓣 E G50 G51 b27 Δ0 (λ Ψ. Ψ) (at26 bs) (Lifetime.g-forget 𝓤 H A W E G50 1 Ro.dead Pa.refl) (Ty.g-pre 𝓤 H A W 𝓣 E G51 G52 b27 Δ0 (Ty.pass T50 T52 (s50 bs)) (at25 bs) (Sc.g-room 𝓤 H A W E G51 2 ty·36 (Init.room-arr 𝓤 H A W (Rf.rtF (Rf.fInt Sy.w8)) 65536 0 65536 Pa.refl)) (Ty.g-pre 𝓤 H A W 𝓣 E G52 G53 b27 Δ0 (λ Ψ. Ψ) (at24 bs) (Lifetime.g-end 𝓤 H A W E G52 2 Pa.refl) (Ty.g-pre 𝓤 H A W 𝓣 E G53 G54 b27 Δ0 (Ty.both (s52 bs)) (at23 bs) (Borrow.g-back-arr 𝓤 H A W E (Rf.rtF (Rf.fInt Sy.w32)) G53 15 3 2 394240 ty·38 (λ x. x) (λ x. x) (Reads.as-is 𝓤 H A (Mut.msleft (Rf.rtF (Rf.fInt Sy.w32)) ty·38)) (Reads.as-is 𝓤 H A row·19) Pa.refl) (Ty.g-pre 𝓤 H A W 𝓣 E G54 G55 b27 Δ0 (λ Ψ. Ψ) (at22 bs) (Lifetime.g-forget 𝓤 H A W E G54 2 Ro.dead Pa.refl) (Ty.g-pre 𝓤 H A W 𝓣 E G55 G56 b27 Δ0 (Ty.pass T54 T56 (s54 bs)) (at21 bs) (Sc.g-room 𝓤 H A W E G55 3 ty·44 (Init.room-arr 𝓤 H A W (Rf.rtF (Rf.fInt Sy.w32)) 394240 0 394240 Pa.refl)) (Ty.g-pre 𝓤 H A W 𝓣 E G56 G57 b27 Δ0 (λ Ψ. Ψ) (at20 bs) (Lifetime.g-end 𝓤 H A W E G56 3 Pa.refl) (Ty.g-pre 𝓤 H A W 𝓣 E G57 G58 b27 Δ0 (Ty.both (s56 bs)) (at19 bs) (Borrow.g-back-arr 𝓤 H A W E Gap_.row G57 17 5 3 13109 ty·41 (λ x. x) (λ x. x) (Reads.as-is 𝓤 H A (Mut.msleft Gap_.row ty·41)) (Reads.as-is 𝓤 H A row·30) Pa.refl) (Ty.g-pre 𝓤 H A W 𝓣 E G58 G59 b27 Δ0 (λ Ψ. Ψ) (at18 bs) (Lifetime.g-forget 𝓤 H A W E G58 3 Ro.dead Pa.refl) (Ty.g-pre 𝓤 H A W 𝓣 E G59 G60 b27 Δ0 (Ty.pass T58 T60 (s58 bs)) (at17 bs) (Sc.g-room 𝓤 H A W E G59 5 ty·45 (Init.room-arr 𝓤 H A W Gap_.row 13109 0 13109 Pa.refl)) (Ty.g-pre 𝓤 H A W 𝓣 E G60 G61 b27 Δ0 (λ Ψ. Ψ) (at16 bs) (Lifetime.g-end 𝓤 H A W E G60 4 Pa.refl) (Ty.g-pre 𝓤 H A W 𝓣 E G61 G62 b27 Δ0 (Ty.both (s60 bs)) (at15 bs) (Borrow.g-back-arr 𝓤 H A W E (Rf.rtF (Rf.fInt Sy.w16)) G61 19 6 4 21846 ty·39 (λ x. x) (λ x. x) (Reads.as-is 𝓤 H A (Mut.msleft (Rf.rtF (Rf.fInt Sy.w16)) ty·39)) (Reads.as-is 𝓤 H A row·22) Pa.refl) (Ty.g-pre 𝓤 H A W 𝓣 E G62 G63 b27 Δ0 (λ Ψ. Ψ) (at14 bs) (Lifetime.g-forget 𝓤 H A W E G62 4 Ro.dead Pa.refl) (Ty.g-pre 𝓤 H A W 𝓣 E G63 G64 b27 Δ0 (Ty.pass T62 T64 (s62 bs)) (at13 bs) (Sc.g-room 𝓤 H A W E G63 6 (Gap_.ty1846) (Init.room-arr 𝓤 H A W (Rf.rtF (Rf.fInt Sy.w16)) 21846 0 21846 Pa.refl)) (Ty.g-pre 𝓤 H A W 𝓣 E G64 G65 b27 Δ0 (λ Ψ. Ψ) (at12 bs) (Lifetime.g-end 𝓤 H A W E G64 5 Pa.refl) (Ty.g-pre 𝓤 H A W 𝓣 E G65 G66 b27 Δ0 (Ty.both (s64 bs)) (at11 bs) (Borrow.g-back-arr 𝓤 H A W E (Rf.rtF (Rf.fInt Sy.w8)) G65 21 7 5 1048576 ty·34 (λ x. x) (λ x. x) (Reads.as-is 𝓤 H A row·3) (Reads.as-is 𝓤 H A row·20) Pa.refl) (Ty.g-pre 𝓤 H A W 𝓣 E G66 G67 b27 Δ0 (λ Ψ. Ψ) (at10 bs) (Lifetime.g-forget 𝓤 H A W E G66 5 Ro.dead Pa.refl) (Ty.g-pre 𝓤 H A W 𝓣 E G67 G68 b27 Δ0 (Ty.pass T66 T68 (s66 bs)) (at9 bs) (Sc.g-room 𝓤 H A W E G67 7 ty·43 (Init.room-arr 𝓤 H A W (Rf.rtF (Rf.fInt Sy.w8)) 1048576 0 1048576 Pa.refl)) (Ty.g-pre 𝓤 H A W 𝓣 E G68 G69 b27 Δ0 (λ Ψ. Ψ) (at8 bs) (Lifetime.g-end 𝓤 H A W E G68 6 Pa.refl) (Ty.g-pre 𝓤 H A W 𝓣 E G69 G70 b27 Δ0 (Ty.both (s68 bs)) (at7 bs) (Borrow.g-back-arr 𝓤 H A W E (Rf.rtF (Rf.fInt Sy.w8)) G69 23 8 6 1048576 ty·34 (λ x. x) (λ x. x) (Reads.as-is 𝓤 H A row·3) (Reads.as-is 𝓤 H A row·21) Pa.refl) (Ty.g-pre 𝓤 H A W 𝓣 E G70 G71 b27 Δ0 (λ Ψ. Ψ) (at6 bs) (Lifetime.g-forget 𝓤 H A W E G70 6 Ro.dead Pa.refl) (Ty.g-pre 𝓤 H A W 𝓣 E G71 G72 b27 Δ0 (Ty.pass T70 T72 (s70 bs)) (at5 bs) (Sc.g-room 𝓤 H A W E G71 8 ty·43 (Init.room-arr 𝓤 H A W (Rf.rtF (Rf.fInt Sy.w8)) 1048576 0 1048576 Pa.refl)) (Ty.g-pre 𝓤 H A W 𝓣 E G72 G73 b27 Δ0 (λ Ψ. Ψ) (at4 bs) (Lifetime.g-end 𝓤 H A W E G72 7 Pa.refl) (Ty.g-pre 𝓤 H A W 𝓣 E G73 G74 b27 Δ0 (Ty.both (s72 bs)) (at3 bs) (Borrow.g-back-arr 𝓤 H A W E (Rf.rtF (Rf.fInt Sy.w8)) G73 25 9 7 65536 ty·34 (λ x. x) (λ x. x) (Reads.as-is 𝓤 H A row·3) (Reads.as-is 𝓤 H A row·24) Pa.refl) (Ty.g-pre 𝓤 H A W 𝓣 E G74 G75 b27 Δ0 (λ Ψ. Ψ) (at2 bs) (Lifetime.g-forget 𝓤 H A W E G74 7 Ro.dead Pa.refl) (Ty.g-pre 𝓤 H A W 𝓣 E G75 G0 b27 Δ0 (Ty.pass T74 T0 (s74 bs)) (at1 bs) (Sc.g-room 𝓤 H A W E G75 9 ty·36 (Init.room-arr 𝓤 H A W (Rf.rtF (Rf.fInt Sy.w8)) 65536 0 65536 Pa.refl)) (Ty.s-seq 𝓤 H A W 𝓣 E G0 G1 b25 b26 Δ0 (Ty.pass T0 T1 (s75 bs)) (at0 bs) (Sc.t-use 𝓤 H A W E 𝓣 G0 Sc.oUnit 0 (Rows'.sc-here Ro.sUnit) Sy.tyUnit (Ro.valS Ro.sUnit) (Ro.sUnit .of) tt (Reads.room-gone 𝓤 H A Sy.tyUnit) (Sc.holds-sc 𝓤 H A W Ro.sUnit) Pa.refl (λ u. Pa.refl) λ u. tt) (Ty.t-return 𝓤 H A W 𝓣 E Δ0 tt)))))))))))))))))))))))))))))))))))))))))))))))))))))))))))))))))))))))))))))
+          typed = (Ty.s-seq 𝓤 H A W 𝓣 E G0 G2 b0 b51 Δ0 (Ty.pass T0 T2 (s0 bs)) (at75 bs) (Repeat.t-repeat 𝓤 H A W E 𝓣 (Rf.rtF (Rf.fInt Sy.w8)) (Plain'.uint-lawful 𝓤 H A W Sy.w8) (Copies.cRf (Rf.fInt Sy.w8) .copy 𝓤 H A W) (Plain'.uint-makes 𝓤 H A W Sy.w8) 65536 G0 1 (Sc.oInt Sy.w8 0) (λ m. 0) (Reads.room-gone 𝓤 H A ty·36) tt Pa.refl λ m wa. (Pa.refl, Dec'.lit< tt)) (Ty.g-pre 𝓤 H A W 𝓣 E G2 G3 b51 Δ0 (Ty.pass T2 T3 (s1 bs)) (at74 bs) (AtSlots.g-as-by 𝓤 H A W E (λ ρ. Unit) G2 1 row·15 (λ x. x) (Own.told-none 𝓤 H A (G2 .slots)) λ ρ told. Repeat.whole-arr 𝓤 H A W (Rf.rtF (Rf.fInt Sy.w8)) 65536 tt ρ) (Ty.s-seq 𝓤 H A W 𝓣 E G3 G4 b1 b50 Δ0 (Ty.pass T3 T4 (s2 bs)) (at73 bs) (Repeat.t-repeat 𝓤 H A W E 𝓣 (Rf.rtF (Rf.fInt Sy.w8)) (Plain'.uint-lawful 𝓤 H A W Sy.w8) (Copies.cRf (Rf.fInt Sy.w8) .copy 𝓤 H A W) (Plain'.uint-makes 𝓤 H A W Sy.w8) 65536 G3 2 (Sc.oInt Sy.w8 0) (λ m. 0) (Reads.room-gone 𝓤 H A ty·36) tt Pa.refl λ m wa. (Pa.refl, Dec'.lit< tt)) (Ty.g-pre 𝓤 H A W 𝓣 E G4 G5 b50 Δ0 (Ty.pass T4 T5 (s3 bs)) (at72 bs) (AtSlots.g-as-by 𝓤 H A W E (λ ρ. Unit) G4 2 row·15 (λ x. x) (Own.told-none 𝓤 H A (G4 .slots)) λ ρ told. Repeat.whole-arr 𝓤 H A W (Rf.rtF (Rf.fInt Sy.w8)) 65536 tt ρ) (Ty.s-seq 𝓤 H A W 𝓣 E G5 G6 b2 b49 Δ0 (Ty.pass T5 T6 (s4 bs)) (at71 bs) (Repeat.t-repeat 𝓤 H A W E 𝓣 (Rf.rtF (Rf.fInt Sy.w32)) (Plain'.uint-lawful 𝓤 H A W Sy.w32) (Copies.cRf (Rf.fInt Sy.w32) .copy 𝓤 H A W) (Plain'.uint-makes 𝓤 H A W Sy.w32) 394240 G5 3 (Sc.oInt Sy.w32 0) (λ m. 0) (Reads.room-gone 𝓤 H A ty·44) tt Pa.refl λ m wa. (Pa.refl, Dec'.lit< tt)) (Ty.g-pre 𝓤 H A W 𝓣 E G6 G7 b49 Δ0 (Ty.pass T6 T7 (s5 bs)) (at70 bs) (AtSlots.g-as-by 𝓤 H A W E (λ ρ. Unit) G6 3 (Rows.arrF (Rf.rtF (Rf.fInt Sy.w32)) 394240 0) (λ x. x) (Own.told-none 𝓤 H A (G6 .slots)) λ ρ told. Repeat.whole-arr 𝓤 H A W (Rf.rtF (Rf.fInt Sy.w32)) 394240 tt ρ) (Ty.s-seq 𝓤 H A W 𝓣 E G7 G8 b3 b48 Δ0 (Ty.both (s6 bs)) (at69 bs) (Plain.t-call-plain 𝓤 H A W 𝓣 0 ps·0 r·0 (claims· .0) (claims· .1) "slots::no_gap" (known .0) E (λ pos β. β) G7 tt 4 Li.[] (Call.sub-id 𝓤 H A W (G7 .slots)) tt (Reads.room-gone 𝓤 H A Gap_.ty) tt Pa.refl) (Ty.s-seq 𝓤 H A W 𝓣 E G8 G9 b4 b47 Δ0 (Ty.pass T8 T9 (s7 bs)) (at68 bs) (Repeat.t-repeat-by 𝓤 H A W E 𝓣 Gap_.row (Gap_.lawful 𝓤 H A W) (Gap_.copies .copy 𝓤 H A W) 13109 G8 5 (Sc.oAt 4 Gap_.ty λ x. Steps.only (Gap_.copies .vals x)) (λ m. m .1 .1 .1 .1 .0) (λ ρ. Unit) (Reads.room-gone 𝓤 H A ty·46) (Gap_.reads 𝓤 H A W, Pa.refl) Pa.refl (Own.told-none 𝓤 H A (G8 .slots)) λ ρ m pf wa. Gives.elem-local 𝓤 H A W E ρ Gap_.row (λ x. Steps.only (Gap_.copies .vals x)) (Gap_.copies .tells) (Ro.out 5 (G8 .locals)) m (λ ρ. Unit) pf 4 Gap_.ty (λ x. x) (Yields.yields-copy 𝓤 H A W (λ ρ. Unit) Gap_.row Pa.refl (Gap_.copies .copy 𝓤 H A W) Gap_.whole (λ x. x) (λ x. x) (λ ρ told. Gap_.in-mem 𝓤 H A W ρ) λ ρ told. Gap_.of-mem 𝓤 H A W ρ)) (Ty.g-pre 𝓤 H A W 𝓣 E G9 G10 b47 Δ0 (Ty.pass T9 T10 (s8 bs)) (at67 bs) (AtSlots.g-as-by 𝓤 H A W E (λ ρ. Unit) G9 5 (Rows.arrF Gap_.row 13109 0) (λ x. x) (Own.told-none 𝓤 H A (G9 .slots)) λ ρ told. Repeat.whole-arr 𝓤 H A W Gap_.row 13109 tt ρ) (Ty.g-pre 𝓤 H A W 𝓣 E G10 G11 b47 Δ0 (Ty.pass T10 T11 (s9 bs)) (at66 bs) (Sc.g-room 𝓤 H A W E G10 4 Gap_.ty (Gap_.room 𝓤 H A W)) (Ty.s-seq 𝓤 H A W 𝓣 E G11 G12 b5 b46 Δ0 (Ty.pass T11 T12 (s10 bs)) (at65 bs) (Repeat.t-repeat 𝓤 H A W E 𝓣 (Rf.rtF (Rf.fInt Sy.w16)) (Plain'.uint-lawful 𝓤 H A W Sy.w16) (Copies.cRf (Rf.fInt Sy.w16) .copy 𝓤 H A W) (Plain'.uint-makes 𝓤 H A W Sy.w16) 21846 G11 6 (Sc.oInt Sy.w16 0) (λ m. 0) (Reads.room-gone 𝓤 H A ty·45) tt Pa.refl λ m wa. (Pa.refl, Dec'.lit< tt)) (Ty.g-pre 𝓤 H A W 𝓣 E G12 G13 b46 Δ0 (Ty.pass T12 T13 (s11 bs)) (at64 bs) (AtSlots.g-as-by 𝓤 H A W E (λ ρ. Unit) G12 6 (Rows.arrF (Rf.rtF (Rf.fInt Sy.w16)) 21846 0) (λ x. x) (Own.told-none 𝓤 H A (G12 .slots)) λ ρ told. Repeat.whole-arr 𝓤 H A W (Rf.rtF (Rf.fInt Sy.w16)) 21846 tt ρ) (Ty.s-seq 𝓤 H A W 𝓣 E G13 G14 b6 b45 Δ0 (Ty.pass T13 T14 (s12 bs)) (at63 bs) (Repeat.t-repeat 𝓤 H A W E 𝓣 (Rf.rtF (Rf.fInt Sy.w8)) (Plain'.uint-lawful 𝓤 H A W Sy.w8) (Copies.cRf (Rf.fInt Sy.w8) .copy 𝓤 H A W) (Plain'.uint-makes 𝓤 H A W Sy.w8) 1048576 G13 7 (Sc.oInt Sy.w8 0) (λ m. 0) (Reads.room-gone 𝓤 H A ty·43) tt Pa.refl λ m wa. (Pa.refl, Dec'.lit< tt)) (Ty.g-pre 𝓤 H A W 𝓣 E G14 G15 b45 Δ0 (Ty.pass T14 T15 (s13 bs)) (at62 bs) (AtSlots.g-as-by 𝓤 H A W E (λ ρ. Unit) G14 7 row·25 (λ x. x) (Own.told-none 𝓤 H A (G14 .slots)) λ ρ told. Repeat.whole-arr 𝓤 H A W (Rf.rtF (Rf.fInt Sy.w8)) 1048576 tt ρ) (Ty.s-seq 𝓤 H A W 𝓣 E G15 G16 b7 b44 Δ0 (Ty.pass T15 T16 (s14 bs)) (at61 bs) (Repeat.t-repeat 𝓤 H A W E 𝓣 (Rf.rtF (Rf.fInt Sy.w8)) (Plain'.uint-lawful 𝓤 H A W Sy.w8) (Copies.cRf (Rf.fInt Sy.w8) .copy 𝓤 H A W) (Plain'.uint-makes 𝓤 H A W Sy.w8) 1048576 G15 8 (Sc.oInt Sy.w8 0) (λ m. 0) (Reads.room-gone 𝓤 H A ty·43) tt Pa.refl λ m wa. (Pa.refl, Dec'.lit< tt)) (Ty.g-pre 𝓤 H A W 𝓣 E G16 G17 b44 Δ0 (Ty.pass T16 T17 (s15 bs)) (at60 bs) (AtSlots.g-as-by 𝓤 H A W E (λ ρ. Unit) G16 8 row·25 (λ x. x) (Own.told-none 𝓤 H A (G16 .slots)) λ ρ told. Repeat.whole-arr 𝓤 H A W (Rf.rtF (Rf.fInt Sy.w8)) 1048576 tt ρ) (Ty.s-seq 𝓤 H A W 𝓣 E G17 G18 b8 b43 Δ0 (Ty.pass T17 T18 (s16 bs)) (at59 bs) (Repeat.t-repeat 𝓤 H A W E 𝓣 (Rf.rtF (Rf.fInt Sy.w8)) (Plain'.uint-lawful 𝓤 H A W Sy.w8) (Copies.cRf (Rf.fInt Sy.w8) .copy 𝓤 H A W) (Plain'.uint-makes 𝓤 H A W Sy.w8) 65536 G17 9 (Sc.oInt Sy.w8 0) (λ m. 0) (Reads.room-gone 𝓤 H A ty·36) tt Pa.refl λ m wa. (Pa.refl, Dec'.lit< tt)) (Ty.g-pre 𝓤 H A W 𝓣 E G18 G19 b43 Δ0 (Ty.pass T18 T19 (s17 bs)) (at58 bs) (AtSlots.g-as-by 𝓤 H A W E (λ ρ. Unit) G18 9 row·15 (λ x. x) (Own.told-none 𝓤 H A (G18 .slots)) λ ρ told. Repeat.whole-arr 𝓤 H A W (Rf.rtF (Rf.fInt Sy.w8)) 65536 tt ρ) (Ty.g-pre 𝓤 H A W 𝓣 E G19 G20 b43 Δ0 (λ Ψ. Ψ) (at57 bs) (Lifetime.g-begin 𝓤 H A W E G19 0 (tt, (tt, (tt, (tt, (tt, (tt, (tt, (tt, (tt, (tt, (tt, (tt, (tt, (tt, (tt, (tt, (tt, (tt, (tt, (tt, (tt, (tt, (tt, (tt, (tt, (tt, tt))))))))))))))))))))))))))) (Ty.s-seq 𝓤 H A W 𝓣 E G20 G21 b9 b42 Δ0 (Ty.give (s19 bs)) (at56 bs) (Local.t-sc-borrow 𝓤 H A W E 𝓣 G20 1 11 0 (Array'.Array (Rf.rtF (Rf.fInt Sy.w8)) 65536) ty·33 (λ x. x) (Whole.mem-arr 𝓤 H A W (Rf.rtF (Rf.fInt Sy.w8)) 65536) (Reads.room-gone 𝓤 H A ty·33) Pa.refl λ b o. tt) (Ty.g-pre 𝓤 H A W 𝓣 E G21 G22 b42 Δ0 (λ Ψ. Ψ) (at55 bs) (Lifetime.g-begin 𝓤 H A W E G21 1 (tt, (tt, (tt, (tt, (tt, (tt, (tt, (tt, (tt, (tt, (tt, (tt, (tt, (tt, (tt, (tt, (tt, (tt, (tt, (tt, (tt, (tt, (tt, (tt, (tt, (tt, tt))))))))))))))))))))))))))) (Ty.s-seq 𝓤 H A W 𝓣 E G22 G23 b10 b41 Δ0 (Ty.give (s21 bs)) (at54 bs) (Borrow.t-arr-borrow 𝓤 H A W E 𝓣 (Rf.rtF (Rf.fInt Sy.w8)) G22 2 12 65536 1 ty·33 (λ x. x) (Reads.as-is 𝓤 H A row·15) (Reads.room-gone 𝓤 H A ty·33) Pa.refl (λ b o. tt) (Dec'.lit< tt, Dec'.lit< tt)) (Ty.s-seq 𝓤 H A W 𝓣 E G23 G24 b11 b40 Δ0 (Ty.ask (s22 bs)) (at53 bs) (Relend.t-sl-aggregate 𝓤 H A W E (Rf.rtF (Rf.fInt Sy.w8)) 𝓣 (Relend.asMut (Rf.rtF (Rf.fInt Sy.w8))) G23 12 13 1 ty·33 ty·34 (λ x. x) (Sc.oBig Sy.w64 65536) (Reads.as-is 𝓤 H A (Relend.msptr (Rf.rtF (Rf.fInt Sy.w8)) ty·33 1)) (Reads.room-gone 𝓤 H A (Sy.tyStruct (Li._∷_ 38 (Li._∷_ 91 (Li._∷_ 93 Li.[]))) (Sy.tcons ty·34 (Sy.tcons (Sy.tyInt Sy.w64) Sy.tnil)))) record { lower = record { fits = Dec'.lit< tt } } Pa.refl Pa.refl λ b o k. tt) (Ty.g-pre 𝓤 H A W 𝓣 E G24 G25 b40 Δ0 (λ Ψ. Ψ) (at52 bs) (Lifetime.g-begin 𝓤 H A W E G24 2 (tt, (tt, (tt, (tt, (tt, (tt, (tt, (tt, (tt, (tt, (tt, (tt, (tt, (tt, (tt, (tt, (tt, (tt, (tt, (tt, (tt, (tt, (tt, (tt, (tt, (tt, tt))))))))))))))))))))))))))) (Ty.s-seq 𝓤 H A W 𝓣 E G25 G26 b12 b39 Δ0 (Ty.give (s24 bs)) (at51 bs) (Borrow.t-arr-borrow 𝓤 H A W E 𝓣 (Rf.rtF (Rf.fInt Sy.w32)) G25 3 14 394240 2 ty·37 (λ x. x) (Reads.as-is 𝓤 H A (Rows.arrF (Rf.rtF (Rf.fInt Sy.w32)) 394240 0)) (Reads.room-gone 𝓤 H A ty·37) Pa.refl (λ b o. tt) (Dec'.lit< tt, Dec'.lit< tt)) (Ty.s-seq 𝓤 H A W 𝓣 E G26 G27 b13 b38 Δ0 (Ty.ask (s25 bs)) (at50 bs) (Relend.t-sl-aggregate 𝓤 H A W E (Rf.rtF (Rf.fInt Sy.w32)) 𝓣 (Relend.asMut (Rf.rtF (Rf.fInt Sy.w32))) G26 14 15 2 ty·37 ty·39 (λ x. x) (Sc.oBig Sy.w64 394240) (Reads.as-is 𝓤 H A (Relend.msptr (Rf.rtF (Rf.fInt Sy.w32)) ty·37 2)) (Reads.room-gone 𝓤 H A (Sy.tyStruct (Li._∷_ 38 (Li._∷_ 91 (Li._∷_ 93 Li.[]))) (Sy.tcons ty·39 (Sy.tcons (Sy.tyInt Sy.w64) Sy.tnil)))) record { lower = record { fits = Dec'.lit< tt } } Pa.refl Pa.refl λ b o k. tt) (Ty.g-pre 𝓤 H A W 𝓣 E G27 G28 b38 Δ0 (λ Ψ. Ψ) (at49 bs) (Lifetime.g-begin 𝓤 H A W E G27 3 (tt, (tt, (tt, (tt, (tt, (tt, (tt, (tt, (tt, (tt, (tt, (tt, (tt, (tt, (tt, (tt, (tt, (tt, (tt, (tt, (tt, (tt, (tt, (tt, (tt, (tt, tt))))))))))))))))))))))))))) (Ty.s-seq 𝓤 H A W 𝓣 E G28 G29 b14 b37 Δ0 (Ty.give (s27 bs)) (at48 bs) (Borrow.t-arr-borrow 𝓤 H A W E 𝓣 Gap_.row G28 5 16 13109 3 ty·41 (λ x. x) (Reads.as-is 𝓤 H A (Rows.arrF Gap_.row 13109 0)) (Reads.room-gone 𝓤 H A ty·41) Pa.refl (λ b o. tt) (Dec'.lit< tt, Dec'.lit< tt)) (Ty.s-seq 𝓤 H A W 𝓣 E G29 G30 b15 b36 Δ0 (Ty.ask (s28 bs)) (at47 bs) (Relend.t-sl-aggregate 𝓤 H A W E Gap_.row 𝓣 (Relend.asMut Gap_.row) G29 16 17 3 ty·41 ty·42 (λ x. x) (Sc.oBig Sy.w64 13109) (Reads.as-is 𝓤 H A (Relend.msptr Gap_.row ty·41 3)) (Reads.room-gone 𝓤 H A (Sy.tyStruct (Li._∷_ 38 (Li._∷_ 91 (Li._∷_ 93 Li.[]))) (Sy.tcons ty·42 (Sy.tcons (Sy.tyInt Sy.w64) Sy.tnil)))) record { lower = record { fits = Dec'.lit< tt } } Pa.refl Pa.refl λ b o k. tt) (Ty.g-pre 𝓤 H A W 𝓣 E G30 G31 b36 Δ0 (λ Ψ. Ψ) (at46 bs) (Lifetime.g-begin 𝓤 H A W E G30 4 (tt, (tt, (tt, (tt, (tt, (tt, (tt, (tt, (tt, (tt, (tt, (tt, (tt, (tt, (tt, (tt, (tt, (tt, (tt, (tt, (tt, (tt, (tt, (tt, (tt, (tt, tt))))))))))))))))))))))))))) (Ty.s-seq 𝓤 H A W 𝓣 E G31 G32 b16 b35 Δ0 (Ty.give (s30 bs)) (at45 bs) (Borrow.t-arr-borrow 𝓤 H A W E 𝓣 (Rf.rtF (Rf.fInt Sy.w16)) G31 6 18 21846 4 ty·38 (λ x. x) (Reads.as-is 𝓤 H A (Rows.arrF (Rf.rtF (Rf.fInt Sy.w16)) 21846 0)) (Reads.room-gone 𝓤 H A ty·38) Pa.refl (λ b o. tt) (Dec'.lit< tt, Dec'.lit< tt)) (Ty.s-seq 𝓤 H A W 𝓣 E G32 G33 b17 b34 Δ0 (Ty.ask (s31 bs)) (at44 bs) (Relend.t-sl-aggregate 𝓤 H A W E (Rf.rtF (Rf.fInt Sy.w16)) 𝓣 (Relend.asMut (Rf.rtF (Rf.fInt Sy.w16))) G32 18 19 4 ty·38 ty·40 (λ x. x) (Sc.oBig Sy.w64 21846) (Reads.as-is 𝓤 H A (Relend.msptr (Rf.rtF (Rf.fInt Sy.w16)) ty·38 4)) (Reads.room-gone 𝓤 H A (Sy.tyStruct (Li._∷_ 38 (Li._∷_ 91 (Li._∷_ 93 Li.[]))) (Sy.tcons ty·40 (Sy.tcons (Sy.tyInt Sy.w64) Sy.tnil)))) record { lower = record { fits = Dec'.lit< tt } } Pa.refl Pa.refl λ b o k. tt) (Ty.g-pre 𝓤 H A W 𝓣 E G33 G34 b34 Δ0 (λ Ψ. Ψ) (at43 bs) (Lifetime.g-begin 𝓤 H A W E G33 5 (tt, (tt, (tt, (tt, (tt, (tt, (tt, (tt, (tt, (tt, (tt, (tt, (tt, (tt, (tt, (tt, (tt, (tt, (tt, (tt, (tt, (tt, (tt, (tt, (tt, (tt, tt))))))))))))))))))))))))))) (Ty.s-seq 𝓤 H A W 𝓣 E G34 G35 b18 b33 Δ0 (Ty.give (s33 bs)) (at42 bs) (Borrow.t-arr-borrow 𝓤 H A W E 𝓣 (Rf.rtF (Rf.fInt Sy.w8)) G34 7 20 1048576 5 ty·35 (λ x. x) (Reads.as-is 𝓤 H A row·25) (Reads.room-gone 𝓤 H A ty·35) Pa.refl (λ b o. tt) (Dec'.lit< tt, Dec'.lit< tt)) (Ty.s-seq 𝓤 H A W 𝓣 E G35 G36 b19 b32 Δ0 (Ty.ask (s34 bs)) (at41 bs) (Relend.t-sl-aggregate 𝓤 H A W E (Rf.rtF (Rf.fInt Sy.w8)) 𝓣 (Relend.asMut (Rf.rtF (Rf.fInt Sy.w8))) G35 20 21 5 ty·35 ty·34 (λ x. x) (Sc.oBig Sy.w64 1048576) (Reads.as-is 𝓤 H A (Relend.msptr (Rf.rtF (Rf.fInt Sy.w8)) ty·35 5)) (Reads.room-gone 𝓤 H A (Sy.tyStruct (Li._∷_ 38 (Li._∷_ 91 (Li._∷_ 93 Li.[]))) (Sy.tcons ty·34 (Sy.tcons (Sy.tyInt Sy.w64) Sy.tnil)))) record { lower = record { fits = Dec'.lit< tt } } Pa.refl Pa.refl λ b o k. tt) (Ty.g-pre 𝓤 H A W 𝓣 E G36 G37 b32 Δ0 (λ Ψ. Ψ) (at40 bs) (Lifetime.g-begin 𝓤 H A W E G36 6 (tt, (tt, (tt, (tt, (tt, (tt, (tt, (tt, (tt, (tt, (tt, (tt, (tt, (tt, (tt, (tt, (tt, (tt, (tt, (tt, (tt, (tt, (tt, (tt, (tt, (tt, tt))))))))))))))))))))))))))) (Ty.s-seq 𝓤 H A W 𝓣 E G37 G38 b20 b31 Δ0 (Ty.give (s36 bs)) (at39 bs) (Borrow.t-arr-borrow 𝓤 H A W E 𝓣 (Rf.rtF (Rf.fInt Sy.w8)) G37 8 22 1048576 6 ty·35 (λ x. x) (Reads.as-is 𝓤 H A row·25) (Reads.room-gone 𝓤 H A ty·35) Pa.refl (λ b o. tt) (Dec'.lit< tt, Dec'.lit< tt)) (Ty.s-seq 𝓤 H A W 𝓣 E G38 G39 b21 b30 Δ0 (Ty.ask (s37 bs)) (at38 bs) (Relend.t-sl-aggregate 𝓤 H A W E (Rf.rtF (Rf.fInt Sy.w8)) 𝓣 (Relend.asMut (Rf.rtF (Rf.fInt Sy.w8))) G38 22 23 6 ty·35 ty·34 (λ x. x) (Sc.oBig Sy.w64 1048576) (Reads.as-is 𝓤 H A (Relend.msptr (Rf.rtF (Rf.fInt Sy.w8)) ty·35 6)) (Reads.room-gone 𝓤 H A (Sy.tyStruct (Li._∷_ 38 (Li._∷_ 91 (Li._∷_ 93 Li.[]))) (Sy.tcons ty·34 (Sy.tcons (Sy.tyInt Sy.w64) Sy.tnil)))) record { lower = record { fits = Dec'.lit< tt } } Pa.refl Pa.refl λ b o k. tt) (Ty.g-pre 𝓤 H A W 𝓣 E G39 G40 b30 Δ0 (λ Ψ. Ψ) (at37 bs) (Lifetime.g-begin 𝓤 H A W E G39 7 (tt, (tt, (tt, (tt, (tt, (tt, (tt, (tt, (tt, (tt, (tt, (tt, (tt, (tt, (tt, (tt, (tt, (tt, (tt, (tt, (tt, (tt, (tt, (tt, (tt, (tt, tt))))))))))))))))))))))))))) (Ty.s-seq 𝓤 H A W 𝓣 E G40 G41 b22 b29 Δ0 (Ty.give (s39 bs)) (at36 bs) (Borrow.t-arr-borrow 𝓤 H A W E 𝓣 (Rf.rtF (Rf.fInt Sy.w8)) G40 9 24 65536 7 ty·33 (λ x. x) (Reads.as-is 𝓤 H A row·15) (Reads.room-gone 𝓤 H A ty·33) Pa.refl (λ b o. tt) (Dec'.lit< tt, Dec'.lit< tt)) (Ty.s-seq 𝓤 H A W 𝓣 E G41 G42 b23 b28 Δ0 (Ty.ask (s40 bs)) (at35 bs) (Relend.t-sl-aggregate 𝓤 H A W E (Rf.rtF (Rf.fInt Sy.w8)) 𝓣 (Relend.asMut (Rf.rtF (Rf.fInt Sy.w8))) G41 24 25 7 ty·33 ty·34 (λ x. x) (Sc.oBig Sy.w64 65536) (Reads.as-is 𝓤 H A (Relend.msptr (Rf.rtF (Rf.fInt Sy.w8)) ty·33 7)) (Reads.room-gone 𝓤 H A (Sy.tyStruct (Li._∷_ 38 (Li._∷_ 91 (Li._∷_ 93 Li.[]))) (Sy.tcons ty·34 (Sy.tcons (Sy.tyInt Sy.w64) Sy.tnil)))) record { lower = record { fits = Dec'.lit< tt } } Pa.refl Pa.refl λ b o k. tt) (Ty.s-seq 𝓤 H A W 𝓣 E G42 G43 b24 b27 Δ0 (Ty.both (s41 bs)) (at34 bs) (Plain.t-call-plain 𝓤 H A W 𝓣 8 ps·1 r·1 (claims· .2) (claims· .3) "poolbatch::batch" (known .1) E (λ pos β. β) G42 (record { pos = 11; ty = Sy.tyRef Sy.erased Sy.mut ty·36; ref = λ x. x }, (record { pos = 13; ty = Sy.tyRef Sy.erased Sy.mut (Sy.tyInt Sy.w8); ref = λ x. x }, (record { pos = 15; ty = Sy.tyRef Sy.erased Sy.mut (Sy.tyInt Sy.w32); ref = λ x. x }, (record { pos = 17; ty = Sy.tyRef Sy.erased Sy.mut Gap_.behind; ref = λ x. x }, (record { pos = 19; ty = Sy.tyRef Sy.erased Sy.mut (Sy.tyInt Sy.w16); ref = λ x. x }, (record { pos = 21; ty = Sy.tyRef Sy.erased Sy.mut (Sy.tyInt Sy.w8); ref = λ x. x }, (record { pos = 23; ty = Sy.tyRef Sy.erased Sy.mut (Sy.tyInt Sy.w8); ref = λ x. x }, (record { pos = 25; ty = Sy.tyRef Sy.erased Sy.mut (Sy.tyInt Sy.w8); ref = λ x. x }, tt)))))))) 10 (Li._∷_ 0 (Li._∷_ 1 (Li._∷_ 2 (Li._∷_ 3 (Li._∷_ 4 (Li._∷_ 5 (Li._∷_ 6 (Li._∷_ 7 Li.[])))))))) (Call.sub-id 𝓤 H A W (G42 .slots)) (Reads.as-is 𝓤 H A row·11, Reads.reads-mref 𝓤 H A W (Array'.Array (Rf.rtF (Rf.fInt Sy.w8)) 65536) ty·33 0, Pa.refl, (Reads.as-is 𝓤 H A row·14, Mut.reads-mslice 𝓤 H A W (Rf.rtF (Rf.fInt Sy.w8)) ty·34 1, Pa.refl, (Reads.as-is 𝓤 H A row·13, Mut.reads-mslice 𝓤 H A W (Rf.rtF (Rf.fInt Sy.w32)) ty·39 2, Pa.refl, (Reads.as-is 𝓤 H A row·27, Mut.reads-mslice 𝓤 H A W Gap_.row ty·42 3, Pa.refl, (Reads.as-is 𝓤 H A row·26, Mut.reads-mslice 𝓤 H A W (Rf.rtF (Rf.fInt Sy.w16)) ty·40 4, Pa.refl, (Reads.as-is 𝓤 H A row·29, Mut.reads-mslice 𝓤 H A W (Rf.rtF (Rf.fInt Sy.w8)) ty·34 5, Pa.refl, (Reads.as-is 𝓤 H A (Mut.mslice (Rf.rtF (Rf.fInt Sy.w8)) ty·34 6), Mut.reads-mslice 𝓤 H A W (Rf.rtF (Rf.fInt Sy.w8)) ty·34 6, Pa.refl, (Reads.as-is 𝓤 H A (Mut.mslice (Rf.rtF (Rf.fInt Sy.w8)) ty·34 7), Mut.reads-mslice 𝓤 H A W (Rf.rtF (Rf.fInt Sy.w8)) ty·34 7, Pa.refl, tt)))))))) (Reads.room-gone 𝓤 H A Sy.tyUnit) (tt, (tt, (tt, (tt, (tt, (tt, (tt, (tt, tt)))))))) Pa.refl) (Ty.g-pre 𝓤 H A W 𝓣 E G43 G44 b27 Δ0 (Ty.pass T43 T44 (s42 bs)) (at33 bs) (Sc.g-room 𝓤 H A W E G43 10 Sy.tyUnit (Sc.room-sc 𝓤 H A W Ro.sUnit)) (Ty.g-pre 𝓤 H A W 𝓣 E G44 G45 b27 Δ0 (λ Ψ. Ψ) (at32 bs) (Lifetime.g-end 𝓤 H A W E G44 0 Pa.refl) (Ty.g-pre 𝓤 H A W 𝓣 E G45 G46 b27 Δ0 (Ty.ask (s44 bs)) (at31 bs) (Local.g-back-sc 𝓤 H A W E G45 11 1 0 (Array'.Array (Rf.rtF (Rf.fInt Sy.w8)) 65536) ty·33 row·15 (λ x. x) (λ x. x) (λ x. x) (Reads.as-is 𝓤 H A (Rows'.mleft (Array'.Array (Rf.rtF (Rf.fInt Sy.w8)) 65536) ty·33)) (Reads.as-is 𝓤 H A row·16) (Whole.arr-mem 𝓤 H A W (Rf.rtF (Rf.fInt Sy.w8)) 65536 tt) Pa.refl) (Ty.g-pre 𝓤 H A W 𝓣 E G46 G47 b27 Δ0 (λ Ψ. Ψ) (at30 bs) (Lifetime.g-forget 𝓤 H A W E G46 0 Ro.dead Pa.refl) (Ty.g-pre 𝓤 H A W 𝓣 E G47 G48 b27 Δ0 (Ty.pass T46 T48 (s46 bs)) (at29 bs) (Sc.g-room 𝓤 H A W E G47 1 ty·36 (Init.room-arr 𝓤 H A W (Rf.rtF (Rf.fInt Sy.w8)) 65536 0 65536 Pa.refl)) (Ty.g-pre 𝓤 H A W 𝓣 E G48 G49 b27 Δ0 (λ Ψ. Ψ) (at28 bs) (Lifetime.g-end 𝓤 H A W E G48 1 Pa.refl) (Ty.g-pre 𝓤 H A W 𝓣 E G49 G50 b27 Δ0 (Ty.both (s48 bs)) (at27 bs) (Borrow.g-back-arr 𝓤 H A W E (Rf.rtF (Rf.fInt Sy.w8)) G49 13 2 1 65536 ty·34 (λ x. x) (λ x. x) (Reads.as-is 𝓤 H A row·3) (Reads.as-is 𝓤 H A row·23) Pa.refl) (Ty.g-pre 𝓤 H A W 𝓣 E G50 G51 b27 Δ0 (λ Ψ. Ψ) (at26 bs) (Lifetime.g-forget 𝓤 H A W E G50 1 Ro.dead Pa.refl) (Ty.g-pre 𝓤 H A W 𝓣 E G51 G52 b27 Δ0 (Ty.pass T50 T52 (s50 bs)) (at25 bs) (Sc.g-room 𝓤 H A W E G51 2 ty·36 (Init.room-arr 𝓤 H A W (Rf.rtF (Rf.fInt Sy.w8)) 65536 0 65536 Pa.refl)) (Ty.g-pre 𝓤 H A W 𝓣 E G52 G53 b27 Δ0 (λ Ψ. Ψ) (at24 bs) (Lifetime.g-end 𝓤 H A W E G52 2 Pa.refl) (Ty.g-pre 𝓤 H A W 𝓣 E G53 G54 b27 Δ0 (Ty.both (s52 bs)) (at23 bs) (Borrow.g-back-arr 𝓤 H A W E (Rf.rtF (Rf.fInt Sy.w32)) G53 15 3 2 394240 ty·39 (λ x. x) (λ x. x) (Reads.as-is 𝓤 H A (Mut.msleft (Rf.rtF (Rf.fInt Sy.w32)) ty·39)) (Reads.as-is 𝓤 H A row·19) Pa.refl) (Ty.g-pre 𝓤 H A W 𝓣 E G54 G55 b27 Δ0 (λ Ψ. Ψ) (at22 bs) (Lifetime.g-forget 𝓤 H A W E G54 2 Ro.dead Pa.refl) (Ty.g-pre 𝓤 H A W 𝓣 E G55 G56 b27 Δ0 (Ty.pass T54 T56 (s54 bs)) (at21 bs) (Sc.g-room 𝓤 H A W E G55 3 ty·44 (Init.room-arr 𝓤 H A W (Rf.rtF (Rf.fInt Sy.w32)) 394240 0 394240 Pa.refl)) (Ty.g-pre 𝓤 H A W 𝓣 E G56 G57 b27 Δ0 (λ Ψ. Ψ) (at20 bs) (Lifetime.g-end 𝓤 H A W E G56 3 Pa.refl) (Ty.g-pre 𝓤 H A W 𝓣 E G57 G58 b27 Δ0 (Ty.both (s56 bs)) (at19 bs) (Borrow.g-back-arr 𝓤 H A W E Gap_.row G57 17 5 3 13109 ty·42 (λ x. x) (λ x. x) (Reads.as-is 𝓤 H A (Mut.msleft Gap_.row ty·42)) (Reads.as-is 𝓤 H A row·31) Pa.refl) (Ty.g-pre 𝓤 H A W 𝓣 E G58 G59 b27 Δ0 (λ Ψ. Ψ) (at18 bs) (Lifetime.g-forget 𝓤 H A W E G58 3 Ro.dead Pa.refl) (Ty.g-pre 𝓤 H A W 𝓣 E G59 G60 b27 Δ0 (Ty.pass T58 T60 (s58 bs)) (at17 bs) (Sc.g-room 𝓤 H A W E G59 5 ty·46 (Init.room-arr 𝓤 H A W Gap_.row 13109 0 13109 Pa.refl)) (Ty.g-pre 𝓤 H A W 𝓣 E G60 G61 b27 Δ0 (λ Ψ. Ψ) (at16 bs) (Lifetime.g-end 𝓤 H A W E G60 4 Pa.refl) (Ty.g-pre 𝓤 H A W 𝓣 E G61 G62 b27 Δ0 (Ty.both (s60 bs)) (at15 bs) (Borrow.g-back-arr 𝓤 H A W E (Rf.rtF (Rf.fInt Sy.w16)) G61 19 6 4 21846 ty·40 (λ x. x) (λ x. x) (Reads.as-is 𝓤 H A (Mut.msleft (Rf.rtF (Rf.fInt Sy.w16)) ty·40)) (Reads.as-is 𝓤 H A row·22) Pa.refl) (Ty.g-pre 𝓤 H A W 𝓣 E G62 G63 b27 Δ0 (λ Ψ. Ψ) (at14 bs) (Lifetime.g-forget 𝓤 H A W E G62 4 Ro.dead Pa.refl) (Ty.g-pre 𝓤 H A W 𝓣 E G63 G64 b27 Δ0 (Ty.pass T62 T64 (s62 bs)) (at13 bs) (Sc.g-room 𝓤 H A W E G63 6 ty·45 (Init.room-arr 𝓤 H A W (Rf.rtF (Rf.fInt Sy.w16)) 21846 0 21846 Pa.refl)) (Ty.g-pre 𝓤 H A W 𝓣 E G64 G65 b27 Δ0 (λ Ψ. Ψ) (at12 bs) (Lifetime.g-end 𝓤 H A W E G64 5 Pa.refl) (Ty.g-pre 𝓤 H A W 𝓣 E G65 G66 b27 Δ0 (Ty.both (s64 bs)) (at11 bs) (Borrow.g-back-arr 𝓤 H A W E (Rf.rtF (Rf.fInt Sy.w8)) G65 21 7 5 1048576 ty·34 (λ x. x) (λ x. x) (Reads.as-is 𝓤 H A row·3) (Reads.as-is 𝓤 H A row·20) Pa.refl) (Ty.g-pre 𝓤 H A W 𝓣 E G66 G67 b27 Δ0 (λ Ψ. Ψ) (at10 bs) (Lifetime.g-forget 𝓤 H A W E G66 5 Ro.dead Pa.refl) (Ty.g-pre 𝓤 H A W 𝓣 E G67 G68 b27 Δ0 (Ty.pass T66 T68 (s66 bs)) (at9 bs) (Sc.g-room 𝓤 H A W E G67 7 ty·43 (Init.room-arr 𝓤 H A W (Rf.rtF (Rf.fInt Sy.w8)) 1048576 0 1048576 Pa.refl)) (Ty.g-pre 𝓤 H A W 𝓣 E G68 G69 b27 Δ0 (λ Ψ. Ψ) (at8 bs) (Lifetime.g-end 𝓤 H A W E G68 6 Pa.refl) (Ty.g-pre 𝓤 H A W 𝓣 E G69 G70 b27 Δ0 (Ty.both (s68 bs)) (at7 bs) (Borrow.g-back-arr 𝓤 H A W E (Rf.rtF (Rf.fInt Sy.w8)) G69 23 8 6 1048576 ty·34 (λ x. x) (λ x. x) (Reads.as-is 𝓤 H A row·3) (Reads.as-is 𝓤 H A row·21) Pa.refl) (Ty.g-pre 𝓤 H A W 𝓣 E G70 G71 b27 Δ0 (λ Ψ. Ψ) (at6 bs) (Lifetime.g-forget 𝓤 H A W E G70 6 Ro.dead Pa.refl) (Ty.g-pre 𝓤 H A W 𝓣 E G71 G72 b27 Δ0 (Ty.pass T70 T72 (s70 bs)) (at5 bs) (Sc.g-room 𝓤 H A W E G71 8 ty·43 (Init.room-arr 𝓤 H A W (Rf.rtF (Rf.fInt Sy.w8)) 1048576 0 1048576 Pa.refl)) (Ty.g-pre 𝓤 H A W 𝓣 E G72 G73 b27 Δ0 (λ Ψ. Ψ) (at4 bs) (Lifetime.g-end 𝓤 H A W E G72 7 Pa.refl) (Ty.g-pre 𝓤 H A W 𝓣 E G73 G74 b27 Δ0 (Ty.both (s72 bs)) (at3 bs) (Borrow.g-back-arr 𝓤 H A W E (Rf.rtF (Rf.fInt Sy.w8)) G73 25 9 7 65536 ty·34 (λ x. x) (λ x. x) (Reads.as-is 𝓤 H A row·3) (Reads.as-is 𝓤 H A row·24) Pa.refl) (Ty.g-pre 𝓤 H A W 𝓣 E G74 G75 b27 Δ0 (λ Ψ. Ψ) (at2 bs) (Lifetime.g-forget 𝓤 H A W E G74 7 Ro.dead Pa.refl) (Ty.g-pre 𝓤 H A W 𝓣 E G75 G0 b27 Δ0 (Ty.pass T74 T0 (s74 bs)) (at1 bs) (Sc.g-room 𝓤 H A W E G75 9 ty·36 (Init.room-arr 𝓤 H A W (Rf.rtF (Rf.fInt Sy.w8)) 65536 0 65536 Pa.refl)) (Ty.s-seq 𝓤 H A W 𝓣 E G0 G1 b25 b26 Δ0 (Ty.pass T0 T1 (s75 bs)) (at0 bs) (Sc.t-use 𝓤 H A W E 𝓣 G0 Sc.oUnit 0 (Rows'.sc-here Ro.sUnit) Sy.tyUnit (Ro.valS Ro.sUnit) (Ro.sUnit .of) tt (Reads.room-gone 𝓤 H A Sy.tyUnit) (Sc.holds-sc 𝓤 H A W Ro.sUnit) Pa.refl (λ u. Pa.refl) λ u. tt) (Ty.t-return 𝓤 H A W 𝓣 E Δ0 tt)))))))))))))))))))))))))))))))))))))))))))))))))))))))))))))))))))))))))))))
 
       pub record Args : Type 0 where
 
