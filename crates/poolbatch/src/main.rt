@@ -4,7 +4,7 @@
 // Every job has 8,388,608 bytes each for pool and bootstraps; what doesn't fit is `refused 18 PLACE`. There is no memory but the stack:
 // a job of at most 65,536 bytes whose pool and bootstraps have at most 1,048,576 each runs on the usual stack of 8 MB, any other needs
 // `ulimit -s 65536` (the longest job asks for 25 MB of work). `long_run` has that memory as locals of its own, and is called in two
-// places so that it stays a function of its own when it is compiled. A frame longer than any job is `refused 1 0`, and its bytes are
+// places and not small, so that it stays a function of its own when it is compiled. A frame longer than any job is `refused 1 0`, and its bytes are
 // skipped.
 //
 // There is no exit status to set. The last line on standard error stands in for it: `whole stream, N jobs`, or `cut frame` or
@@ -245,6 +245,13 @@ fn no_room(outcome: Outcome) -> bool {
     }
 }
 
+// An 18 is told on standard error too.
+fn tell_room(outcome: Outcome) {
+    if no_room(outcome) {
+        io::write_all(STDERR_FILENO, b"poolbatch: no room for a job's outputs\n");
+    }
+}
+
 // Runs the job that the first n bytes are, with no more work and gaps than it must be lent.
 fn run_job(
     job: &[u8],
@@ -305,6 +312,7 @@ fn long_run(text: &mut [u8; 65536], job: &[u8], n: usize) -> u8
         &mut bootstraps,
         &mut class_name,
     );
+    tell_room(outcome);
     after(print_outcome(text, outcome, &answers, &pool, &bootstraps, &class_name))
 }
 

@@ -48,17 +48,20 @@ run-job-requires c κs =
     let most : n / 5 + 2 ≤ 209717 = omega arith in
     (p .0, p .1, subst (λ k. 6 * n + 1024 ≤ k) (c .before .before .before .before .before .before .before .before .before .long-words .ensures) words, subst (λ k. n / 5 + 2 ≤ k) (sym (length-replicate {0} {A = Gap} 209717 (c .before .before .before .before .before .before .before .before .no-gap .result))) most)
 
+tell-room-requires : tie.Need-tell-room-requires
+tell-room-requires c κs = tt
+
 slice-aggregate-print-outcome : tie.Need-slice-aggregate-print-outcome
-slice-aggregate-print-outcome c = sym (c .before .before .before .before .before .before .before .before .run-job .kept .1 .1 .1 .1 .0 ∙ length-replicate {0} {A = ℕ} 349526 0)
+slice-aggregate-print-outcome c = sym (c .before .before .before .before .before .before .before .before .before .run-job .kept .1 .1 .1 .1 .0 ∙ length-replicate {0} {A = ℕ} 349526 0)
 
 slice-aggregate-print-outcome-2 : tie.Need-slice-aggregate-print-outcome-2
-slice-aggregate-print-outcome-2 c = c .before .before .before .before .before .before .before .before .before .before .before .before .before .before .before .before .before .long-bytes .ensures ∙ sym (c .before .before .before .before .before .before .before .before .before .run-job .kept .1 .1 .1 .1 .1 .0)
+slice-aggregate-print-outcome-2 c = c .before .before .before .before .before .before .before .before .before .before .before .before .before .before .before .before .before .before .long-bytes .ensures ∙ sym (c .before .before .before .before .before .before .before .before .before .before .run-job .kept .1 .1 .1 .1 .1 .0)
 
 slice-aggregate-print-outcome-3 : tie.Need-slice-aggregate-print-outcome-3
-slice-aggregate-print-outcome-3 c = c .before .before .before .before .before .before .before .before .before .before .before .before .before .before .before .before .before .long-bytes2 .ensures ∙ sym (c .before .before .before .before .before .before .before .before .before .before .run-job .kept .1 .1 .1 .1 .1 .1 .0)
+slice-aggregate-print-outcome-3 c = c .before .before .before .before .before .before .before .before .before .before .before .before .before .before .before .before .before .before .long-bytes2 .ensures ∙ sym (c .before .before .before .before .before .before .before .before .before .before .before .run-job .kept .1 .1 .1 .1 .1 .1 .0)
 
 slice-aggregate-print-outcome-4 : tie.Need-slice-aggregate-print-outcome-4
-slice-aggregate-print-outcome-4 c = sym (c .before .before .before .before .before .before .before .before .before .before .before .run-job .kept .1 .1 .1 .1 .1 .1 .1 .0 ∙ length-replicate {0} {A = ℕ} 65536 0)
+slice-aggregate-print-outcome-4 c = sym (c .before .before .before .before .before .before .before .before .before .before .before .before .run-job .kept .1 .1 .1 .1 .1 .1 .1 .0 ∙ length-replicate {0} {A = ℕ} 65536 0)
 
 print-outcome-requires : tie.Need-print-outcome-requires
 print-outcome-requires c κs = tt
@@ -70,4 +73,4 @@ returns : tie.Need-returns
 returns c = tt
 
 pub long-run-spec : {M : Type 1} → statement M
-long-run-spec = tie.close (tie.spec long-words-requires no-gap-requires long-bytes-requires long-bytes-requires-2 slice-aggregate-run-job slice-aggregate-run-job-2 slice-aggregate-run-job-3 slice-aggregate-run-job-4 slice-aggregate-run-job-5 slice-aggregate-run-job-6 run-job-requires slice-aggregate-print-outcome slice-aggregate-print-outcome-2 slice-aggregate-print-outcome-3 slice-aggregate-print-outcome-4 print-outcome-requires after-requires returns)
+long-run-spec = tie.close (tie.spec long-words-requires no-gap-requires long-bytes-requires long-bytes-requires-2 slice-aggregate-run-job slice-aggregate-run-job-2 slice-aggregate-run-job-3 slice-aggregate-run-job-4 slice-aggregate-run-job-5 slice-aggregate-run-job-6 run-job-requires tell-room-requires slice-aggregate-print-outcome slice-aggregate-print-outcome-2 slice-aggregate-print-outcome-3 slice-aggregate-print-outcome-4 print-outcome-requires after-requires returns)
