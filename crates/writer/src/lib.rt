@@ -1,7 +1,6 @@
 // Numbers, runs of bytes and clears in slices: Krakatau's BufWriter, at places that the caller gives. A number's most
 // significant byte comes first (document 01, "A job").
 ghost use mathlib.Core.Path.{_≡_};
-ghost use mathlib.Core.List.{[], _∷_};
 ghost use Prim.Native.Nat.{_+_, _<_, _≤_};
 ghost use lib.ListN.{length, getD, set, drop, replicate};
 ghost use lib.Seq.{paste};
@@ -86,16 +85,6 @@ pub fn clear_words(w: &mut [u32])
     let mut i = 0;
     while i < w.len() {
         w[i] = 0;
-        i += 1;
-    }
-}
-
-pub fn clear_gaps(g: &mut [[u16; 2]])
-    ensures { λ _. ⌜ now (g .exit) ≡ replicate (length (now (g .entry))) (0 ∷ 0 ∷ []) ⌝ }
-{
-    let mut i = 0;
-    while i < g.len() {
-        g[i] = [0, 0];
         i += 1;
     }
 }

@@ -57,12 +57,6 @@ fn clears_words() -> bool {
     (w[0] == 0) & (w[1] == 0) & (w[2] == 0)
 }
 
-fn clears_gaps() -> bool {
-    let mut g = [[0xffffu16; 2]; 2];
-    writer::clear_gaps(&mut g);
-    (g[0][0] == 0) & (g[0][1] == 0) & (g[1][0] == 0) & (g[1][1] == 0)
-}
-
 fn main() {
     say(b"reads", reads(b"\x80\x81\x82\x83\x84\x85\x86\x87\x88\x89"));
     say(b"put 1", put_1(b"\xee\x81\xee\xee\xee\xee\xee\xee\xee\xee"));
@@ -74,5 +68,4 @@ fn main() {
         copies(b"\xee\xee\xee\xee\xee\xee\x02\x03\x04\xee"),
     );
     say(b"clears words", clears_words());
-    say(b"clears gaps", clears_gaps());
 }
