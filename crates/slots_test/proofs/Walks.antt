@@ -1,4 +1,4 @@
 -- Made by walks.py.
 pub mod load
-pub mod try_table
 pub mod wrong_answers
+pub mod wrong_over

@@ -90,17 +90,24 @@ fn wrong_answers(gaps: &mut [Gap], text: &[u8], n: usize) -> usize
     wrong
 }
 
-fn try_table(gap_text: &[u8], request_text: &[u8]) {
+// How many answers differ over the table that is written: all, if it has more than eight gaps.
+fn wrong_over(table: &[u8], text: &[u8], n: usize) -> usize
+    requires { ⌜ 7 * n ≤ length (now text) + 1 ⌝ }
+{
     let gap = slots::no_gap();
     let mut rows = [gap; 8];
-    let gaps = (gap_text.len() + 1) / 12;
-    let requests = (request_text.len() + 1) / 7;
-    let mut wrong = requests;
-    if gaps <= 8 {
-        let table = &mut rows[..gaps];
-        load(table, gap_text);
-        wrong = wrong_answers(table, request_text, requests);
+    let gaps = (table.len() + 1) / 12;
+    if 8 < gaps {
+        return n;
     }
+    let lent = &mut rows[..gaps];
+    load(lent, table);
+    wrong_answers(lent, text, n)
+}
+
+fn try_table(gap_text: &[u8], request_text: &[u8]) {
+    let requests = (request_text.len() + 1) / 7;
+    let wrong = wrong_over(gap_text, request_text, requests);
     io::print_decimal(STDOUT_FILENO, requests as u64);
     io::write_all(STDOUT_FILENO, b" requests, ");
     io::print_decimal(STDOUT_FILENO, wrong as u64);

@@ -16,7 +16,7 @@ slice-aggregate-run-over : tie.Need-slice-aggregate-run-over
 slice-aggregate-run-over c = sym (length-replicate {0} {A = ℕ} 16384 0)
 
 slice-aggregate-run-over-2 : tie.Need-slice-aggregate-run-over-2
-slice-aggregate-run-over-2 c = sym (length-replicate {0} {A = Gap} 514 _)
+slice-aggregate-run-over-2 c = sym (length-replicate {0} {A = Gap} 514 (c .before .before .before .no-gap .result))
 
 slice-aggregate-run-over-3 : tie.Need-slice-aggregate-run-over-3
 slice-aggregate-run-over-3 c = sym (length-replicate {0} {A = ℕ} 32768 0)
@@ -35,7 +35,7 @@ run-over-requires c κs = (
   c .before .before .before .before .before .before .before .before .before .before .pre,
   record {
     work-is = length-replicate {0} {A = ℕ} 16384 0;
-    gaps-is = length-replicate {0} {A = Gap} 514 _;
+    gaps-is = length-replicate {0} {A = Gap} 514 (c .before .before .before .before .before .before .before .no-gap .result);
     answers-is = length-replicate {0} {A = ℕ} 32768 0;
     pool-is = length-replicate {0} {A = ℕ} 65536 0;
     bootstraps-is = length-replicate {0} {A = ℕ} 65536 0;
