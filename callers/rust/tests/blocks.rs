@@ -54,11 +54,13 @@ fn jobs_of_several_blocks_come_back() {
     }
 }
 
-/// Bytes behind the used ones are summed and mean nothing.
+/// Bytes behind the used ones must be zero.
 #[test]
-fn padding_may_hold_anything() {
-    let file = block(0, 2, &[3, 4, 5, 6]);
+fn padding_that_holds_something_is_19() {
+    let file = block(0, 2, &[3, 4]);
     assert_eq!(read_blocks(&file), Ok(vec![3, 4]));
+    let old_memory = block(0, 2, &[3, 4, 0, 6]);
+    assert_eq!(read_blocks(&old_memory), Err(refusal(19, 0)));
 }
 
 #[test]
