@@ -63,7 +63,7 @@ const DIRECTED: Set = Set {
 };
 
 /// Slots near 65534 are owned in these, so that a pool has as many entries.
-const SMALL_TOO_LONG: &[usize] = &[481, 1139];
+const SMALL_TOO_LONG: &[usize] = &[610];
 
 const AGREE: &[Set] = &[
     DIRECTED,
