@@ -6,7 +6,8 @@ use Rattle.definition.specs.Basics.{concat, lookup, good, bad}
 use Rattle.definition.specs.Ascii.{ascii, digits, decimal, hexDigit, hex}
 use Rattle.jvms.specs.Pool.{u1, u2, u4, array, structures, structure, cp-info, takes-two, slots, constant-pool, wholly, read-pool, bootstrap-method, read-bootstrap-methods}
 use Rattle.printing.specs.Numbers.{escaped, quoted, signed, hexOf, fraction, power, scaled, magnitude, minus, toHexString, float, double}
-use Rattle.listing.specs.Listing.{referenceKinds, orDecimal, referenceKind, tag, kinds, kind, both, held, named, within, arguments, applied, atSlot, atMethod, slotOf, bracketed, opened, line, linesFrom, lines, fitting, listed, listing}
+use Rattle.places.specs.Standing.{tag, slotOf}
+use Rattle.listing.specs.Listing.{referenceKinds, orDecimal, referenceKind, kinds, kind, both, held, named, within, arguments, applied, atSlot, atMethod, bracketed, opened, line, linesFrom, lines, fitting, listed, listing}
 
 -- a Class, its text with a quote and a byte that isn't printable, a Long, a Float and an Integer
 abbrev pool : List ℕ

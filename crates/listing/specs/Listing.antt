@@ -10,6 +10,7 @@ use lib.Dec.{eqb, leb}
 use lib.ListN.{length, getElem?}
 use Rattle.definition.specs.Basics.{lookup, Result, good, bad}
 use Rattle.definition.specs.Ascii.{ascii, decimal}
+use Rattle.places.specs.Standing.{tag, slotOf}
 use Rattle.printing.specs.Numbers.{quoted, signed, hexOf, float, double}
 use Rattle.jvms.specs.Pool.{Constant, Utf8, Integer, Float, Long, Double, Class, String, Fieldref, Methodref, InterfaceMethodref, NameAndType, MethodHandle, MethodType, Dynamic, InvokeDynamic, Module, Package, Slot, usable, unusable, BootstrapMethod, read-pool, read-bootstrap-methods}
 
@@ -43,26 +44,7 @@ pub data Cited : Type 0 where
 abbrev pub Opening : Type 0
 Opening = Cited → List ℕ
 
--- JVMS table 4.4-A: the tags, and their names
-unfoldable pub tag : Constant → ℕ
-tag (Utf8 bytes) = 1
-tag (Integer bytes) = 3
-tag (Float bytes) = 4
-tag (Long high-bytes low-bytes) = 5
-tag (Double high-bytes low-bytes) = 6
-tag (Class name-index) = 7
-tag (String string-index) = 8
-tag (Fieldref class-index name-and-type-index) = 9
-tag (Methodref class-index name-and-type-index) = 10
-tag (InterfaceMethodref class-index name-and-type-index) = 11
-tag (NameAndType name-index descriptor-index) = 12
-tag (MethodHandle reference-kind reference-index) = 15
-tag (MethodType descriptor-index) = 16
-tag (Dynamic bootstrap-method-attr-index name-and-type-index) = 17
-tag (InvokeDynamic bootstrap-method-attr-index name-and-type-index) = 18
-tag (Module name-index) = 19
-tag (Package name-index) = 20
-
+-- JVMS table 4.4-A: the names of the tags
 unfoldable pub kinds : List (ℕ × List ℕ)
 kinds =
     (1, ascii "Utf8")
@@ -141,11 +123,6 @@ atSlot show n (some (usable c)) = within show c
 unfoldable pub atMethod : Opening → ℕ → Option BootstrapMethod → List ℕ
 atMethod show n none = decimal n
 atMethod show n (some m) = applied show m
-
--- slot 0 is none
-unfoldable pub slotOf : List Slot → ℕ → Option Slot
-slotOf slots zero = none
-slotOf slots (suc i) = getElem? slots i
 
 unfoldable pub bracketed : ℕ → List ℕ
 bracketed n = 0x5b ∷ (decimal n ++ 0x5d ∷ [])
