@@ -23,11 +23,11 @@ use Rattle.raw_const.specs.declared.Shape.the-variants.{Text, Bits, One,
 -- ---- the row of a tag
 
 -- a number below n is one of them
-abbrev pub Each : Type 0 → ℕ → ℕ → Type 0
+abbrev Each : Type 0 → ℕ → ℕ → Type 0
 Each C t zero = Unit {0}
 Each C t (suc n) = Each C t n × (t ≡ n → C)
 
-pub one-of : {C : Type 0} (t n : ℕ) → t < n → Each C t n → C
+one-of : {C : Type 0} (t n : ℕ) → t < n → Each C t n → C
 one-of t zero low h = absurd (omega arith)
 one-of t (suc n) low h =
     ⊎-elim
@@ -44,42 +44,39 @@ no-shape tag high = go (lookup tag shapes) refl
     go none e = e
     go (some fields) e = absurd (omega (arith, ltb-true tag 21 (lookup-every (λ r. ltb (r .0) 21) shapes refl tag fields e)))
 
-pub row-above : (tag : ℕ) → 21 ≤ tag → rowOf tag none ≡ rowOf tag (lookup tag shapes)
-row-above tag high = ap (rowOf tag) (sym (no-shape tag high))
-
 -- the numbers of eight bytes are the wide ones
-pub row-wide : (tag : ℕ) (row : List ℕ) → row ≡ rowOf tag (lookup tag shapes) → eqb (getD row 1 0) 3 ≡ isWide tag
+pub row-wide : (tag : ℕ) (row : List ℕ) → row ≡ rowOf (lookup tag shapes) → eqb (getD row 0 0) 3 ≡ isWide tag
 unfolding lookup shapes isWide
 row-wide tag row is =
-    ap (λ r. eqb (getD r 1 0) 3) is
+    ap (λ r. eqb (getD r 0 0) 3) is
     ∙ ⊎-elim
     (λ (low : tag < 21). one-of tag 21 low (((((((((((((((((((((tt, λ e. rw e), λ e. rw e), λ e. rw e), λ e. rw e), λ e. rw e), λ e. rw e), λ e. rw e), λ e. rw e), λ e. rw e), λ e. rw e), λ e. rw e), λ e. rw e), λ e. rw e), λ e. rw e), λ e. rw e), λ e. rw e), λ e. rw e), λ e. rw e), λ e. rw e), λ e. rw e), λ e. rw e))
     (λ (high : 21 ≤ tag). rw (no-shape tag high, ne-eqb tag 5 (λ e. omega arith), ne-eqb tag 6 (λ e. omega arith)))
     (order tag 21)
 
 -- which rows begin with a text, a kind byte and the index of a bootstrap
-pub row-text : (tag : ℕ) (row : List ℕ) → row ≡ rowOf tag (lookup tag shapes) → eqb (getD row 1 0) 1 ≡ eqb tag 1
+pub row-text : (tag : ℕ) (row : List ℕ) → row ≡ rowOf (lookup tag shapes) → eqb (getD row 0 0) 1 ≡ eqb tag 1
 unfolding lookup shapes
 row-text tag row is =
-    ap (λ r. eqb (getD r 1 0) 1) is
+    ap (λ r. eqb (getD r 0 0) 1) is
     ∙ ⊎-elim
     (λ (low : tag < 21). one-of tag 21 low (((((((((((((((((((((tt, λ e. rw e), λ e. rw e), λ e. rw e), λ e. rw e), λ e. rw e), λ e. rw e), λ e. rw e), λ e. rw e), λ e. rw e), λ e. rw e), λ e. rw e), λ e. rw e), λ e. rw e), λ e. rw e), λ e. rw e), λ e. rw e), λ e. rw e), λ e. rw e), λ e. rw e), λ e. rw e), λ e. rw e))
     (λ (high : 21 ≤ tag). rw (no-shape tag high, ne-eqb tag 1 (λ e. omega arith)))
     (order tag 21)
 
-pub row-handle : (tag : ℕ) (row : List ℕ) → row ≡ rowOf tag (lookup tag shapes) → eqb (getD row 1 0) 4 ≡ eqb tag 15
+pub row-handle : (tag : ℕ) (row : List ℕ) → row ≡ rowOf (lookup tag shapes) → eqb (getD row 0 0) 4 ≡ eqb tag 15
 unfolding lookup shapes
 row-handle tag row is =
-    ap (λ r. eqb (getD r 1 0) 4) is
+    ap (λ r. eqb (getD r 0 0) 4) is
     ∙ ⊎-elim
     (λ (low : tag < 21). one-of tag 21 low (((((((((((((((((((((tt, λ e. rw e), λ e. rw e), λ e. rw e), λ e. rw e), λ e. rw e), λ e. rw e), λ e. rw e), λ e. rw e), λ e. rw e), λ e. rw e), λ e. rw e), λ e. rw e), λ e. rw e), λ e. rw e), λ e. rw e), λ e. rw e), λ e. rw e), λ e. rw e), λ e. rw e), λ e. rw e), λ e. rw e))
     (λ (high : 21 ≤ tag). rw (no-shape tag high, ne-eqb tag 15 (λ e. omega arith)))
     (order tag 21)
 
-pub row-dynamic : (tag : ℕ) (row : List ℕ) → row ≡ rowOf tag (lookup tag shapes) → eqb (getD row 1 0) 6 ≡ (eqb tag 17 || eqb tag 18)
+pub row-dynamic : (tag : ℕ) (row : List ℕ) → row ≡ rowOf (lookup tag shapes) → eqb (getD row 0 0) 6 ≡ (eqb tag 17 || eqb tag 18)
 unfolding lookup shapes
 row-dynamic tag row is =
-    ap (λ r. eqb (getD r 1 0) 6) is
+    ap (λ r. eqb (getD r 0 0) 6) is
     ∙ ⊎-elim
     (λ (low : tag < 21). one-of tag 21 low (((((((((((((((((((((tt, λ e. rw e), λ e. rw e), λ e. rw e), λ e. rw e), λ e. rw e), λ e. rw e), λ e. rw e), λ e. rw e), λ e. rw e), λ e. rw e), λ e. rw e), λ e. rw e), λ e. rw e), λ e. rw e), λ e. rw e), λ e. rw e), λ e. rw e), λ e. rw e), λ e. rw e), λ e. rw e), λ e. rw e))
     (λ (high : 21 ≤ tag). rw (no-shape tag high, ne-eqb tag 17 (λ e. omega arith), ne-eqb tag 18 (λ e. omega arith)))
@@ -98,42 +95,42 @@ shapeTable second =
 abbrev pub shapeIn : ℕ → ℕ → Shape
 shapeIn first second = shapeFound (lookup first (shapeTable second))
 
-module _ (tag : ℕ) (row : List ℕ) (is : row ≡ rowOf tag (lookup tag shapes)) where
-  told : fieldsOf (shapeIn (getD row 1 0) (getD row 2 0)) ≡ lookup tag shapes
+module _ (tag : ℕ) (row : List ℕ) (is : row ≡ rowOf (lookup tag shapes)) where
+  told : fieldsOf (shapeIn (getD row 0 0) (getD row 1 0)) ≡ lookup tag shapes
   unfolding shapes lookup
   told =
-      ap (λ r. fieldsOf (shapeIn (getD r 1 0) (getD r 2 0))) is
-      ∙ looked-up (λ o. fieldsOf (shapeIn (getD (rowOf tag o) 1 0) (getD (rowOf tag o) 2 0)) ≡ o) tag shapes
+      ap (λ r. fieldsOf (shapeIn (getD r 0 0) (getD r 1 0))) is
+      ∙ looked-up (λ o. fieldsOf (shapeIn (getD (rowOf o) 0 0) (getD (rowOf o) 1 0)) ≡ o) tag shapes
       (refl, (refl, (refl, (refl, (refl, (refl, (refl, (refl, (refl, (refl, (refl, (refl, (refl, (refl, (refl, (refl, (refl, refl)))))))))))))))))
 
-  pub by-first : (code : ℕ) → getD row 1 0 ≡ code → fieldsOf (shapeIn code (getD row 2 0)) ≡ lookup tag shapes
-  by-first code e = ap (λ a. fieldsOf (shapeIn a (getD row 2 0))) (sym e) ∙ told
+  pub by-first : (code : ℕ) → getD row 0 0 ≡ code → fieldsOf (shapeIn code (getD row 1 0)) ≡ lookup tag shapes
+  by-first code e = ap (λ a. fieldsOf (shapeIn a (getD row 1 0))) (sym e) ∙ told
 
-  pub by-one : getD row 1 0 ≡ 5 → getD row 2 0 ≡ 0 → fieldsOf One ≡ lookup tag shapes
+  pub by-one : getD row 0 0 ≡ 5 → getD row 1 0 ≡ 0 → fieldsOf One ≡ lookup tag shapes
   unfolding lookup
   by-one e e′ = ap (λ b. fieldsOf (shapeIn 5 b)) (sym e′) ∙ by-first 5 e
 
-  pub by-two : getD row 1 0 ≡ 5 → (getD row 2 0 ≡ 0 → ⊥) → fieldsOf Two ≡ lookup tag shapes
+  pub by-two : getD row 0 0 ≡ 5 → (getD row 1 0 ≡ 0 → ⊥) → fieldsOf Two ≡ lookup tag shapes
   unfolding lookup
-  by-two e more = rw (ne-eqb (getD row 2 0) 0 more) at (by-first 5 e)
+  by-two e more = rw (ne-eqb (getD row 1 0) 0 more) at (by-first 5 e)
 
-  pub by-none : Passed (getD row 1 0) (Unit {0}) (shapeTable (getD row 2 0)) → fieldsOf Unknown ≡ lookup tag shapes
-  by-none h = ap (λ o. fieldsOf (shapeFound o)) (sym (passed (getD row 1 0) (Unit {0}) (shapeTable (getD row 2 0)) h .1)) ∙ told
+  pub by-none : Passed (getD row 0 0) (Unit {0}) (shapeTable (getD row 1 0)) → fieldsOf Unknown ≡ lookup tag shapes
+  by-none h = ap (λ o. fieldsOf (shapeFound o)) (sym (passed (getD row 0 0) (Unit {0}) (shapeTable (getD row 1 0)) h .1)) ∙ told
 
   -- only a text's row begins with a text, and none has one behind
-  pub text-first : getD row 1 0 ≡ 1 → lookup tag shapes ≡ some (text ∷ [])
+  pub text-first : getD row 0 0 ≡ 1 → lookup tag shapes ≡ some (text ∷ [])
   unfolding shapes
   text-first e =
-      looked-up (λ o. getD (rowOf tag o) 1 0 ≡ 1 → o ≡ some (text ∷ [])) tag shapes
+      looked-up (λ o. getD (rowOf o) 0 0 ≡ 1 → o ≡ some (text ∷ [])) tag shapes
       (λ e. refl, (λ e. absurd (omega arith), (λ e. absurd (omega arith), (λ e. absurd (omega arith), (λ e. absurd (omega arith), (λ e. absurd (omega arith), (λ e. absurd (omega arith), (λ e. absurd (omega arith), (λ e. absurd (omega arith), (λ e. absurd (omega arith), (λ e. absurd (omega arith), (λ e. absurd (omega arith), (λ e. absurd (omega arith), (λ e. absurd (omega arith), (λ e. absurd (omega arith), (λ e. absurd (omega arith), (λ e. absurd (omega arith), λ e. absurd (omega arith))))))))))))))))))
-      (ap (λ r. getD r 1 0) (sym is) ∙ e)
+      (ap (λ r. getD r 0 0) (sym is) ∙ e)
 
-  pub text-second : getD row 2 0 ≡ 1 → ⊥
+  pub text-second : getD row 1 0 ≡ 1 → ⊥
   unfolding shapes
   text-second e =
-      looked-up (λ o. getD (rowOf tag o) 2 0 ≡ 1 → ⊥) tag shapes
+      looked-up (λ o. getD (rowOf o) 1 0 ≡ 1 → ⊥) tag shapes
       (λ e. omega arith, (λ e. omega arith, (λ e. omega arith, (λ e. omega arith, (λ e. omega arith, (λ e. omega arith, (λ e. omega arith, (λ e. omega arith, (λ e. omega arith, (λ e. omega arith, (λ e. omega arith, (λ e. omega arith, (λ e. omega arith, (λ e. omega arith, (λ e. omega arith, (λ e. omega arith, (λ e. omega arith, λ e. omega arith)))))))))))))))))
-      (ap (λ r. getD r 2 0) (sym is) ∙ e)
+      (ap (λ r. getD r 1 0) (sym is) ∙ e)
 
 -- ---- the bytes of a field, and of a walk along a row
 
@@ -167,32 +164,32 @@ module _ (field kind : ℕ) (literal : List ℕ) (index : ℕ) where
 
 module _ (tag kind : ℕ) (literal : List ℕ) (first second : ℕ) where
   abbrev pub firstBytes : List ℕ → List ℕ
-  firstBytes row = fieldBytes (getD row 1 0) kind literal first
+  firstBytes row = fieldBytes (getD row 0 0) kind literal first
 
   abbrev pub secondBytes : List ℕ → List ℕ
-  secondBytes row = fieldBytes (getD row 2 0) kind literal (secondIndex (getD row 1 0) first second)
+  secondBytes row = fieldBytes (getD row 1 0) kind literal (secondIndex (getD row 0 0) first second)
 
   abbrev walk : List ℕ → List ℕ
-  walk row = elim (eqb (getD row 1 0) 0) [ true ↦ [] | false ↦ (getD row 0 0 ∷ []) ++ firstBytes row ++ secondBytes row ]
+  walk row = elim (eqb (getD row 0 0) 0) [ true ↦ [] | false ↦ (tag ∷ []) ++ firstBytes row ++ secondBytes row ]
 
   abbrev bytesOf : Option (List Field) → List ℕ
   bytesOf o =
       let kids = take (references (listed o)) (first ∷ second ∷ []) in
       elim o [ none ↦ [] | some fields ↦ tag ∷ writeFields fields (record { tag = tag; literal = literal; byte = kind; kids = kids }) kids ]
 
-  walked : entryBytes (entryOf tag kind literal first second) ≡ walk (rowOf tag (lookup tag shapes))
+  walked : entryBytes (entryOf tag kind literal first second) ≡ walk (rowOf (lookup tag shapes))
   unfolding entryBytes entryOf shapes lookup writeFields be2
-  walked = looked-up (λ o. bytesOf o ≡ walk (rowOf tag o)) tag shapes (refl, (refl, (refl, (refl, (refl, (refl, (refl, (refl, (refl, (refl, (refl, (refl, (refl, (refl, (refl, (refl, (refl, refl)))))))))))))))))
+  walked = looked-up (λ o. bytesOf o ≡ walk (rowOf o)) tag shapes (refl, (refl, (refl, (refl, (refl, (refl, (refl, (refl, (refl, (refl, (refl, (refl, (refl, (refl, (refl, (refl, (refl, refl)))))))))))))))))
 
-  module _ (row : List ℕ) (is : row ≡ rowOf tag (lookup tag shapes)) where
-    pub no-bytes : getD row 1 0 ≡ 0 → [] ≡ entryBytes (entryOf tag kind literal first second)
-    no-bytes e = sym (walked ∙ ap walk (sym is) ∙ rw (eq-eqb (getD row 1 0) 0 e, walk))
+  module _ (row : List ℕ) (is : row ≡ rowOf (lookup tag shapes)) where
+    pub no-bytes : getD row 0 0 ≡ 0 → [] ≡ entryBytes (entryOf tag kind literal first second)
+    no-bytes e = sym (walked ∙ ap walk (sym is) ∙ rw (eq-eqb (getD row 0 0) 0 e, walk))
 
-    pub all-bytes : (getD row 1 0 ≡ 0 → ⊥) → (getD row 0 0 ∷ []) ++ firstBytes row ++ secondBytes row ≡ entryBytes (entryOf tag kind literal first second)
-    all-bytes more = sym (walked ∙ ap walk (sym is) ∙ rw (ne-eqb (getD row 1 0) 0 more, walk))
+    pub all-bytes : (getD row 0 0 ≡ 0 → ⊥) → (tag ∷ []) ++ firstBytes row ++ secondBytes row ≡ entryBytes (entryOf tag kind literal first second)
+    all-bytes more = sym (walked ∙ ap walk (sym is) ∙ rw (ne-eqb (getD row 0 0) 0 more, walk))
 
-    pub all-length : (getD row 1 0 ≡ 0 → ⊥) → 1 + length (firstBytes row) + length (secondBytes row) ≡ length (entryBytes (entryOf tag kind literal first second))
+    pub all-length : (getD row 0 0 ≡ 0 → ⊥) → 1 + length (firstBytes row) + length (secondBytes row) ≡ length (entryBytes (entryOf tag kind literal first second))
     all-length more =
-        let n = length-append ((getD row 0 0 ∷ []) ++ firstBytes row) (secondBytes row) in
-        let m = length-append (getD row 0 0 ∷ []) (firstBytes row) in
+        let n = length-append ((tag ∷ []) ++ firstBytes row) (secondBytes row) in
+        let m = length-append (tag ∷ []) (firstBytes row) in
         omega (arith, ap length (all-bytes more))

@@ -17,7 +17,7 @@ use Rattle.raw_const.specs.declared.Shape.the-variants.{Text, Bits, One,
 use Rattle.raw_const.specs.declared.Extent.{Extent}
 use Rattle.raw_const.specs.declared.Extent.the-variants.{Entry as Whole, Bad}
 
--- a field's code in the code's table, and the row that a tag has there by its fields: the tag and two codes, 0 for what isn't there
+-- a field's code in the code's table, and the row that a tag has there by its fields: two codes, 0 for what isn't there
 abbrev pub codeOf : Field → ℕ
 codeOf text = 1
 codeOf (bits size) = elim (eqb size 4) [ true ↦ 2 | false ↦ 3 ]
@@ -30,9 +30,9 @@ abbrev pub codeAt : List Field → ℕ
 codeAt [] = 0
 codeAt (field ∷ fields) = codeOf field
 
-abbrev pub rowOf : ℕ → Option (List Field) → List ℕ
-rowOf tag none = 0 ∷ 0 ∷ 0 ∷ []
-rowOf tag (some fields) = tag ∷ codeAt fields ∷ codeAt (tail fields) ∷ []
+abbrev pub rowOf : Option (List Field) → List ℕ
+rowOf none = 0 ∷ 0 ∷ []
+rowOf (some fields) = codeAt fields ∷ codeAt (tail fields) ∷ []
 
 -- the bytes of the field with a code, by the literal, the kind byte and the reference that are to stand in it
 abbrev pub bytesFound : Option (List ℕ) → List ℕ

@@ -12,34 +12,31 @@ ghost use Rattle.definition.specs.Shapes.{isWide, shapes};
 ghost use Rattle.definition.specs.Run.{entryBytes, rowBytes};
 ghost use Rattle.raw_const.specs.Entries.{rowOf, fieldBytes, secondIndex, fieldsOf, entryOf, LiteralFits, Wrote, EntryTakes, RowTakes, lengthOf, numberRead, ReadAt};
 
-// THE TABLE OF JVMS 4.4: a row for each tag, with its fields in the page's order, at the place of its number. Everything here that goes
-// by a tag goes by its row.
-const ENTRIES: [[u8; 3]; 21] = [
-    NO_ENTRY, // 0
-    [1, TEXT, NONE], // 4.4.7 CONSTANT_Utf8: length, bytes
-    NO_ENTRY, // 2
-    [3, BITS_32, NONE], // 4.4.4 CONSTANT_Integer: bytes
-    [4, BITS_32, NONE], // 4.4.4 CONSTANT_Float: bytes
-    [5, BITS_64, NONE], // 4.4.5 CONSTANT_Long: high_bytes, low_bytes
-    [6, BITS_64, NONE], // 4.4.5 CONSTANT_Double: high_bytes, low_bytes
-    [7, INDEX, NONE], // 4.4.1 CONSTANT_Class: name_index
-    [8, INDEX, NONE], // 4.4.3 CONSTANT_String: string_index
-    [9, INDEX, INDEX], // 4.4.2 CONSTANT_Fieldref: class_index, name_and_type_index
-    [10, INDEX, INDEX], // 4.4.2 CONSTANT_Methodref: class_index, name_and_type_index
-    [11, INDEX, INDEX], // 4.4.2 CONSTANT_InterfaceMethodref: class_index, name_and_type_index
-    [12, INDEX, INDEX], // 4.4.6 CONSTANT_NameAndType: name_index, descriptor_index
-    NO_ENTRY, // 13
-    NO_ENTRY, // 14
-    [15, KIND, INDEX], // 4.4.8 CONSTANT_MethodHandle: reference_kind, reference_index
-    [16, INDEX, NONE], // 4.4.9 CONSTANT_MethodType: descriptor_index
-    [17, BOOTSTRAP, INDEX], // 4.4.10 CONSTANT_Dynamic: bootstrap_method_attr_index, name_and_type_index
-    [18, BOOTSTRAP, INDEX], // 4.4.10 CONSTANT_InvokeDynamic: bootstrap_method_attr_index, name_and_type_index
-    [19, INDEX, NONE], // 4.4.11 CONSTANT_Module: name_index
-    [20, INDEX, NONE], // 4.4.12 CONSTANT_Package: name_index
-];
-
-// There is no entry with this tag.
-const NO_ENTRY: [u8; 3] = [0, NONE, NONE];
+// THE TABLE OF JVMS 4.4: a row for each tag, with its fields in the page's order. Everything here that goes by a tag goes by its row.
+fn row_of(tag: u8) -> [u8; 2]
+    ensures { λ r. ⌜ r ≡ rowOf (lookup tag shapes) ⌝ }
+{
+    match tag {
+        1 => [TEXT, NONE], // 4.4.7 CONSTANT_Utf8: length, bytes
+        3 => [BITS_32, NONE], // 4.4.4 CONSTANT_Integer: bytes
+        4 => [BITS_32, NONE], // 4.4.4 CONSTANT_Float: bytes
+        5 => [BITS_64, NONE], // 4.4.5 CONSTANT_Long: high_bytes, low_bytes
+        6 => [BITS_64, NONE], // 4.4.5 CONSTANT_Double: high_bytes, low_bytes
+        7 => [INDEX, NONE], // 4.4.1 CONSTANT_Class: name_index
+        8 => [INDEX, NONE], // 4.4.3 CONSTANT_String: string_index
+        9 => [INDEX, INDEX], // 4.4.2 CONSTANT_Fieldref: class_index, name_and_type_index
+        10 => [INDEX, INDEX], // 4.4.2 CONSTANT_Methodref: class_index, name_and_type_index
+        11 => [INDEX, INDEX], // 4.4.2 CONSTANT_InterfaceMethodref: class_index, name_and_type_index
+        12 => [INDEX, INDEX], // 4.4.6 CONSTANT_NameAndType: name_index, descriptor_index
+        15 => [KIND, INDEX], // 4.4.8 CONSTANT_MethodHandle: reference_kind, reference_index
+        16 => [INDEX, NONE], // 4.4.9 CONSTANT_MethodType: descriptor_index
+        17 => [BOOTSTRAP, INDEX], // 4.4.10 CONSTANT_Dynamic: bootstrap_method_attr_index, name_and_type_index
+        18 => [BOOTSTRAP, INDEX], // 4.4.10 CONSTANT_InvokeDynamic: bootstrap_method_attr_index, name_and_type_index
+        19 => [INDEX, NONE], // 4.4.11 CONSTANT_Module: name_index
+        20 => [INDEX, NONE], // 4.4.12 CONSTANT_Package: name_index
+        _ => [NONE, NONE], // there is no entry with this tag
+    }
+}
 
 // A field of an entry. None, or none further.
 const NONE: u8 = 0;
@@ -60,17 +57,6 @@ const INDEX: u8 = 5;
 
 // Two bytes, the index of a bootstrap method.
 const BOOTSTRAP: u8 = 6;
-
-// The row of a tag.
-fn row_of(tag: u8) -> [u8; 3]
-    ensures { λ r. ⌜ r ≡ rowOf tag (lookup tag shapes) ⌝ }
-{
-    if tag < 21 {
-        ENTRIES[tag as usize]
-    } else {
-        NO_ENTRY
-    }
-}
 
 // What follows an entry's tag.
 pub enum Shape {
@@ -103,7 +89,7 @@ pub fn is_long(tag: u8) -> bool
     ensures { λ r. ⌜ r ≡ isWide tag ⌝ }
 {
     let row = row_of(tag);
-    row[1] == BITS_64
+    row[0] == BITS_64
 }
 
 // A text: the only entry whose length goes by what it holds.
@@ -111,7 +97,7 @@ pub fn is_text(tag: u8) -> bool
     ensures { λ r. ⌜ r ≡ eqb tag 1 ⌝ }
 {
     let row = row_of(tag);
-    row[1] == TEXT
+    row[0] == TEXT
 }
 
 // A method handle: its reference stands behind a kind byte.
@@ -119,7 +105,7 @@ pub fn is_handle(tag: u8) -> bool
     ensures { λ r. ⌜ r ≡ eqb tag 15 ⌝ }
 {
     let row = row_of(tag);
-    row[1] == KIND
+    row[0] == KIND
 }
 
 // Dynamic or InvokeDynamic: its first reference is to a bootstrap.
@@ -127,7 +113,7 @@ pub fn is_dynamic(tag: u8) -> bool
     ensures { λ r. ⌜ r ≡ eqb tag 17 || eqb tag 18 ⌝ }
 {
     let row = row_of(tag);
-    row[1] == BOOTSTRAP
+    row[0] == BOOTSTRAP
 }
 
 // The fields of a tag's row as one of the shapes that they make.
@@ -135,13 +121,13 @@ pub fn shape_of(tag: u8) -> Shape
     ensures { λ r. ⌜ fieldsOf r ≡ lookup tag shapes ⌝ }
 {
     let row = row_of(tag);
-    match row[1] {
+    match row[0] {
         TEXT => Shape::Text,
         BITS_32 => Shape::Bits(4),
         BITS_64 => Shape::Bits(8),
         KIND => Shape::KindOne,
         INDEX => {
-            if row[2] == NONE {
+            if row[1] == NONE {
                 Shape::One
             } else {
                 Shape::Two
@@ -265,13 +251,13 @@ pub fn write_entry(
     ensures { λ r. ⌜ Wrote (now (out .entry)) at (entryBytes (entryOf tag kind (take size (drop from (now (text .entry)))) first second)) (now (out .exit)) r ⌝ }
 {
     let row = row_of(tag);
-    if row[1] == NONE {
+    if row[0] == NONE {
         return at;
     }
-    let next = write_byte(out, at, row[0]);
-    let next = write_field(out, next, row[1], kind, text, from, size, first);
-    let index = second_index(row[1], first, second);
-    write_field(out, next, row[2], kind, text, from, size, index)
+    let next = write_byte(out, at, tag);
+    let next = write_field(out, next, row[0], kind, text, from, size, first);
+    let index = second_index(row[0], first, second);
+    write_field(out, next, row[1], kind, text, from, size, index)
 }
 
 // How many bytes a bootstrap row of so many numbers takes, a handle and its arguments.

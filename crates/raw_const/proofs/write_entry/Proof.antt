@@ -4,7 +4,7 @@ use mathlib.Core.List.{List, [], _∷_, _++_}
 use Prim.Native.Nat.{ℕ, _+_}
 use native.Mathlib.Omega.{arith}
 use borrow.Author.Needs.{needs}
-use lib.ListN.{length, getD, take, drop, length-append}
+use lib.ListN.{length, take, drop, length-append}
 use Rattle.definition.specs.Run.{entryBytes}
 use Rattle.raw_const.specs.Entries.{entryOf}
 use Rattle.raw_const.proofs.Table.{text-first, text-second, firstBytes, secondBytes, no-bytes, all-bytes, all-length}
@@ -38,7 +38,7 @@ module _ (c : tie.Else1) where
       let args = begun .args in
       all-length (args .tag) (args .kind) (part begun) (args .first) (args .second) row (c .before .row-of .ensures) (c .if1 .left)
 
-  whole : (getD row 0 0 ∷ []) ++ one ++ two ≡ entry
+  whole : (begun .args .tag ∷ []) ++ one ++ two ≡ entry
   whole =
       let args = begun .args in
       all-bytes (args .tag) (args .kind) (part begun) (args .first) (args .second) row (c .before .row-of .ensures) (c .if1 .left)
@@ -57,9 +57,6 @@ returns c =
     wrote-as
     (no-bytes (args .tag) (args .kind) (part start) (args .first) (args .second) (found .row-of .result) (found .row-of .ensures) (c .if1 .taken))
     (wrote-nothing (args .out .now) (args .at))
-
-array-read-write-byte : tie.Need-array-read-write-byte
-array-read-write-byte c = search needs
 
 write-byte-requires : tie.Need-write-byte-requires
 write-byte-requires c κs = omega (arith, begun (c .before) .pre .1 .1, sizes (c .before))
@@ -110,7 +107,7 @@ returns-2 c =
     let branch = byte .before .before in
     let room = begun branch .pre .1 .1 in
     let front = wrote-then (byte .write-byte .ensures) (omega (arith, room, sizes branch)) (field .write-field .ensures) in
-    let joined : length ((getD (row branch) 0 0 ∷ []) ++ one branch) ≡ 1 + length (one branch) = length-append (getD (row branch) 0 0 ∷ []) (one branch) in
+    let joined : length ((begun branch .args .tag ∷ []) ++ one branch) ≡ 1 + length (one branch) = length-append (begun branch .args .tag ∷ []) (one branch) in
     wrote-as (whole branch) (wrote-then front (omega (arith, room, sizes branch)) (rw (index .second-index .ensures) at (last .write-field2 .ensures)))
 
 pub write-entry-spec : {M : Type 1} → statement M
@@ -120,7 +117,6 @@ write-entry-spec =
     row-of-requires
     array-read-if1
     returns
-    array-read-write-byte
     write-byte-requires
     array-read-write-field
     write-field-requires
