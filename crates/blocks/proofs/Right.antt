@@ -1,18 +1,18 @@
 -- The tests on a block, by the numbers that are read from it. Assumes nothing.
 use mathlib.Core.Path.{_≡_, refl, sym, ap, _∙_}
-use mathlib.Core.Bool.{true, false, _&&_, _||_}
+use mathlib.Core.Bool.{Bool, true, false, _&&_, _||_}
 use mathlib.Core.List.{List}
 use Prim.Native.Nat.{ℕ, suc, _+_, _*_, _-_, _/_, _%_, _<_, _≤_}
 use native.Mathlib.Numerals.{add-one}
 use native.Mathlib.Omega.{arith}
-use borrow.Author.Tests.{eq-eqb, ne-eqb, le-leb, lt-leb}
+use borrow.Author.Tests.{eqb-true, leb-true, eq-eqb, ne-eqb, le-leb, lt-leb}
 use lib.Dec.{eqb, leb, ltb}
 use lib.ListN.{length, getD, take, drop, length-drop, drop-of-length-le}
 use lib.Seq.{take-take, take-add, drop-at, drop-drop, drop-cons, getD-take, getD-drop, length-take-le}
 use Rattle.definition.specs.Basics.{same, every}
 use Rattle.definition.specs.Bytes.{be2, be4}
 use Rattle.definition.specs.Blocks.{weighted, blockAt, usedIn, rightUse, padding, allZero, rightBlock}
-use Rattle.facts.proofs.Lists.{same-coded}
+use Rattle.facts.proofs.Lists.{same-coded, both-true}
 use Rattle.writer.specs.Numbers.{number2, number4}
 use Rattle.writer.proofs.Laws.{be4-halves, be2-number, be4-number}
 
@@ -121,6 +121,15 @@ module _ (n k used : ℕ) where
   unfolding rightUse
   use-full more = rw (ne-eqb (suc k) n (λ e. omega arith))
 
+  -- a right use is one of the block's 504 bytes
+  pub use-fits : rightUse (eqb n 1) (eqb (suc k) n) used ≡ true → used ≤ 504
+  unfolding rightUse
+  use-fits right = go (eqb (suc k) n) right
+    where
+      go : (last : Bool) → rightUse (eqb n 1) last used ≡ true → used ≤ 504
+      go false e = omega (arith, eqb-true used 504 e)
+      go true e = omega (arith, leb-true used 504 (both-true (leb used 504) (eqb n 1 || leb 1 used) e .0))
+
   use-last : k < n → n ≤ k + 1 → rightUse (eqb n 1) (eqb (suc k) n) used ≡ (leb used 504 && (eqb n 1 || leb 1 used))
   unfolding rightUse
   use-last inside last = rw (eq-eqb (suc k) n (omega arith))
@@ -134,47 +143,52 @@ module _ (n k used : ℕ) where
   pub use-some : k < n → n ≤ k + 1 → used ≤ 504 → (n ≡ 1 → ⊥) → ltb 0 used ≡ rightUse (eqb n 1) (eqb (suc k) n) used
   use-some inside last fits more = rw (use-last inside last, le-leb used 504 fits, ne-eqb n 1 more)
 
--- the loop over the padding of a block: it is all zero exactly if what is left from byte i of the content on is
-module _ (file : List ℕ) (k : ℕ) where
-  pub content : List ℕ
-  content = take 504 (drop 4 (blockAt file k))
-
+-- the loop over bytes: they are all zero exactly if what is left from i on is
+module _ (bytes : List ℕ) where
   abbrev pub Rest : ℕ → Type 0
-  Rest i = allZero (padding (blockAt file k)) ≡ allZero (drop i content)
+  Rest i = allZero bytes ≡ allZero (drop i bytes)
 
-  pub rest-all : Rest (usedIn (blockAt file k))
-  unfolding padding content
-  rest-all = refl
+  rest-cons : (i : ℕ) → i < length bytes → allZero (drop i bytes) ≡ (eqb (getD bytes i 0) 0 && allZero (drop (i + 1) bytes))
+  unfolding allZero every
+  rest-cons i low = rw (drop-cons bytes i 0 low, add-one i)
 
-  module _ (inside : 512 * k + 512 ≤ length file) where
-    content-length : length content ≡ 504
-    unfolding content blockAt
-    content-length =
-        let block-length : length (blockAt file k) ≡ 512 = length-take-le 512 (drop (512 * k) file) (rw length-drop (omega arith)) in
-        length-take-le 504 (drop 4 (blockAt file k)) (rw (length-drop, block-length) (omega arith))
+  module _ (i : ℕ) (rest : Rest i) where
+    pub rest-more : i < length bytes → getD bytes i 0 ≡ 0 → Rest (i + 1)
+    rest-more low zero = rest ∙ rw (rest-cons i low, eq-eqb (getD bytes i 0) 0 zero)
 
-    content-at : (i : ℕ) → i < 504 → getD content i 0 ≡ getD file (512 * k + 4 + i) 0
-    unfolding content
-    content-at i low =
-        let place : 512 * k + (4 + i) ≡ 512 * k + 4 + i = omega arith in
-        getD-take 504 (drop 4 (blockAt file k)) i 0 low
-        ∙ getD-drop 4 (blockAt file k) i 0
-        ∙ block-at file k (4 + i) (omega arith)
-        ∙ ap (λ j. getD file j 0) place
+    pub rest-not : i < length bytes → (getD bytes i 0 ≡ 0 → ⊥) → false ≡ allZero bytes
+    rest-not low other = sym (rest ∙ rw (rest-cons i low, ne-eqb (getD bytes i 0) 0 other))
 
-    rest-cons : (i : ℕ) → i < 504 → allZero (drop i content) ≡ (eqb (getD file (512 * k + 4 + i) 0) 0 && allZero (drop (i + 1) content))
+    pub rest-none : length bytes ≤ i → true ≡ allZero bytes
     unfolding allZero every
-    rest-cons i low = rw (drop-cons content i 0 (omega (arith, content-length)), add-one i, content-at i low)
+    rest-none past = sym (rest ∙ rw (drop-of-length-le bytes past))
 
-    module _ (i : ℕ) (rest : Rest i) where
-      pub rest-more : i < 504 → getD file (512 * k + 4 + i) 0 ≡ 0 → Rest (i + 1)
-      rest-more low zero = rest ∙ rw (rest-cons i low, eq-eqb (getD file (512 * k + 4 + i) 0) 0 zero)
+drop-of-take : (m n : ℕ) (l : List ℕ) → m ≤ length l → drop m (take (m + n) l) ≡ take n (drop m l)
+drop-of-take m n l inside = ap (drop m) (take-add m n l) ∙ drop-at (take m l) (take n (drop m l)) m (length-take-le m l inside)
 
-      pub rest-not : i < 504 → (getD file (512 * k + 4 + i) 0 ≡ 0 → ⊥) → false ≡ allZero (padding (blockAt file k))
-      rest-not low other = sym (rest ∙ rw (rest-cons i low, ne-eqb (getD file (512 * k + 4 + i) 0) 0 other))
+-- the bytes of a block's content from `used` on, in the file
+content-is :
+    (file : List ℕ) (k used : ℕ) → 512 * k + 512 ≤ length file → used ≤ 504 →
+    take (512 * k + 4 + 504 - (512 * k + 4 + used)) (drop (512 * k + 4 + used) file) ≡ drop used (take 504 (drop 4 (blockAt file k)))
+unfolding blockAt
+content-is file k used inside fits =
+    let rest = drop (512 * k) file in
+    let long : 512 ≤ length rest = rw (length-drop (512 * k) file) (omega arith) in
+    let size : 512 * k + 4 + 504 - (512 * k + 4 + used) ≡ 504 - used = omega arith in
+    let place : 512 * k + 4 + used ≡ 512 * k + (4 + used) = omega arith in
+    let whole : 504 ≡ used + (504 - used) = omega arith in
+    let there : used ≤ length (drop 4 rest) = rw (length-drop 4 rest) (omega arith) in
+    sym
+    (ap (λ l. drop used (take 504 l)) (drop-of-take 4 508 rest (omega arith))
+    ∙ ap (drop used) (take-take 504 508 (drop 4 rest) (omega arith))
+    ∙ ap (λ n. drop used (take n (drop 4 rest))) whole
+    ∙ drop-of-take used (504 - used) (drop 4 rest) there
+    ∙ ap (take (504 - used)) (drop-drop used 4 rest ∙ drop-drop (4 + used) (512 * k) file)
+    ∙ (λ i. take (sym size i) (drop (sym place i) file)))
 
-      pub rest-none : 504 ≤ i → true ≡ allZero (padding (blockAt file k))
-      unfolding allZero every
-      rest-none past =
-          let behind : length content ≤ i = omega (arith, content-length) in
-          sym (rest ∙ rw (drop-of-length-le content behind))
+-- the padding of a block, in the file
+pub padding-is :
+    (file : List ℕ) (k used : ℕ) → 512 * k + 512 ≤ length file → used ≡ usedIn (blockAt file k) → used ≤ 504 →
+    take (512 * k + 4 + 504 - (512 * k + 4 + used)) (drop (512 * k + 4 + used) file) ≡ padding (blockAt file k)
+unfolding padding
+padding-is file k used inside e fits = content-is file k used inside fits ∙ ap (λ n. drop n (take 504 (drop 4 (blockAt file k)))) e

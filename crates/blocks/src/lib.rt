@@ -130,17 +130,17 @@ pub fn write_blocks(job: &[u8], out: &mut [u8]) -> BlocksWritten
 }
 
 // Whether block k of n may use this many bytes: all but the last use 504, and only an empty job's one block uses none.
-fn right_use(n: usize, k: usize, used: usize) -> bool
-    requires { ⌜ k < n ⌝ }
-    ensures { λ r. ⌜ r ≡ rightUse (eqb n 1) (eqb (suc k) n) used ⌝ }
+fn right_use(last: usize, k: usize, used: usize) -> bool
+    requires { ⌜ k ≤ last ⌝ }
+    ensures { λ r. ⌜ r ≡ rightUse (eqb (suc last) 1) (eqb (suc k) (suc last)) used ⌝ }
 {
-    if k + 1 < n {
+    if k < last {
         return used == CONTENT;
     }
     if CONTENT < used {
         return false;
     }
-    if n == 1 {
+    if last == 0 {
         return true;
     }
     0 < used
@@ -153,15 +153,12 @@ fn used_in(file: &[u8], k: usize) -> usize
     writer::get_u16(file, BLOCK * k + 2) as usize
 }
 
-// Whether the bytes of block k behind the used ones are zero.
-fn zero_padding(file: &[u8], k: usize) -> bool
-    requires { ⌜ 512 * k + 512 ≤ length (now file) ⌝ }
-    ensures { λ r. ⌜ r ≡ allZero (padding (blockAt (now (file .entry)) k)) ⌝ }
+fn all_zero(bytes: &[u8]) -> bool
+    ensures { λ r. ⌜ r ≡ allZero (now (bytes .entry)) ⌝ }
 {
-    let content = BLOCK * k + HEAD;
-    let mut i = used_in(file, k);
-    while i < CONTENT {
-        if file[content + i] != 0 {
+    let mut i = 0;
+    while i < bytes.len() {
+        if bytes[i] != 0 {
             return false;
         }
         i += 1;
@@ -169,9 +166,20 @@ fn zero_padding(file: &[u8], k: usize) -> bool
     true
 }
 
-fn right_block(file: &[u8], n: usize, k: usize) -> bool
-    requires { ⌜ (k < n) × (k < 2081) × (512 * k + 512 ≤ length (now file)) ⌝ }
-    ensures { λ r. ⌜ r ≡ rightBlock n (now (file .entry)) k ⌝ }
+// Whether the bytes of block k behind the used ones are zero. Its use was tested before: no block has more than 504.
+fn zero_padding(file: &[u8], k: usize) -> bool
+    requires { ⌜ (512 * k + 512 ≤ length (now file)) × (usedIn (blockAt (now file) k) ≤ 504) ⌝ }
+    ensures { λ r. ⌜ r ≡ allZero (padding (blockAt (now (file .entry)) k)) ⌝ }
+{
+    let content = BLOCK * k + HEAD;
+    let used = used_in(file, k);
+    all_zero(&file[content + used..content + CONTENT])
+}
+
+// Whether block k is right: its check, its number, its use, and then its padding.
+fn right_block(file: &[u8], last: usize, k: usize) -> bool
+    requires { ⌜ (k ≤ last) × (last < 2081) × (512 * last + 512 ≤ length (now file)) ⌝ }
+    ensures { λ r. ⌜ r ≡ rightBlock (suc last) (now (file .entry)) k ⌝ }
 {
     let base = BLOCK * k;
     let end = base + CHECKED;
@@ -182,7 +190,7 @@ fn right_block(file: &[u8], n: usize, k: usize) -> bool
         return false;
     }
     let used = used_in(file, k);
-    if !right_use(n, k, used) {
+    if !right_use(last, k, used) {
         return false;
     }
     zero_padding(file, k)
@@ -190,12 +198,13 @@ fn right_block(file: &[u8], n: usize, k: usize) -> bool
 
 // The first block that isn't right, or n.
 fn first_wrong(file: &[u8], n: usize) -> usize
-    requires { ⌜ (n ≤ 2081) × (512 * n ≤ length (now file)) ⌝ }
+    requires { ⌜ (0 < n) × (n ≤ 2081) × (512 * n ≤ length (now file)) ⌝ }
     ensures { λ r. ⌜ (r ≤ n) × RightBelow n (now (file .entry)) r × (r < n → rightBlock n (now (file .entry)) r ≡ false) ⌝ }
 {
+    let last = n - 1;
     let mut k = 0;
     while k < n {
-        if !right_block(file, n, k) {
+        if !right_block(file, last, k) {
             return k;
         }
         k += 1;

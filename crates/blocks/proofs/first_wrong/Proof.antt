@@ -1,7 +1,7 @@
 -- `blocks::first_wrong` meets its contract. The loop keeps: the blocks passed are right. Assumes nothing.
 use mathlib.Core.Bool.{true}
-use mathlib.Core.Path.{_≡_, sym, _∙_}
-use Prim.Native.Nat.{_≤_, _-_}
+use mathlib.Core.Path.{_≡_, sym, ap, _∙_}
+use Prim.Native.Nat.{suc, _≤_, _-_}
 use native.Mathlib.Omega.{arith}
 use borrow.Author.Count.{below-none, below-more}
 use borrow.Author.Needs.{needs}
@@ -12,10 +12,13 @@ use Rattle.blocks.proofs.first_wrong.Statement.{statement}
 use Rattle.blocks.proofs.first_wrong.Tie as tie
 
 abbrev Inv-loop : tie.InvT-loop
-Inv-loop file n k₀ k = (k ≤ n) × RightBelow n file k
+Inv-loop file n last k₀ k = (k ≤ n) × RightBelow n file k
 
 abbrev μ-loop : tie.MeasureT-loop
-μ-loop file n k₀ k = n - k
+μ-loop file n last k₀ k = n - k
+
+sub-last : tie.Need-sub-last Inv-loop μ-loop
+sub-last c = search needs
 
 loop-holds : tie.Need-loop-holds Inv-loop μ-loop
 loop-holds c =
@@ -29,7 +32,9 @@ returns : tie.Need-returns Inv-loop μ-loop
 returns c =
     let tested = c .before in
     let head = tested .before .before in
-    let wrong = sym (tested .right-block .ensures) ∙ not-true (tested .right-block .result) (c .if1 .taken) in
+    let args = head .before .before .args in
+    let whole : args .n ≡ suc (args .n - 1) = omega arith in
+    let wrong = ap (λ n. rightBlock n (args .file .now) (head .loop .k)) whole ∙ sym (tested .right-block .ensures) ∙ not-true (tested .right-block .result) (c .if1 .taken) in
     (search needs, head .loop .inv .1, λ _. wrong)
 
 add-k : tie.Need-add-k Inv-loop μ-loop
@@ -43,7 +48,8 @@ loop-again c =
     let tested = c .before in
     let head = tested .before .before in
     let args = head .before .before .args in
-    let right = sym (tested .right-block .ensures) ∙ not-false (tested .right-block .result) (c .if1 .left) in
+    let whole : args .n ≡ suc (args .n - 1) = omega arith in
+    let right = ap (λ n. rightBlock n (args .file .now) (head .loop .k)) whole ∙ sym (tested .right-block .ensures) ∙ not-false (tested .right-block .result) (c .if1 .left) in
     (search needs, below-more (λ j. rightBlock (args .n) (args .file .now) j ≡ true) (head .loop .k) (head .loop .inv .1) right)
 
 returns-2 : tie.Need-returns-2 Inv-loop μ-loop
@@ -55,6 +61,7 @@ first-wrong-spec =
     (tie.spec
     Inv-loop
     μ-loop
+    sub-last
     loop-holds
     right-block-requires
     returns

@@ -1,9 +1,10 @@
 -- `blocks::right_block` meets its contract. Check, number and use, as numbers, and the padding decide as the definition's bytes do. Assumes nothing.
 use mathlib.Core.Path.{sym, _∙_}
+use Prim.Native.Nat.{suc}
 use native.Mathlib.Omega.{arith}
 use borrow.Author.Needs.{needs}
 use borrow.Author.Tests.{not-true, not-false}
-use Rattle.blocks.proofs.Right.{wrong-check, wrong-number, wrong-use, as-padding}
+use Rattle.blocks.proofs.Right.{wrong-check, wrong-number, wrong-use, as-padding, use-fits}
 use Rattle.blocks.proofs.right_block.Statement.{statement}
 use Rattle.blocks.proofs.right_block.Tie as tie
 
@@ -38,11 +39,11 @@ returns c =
     (start .args .file .now)
     (start .args .k)
     (λ i. known .shared-slice-known .given i .fits)
-    (start .pre .2)
-    (start .args .n)
+    (omega arith)
+    (suc (start .args .last))
     (checked .get-u32 .result)
     (summed .weighted-sum .result)
-    (start .pre .1)
+    (omega arith)
     (omega arith)
     (checked .get-u32 .ensures)
     (summed .weighted-sum .ensures)
@@ -66,11 +67,11 @@ returns-2 c =
     (start .args .file .now)
     (start .args .k)
     (λ i. known .shared-slice-known .given i .fits)
-    (start .pre .2)
-    (start .args .n)
+    (omega arith)
+    (suc (start .args .last))
     (checked .get-u32 .result)
     (summed .weighted-sum .result)
-    (start .pre .1)
+    (omega arith)
     (omega arith)
     (checked .get-u32 .ensures)
     (summed .weighted-sum .ensures)
@@ -100,11 +101,11 @@ returns-3 c =
     (start .args .file .now)
     (start .args .k)
     (λ i. known .shared-slice-known .given i .fits)
-    (start .pre .2)
-    (start .args .n)
+    (omega arith)
+    (suc (start .args .last))
     (checked .get-u32 .result)
     (summed .weighted-sum .result)
-    (start .pre .1)
+    (omega arith)
     (omega arith)
     (checked .get-u32 .ensures)
     (summed .weighted-sum .ensures)
@@ -117,7 +118,12 @@ returns-3 c =
     (sym (uses .right-use .ensures) ∙ not-true (uses .right-use .result) (c .if3 .taken))
 
 zero-padding-requires : tie.Need-zero-padding-requires
-zero-padding-requires c κs = search needs
+zero-padding-requires c κs =
+    let uses = c .before in
+    let used = uses .before in
+    let start = used .before .before .before .before .before .before .before .before in
+    let right = sym (uses .right-use .ensures) ∙ not-false (uses .right-use .result) (c .if3 .left) in
+    (search needs, omega (arith, used .used-in .ensures, use-fits (suc (start .args .last)) (start .args .k) (used .used-in .result) right))
 
 returns-4 : tie.Need-returns-4
 returns-4 c =
@@ -136,11 +142,11 @@ returns-4 c =
     (start .args .file .now)
     (start .args .k)
     (λ i. known .shared-slice-known .given i .fits)
-    (start .pre .2)
-    (start .args .n)
+    (omega arith)
+    (suc (start .args .last))
     (checked .get-u32 .result)
     (summed .weighted-sum .result)
-    (start .pre .1)
+    (omega arith)
     (omega arith)
     (checked .get-u32 .ensures)
     (summed .weighted-sum .ensures)
