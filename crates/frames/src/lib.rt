@@ -1,0 +1,127 @@
+// Frames of bytes on standard input and lines on standard output, for programs that answer frame by frame. A number's most significant
+// byte comes first. The language has no exit status: the last line on standard error stands in for it. A read that fails counts as the
+// input's end.
+use libc::STDERR_FILENO;
+use libc::STDIN_FILENO;
+use libc::STDOUT_FILENO;
+
+// What a block's length is where the stream ends, and where it ends inside the block or the block is longer than its room.
+pub const NO_MORE: usize = 4294967296;
+
+pub const CUT: usize = 4294967297;
+
+// How a frame ends.
+pub const GO_ON: u8 = 0;
+
+pub const STREAM_ENDS: u8 = 1;
+
+pub const FRAME_CUT: u8 = 2;
+
+pub const WRITE_FAILED: u8 = 3;
+
+pub fn after(written: bool) -> u8 {
+    if written { GO_ON } else { WRITE_FAILED }
+}
+
+// How a frame ends whose first block isn't there.
+pub fn without(length: usize) -> u8 {
+    if length == NO_MORE {
+        STREAM_ENDS
+    } else {
+        FRAME_CUT
+    }
+}
+
+// Reads the first n bytes; whether all of them came.
+pub fn read_part(s: &mut [u8], n: usize) -> bool {
+    if s.len() < n {
+        return false;
+    }
+    io::read_full(STDIN_FILENO, &mut s[..n]) == n
+}
+
+fn next_length() -> usize {
+    let mut head = [0u8; 4];
+    let got = io::read_full(STDIN_FILENO, &mut head);
+    if got == 0 {
+        return NO_MORE;
+    }
+    if got < 4 {
+        return CUT;
+    }
+    writer::get_u32(&head, 0) as usize
+}
+
+// Reads a length of four bytes, and so many bytes into the beginning of s; the length.
+pub fn next_block(s: &mut [u8]) -> usize {
+    let n = next_length();
+    if NO_MORE <= n {
+        return n;
+    }
+    if read_part(s, n) { n } else { CUT }
+}
+
+// Says how the stream ends.
+pub fn tell(program: &[u8], how: u8, frames: u64) {
+    io::write_all(STDERR_FILENO, program);
+    if how == STREAM_ENDS {
+        io::write_all(STDERR_FILENO, b": whole stream, ");
+    } else if how == FRAME_CUT {
+        io::write_all(STDERR_FILENO, b": cut or too long behind ");
+    } else {
+        io::write_all(STDERR_FILENO, b": output failed behind ");
+    }
+    io::print_decimal(STDERR_FILENO, frames);
+    io::write_all(STDERR_FILENO, b" frames\n");
+}
+
+// Writes the first n bytes of a text; whether it has so many and all were written.
+pub fn write_part(text: &[u8], n: usize) -> bool {
+    if text.len() < n {
+        return false;
+    }
+    io::write_all(STDOUT_FILENO, &text[..n])
+}
+
+// Puts a word at a place of a text; where it ends, which is past the text where it doesn't fit.
+pub fn put_word(text: &mut [u8], at: usize, word: &[u8]) -> usize {
+    let room = text.len();
+    if room < at {
+        return at;
+    }
+    printing::put_word(text, room, at, word)
+}
+
+pub fn put_decimal(text: &mut [u8], at: usize, n: usize) -> usize {
+    let room = text.len();
+    if room < at {
+        return at;
+    }
+    printing::put_decimal(text, room, at, n)
+}
+
+// A byte as two hex digits.
+pub fn put_hex(text: &mut [u8], at: usize, b: u8) -> usize {
+    let room = text.len();
+    if room < at {
+        return at;
+    }
+    printing::put_hex(text, room, at, b as usize, 2)
+}
+
+// A number's decimal digits, behind a space.
+pub fn put_number(text: &mut [u8], at: usize, n: usize) -> usize {
+    let digits = put_word(text, at, b" ");
+    put_decimal(text, digits, n)
+}
+
+pub fn put_refusal(text: &mut [u8], code: u32) -> usize {
+    let word = put_word(text, 0, b"refused");
+    put_number(text, word, code as usize)
+}
+
+// Ends a line that reaches to a place, and writes it.
+pub fn end_line(text: &mut [u8], at: usize) -> bool {
+    let end = put_word(text, at, b"\n");
+    write_part(text, end)
+}
