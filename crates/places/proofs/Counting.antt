@@ -2,18 +2,19 @@
 use mathlib.Core.Bool.{false}
 use mathlib.Core.List.{List}
 use mathlib.Core.Option.{Option, none, some}
-use mathlib.Core.Path.{_≡_, refl, ap, _∙_}
+use mathlib.Core.Path.{_≡_, refl, _∙_}
 use Prim.Native.Nat.{ℕ, suc, _+_, _-_, _<_, _≤_}
 use native.Mathlib.Numerals.{add-one}
 use native.Mathlib.Omega.{arith}
 use lib.ListN.{length, drop}
 use lib.Seq.{drop-cons}
-use Rattle.jvms.specs.Pool.{andThen, _>>=_, u1, u2, slots, constant-pool}
+use Rattle.jvms.specs.Pool.{_>>=_, u1, u2, slots, constant-pool}
 use Rattle.writer.specs.Numbers.{number2}
 use Rattle.places.specs.Noting.{SlotsNoted, PoolNoted}
 use Rattle.places.specs.declared.PoolRead.{PoolRead}
 use Rattle.places.specs.declared.PoolRead.the-variants.{Good, Bad}
-use Rattle.places.proofs.Found.{finds-u2}
+use Rattle.places.proofs.Finding.{finds-u2}
+use Rattle.places.proofs.Rows.{slots-size}
 
 -- two bytes, and none where they are cut off
 pub read-u2 : (bytes : List ℕ) (at : ℕ) → at + 2 ≤ length bytes → u2 (drop at bytes) ≡ some (number2 bytes at, drop (at + 2) bytes)
@@ -52,10 +53,11 @@ module _ (bytes : List ℕ) (at : ℕ) where
       rw (read-u2 bytes at enough, e)
 
   pub pool-noted :
-      (count : ℕ) (before after : List ℕ) (r : PoolRead) → at + 2 ≤ length bytes → count ≡ number2 bytes at → 0 < count →
+      (count : ℕ) (before after : List ℕ) (r : PoolRead) → at + 2 ≤ length bytes → count ≡ number2 bytes at → 0 < count → count < 65536 →
       SlotsNoted bytes (at + 2) (count - 1) before after r →
       PoolNoted bytes at before after r
-  pool-noted count before after Bad enough is any h = (counted count enough is any ∙ h .0, h .1)
-  pool-noted count before after (Good next) enough is any h =
-      let (found, read, low, high, noted) = h in
-      (found, counted count enough is any ∙ read, omega arith, high, noted)
+  pool-noted count before after Bad enough is any low h = (counted count enough is any ∙ h .0, h .1)
+  pool-noted count before after (Good next) enough is any low h =
+      let (found, read, from, to, noted) = h in
+      let size = slots-size (count - 1) false bytes (at + 2) enough found (drop next bytes) read in
+      (found, counted count enough is any ∙ read, omega arith, to, omega arith, noted)

@@ -2,11 +2,11 @@
 use mathlib.Core.Bool.{Bool, true, false}
 use mathlib.Core.List.{List, [], _∷_, _++_, append-nil, append-assoc}
 use mathlib.Core.Option.{Option, none, some}
-use mathlib.Core.Path.{_≡_, refl, sym, ap, ap₂, subst, _∙_}
-use Prim.Native.Nat.{ℕ, zero, suc, _+_, _-_, _<_, _≤_}
-use native.Mathlib.Nat.{add-zero, zero-add}
+use mathlib.Core.Path.{_≡_, refl, sym, ap, ap₂, _∙_}
+use Prim.Native.Nat.{ℕ, suc, _+_, _-_, _<_, _≤_}
+use native.Mathlib.Nat.{zero-add}
 use native.Mathlib.Omega.{arith}
-use lib.ListN.{length, drop, getD, set, length-append, length-set}
+use lib.ListN.{length, drop, set, length-append, length-set}
 use lib.Seq.{getD-drop}
 use Rattle.definition.specs.Shapes.{isWide}
 use Rattle.definition.specs.Jvms.{cpInfo}
@@ -20,7 +20,7 @@ use Rattle.laws.specs.Statements.{IsBytes}
 use Rattle.laws.proofs.reading.ReadIsSpelled.{all-bytes}
 use Rattle.laws.proofs.reading.ConstantsAgree.{over, agree-constant}
 use Rattle.places.specs.Noting.{width, placed}
-use Rattle.places.proofs.Found.{finds-constant}
+use Rattle.places.proofs.Finding.{finds-constant}
 
 -- an entry is wide exactly if its constant takes two slots
 same-width : (c : Constant) → isWide (asEntry c .tag) ≡ takes-two c

@@ -4,11 +4,15 @@ use mathlib.Core.List.{List, [], _∷_}
 use mathlib.Core.Option.{none, some}
 use mathlib.Core.Path.{_≡_}
 use Prim.Native.Nat.{ℕ, suc, _+_, _<_, _≤_}
-use lib.ListN.{length, drop, set}
+use lib.ListN.{length, drop, getD, set}
 use Rattle.jvms.specs.Pool.{_>>=_, u2, Slot, usable, unusable, slots, constant-pool}
 use Rattle.jvms.specs.Written.{constant-bytes}
 use Rattle.places.specs.declared.PoolRead.{PoolRead}
 use Rattle.places.specs.declared.PoolRead.the-variants.{Good, Bad}
+
+-- a table with no place in it
+abbrev pub Blank : List ℕ → Type 0
+Blank table = (length table ≡ 65536) × ((n : ℕ) → getD table n 0 ≡ 0)
 
 -- how many slots a constant takes
 abbrev pub width : Bool → ℕ
@@ -29,9 +33,9 @@ SlotsNoted bytes at n before after (Good next) =
     (found : List Slot) × (slots n false (drop at bytes) ≡ some (found, drop next bytes)) × (at ≤ next) × (next ≤ length bytes)
     × (after ≡ placed found at 1 before)
 
--- the same of a whole pool: its count, then its constants
+-- the same of a whole pool: its count, of two bytes, then its constants
 abbrev pub PoolNoted : List ℕ → ℕ → List ℕ → List ℕ → PoolRead → Type 0
 PoolNoted bytes at before after Bad = ((u2 >>= constant-pool) (drop at bytes) ≡ none) × (length after ≡ length before)
 PoolNoted bytes at before after (Good next) =
     (found : List Slot) × ((u2 >>= constant-pool) (drop at bytes) ≡ some (found, drop next bytes)) × (at < next) × (next ≤ length bytes)
-    × (after ≡ placed found (at + 2) 1 before)
+    × (suc (length found) < 65536) × (after ≡ placed found (at + 2) 1 before)

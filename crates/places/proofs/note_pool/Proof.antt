@@ -22,7 +22,9 @@ cast-count : tie.Need-cast-count
 cast-count c = search needs
 
 returns-3 : tie.Need-returns-3
-returns-3 c = (zero-count (c .before .before .before .before .before .args .bytes .now) (c .before .before .before .before .before .args .at) (c .before .get-u16 .result) (omega arith) (c .before .get-u16 .ensures) (c .if3 .taken), refl)
+returns-3 c =
+    let args = c .before .before .before .before .before .args in
+    (zero-count (args .bytes .now) (args .at) (c .before .get-u16 .result) (omega arith) (c .before .get-u16 .ensures) (c .if3 .taken), refl)
 
 add-note-slots : tie.Need-add-note-slots
 add-note-slots c = search needs
@@ -31,7 +33,22 @@ note-slots-requires : tie.Need-note-slots-requires
 note-slots-requires c κs = search needs
 
 returns-4 : tie.Need-returns-4
-returns-4 c = pool-noted (c .before .before .before .before .before .before .before .args .bytes .now) (c .before .before .before .before .before .before .before .args .at) (c .before .before .before .get-u16 .result) (c .before .before .before .before .before .before .before .args .places .now) (c .note-slots .last .1 .1 .1 .0) (c .note-slots .result) (omega arith) (c .before .before .before .get-u16 .ensures) (omega arith) (c .note-slots .ensures)
+returns-4 c =
+    let args = c .before .before .before .before .before .before .before .args in
+    let count = c .before .before .before .get-u16 in
+    let slots = c .note-slots in
+    pool-noted
+    (args .bytes .now)
+    (args .at)
+    (count .result)
+    (args .places .now)
+    (slots .last .1 .1 .1 .0)
+    (slots .result)
+    (omega arith)
+    (count .ensures)
+    (omega arith)
+    (omega arith)
+    (slots .ensures)
 
 pub note-pool-spec : {M : Type 1} → statement M
 note-pool-spec =
