@@ -324,14 +324,14 @@ put-held-add-get-u16 : (t : ℕ) → put-held-lts.Need-add-get-u16 (put-held-cla
 put-held-add-get-u16 t c =
     let a = c .before .before .before .before .before .before .before .before .args in
     let show = opened (finished (a .pool .now) (a .count) (a .methods .now)) (a .left) in
-    let shown = shown-at (c .before .before .before .before .before .before .before .before .pre .1 .0) show (a .n) (c .before .before .before .before .before .before .before .before .pre .1 .1 .1) Text (ap fieldsOf (sym (c  .enum-told .given .1)) ∙ c .before .before .shape-of .ensures) in
+    let shown = shown-at (c .before .before .before .before .before .before .before .before .pre .1 .0) show (a .n) (c .before .before .before .before .before .before .before .before .pre .1 .1 .1) Text (ap fieldsOf (sym (c .enum-told .given .1)) ∙ c .before .before .shape-of .ensures) in
     omega (arith, shown .1)
 
 put-held-get-u16-requires : (t : ℕ) → put-held-lts.Need-get-u16-requires (put-held-claims t) (put-held-at t) put-held.Post
 put-held-get-u16-requires t c κs =
     let a = c .before .before .before .before .before .before .before .before .args in
     let show = opened (finished (a .pool .now) (a .count) (a .methods .now)) (a .left) in
-    let shown = shown-at (c .before .before .before .before .before .before .before .before .pre .1 .0) show (a .n) (c .before .before .before .before .before .before .before .before .pre .1 .1 .1) Text (ap fieldsOf (sym (c  .enum-told .given .1)) ∙ c .before .before .shape-of .ensures) in
+    let shown = shown-at (c .before .before .before .before .before .before .before .before .pre .1 .0) show (a .n) (c .before .before .before .before .before .before .before .before .pre .1 .1 .1) Text (ap fieldsOf (sym (c .enum-told .given .1)) ∙ c .before .before .shape-of .ensures) in
     omega (arith, shown .1)
 
 put-held-add-put-quoted : (t : ℕ) → put-held-lts.Need-add-put-quoted (put-held-claims t) (put-held-at t) put-held.Post
@@ -368,14 +368,14 @@ put-held-add-get-u16-2 : (t : ℕ) → put-held-lts.Need-add-get-u16-2 (put-held
 put-held-add-get-u16-2 t c =
     let a = c .before .before .before .before .before .before .before .before .args in
     let show = opened (finished (a .pool .now) (a .count) (a .methods .now)) (a .left) in
-    let shown = shown-at (c .before .before .before .before .before .before .before .before .pre .1 .0) show (a .n) (c .before .before .before .before .before .before .before .before .pre .1 .1 .1) One (ap fieldsOf (sym (c  .enum-told3 .given .1)) ∙ c .before .before .shape-of .ensures) in
+    let shown = shown-at (c .before .before .before .before .before .before .before .before .pre .1 .0) show (a .n) (c .before .before .before .before .before .before .before .before .pre .1 .1 .1) One (ap fieldsOf (sym (c .enum-told3 .given .1)) ∙ c .before .before .shape-of .ensures) in
     omega (arith, shown .1)
 
 put-held-get-u16-requires-2 : (t : ℕ) → put-held-lts.Need-get-u16-requires-2 (put-held-claims t) (put-held-at t) put-held.Post
 put-held-get-u16-requires-2 t c κs =
     let a = c .before .before .before .before .before .before .before .before .args in
     let show = opened (finished (a .pool .now) (a .count) (a .methods .now)) (a .left) in
-    let shown = shown-at (c .before .before .before .before .before .before .before .before .pre .1 .0) show (a .n) (c .before .before .before .before .before .before .before .before .pre .1 .1 .1) One (ap fieldsOf (sym (c  .enum-told3 .given .1)) ∙ c .before .before .shape-of .ensures) in
+    let shown = shown-at (c .before .before .before .before .before .before .before .before .pre .1 .0) show (a .n) (c .before .before .before .before .before .before .before .before .pre .1 .1 .1) One (ap fieldsOf (sym (c .enum-told3 .given .1)) ∙ c .before .before .shape-of .ensures) in
     omega (arith, shown .1)
 
 put-held-put-slot-requires : (t : ℕ) → put-held-lts.Need-put-slot-requires (put-held-claims t) (put-held-at t) put-held.Post
@@ -478,7 +478,7 @@ put-held-returns-7 : (t : ℕ) → put-held-lts.Need-returns-7 (put-held-claims 
 put-held-returns-7 t c =
     let a = c .before .before .before .before .before .before .before .before .args in
     let show = opened (finished (a .pool .now) (a .count) (a .methods .now)) (a .left) in
-    let shown = shown-at (c .before .before .before .before .before .before .before .before .pre .1 .0) show (a .n) (c .before .before .before .before .before .before .before .before .pre .1 .1 .1) Unknown (ap fieldsOf (sym (c  .enum-told7 .given .1)) ∙ c .before .before .shape-of .ensures) in
+    let shown = shown-at (c .before .before .before .before .before .before .before .before .pre .1 .0) show (a .n) (c .before .before .before .before .before .before .before .before .pre .1 .1 .1) Unknown (ap fieldsOf (sym (c .enum-told7 .given .1)) ∙ c .before .before .shape-of .ensures) in
     absurd shown
 
 put-method-returns : (t : ℕ) → put-method-lts.Need-returns (put-method-claims t) (put-method-at t) put-method.Post
