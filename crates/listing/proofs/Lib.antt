@@ -1,2 +1,5 @@
 pub mod Names
+pub mod Held
+pub mod Arguments
+pub mod Opened
 pub mod Example
