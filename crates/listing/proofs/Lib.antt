@@ -2,4 +2,8 @@ pub mod Names
 pub mod Held
 pub mod Arguments
 pub mod Opened
+pub mod Lines
+pub mod Answered
+pub mod OneLine
+pub mod Promises
 pub mod Example
