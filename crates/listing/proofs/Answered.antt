@@ -1,6 +1,6 @@
 -- Lines that were counted and then written are the listing (specs/Lists.antt). Assumes nothing.
-use mathlib.Core.Bool.{true, false}
-use mathlib.Core.List.{List, [], _∷_, _++_}
+use mathlib.Core.Bool.{true}
+use mathlib.Core.List.{List, _++_}
 use mathlib.Core.Logic.{_⊎_, inl, inr}
 use mathlib.Core.Option.{Option, none, some}
 use mathlib.Core.Path.{_≡_, refl, sym, ap, _∙_, subst}
@@ -9,7 +9,7 @@ use native.Mathlib.Omega.{arith}
 use lib.ListN.{length, drop, drop-of-length-le}
 use lib.Seq.{take-length, drop-cons}
 use borrow.Author.Tests.{le-leb, lt-leb}
-use Rattle.definition.specs.Basics.{Result, good, bad}
+use Rattle.definition.specs.Basics.{bad}
 use Rattle.facts.proofs.Lists.{order}
 use Rattle.jvms.specs.Pool.{_>>=_, u2, Slot, constant-pool, BootstrapMethod, wholly, read-pool, read-bootstrap-methods}
 use Rattle.places.specs.Standing.{Noted, MethodsNoted}
@@ -17,12 +17,11 @@ use Rattle.places.specs.Noting.{Blank, PoolNoted, MethodsPut}
 use Rattle.places.specs.declared.PoolRead.the-variants.{Good}
 use Rattle.places.proofs.Rows.{pool-table}
 use Rattle.places.proofs.Methods.{methods-table}
-use Rattle.printing.specs.Printed.{capped, Printed}
+use Rattle.printing.specs.Printed.{Printed}
 use Rattle.printing.proofs.Printing.{capped-in, capped-past}
 use Rattle.listing.specs.Listing.{lines, fitting, listed, listing}
 use Rattle.listing.specs.Views.{orNone, finished, Views}
 use Rattle.listing.specs.Lists.{Answers, Lists}
-use Rattle.listing.specs.declared.Listed.{Listed}
 use Rattle.listing.specs.declared.Listed.the-variants.{Text, Refused}
 
 -- ---- a text's end tells whether it fits

@@ -5,13 +5,11 @@ mod words;
 use opening::put_held;
 use places::PoolRead;
 use words::put_kind;
-ghost use Prim.Native.Nat.{_+_, _<_, _≤_};
-ghost use lib.ListN.{length};
 ghost use Rattle.places.specs.Standing.{slotOf};
 ghost use Rattle.printing.specs.Printed.{CanPut, Printed};
 ghost use Rattle.listing.specs.Listing.{lines};
 ghost use Rattle.listing.specs.Views.{Views, finished};
-ghost use Rattle.listing.specs.Lists.{lineOf, Answers, Lists};
+ghost use Rattle.listing.specs.Lists.{lineOf, Lists};
 
 pub enum Listed {
     // So many bytes of text.

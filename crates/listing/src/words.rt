@@ -1,8 +1,6 @@
 // The words of a listing, and the numbers in brackets.
-ghost use mathlib.Core.List.{[], _∷_, _++_};
-ghost use lib.ListN.{length};
 ghost use Rattle.definition.specs.Basics.{lookup};
-ghost use Rattle.definition.specs.Ascii.{ascii, decimal};
+ghost use Rattle.definition.specs.Ascii.{ascii};
 ghost use Rattle.printing.specs.Printed.{CanPut, Printed};
 ghost use Rattle.listing.specs.Listing.{orDecimal, referenceKind, kinds, bracketed};
 ghost use Rattle.listing.specs.Views.{between};
