@@ -111,15 +111,14 @@ module _ (show : Opening) (s : List ℕ) (p : ℕ) where
 -- the same of the constant at a slot, for the shape that its tag was found to have
 pub shown-at :
     {pool places methods table : List ℕ} {count : ℕ} (v : Views pool places count methods table) (show : Opening) (n : ℕ)
-    → 0 < getD places n 0 → (s : Shape) → fieldsOf s ≡ lookup (getD pool (getD places n 0) 0) shapes
+    → 0 < getD places n 0 → {found s : Shape} → fieldsOf found ≡ lookup (getD pool (getD places n 0) 0) shapes → found ≡ s
     → Shown show pool (getD places n 0) (heldAt show (slotOf (finished pool count methods .slots) n)) s
 unfolding heldAt
-shown-at {pool} {places} {methods} {table} {count} v show n any s is =
+shown-at {pool} {places} v show n any {found} {s} is told =
     let p = getD places n 0 in
     let (c, stands, there) = at-place (v .noted) n any in
     let at = constant-stands pool p c there in
-    let shape : shapeOf (lookup (tag c) shapes) ≡ s =
-    ap (λ k. shapeOf (lookup k shapes)) (sym (at .first)) ∙ ap shapeOf (sym is) ∙ shape-of-fields s in
+    let shape = ap (λ k. shapeOf (lookup k shapes)) (sym (at .first)) ∙ ap shapeOf (sym is) ∙ shape-of-fields found ∙ told in
     subst (λ t. Shown show pool p t s) (ap (heldAt show) (sym stands))
     (subst (Shown show pool p (held show c)) shape (by-constant show pool p c (at .first) (at .fields)))
 

@@ -9,8 +9,6 @@ use lib.ListN.{take, drop, getD}
 use borrow.Author.Needs.{needs}
 use borrow.Author.Tests.{leb-false}
 use Rattle.definition.specs.Ascii.{ascii}
-use Rattle.raw_const.specs.Entries.{fieldsOf}
-use Rattle.raw_const.specs.declared.Shape.the-variants.{Text, Bits, One, Two, Dynamic, KindOne, Unknown}
 use Rattle.printing.specs.Numbers.{quoted}
 use Rattle.printing.proofs.Printing.{Left, all-left, less-left, left-as, none-left, then, ready, reworded, past}
 use Rattle.listing.specs.Listing.{slot, opened}
@@ -324,21 +322,21 @@ put-held-add-get-u16 : (t : ℕ) → put-held-lts.Need-add-get-u16 (put-held-cla
 put-held-add-get-u16 t c =
     let a = c .before .before .before .before .before .before .before .before .args in
     let show = opened (finished (a .pool .now) (a .count) (a .methods .now)) (a .left) in
-    let shown = shown-at (c .before .before .before .before .before .before .before .before .pre .1 .0) show (a .n) (c .before .before .before .before .before .before .before .before .pre .1 .1 .1) Text (ap fieldsOf (sym (c .enum-told .given .1)) ∙ c .before .before .shape-of .ensures) in
+    let shown = shown-at (c .before .before .before .before .before .before .before .before .pre .1 .0) show (a .n) (c .before .before .before .before .before .before .before .before .pre .1 .1 .1) (c .before .before .shape-of .ensures) (c .enum-told .given .1) in
     omega (arith, shown .1)
 
 put-held-get-u16-requires : (t : ℕ) → put-held-lts.Need-get-u16-requires (put-held-claims t) (put-held-at t) put-held.Post
 put-held-get-u16-requires t c κs =
     let a = c .before .before .before .before .before .before .before .before .args in
     let show = opened (finished (a .pool .now) (a .count) (a .methods .now)) (a .left) in
-    let shown = shown-at (c .before .before .before .before .before .before .before .before .pre .1 .0) show (a .n) (c .before .before .before .before .before .before .before .before .pre .1 .1 .1) Text (ap fieldsOf (sym (c .enum-told .given .1)) ∙ c .before .before .shape-of .ensures) in
+    let shown = shown-at (c .before .before .before .before .before .before .before .before .pre .1 .0) show (a .n) (c .before .before .before .before .before .before .before .before .pre .1 .1 .1) (c .before .before .shape-of .ensures) (c .enum-told .given .1) in
     omega (arith, shown .1)
 
 put-held-add-put-quoted : (t : ℕ) → put-held-lts.Need-add-put-quoted (put-held-claims t) (put-held-at t) put-held.Post
 put-held-add-put-quoted t c =
     let a = c .before .before .before .before .before .before .before .before .before .before .args in
     let show = opened (finished (a .pool .now) (a .count) (a .methods .now)) (a .left) in
-    let shown = shown-at (c .before .before .before .before .before .before .before .before .before .before .pre .1 .0) show (a .n) (c .before .before .before .before .before .before .before .before .before .before .pre .1 .1 .1) Text (ap fieldsOf (sym (c .before .before .enum-told .given .1)) ∙ c .before .before .before .before .shape-of .ensures) in
+    let shown = shown-at (c .before .before .before .before .before .before .before .before .before .before .pre .1 .0) show (a .n) (c .before .before .before .before .before .before .before .before .before .before .pre .1 .1 .1) (c .before .before .before .before .shape-of .ensures) (c .before .before .enum-told .given .1) in
     omega (arith, shown .1)
 
 put-held-cast-put-quoted : (t : ℕ) → put-held-lts.Need-cast-put-quoted (put-held-claims t) (put-held-at t) put-held.Post
@@ -348,7 +346,7 @@ put-held-put-quoted-requires : (t : ℕ) → put-held-lts.Need-put-quoted-requir
 put-held-put-quoted-requires t c κs =
     let a = c .before .before .before .before .before .before .before .before .before .before .args in
     let show = opened (finished (a .pool .now) (a .count) (a .methods .now)) (a .left) in
-    let shown = shown-at (c .before .before .before .before .before .before .before .before .before .before .pre .1 .0) show (a .n) (c .before .before .before .before .before .before .before .before .before .before .pre .1 .1 .1) Text (ap fieldsOf (sym (c .before .before .enum-told .given .1)) ∙ c .before .before .before .before .shape-of .ensures) in
+    let shown = shown-at (c .before .before .before .before .before .before .before .before .before .before .pre .1 .0) show (a .n) (c .before .before .before .before .before .before .before .before .before .before .pre .1 .1 .1) (c .before .before .before .before .shape-of .ensures) (c .before .before .enum-told .given .1) in
     (c .before .before .before .before .before .before .before .before .before .before .pre .1 .1 .0, omega (arith, shown .1, c .before .get-u16 .ensures))
 
 put-held-enum-told-2 : (t : ℕ) → put-held-lts.Need-enum-told-2 (put-held-claims t) (put-held-at t) put-held.Post
@@ -358,7 +356,7 @@ put-held-put-number-requires : (t : ℕ) → put-held-lts.Need-put-number-requir
 put-held-put-number-requires t c κs =
     let a = c .before .before .before .before .before .before .before .before .before .args in
     let show = opened (finished (a .pool .now) (a .count) (a .methods .now)) (a .left) in
-    let shown = shown-at (c .before .before .before .before .before .before .before .before .before .pre .1 .0) show (a .n) (c .before .before .before .before .before .before .before .before .before .pre .1 .1 .1) (Bits _) (ap fieldsOf (sym (c .before .enum-told2 .given .1)) ∙ c .before .before .before .shape-of .ensures) in
+    let shown = shown-at (c .before .before .before .before .before .before .before .before .before .pre .1 .0) show (a .n) (c .before .before .before .before .before .before .before .before .before .pre .1 .1 .1) (c .before .before .before .shape-of .ensures) (c .before .enum-told2 .given .1) in
     (c .before .before .before .before .before .before .before .before .before .pre .1 .1 .0, shown .1)
 
 put-held-enum-told-3 : (t : ℕ) → put-held-lts.Need-enum-told-3 (put-held-claims t) (put-held-at t) put-held.Post
@@ -368,14 +366,14 @@ put-held-add-get-u16-2 : (t : ℕ) → put-held-lts.Need-add-get-u16-2 (put-held
 put-held-add-get-u16-2 t c =
     let a = c .before .before .before .before .before .before .before .before .args in
     let show = opened (finished (a .pool .now) (a .count) (a .methods .now)) (a .left) in
-    let shown = shown-at (c .before .before .before .before .before .before .before .before .pre .1 .0) show (a .n) (c .before .before .before .before .before .before .before .before .pre .1 .1 .1) One (ap fieldsOf (sym (c .enum-told3 .given .1)) ∙ c .before .before .shape-of .ensures) in
+    let shown = shown-at (c .before .before .before .before .before .before .before .before .pre .1 .0) show (a .n) (c .before .before .before .before .before .before .before .before .pre .1 .1 .1) (c .before .before .shape-of .ensures) (c .enum-told3 .given .1) in
     omega (arith, shown .1)
 
 put-held-get-u16-requires-2 : (t : ℕ) → put-held-lts.Need-get-u16-requires-2 (put-held-claims t) (put-held-at t) put-held.Post
 put-held-get-u16-requires-2 t c κs =
     let a = c .before .before .before .before .before .before .before .before .args in
     let show = opened (finished (a .pool .now) (a .count) (a .methods .now)) (a .left) in
-    let shown = shown-at (c .before .before .before .before .before .before .before .before .pre .1 .0) show (a .n) (c .before .before .before .before .before .before .before .before .pre .1 .1 .1) One (ap fieldsOf (sym (c .enum-told3 .given .1)) ∙ c .before .before .shape-of .ensures) in
+    let shown = shown-at (c .before .before .before .before .before .before .before .before .pre .1 .0) show (a .n) (c .before .before .before .before .before .before .before .before .pre .1 .1 .1) (c .before .before .shape-of .ensures) (c .enum-told3 .given .1) in
     omega (arith, shown .1)
 
 put-held-put-slot-requires : (t : ℕ) → put-held-lts.Need-put-slot-requires (put-held-claims t) (put-held-at t) put-held.Post
@@ -388,7 +386,7 @@ put-held-put-two-requires : (t : ℕ) → put-held-lts.Need-put-two-requires (pu
 put-held-put-two-requires t c κs =
     let a = c .before .before .before .before .before .before .before .before .before .args in
     let show = opened (finished (a .pool .now) (a .count) (a .methods .now)) (a .left) in
-    let shown = shown-at (c .before .before .before .before .before .before .before .before .before .pre .1 .0) show (a .n) (c .before .before .before .before .before .before .before .before .before .pre .1 .1 .1) Two (ap fieldsOf (sym (c .before .enum-told4 .given .1)) ∙ c .before .before .before .shape-of .ensures) in
+    let shown = shown-at (c .before .before .before .before .before .before .before .before .before .pre .1 .0) show (a .n) (c .before .before .before .before .before .before .before .before .before .pre .1 .1 .1) (c .before .before .before .shape-of .ensures) (c .before .enum-told4 .given .1) in
     (omega (arith, c .before .before .before .before .before .before .before .before .before .pre .0), (c .before .before .before .before .before .before .before .before .before .pre .1 .0, (c .before .before .before .before .before .before .before .before .before .pre .1 .1 .0, shown .1)))
 
 put-held-enum-told-5 : (t : ℕ) → put-held-lts.Need-enum-told-5 (put-held-claims t) (put-held-at t) put-held.Post
@@ -398,7 +396,7 @@ put-held-put-dynamic-requires : (t : ℕ) → put-held-lts.Need-put-dynamic-requ
 put-held-put-dynamic-requires t c κs =
     let a = c .before .before .before .before .before .before .before .before .before .args in
     let show = opened (finished (a .pool .now) (a .count) (a .methods .now)) (a .left) in
-    let shown = shown-at (c .before .before .before .before .before .before .before .before .before .pre .1 .0) show (a .n) (c .before .before .before .before .before .before .before .before .before .pre .1 .1 .1) Dynamic (ap fieldsOf (sym (c .before .enum-told5 .given .1)) ∙ c .before .before .before .shape-of .ensures) in
+    let shown = shown-at (c .before .before .before .before .before .before .before .before .before .pre .1 .0) show (a .n) (c .before .before .before .before .before .before .before .before .before .pre .1 .1 .1) (c .before .before .before .shape-of .ensures) (c .before .enum-told5 .given .1) in
     (omega (arith, c .before .before .before .before .before .before .before .before .before .pre .0), (c .before .before .before .before .before .before .before .before .before .pre .1 .0, (c .before .before .before .before .before .before .before .before .before .pre .1 .1 .0, shown .1)))
 
 put-held-enum-told-6 : (t : ℕ) → put-held-lts.Need-enum-told-6 (put-held-claims t) (put-held-at t) put-held.Post
@@ -408,7 +406,7 @@ put-held-put-handle-requires : (t : ℕ) → put-held-lts.Need-put-handle-requir
 put-held-put-handle-requires t c κs =
     let a = c .before .before .before .before .before .before .before .before .before .args in
     let show = opened (finished (a .pool .now) (a .count) (a .methods .now)) (a .left) in
-    let shown = shown-at (c .before .before .before .before .before .before .before .before .before .pre .1 .0) show (a .n) (c .before .before .before .before .before .before .before .before .before .pre .1 .1 .1) KindOne (ap fieldsOf (sym (c .before .enum-told6 .given .1)) ∙ c .before .before .before .shape-of .ensures) in
+    let shown = shown-at (c .before .before .before .before .before .before .before .before .before .pre .1 .0) show (a .n) (c .before .before .before .before .before .before .before .before .before .pre .1 .1 .1) (c .before .before .before .shape-of .ensures) (c .before .enum-told6 .given .1) in
     (omega (arith, c .before .before .before .before .before .before .before .before .before .pre .0), (c .before .before .before .before .before .before .before .before .before .pre .1 .0, (c .before .before .before .before .before .before .before .before .before .pre .1 .1 .0, shown .1)))
 
 put-held-enum-told-7 : (t : ℕ) → put-held-lts.Need-enum-told-7 (put-held-claims t) (put-held-at t) put-held.Post
@@ -421,7 +419,7 @@ put-held-returns : (t : ℕ) → put-held-lts.Need-returns (put-held-claims t) (
 put-held-returns t c =
     let a = c .before .before .before .before .before .before .before .before .before .before .before .before .before .args in
     let show = opened (finished (a .pool .now) (a .count) (a .methods .now)) (a .left) in
-    let shown = shown-at (c .before .before .before .before .before .before .before .before .before .before .before .before .before .pre .1 .0) show (a .n) (c .before .before .before .before .before .before .before .before .before .before .before .before .before .pre .1 .1 .1) Text (ap fieldsOf (sym (c .before .before .before .before .before .enum-told .given .1)) ∙ c .before .before .before .before .before .before .before .shape-of .ensures) in
+    let shown = shown-at (c .before .before .before .before .before .before .before .before .before .before .before .before .before .pre .1 .0) show (a .n) (c .before .before .before .before .before .before .before .before .before .before .before .before .before .pre .1 .1 .1) (c .before .before .before .before .before .before .before .shape-of .ensures) (c .before .before .before .before .before .enum-told .given .1) in
     reworded (ap (λ n. quoted (take n (drop (getD (a .places .now) (a .n) 0 + 3) (a .pool .now)))) (c .before .before .before .before .get-u16 .ensures) ∙ sym (shown .0)) (c .before .before .put-quoted .ensures)
 
 put-held-same-length-2 : (t : ℕ) → put-held-lts.Need-same-length-2 (put-held-claims t) (put-held-at t) put-held.Post
@@ -431,7 +429,7 @@ put-held-returns-2 : (t : ℕ) → put-held-lts.Need-returns-2 (put-held-claims 
 put-held-returns-2 t c =
     let a = c .before .before .before .before .before .before .before .before .before .before .before .before .args in
     let show = opened (finished (a .pool .now) (a .count) (a .methods .now)) (a .left) in
-    let shown = shown-at (c .before .before .before .before .before .before .before .before .before .before .before .before .pre .1 .0) show (a .n) (c .before .before .before .before .before .before .before .before .before .before .before .before .pre .1 .1 .1) (Bits _) (ap fieldsOf (sym (c .before .before .before .before .enum-told2 .given .1)) ∙ c .before .before .before .before .before .before .shape-of .ensures) in
+    let shown = shown-at (c .before .before .before .before .before .before .before .before .before .before .before .before .pre .1 .0) show (a .n) (c .before .before .before .before .before .before .before .before .before .before .before .before .pre .1 .1 .1) (c .before .before .before .before .before .before .shape-of .ensures) (c .before .before .before .before .enum-told2 .given .1) in
     reworded (sym (shown .0)) (c .before .before .put-number .ensures)
 
 put-held-same-length-3 : (t : ℕ) → put-held-lts.Need-same-length-3 (put-held-claims t) (put-held-at t) put-held.Post
@@ -441,7 +439,7 @@ put-held-returns-3 : (t : ℕ) → put-held-lts.Need-returns-3 (put-held-claims 
 put-held-returns-3 t c =
     let a = c .before .before .before .before .before .before .before .before .before .before .before .before .before .args in
     let show = opened (finished (a .pool .now) (a .count) (a .methods .now)) (a .left) in
-    let shown = shown-at (c .before .before .before .before .before .before .before .before .before .before .before .before .before .pre .1 .0) show (a .n) (c .before .before .before .before .before .before .before .before .before .before .before .before .before .pre .1 .1 .1) One (ap fieldsOf (sym (c .before .before .before .before .before .enum-told3 .given .1)) ∙ c .before .before .before .before .before .before .before .shape-of .ensures) in
+    let shown = shown-at (c .before .before .before .before .before .before .before .before .before .before .before .before .before .pre .1 .0) show (a .n) (c .before .before .before .before .before .before .before .before .before .before .before .before .before .pre .1 .1 .1) (c .before .before .before .before .before .before .before .shape-of .ensures) (c .before .before .before .before .before .enum-told3 .given .1) in
     reworded (ap (λ n. show (slot n)) (c .before .before .before .before .get-u162 .ensures) ∙ sym (shown .0)) (c .before .before .put-slot .ensures)
 
 put-held-same-length-4 : (t : ℕ) → put-held-lts.Need-same-length-4 (put-held-claims t) (put-held-at t) put-held.Post
@@ -451,7 +449,7 @@ put-held-returns-4 : (t : ℕ) → put-held-lts.Need-returns-4 (put-held-claims 
 put-held-returns-4 t c =
     let a = c .before .before .before .before .before .before .before .before .before .before .before .before .args in
     let show = opened (finished (a .pool .now) (a .count) (a .methods .now)) (a .left) in
-    let shown = shown-at (c .before .before .before .before .before .before .before .before .before .before .before .before .pre .1 .0) show (a .n) (c .before .before .before .before .before .before .before .before .before .before .before .before .pre .1 .1 .1) Two (ap fieldsOf (sym (c .before .before .before .before .enum-told4 .given .1)) ∙ c .before .before .before .before .before .before .shape-of .ensures) in
+    let shown = shown-at (c .before .before .before .before .before .before .before .before .before .before .before .before .pre .1 .0) show (a .n) (c .before .before .before .before .before .before .before .before .before .before .before .before .pre .1 .1 .1) (c .before .before .before .before .before .before .shape-of .ensures) (c .before .before .before .before .enum-told4 .given .1) in
     reworded (sym (shown .0)) (c .before .before .put-two .ensures)
 
 put-held-same-length-5 : (t : ℕ) → put-held-lts.Need-same-length-5 (put-held-claims t) (put-held-at t) put-held.Post
@@ -461,7 +459,7 @@ put-held-returns-5 : (t : ℕ) → put-held-lts.Need-returns-5 (put-held-claims 
 put-held-returns-5 t c =
     let a = c .before .before .before .before .before .before .before .before .before .before .before .before .args in
     let show = opened (finished (a .pool .now) (a .count) (a .methods .now)) (a .left) in
-    let shown = shown-at (c .before .before .before .before .before .before .before .before .before .before .before .before .pre .1 .0) show (a .n) (c .before .before .before .before .before .before .before .before .before .before .before .before .pre .1 .1 .1) Dynamic (ap fieldsOf (sym (c .before .before .before .before .enum-told5 .given .1)) ∙ c .before .before .before .before .before .before .shape-of .ensures) in
+    let shown = shown-at (c .before .before .before .before .before .before .before .before .before .before .before .before .pre .1 .0) show (a .n) (c .before .before .before .before .before .before .before .before .before .before .before .before .pre .1 .1 .1) (c .before .before .before .before .before .before .shape-of .ensures) (c .before .before .before .before .enum-told5 .given .1) in
     reworded (sym (shown .0)) (c .before .before .put-dynamic .ensures)
 
 put-held-same-length-6 : (t : ℕ) → put-held-lts.Need-same-length-6 (put-held-claims t) (put-held-at t) put-held.Post
@@ -471,14 +469,14 @@ put-held-returns-6 : (t : ℕ) → put-held-lts.Need-returns-6 (put-held-claims 
 put-held-returns-6 t c =
     let a = c .before .before .before .before .before .before .before .before .before .before .before .before .args in
     let show = opened (finished (a .pool .now) (a .count) (a .methods .now)) (a .left) in
-    let shown = shown-at (c .before .before .before .before .before .before .before .before .before .before .before .before .pre .1 .0) show (a .n) (c .before .before .before .before .before .before .before .before .before .before .before .before .pre .1 .1 .1) KindOne (ap fieldsOf (sym (c .before .before .before .before .enum-told6 .given .1)) ∙ c .before .before .before .before .before .before .shape-of .ensures) in
+    let shown = shown-at (c .before .before .before .before .before .before .before .before .before .before .before .before .pre .1 .0) show (a .n) (c .before .before .before .before .before .before .before .before .before .before .before .before .pre .1 .1 .1) (c .before .before .before .before .before .before .shape-of .ensures) (c .before .before .before .before .enum-told6 .given .1) in
     reworded (sym (shown .0)) (c .before .before .put-handle .ensures)
 
 put-held-returns-7 : (t : ℕ) → put-held-lts.Need-returns-7 (put-held-claims t) (put-held-at t) put-held.Post
 put-held-returns-7 t c =
     let a = c .before .before .before .before .before .before .before .before .args in
     let show = opened (finished (a .pool .now) (a .count) (a .methods .now)) (a .left) in
-    let shown = shown-at (c .before .before .before .before .before .before .before .before .pre .1 .0) show (a .n) (c .before .before .before .before .before .before .before .before .pre .1 .1 .1) Unknown (ap fieldsOf (sym (c .enum-told7 .given .1)) ∙ c .before .before .shape-of .ensures) in
+    let shown = shown-at (c .before .before .before .before .before .before .before .before .pre .1 .0) show (a .n) (c .before .before .before .before .before .before .before .before .pre .1 .1 .1) (c .before .before .shape-of .ensures) (c .enum-told7 .given .1) in
     absurd shown
 
 put-method-returns : (t : ℕ) → put-method-lts.Need-returns (put-method-claims t) (put-method-at t) put-method.Post
