@@ -38,7 +38,9 @@ module _ (bytes : List ℕ) (at : ℕ) where
   unfolding placedUpTo
   no-count before few = let cut = cut-u2 bytes at few in (rw cut, refl, rw cut)
 
-  pub zero-count : (before : List ℕ) (count : ℕ) → at + 2 ≤ length bytes → count ≡ number2 bytes at → count ≡ 0 → PoolNoted bytes at before before Bad
+  pub zero-count :
+      (before : List ℕ) (count : ℕ) → at + 2 ≤ length bytes → count ≡ number2 bytes at → count ≡ 0 →
+      PoolNoted bytes at before before Bad
   unfolding constant-pool placedUpTo
   zero-count before count enough is zero =
       let e : number2 bytes at ≡ 0 = omega arith in

@@ -61,8 +61,9 @@ module _ (bytes : List ℕ) (are : IsBytes bytes) (at : ℕ) where
       go : (o : Option (Constant × List ℕ)) → cp-info (drop at bytes) ≡ o → Read tag next
       go none e = none≢some (sym (ap tagAndRest (agrees ∙ ap (over asEntry) e)) ∙ h .rest)
       go (some (c, rest)) e =
-          let told : _≡_ {A = Option (ℕ × List ℕ)} (some (asEntry c .tag, rest)) (some (tag, drop next bytes)) = sym (ap tagAndRest (agrees ∙ ap (over asEntry) e)) ∙ h .rest in
-          let answer : Whole tag next ≡ Whole (asEntry c .tag) (length bytes - length rest) = h .answer ∙ ap (extentOf (length bytes)) (agrees ∙ ap (over asEntry) e) in
+          let read = agrees ∙ ap (over asEntry) e in
+          let told : _≡_ {A = Option (ℕ × List ℕ)} (some (asEntry c .tag, rest)) (some (tag, drop next bytes)) = sym (ap tagAndRest read) ∙ h .rest in
+          let answer : Whole tag next ≡ Whole (asEntry c .tag) (length bytes - length rest) = h .answer ∙ ap (extentOf (length bytes)) read in
           let ends : next ≡ length bytes - length rest = cc in
           let left : rest ≡ drop next bytes = ap (λ r. r .1) (some-inj told) in
           let same : tag ≡ asEntry c .tag = cc in
@@ -133,8 +134,9 @@ placed-more [] false c at i table = ap₂ (λ x y. set table x y) (omega arith) 
 placed-more [] true c at i table = ap₂ (λ x y. set table x y) (omega arith) (omega arith)
 placed-more (usable x ∷ l) w c at i table =
     let e : suc i + length l ≡ i + suc (length l) = omega arith in
-    let g : at + length (constant-bytes x) + length (each-of slot-bytes l) ≡ at + length (constant-bytes x ++ each-of slot-bytes l) = simp length-append (omega arith) in
-    placed-more l w c (at + length (constant-bytes x)) (suc i) (set table i at) ∙ ap₂ (λ m n. set (placed l (at + length (constant-bytes x)) (suc i) (set table i at)) m n) e g
+    let next = at + length (constant-bytes x) in
+    let g : next + length (each-of slot-bytes l) ≡ at + length (constant-bytes x ++ each-of slot-bytes l) = simp length-append (omega arith) in
+    placed-more l w c next (suc i) (set table i at) ∙ ap₂ (λ m n. set (placed l next (suc i) (set table i at)) m n) e g
 placed-more (unusable ∷ l) w c at i table =
     let e : suc i + length l ≡ i + suc (length l) = omega arith in
     placed-more l w c at (suc i) table ∙ ap (λ x. set (placed l at (suc i) table) x (at + length (each-of slot-bytes l))) e
@@ -179,7 +181,7 @@ module _ {bytes : List ℕ} {start : ℕ} {before : List ℕ} {at slot : ℕ} {t
       let w = takes-two c in
       let index : slot ≡ 1 + length (p .found) = omega (arith, p .many) in
       let size : (k : ℕ) → length (p .found ++ entry w c) + k ≡ length (p .found) + (width w + k) =
-          λ k. simp length-append (omega (arith, entry-length w c)) in
+      λ k. simp length-append (omega (arith, entry-length w c)) in
       record {
         found = p .found ++ entry w c;
         many = simp length-append (omega (arith, p .many, entry-length w c));

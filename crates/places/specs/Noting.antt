@@ -1,4 +1,4 @@
--- What a pass over a pool's bytes puts into a table. Assumes nothing.
+-- What passes over the bytes of a pool and of bootstrap methods put into a table, and the tag at an index. Assumes nothing.
 use mathlib.Core.Bool.{Bool, true, false}
 use mathlib.Core.List.{List, [], _∷_}
 use mathlib.Core.Option.{Option, none, some}
@@ -72,6 +72,14 @@ unfoldable pub starts : List BootstrapMethod → ℕ → List ℕ
 starts [] at = []
 starts (m ∷ rest) at = at ∷ starts rest (at + length (bootstrap-method-bytes m))
 
+-- the same of bytes that needn't be so many: up to the first that isn't there
+unfoldable pub startsUpTo : ℕ → List ℕ → ℕ → List ℕ
+startsUpTo zero bytes at = []
+startsUpTo (suc n) bytes at = elim (bootstrap-method (drop at bytes)) [
+  | none ↦ []
+  | some r ↦ at ∷ startsUpTo n bytes (at + length (bootstrap-method-bytes (r .0)))
+]
+
 -- whether a bootstrap method stands at a place, and the place behind it
 abbrev pub MethodPassed : List ℕ → ℕ → PoolRead → Type 0
 MethodPassed bytes at Bad = bootstrap-method (drop at bytes) ≡ none
@@ -79,7 +87,8 @@ MethodPassed bytes at (Good next) = (m : BootstrapMethod) × (bootstrap-method (
 
 -- whether bytes are so many bootstrap methods and nothing more, whose places then stand in the table from index 0 on
 abbrev pub MethodsPut : List ℕ → ℕ → List ℕ → List ℕ → Bool → Type 0
-MethodsPut bytes count before after false = (read-bootstrap-methods count bytes ≡ none) × (length after ≡ length before)
+MethodsPut bytes count before after false =
+    (read-bootstrap-methods count bytes ≡ none) × (length after ≡ length before) × (after ≡ sets before 0 (startsUpTo count bytes 0))
 MethodsPut bytes count before after true =
     (methods : List BootstrapMethod) × (read-bootstrap-methods count bytes ≡ some methods) × (length methods ≡ count)
     × (after ≡ sets before 0 (starts methods 0))

@@ -1,13 +1,9 @@
 -- `places::note_slots` meets its contract: the loop has passed the slots before this one, and each turn notes one constant more. Assumes nothing.
 use borrow.Author.Needs.{needs}
-use mathlib.Core.Bool.{false}
-use mathlib.Core.Option.{none}
-use mathlib.Core.Path.{_≡_, subst}
+use mathlib.Core.Path.{subst}
 use Prim.Native.Nat.{_-_, _<_}
 use native.Mathlib.Omega.{arith}
-use lib.ListN.{drop}
 use Rattle.definition.specs.Shapes.{isWide}
-use Rattle.jvms.specs.Pool.{slots}
 use Rattle.raw_const.specs.Entries.{ReadAt}
 use Rattle.raw_const.specs.declared.Extent.the-variants.{Entry as Whole, Bad as NoEntry}
 use Rattle.places.specs.Noting.{SlotsNoted}
@@ -72,7 +68,8 @@ loop-again c =
     let told : ReadAt bytes (head .at) (Whole tag next) =
     subst (λ r. ReadAt bytes (head .at) r) (c .before .before .tag .given .1) (c .before .before .before .before .read-entry .ensures) in
     let read = entry-read bytes are (head .at) tag next told in
-    passed-turn (head .inv .0) are tag next (start .args .count) (c .slots-of .result) read (c .before .before .before .before .before .loop-test .taken) (c .slots-of .ensures)
+    let low = c .before .before .before .before .before .loop-test .taken in
+    passed-turn (head .inv .0) are tag next (start .args .count) (c .slots-of .result) read low (c .slots-of .ensures)
 
 returns-2 : tie.Need-returns-2 Inv-loop μ-loop
 returns-2 c =
