@@ -1,1 +1,9 @@
+pub mod Names
+pub mod Held
+pub mod Arguments
+pub mod Opened
+pub mod Lines
+pub mod Answered
+pub mod OneLine
+pub mod Promises
 pub mod Example
