@@ -97,5 +97,5 @@ unfolding read-pool
 counted bytes l read = ways (order (length bytes) 2) (wholly-some ((u2 >>= constant-pool) bytes) l read)
   where
     ways : (length bytes < 2) ⊎ (2 ≤ length bytes) → (u2 >>= constant-pool) bytes ≡ some (l, []) → (2 ≤ length bytes) × (number2 bytes 0 ≡ suc (length l))
-    ways (inl few) whole = none≢some (sym (no-count bytes 0 few) ∙ whole)
+    ways (inl few) whole = none≢some (sym (no-count bytes 0 [] few .0) ∙ whole)
     ways (inr enough) whole = (enough, pool-size (number2 bytes 0) bytes 2 l [] enough (rw (read-u2 bytes 0 enough) at whole))
