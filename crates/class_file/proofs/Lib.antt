@@ -1,1 +1,6 @@
 pub mod Example
+pub mod Local
+pub mod Sound
+pub mod Back
+pub mod Forth
+pub mod BothWays

@@ -99,9 +99,9 @@ only-if true = return tt
 only-if false = fail
 
 -- an item that has to be this number
-infix 20 _is_
-unfoldable pub _is_ : Reader ℕ → ℕ → Reader (Unit {0})
-_is_ item n = item >>= λ m. only-if (eqb m n)
+infix 20 _must-be_
+unfoldable pub _must-be_ : Reader ℕ → ℕ → Reader (Unit {0})
+_must-be_ item n = item >>= λ m. only-if (eqb m n)
 
 -- the bytes that a reader takes
 unfoldable pub bytes-of : {A : Type 0} → Reader A → Reader (List ℕ)
@@ -135,7 +135,7 @@ attributes (suc (suc n)) = fail
 unfoldable pub class-file : Reader Parts
 class-file = do
   -- magic
-  u4 is 0xcafebabe
+  u4 must-be 0xcafebabe
   minor-version ← u2
   major-version ← u2
   pool ← bytes-of (u2 >>= constant-pool)
@@ -143,9 +143,9 @@ class-file = do
   this-class ← u2
   super-class ← u2
   -- interfaces_count, fields_count, methods_count
-  u2 is 0
-  u2 is 0
-  u2 is 0
+  u2 must-be 0
+  u2 must-be 0
+  u2 must-be 0
   attributes-count ← u2
   bootstrap-methods ← attributes attributes-count
   return

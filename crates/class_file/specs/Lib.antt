@@ -1,1 +1,2 @@
 pub mod ClassFile
+pub mod Promises
