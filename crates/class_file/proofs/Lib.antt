@@ -4,3 +4,4 @@ pub mod Sound
 pub mod Back
 pub mod Forth
 pub mod BothWays
+pub mod Pieces

@@ -1,1 +1,80 @@
-// A class file around a finished pool (document 02, No. 7): so far its definition, in specs/ClassFile.antt.
+// A class file around a finished pool, both ways (document 02, No. 7; JVMS 4.1, 4.7.23).
+ghost use mathlib.Core.Path.{_≡_};
+ghost use mathlib.Core.List.{_++_};
+ghost use Prim.Native.Nat.{_+_, _<_, _≤_};
+ghost use lib.ListN.{length};
+ghost use Rattle.jvms.specs.Written.{bytes2, bytes4};
+ghost use Rattle.raw_const.specs.Entries.{Wrote};
+ghost use Rattle.class_file.specs.ClassFile.{classBytes};
+ghost use Rattle.class_file.specs.Answers.{partsOf, headBytes, membersBytes, attributesOf};
+
+const MAGIC: u32 = 0xCAFEBABE;
+
+// The pieces of a file: each returns the place behind what it wrote.
+fn write_short(out: &mut [u8], at: usize, x: u16) -> usize
+    requires { ⌜ at + 2 ≤ length (now out) ⌝ }
+    ensures { λ r. ⌜ Wrote (now (out .entry)) at (bytes2 x) (now (out .exit)) r ⌝ }
+{
+    writer::put_u16(out, at, x);
+    at + 2
+}
+
+fn write_word(out: &mut [u8], at: usize, x: u32) -> usize
+    requires { ⌜ at + 4 ≤ length (now out) ⌝ }
+    ensures { λ r. ⌜ Wrote (now (out .entry)) at (bytes4 x) (now (out .exit)) r ⌝ }
+{
+    writer::put_u32(out, at, x);
+    at + 4
+}
+
+fn write_bytes(out: &mut [u8], at: usize, bytes: &[u8]) -> usize
+    requires { ⌜ at + length (now bytes) ≤ length (now out) ⌝ }
+    ensures { λ r. ⌜ Wrote (now (out .entry)) at (now (bytes .entry)) (now (out .exit)) r ⌝ }
+{
+    writer::copy(bytes, 0, out, at, bytes.len());
+    at + bytes.len()
+}
+
+// The magic number and the versions.
+fn write_head(out: &mut [u8], minor: u16, major: u16) -> usize
+    requires { ⌜ 8 ≤ length (now out) ⌝ }
+    ensures { λ r. ⌜ Wrote (now (out .entry)) 0 (headBytes minor major) (now (out .exit)) r ⌝ }
+{
+    let next = write_word(out, 0, MAGIC);
+    let next = write_short(out, next, minor);
+    write_short(out, next, major)
+}
+
+// What stands between the pool and the attributes: there are no interfaces, fields or methods.
+fn write_members(
+    out: &mut [u8],
+    at: usize,
+    access_flags: u16,
+    this_class: u16,
+    super_class: u16,
+) -> usize
+    requires { ⌜ at + 12 ≤ length (now out) ⌝ }
+    ensures { λ r. ⌜ Wrote (now (out .entry)) at (membersBytes «access_flags» «this_class» «super_class») (now (out .exit)) r ⌝ }
+{
+    let next = write_short(out, at, access_flags);
+    let next = write_short(out, next, this_class);
+    let next = write_short(out, next, super_class);
+    let next = write_short(out, next, 0);
+    let next = write_short(out, next, 0);
+    write_short(out, next, 0)
+}
+
+fn write_attributes(out: &mut [u8], at: usize, name: u16, count: u16, bootstraps: &[u8]) -> usize
+    requires { ⌜ length (now bootstraps) ≤ 4294967293 ⌝ }
+    requires { ⌜ at + length (attributesOf name count (now bootstraps)) ≤ length (now out) ⌝ }
+    ensures { λ r. ⌜ Wrote (now (out .entry)) at (attributesOf name count (now (bootstraps .entry))) (now (out .exit)) r ⌝ }
+{
+    if name == 0 {
+        return write_short(out, at, 0);
+    }
+    let next = write_short(out, at, 1);
+    let next = write_short(out, next, name);
+    let next = write_word(out, next, (2 + bootstraps.len()) as u32);
+    let next = write_short(out, next, count);
+    write_bytes(out, next, bootstraps)
+}
