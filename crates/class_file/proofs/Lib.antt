@@ -5,3 +5,4 @@ pub mod Back
 pub mod Forth
 pub mod BothWays
 pub mod Pieces
+pub mod Naming

@@ -30,10 +30,14 @@ pub record Parts : Type 0 where
 
 -- ---- which parts make a file
 
--- a slot that holds the text "BootstrapMethods"
+-- the constant that is the attribute's name
+unfoldable pub nameConstant : List ℕ
+nameConstant = constant-bytes (Utf8 (ascii "BootstrapMethods"))
+
+-- a slot that holds it
 unfoldable pub isName : Option Slot → Bool
 isName none = false
-isName (some slot) = same (slot-bytes slot) (constant-bytes (Utf8 (ascii "BootstrapMethods")))
+isName (some slot) = same (slot-bytes slot) nameConstant
 
 -- there is a pool, and its name slot holds the text; or no name slot is given and there are no bootstrap methods
 unfoldable pub named : Option (List Slot) → ℕ → ℕ → Bool

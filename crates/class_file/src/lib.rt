@@ -1,14 +1,40 @@
 // A class file around a finished pool, both ways (document 02, No. 7; JVMS 4.1, 4.7.23).
 ghost use mathlib.Core.Path.{_≡_};
-ghost use mathlib.Core.List.{_++_};
+ghost use mathlib.Core.List.{List};
 ghost use Prim.Native.Nat.{_+_, _<_, _≤_};
-ghost use lib.ListN.{length};
+ghost use lib.ListN.{length, take, drop};
+ghost use Rattle.definition.specs.Basics.{same};
+ghost use Rattle.jvms.specs.Pool.{Slot};
 ghost use Rattle.jvms.specs.Written.{bytes2, bytes4};
+ghost use Rattle.places.specs.Standing.{slotOf, Noted};
 ghost use Rattle.raw_const.specs.Entries.{Wrote};
-ghost use Rattle.class_file.specs.ClassFile.{classBytes};
+ghost use Rattle.class_file.specs.ClassFile.{classBytes, nameConstant, isName};
 ghost use Rattle.class_file.specs.Answers.{partsOf, headBytes, membersBytes, attributesOf};
 
 const MAGIC: u32 = 0xCAFEBABE;
+
+// CONSTANT_Utf8 of "BootstrapMethods": its tag, its length and its bytes.
+const NAME: [u8; 19] = [
+    1,
+    0,
+    16,
+    b'B',
+    b'o',
+    b'o',
+    b't',
+    b's',
+    b't',
+    b'r',
+    b'a',
+    b'p',
+    b'M',
+    b'e',
+    b't',
+    b'h',
+    b'o',
+    b'd',
+    b's',
+];
 
 // The pieces of a file: each returns the place behind what it wrote.
 fn write_short(out: &mut [u8], at: usize, x: u16) -> usize
@@ -77,4 +103,36 @@ fn write_attributes(out: &mut [u8], at: usize, name: u16, count: u16, bootstraps
     let next = write_word(out, next, (2 + bootstraps.len()) as u32);
     let next = write_short(out, next, count);
     write_bytes(out, next, bootstraps)
+}
+
+// Whether the constant that is the attribute's name stands at a place.
+fn spells_name(bytes: &[u8], at: usize) -> bool
+    requires { ⌜ at + 19 ≤ length (now bytes) ⌝ }
+    ensures { λ r. ⌜ r ≡ same (take 19 (drop at (now (bytes .entry)))) nameConstant ⌝ }
+{
+    let mut i = 0;
+    while i < 19 {
+        if bytes[at + i] != NAME[i] {
+            return false;
+        }
+        i += 1;
+    }
+    true
+}
+
+// Whether a slot holds it, by the places of a pool's constants.
+fn holds_name(bytes: &[u8], name: u16, places: &[usize; 65536]) -> bool
+    ensures { λ r. ⌜ ((slots : List Slot) → Noted (now (bytes .entry)) slots (now (places .entry)) → r ≡ isName (slotOf slots name)) ⌝ }
+{
+    let at = places[name as usize];
+    if at == 0 {
+        return false;
+    }
+    if bytes.len() < 19 {
+        return false;
+    }
+    if bytes.len() - 19 < at {
+        return false;
+    }
+    spells_name(bytes, at)
 }
