@@ -1,0 +1,5 @@
+pub mod Finding
+pub mod Found
+pub mod Passing
+pub mod Rows
+pub mod Counting
