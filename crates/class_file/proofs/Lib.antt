@@ -6,3 +6,4 @@ pub mod Forth
 pub mod BothWays
 pub mod Pieces
 pub mod Naming
+pub mod Telling

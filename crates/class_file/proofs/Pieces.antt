@@ -1,16 +1,19 @@
 -- The pieces of a file, and that together they are the file. Assumes nothing.
 use mathlib.Core.List.{List, [], _∷_, _++_, append-assoc}
 use mathlib.Core.Path.{_≡_, refl, sym, ap, _∙_}
-use Prim.Native.Nat.{ℕ, zero, suc, _+_, _/_, _%_, _<_}
+use Prim.Native.Nat.{ℕ, zero, suc, _+_, _-_, _/_, _%_, _<_, _≤_}
 use native.Mathlib.Omega.{arith}
-use lib.ListN.{length, drop, length-append}
-use lib.Seq.{paste, take-length}
+use lib.Dec.{leb}
+use lib.ListN.{length, length-append}
+use lib.Seq.{paste}
+use borrow.Author.Tests.{leb-true, le-leb}
 use Rattle.definition.specs.Bytes.{be2, be4}
 use Rattle.jvms.specs.Written.{bytes2, bytes4, Is2, Is4}
+use Rattle.facts.proofs.Lists.{tests-agree}
 use Rattle.writer.proofs.Laws.{be4-halves}
 use Rattle.raw_const.specs.Entries.{Wrote}
-use Rattle.class_file.specs.ClassFile.{attributes-bytes}
-use Rattle.class_file.specs.Answers.{attributesOf}
+use Rattle.class_file.specs.ClassFile.{attribute-bytes, attributes-bytes, classBytes}
+use Rattle.class_file.specs.Answers.{partsOf, headBytes, membersBytes, attributesOf, frameSize}
 
 -- a number's bytes, as the writer has them
 pub short-bytes : (x : ℕ) → Is2 x → be2 x ≡ bytes2 x
@@ -48,3 +51,45 @@ attributes-one (suc n) count b h = simp append-assoc
 pub length-one : (name count : ℕ) (b : List ℕ) → 0 < name → length (attributesOf name count b) ≡ 10 + length b
 unfolding bytes2 bytes4
 length-one name count b h = omega (arith, ap length (attributes-one name count b h))
+
+-- the whole file
+regrouped :
+    (a b c pool d e f g h i l : List ℕ) →
+    (a ++ b ++ c) ++ pool ++ (d ++ e ++ f ++ g ++ h ++ i) ++ l ≡ a ++ b ++ c ++ pool ++ d ++ e ++ f ++ g ++ h ++ i ++ l
+regrouped a b c pool d e f g h i l = simp append-assoc
+
+pub file-pieces :
+    (minor major : ℕ) (pool : List ℕ) (flags this super name count : ℕ) (b : List ℕ) →
+    headBytes minor major ++ pool ++ membersBytes flags this super ++ attributesOf name count b
+    ≡ classBytes (partsOf minor major pool flags this super name count b)
+unfolding classBytes attribute-bytes
+file-pieces minor major pool flags this super name count b =
+    regrouped (bytes4 0xcafebabe) (bytes2 minor) (bytes2 major) pool (bytes2 flags) (bytes2 this) (bytes2 super) (bytes2 0) (bytes2 0) (bytes2 0) (attributesOf name count b)
+
+pub length-file :
+    (minor major : ℕ) (pool : List ℕ) (flags this super name count : ℕ) (b : List ℕ) →
+    length (classBytes (partsOf minor major pool flags this super name count b)) ≡ 20 + length pool + length (attributesOf name count b)
+unfolding bytes2 bytes4
+length-file minor major pool flags this super name count b =
+    omega (
+      arith,
+      ap length (file-pieces minor major pool flags this super name count b),
+      length-append (headBytes minor major ++ pool ++ membersBytes flags this super) (attributesOf name count b),
+      length-append (headBytes minor major ++ pool) (membersBytes flags this super),
+      length-append (headBytes minor major) pool,
+    )
+
+pub frame-none : (name : ℕ) → name ≡ 0 → 22 ≡ frameSize name
+frame-none name e = rw e
+
+pub frame-some : (name : ℕ) → 0 < name → 30 ≡ frameSize name
+frame-some zero h = absurd (omega arith)
+frame-some (suc n) h = refl
+
+pub fits-left : (room f p b : ℕ) → f ≤ room → p ≤ room - f → leb b (room - f - p) ≡ leb (f + p + b) room
+fits-left room f p b hf hp =
+    tests-agree
+    (leb b (room - f - p))
+    (leb (f + p + b) room)
+    (λ h. le-leb (f + p + b) room (omega (arith, leb-true b (room - f - p) h)))
+    (λ h. le-leb b (room - f - p) (omega (arith, leb-true (f + p + b) room h)))

@@ -2,6 +2,7 @@
 ghost use mathlib.Core.Path.{_≡_};
 ghost use mathlib.Core.List.{List};
 ghost use Prim.Native.Nat.{_+_, _<_, _≤_};
+ghost use lib.Dec.{leb};
 ghost use lib.ListN.{length, take, drop};
 ghost use Rattle.definition.specs.Basics.{same};
 ghost use Rattle.jvms.specs.Pool.{Slot};
@@ -9,7 +10,7 @@ ghost use Rattle.jvms.specs.Written.{bytes2, bytes4};
 ghost use Rattle.places.specs.Standing.{slotOf, Noted};
 ghost use Rattle.raw_const.specs.Entries.{Wrote};
 ghost use Rattle.class_file.specs.ClassFile.{classBytes, nameConstant, isName};
-ghost use Rattle.class_file.specs.Answers.{partsOf, headBytes, membersBytes, attributesOf};
+ghost use Rattle.class_file.specs.Answers.{partsOf, headBytes, membersBytes, attributesOf, frameSize, Tells, Head, NoMembers, OneAttribute};
 
 const MAGIC: u32 = 0xCAFEBABE;
 
@@ -105,6 +106,51 @@ fn write_attributes(out: &mut [u8], at: usize, name: u16, count: u16, bootstraps
     write_bytes(out, next, bootstraps)
 }
 
+// How many bytes a file has besides its pool and its bootstrap methods.
+fn frame_size(name: u16) -> usize
+    ensures { λ r. ⌜ r ≡ frameSize name ⌝ }
+{
+    if name == 0 { 22 } else { 30 }
+}
+
+// Whether a file fits, by what is left each time: the sum of the sizes may be too large a number.
+fn has_room(room: usize, name: u16, pool: usize, bootstraps: usize) -> bool
+    ensures { λ r. ⌜ r ≡ leb (frameSize name + pool + bootstraps) room ⌝ }
+{
+    let frame = frame_size(name);
+    if room < frame {
+        return false;
+    }
+    if room - frame < pool {
+        return false;
+    }
+    bootstraps <= room - frame - pool
+}
+
+fn write_file(
+    minor: u16,
+    major: u16,
+    pool: &[u8],
+    access_flags: u16,
+    this_class: u16,
+    super_class: u16,
+    name: u16,
+    count: u16,
+    bootstraps: &[u8],
+    out: &mut [u8],
+) -> usize
+    requires { ⌜ length (now bootstraps) ≤ 4294967293 ⌝ }
+    requires { ⌜ length (classBytes (partsOf minor major (now pool) «access_flags» «this_class» «super_class» name count (now bootstraps))) ≤ length (now out) ⌝ }
+    ensures { λ r. ⌜ Wrote (now (out .entry)) 0
+        (classBytes (partsOf minor major (now (pool .entry)) «access_flags» «this_class» «super_class» name count (now (bootstraps .entry))))
+        (now (out .exit)) r ⌝ }
+{
+    let next = write_head(out, minor, major);
+    let next = write_bytes(out, next, pool);
+    let next = write_members(out, next, access_flags, this_class, super_class);
+    write_attributes(out, next, name, count, bootstraps)
+}
+
 // Whether the constant that is the attribute's name stands at a place.
 fn spells_name(bytes: &[u8], at: usize) -> bool
     requires { ⌜ at + 19 ≤ length (now bytes) ⌝ }
@@ -135,4 +181,42 @@ fn holds_name(bytes: &[u8], name: u16, places: &[usize; 65536]) -> bool
         return false;
     }
     spells_name(bytes, at)
+}
+
+// Whether a file begins with the magic number and has room for the versions.
+fn has_head(file: &[u8]) -> bool
+    ensures { λ r. ⌜ Tells r (Head (now (file .entry))) ⌝ }
+{
+    if file.len() < 8 {
+        return false;
+    }
+    writer::get_u32(file, 0) == MAGIC
+}
+
+// Whether behind a pool stand flags, classes, no interfaces, fields or methods, and the number of attributes.
+fn no_members(file: &[u8], at: usize) -> bool
+    requires { ⌜ at ≤ length (now file) ⌝ }
+    ensures { λ r. ⌜ Tells r (NoMembers (now (file .entry)) at) ⌝ }
+{
+    if file.len() - at < 14 {
+        return false;
+    }
+    if writer::get_u16(file, at + 6) != 0 {
+        return false;
+    }
+    if writer::get_u16(file, at + 8) != 0 {
+        return false;
+    }
+    writer::get_u16(file, at + 10) == 0
+}
+
+// Whether an attribute of the right length stands at a place.
+fn has_attribute(file: &[u8], at: usize) -> bool
+    requires { ⌜ at ≤ length (now file) ⌝ }
+    ensures { λ r. ⌜ Tells r (OneAttribute (now (file .entry)) at) ⌝ }
+{
+    if file.len() - at < 8 {
+        return false;
+    }
+    writer::get_u32(file, at + 2) as usize == file.len() - at - 6
 }
