@@ -25,7 +25,7 @@ read-u2 bytes at enough =
     let end : at + 2 ≡ suc (suc at) = omega arith in
     rw (drop-cons bytes at 0 here, drop-cons bytes (suc at) 0 next, add-one at, end)
 
-pub cut-u2 : (bytes : List ℕ) (at : ℕ) → length bytes < at + 2 → u2 (drop at bytes) ≡ none
+cut-u2 : (bytes : List ℕ) (at : ℕ) → length bytes < at + 2 → u2 (drop at bytes) ≡ none
 cut-u2 bytes at few = go (u2 (drop at bytes)) refl
   where
     go : (o : Option (ℕ × List ℕ)) → u2 (drop at bytes) ≡ o → u2 (drop at bytes) ≡ none

@@ -1,6 +1,6 @@
 -- What a reader finds at a place of bytes is read off the bytes there: items, and constants with their items. Assumes nothing.
 use mathlib.Core.Bool.{Bool, true, false}
-use mathlib.Core.List.{List, [], _∷_}
+use mathlib.Core.List.{List, [], _∷_, _++_, append-assoc}
 use mathlib.Core.Option.{Option, none, some}
 use mathlib.Core.Path.{_≡_, refl, sym, ap, ap₂, subst, _∙_}
 use Prim.Native.Nat.{ℕ, zero, suc, _+_, _*_, _<_, _≤_}
@@ -16,6 +16,17 @@ use Rattle.jvms.specs.Written.{bytes2, bytes4, constant-bytes, All}
 use Rattle.writer.specs.Numbers.{number2, number4}
 use Rattle.facts.proofs.Lists.{none≢some}
 use Rattle.places.specs.Standing.{tag}
+
+-- what is put in front of what was read: nothing, and one list before another
+pub then-nothing : {A : Type 0} (o : Option (List A × List ℕ)) → o ≡ andThen o (λ more. return more)
+then-nothing none = refl
+then-nothing (some (l, left)) = refl
+
+pub then-joined :
+    {A : Type 0} (l m : List A) (o : Option (List A × List ℕ)) →
+    andThen (andThen o (λ more. return (m ++ more))) (λ more. return (l ++ more)) ≡ andThen o (λ more. return (l ++ m ++ more))
+then-joined l m none = refl
+then-joined l m (some (n, left)) = ap (λ x. some (x, left)) (sym (append-assoc l m n))
 
 -- what a reader finds at a place and the place that it leaves off at are so
 abbrev pub Finds : {A : Type 0} → (A → ℕ → Type 0) → Reader A → List ℕ → ℕ → Type 0

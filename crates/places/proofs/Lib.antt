@@ -3,3 +3,5 @@ pub mod Found
 pub mod Passing
 pub mod Rows
 pub mod Counting
+pub mod Tags
+pub mod Methods

@@ -1,6 +1,6 @@
 -- A pass over a pool's slots: what was found so far, and each constant more. Assumes nothing.
 use mathlib.Core.Bool.{Bool, true, false}
-use mathlib.Core.List.{List, [], _∷_, _++_, append-nil, append-assoc}
+use mathlib.Core.List.{List, [], _∷_, _++_, append-nil}
 use mathlib.Core.Option.{Option, none, some}
 use mathlib.Core.Path.{_≡_, refl, sym, ap, ap₂, _∙_}
 use Prim.Native.Nat.{ℕ, suc, _+_, _-_, _<_, _≤_}
@@ -20,7 +20,7 @@ use Rattle.laws.specs.Statements.{IsBytes}
 use Rattle.laws.proofs.reading.ReadIsSpelled.{all-bytes}
 use Rattle.laws.proofs.reading.ConstantsAgree.{over, agree-constant}
 use Rattle.places.specs.Noting.{width, placed}
-use Rattle.places.proofs.Finding.{finds-constant}
+use Rattle.places.proofs.Finding.{then-nothing, then-joined, finds-constant}
 
 -- an entry is wide exactly if its constant takes two slots
 same-width : (c : Constant) → isWide (asEntry c .tag) ≡ takes-two c
@@ -107,14 +107,7 @@ entry-first bytes rest c read false w k =
     rw (e, slots, read, w)
 entry-first bytes rest c read true w k =
     let e : 2 + k ≡ suc (suc k) = omega arith in
-    rw (e, slots, read, w) (go (slots k false rest))
-  where
-    go :
-        (o : Option (List Slot × List ℕ)) →
-        andThen (andThen o (λ more. return (unusable ∷ more))) (λ more. return (usable c ∷ more))
-        ≡ andThen o (λ more. return (usable c ∷ unusable ∷ more))
-    go none = refl
-    go (some (l, left)) = refl
+    rw (e, slots, read, w) (then-joined (usable c ∷ []) (unusable ∷ []) (slots k false rest))
 
 -- a table with one slot's place more, and none for the unusable slot
 placed-more :
@@ -156,12 +149,8 @@ passed-none bytes start before h =
       here = omega arith;
       inside = h;
       noted = refl;
-      reads = λ k. ap (λ n. slots n false (drop start bytes)) (zero-add k) ∙ go (slots k false (drop start bytes));
+      reads = λ k. ap (λ n. slots n false (drop start bytes)) (zero-add k) ∙ then-nothing (slots k false (drop start bytes));
     }
-  where
-    go : (o : Option (List Slot × List ℕ)) → o ≡ andThen o (λ more. return more)
-    go none = refl
-    go (some (l, left)) = refl
 
 module _ {bytes : List ℕ} {start : ℕ} {before : List ℕ} {at slot : ℕ} {table : List ℕ} (p : Passed bytes start before at slot table) where
   pub passed-more :
@@ -186,14 +175,8 @@ module _ {bytes : List ℕ} {start : ℕ} {before : List ℕ} {at slot : ℕ} {t
             ap (λ n. slots n false (drop start bytes)) size
             ∙ p .reads (width w + k)
             ∙ ap (λ o. andThen o (λ more. return (p .found ++ more))) (entry-first (drop at bytes) (drop next bytes) c read w refl k)
-            ∙ joined (entry w c) (slots k false (drop next bytes));
+            ∙ then-joined (p .found) (entry w c) (slots k false (drop next bytes));
       }
-    where
-      joined :
-          (l : List Slot) (o : Option (List Slot × List ℕ)) →
-          andThen (andThen o (λ more. return (l ++ more))) (λ more. return (p .found ++ more)) ≡ andThen o (λ more. return (p .found ++ l ++ more))
-      joined l none = refl
-      joined l (some (m, left)) = ap (λ x. some (x, left)) (sym (append-assoc (p .found) l m))
 
   -- no constant stands here, or one that takes two slots where one is left: the slots aren't read
   pub passed-bad : cp-info (drop at bytes) ≡ none → (n : ℕ) → slot ≤ n → slots n false (drop start bytes) ≡ none

@@ -3,7 +3,7 @@ ghost use mathlib.Core.Path.{_≡_};
 ghost use Prim.Native.Nat.{_-_, _<_, _≤_};
 ghost use lib.ListN.{length};
 ghost use Rattle.definition.specs.Shapes.{isWide};
-ghost use Rattle.places.specs.Noting.{width, SlotsNoted, PoolNoted};
+ghost use Rattle.places.specs.Noting.{width, SlotsNoted, PoolNoted, tagAt, MethodPassed, MethodsPut};
 use raw_const::Extent;
 
 // What reading a pool found.
@@ -60,4 +60,53 @@ pub fn note_pool(bytes: &[u8], at: usize, places: &mut [usize; 65536]) -> PoolRe
         return PoolRead::Bad;
     }
     note_slots(bytes, at + 2, count, places)
+}
+
+// The tag of the constant at an index, 0 where none begins.
+pub fn tag_at(bytes: &[u8], places: &[usize; 65536], slot: u16) -> u8
+    ensures { λ r. ⌜ r ≡ tagAt (now (bytes .entry)) (now (places .entry)) slot ⌝ }
+{
+    let place = places[slot as usize];
+    if place == 0 {
+        return 0;
+    }
+    if bytes.len() <= place {
+        return 0;
+    }
+    bytes[place]
+}
+
+// Finds the place behind the bootstrap method at a place: a handle, the number of its arguments, and these.
+fn past_method(bytes: &[u8], at: usize) -> PoolRead
+    requires { ⌜ at ≤ length (now bytes) ⌝ }
+    ensures { λ r. ⌜ MethodPassed (now (bytes .entry)) at r ⌝ }
+{
+    if bytes.len() - at < 4 {
+        return PoolRead::Bad;
+    }
+    let size = 2 * writer::get_u16(bytes, at + 2) as usize;
+    if bytes.len() - at - 4 < size {
+        return PoolRead::Bad;
+    }
+    PoolRead::Good {
+        next: at + 4 + size,
+    }
+}
+
+// Reads so many bootstrap methods, which are to take all bytes, and notes the place of each from index 0 on.
+pub fn note_methods(bytes: &[u8], count: u16, places: &mut [usize; 65536]) -> bool
+    ensures { λ r. ⌜ MethodsPut (now (bytes .entry)) count (now (places .entry)) (now (places .exit)) r ⌝ }
+{
+    let count = count as usize;
+    let mut at = 0;
+    let mut i = 0;
+    while i < count {
+        let PoolRead::Good { next } = past_method(bytes, at) else {
+            return false;
+        };
+        places[i] = at;
+        at = next;
+        i += 1;
+    }
+    at == bytes.len()
 }
