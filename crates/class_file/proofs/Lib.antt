@@ -7,3 +7,5 @@ pub mod BothWays
 pub mod Pieces
 pub mod Naming
 pub mod Telling
+pub mod Proper
+pub mod Answering

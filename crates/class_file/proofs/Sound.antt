@@ -10,14 +10,10 @@ use borrow.Author.Tests.{leb-true, le-leb, eqb-true}
 use Rattle.jvms.specs.Pool.{array, Slot, wholly, read-pool, BootstrapMethod, bootstrap-method, read-bootstrap-methods}
 use Rattle.facts.proofs.Lists.{none≢some, true≢false, both-true}
 use Rattle.class_file.specs.ClassFile.{Parts, named, matches, proper}
+use Rattle.class_file.specs.Answers.{Right}
 
-pub record Sound (p : Parts) : Type 0 where
-  pub slots : List Slot
-  pub pool-read : read-pool (p .pool) ≡ some slots
-  pub name-held : named (some slots) (p .name) (p .count) ≡ true
-  pub methods : List BootstrapMethod
-  pub methods-read : read-bootstrap-methods (p .count) (p .bootstraps) ≡ some methods
-  pub short : length (p .bootstraps) ≤ 4294967293
+abbrev pub Sound : Parts → Type 0
+Sound p = Right (p .pool) (p .name) (p .count) (p .bootstraps)
 
 pub proper-sound : (p : Parts) → proper p ≡ true → Sound p
 unfolding proper named matches

@@ -1,5 +1,5 @@
 -- Tests that tell whether something is so. Assumes nothing.
-use mathlib.Core.Bool.{Bool, true, false}
+use mathlib.Core.Bool.{Bool, true, false, not}
 use mathlib.Core.Path.{_≡_, refl, sym, _∙_}
 use Prim.Native.Nat.{ℕ}
 use lib.Dec.{eqb}
@@ -13,3 +13,11 @@ tells-equal {P} a b forth back = go (eqb a b) refl
     go : (t : Bool) → eqb a b ≡ t → Tells t P
     go true e = forth (eqb-true a b e)
     go false e = λ p. true≢false (sym (eq-eqb a b (back p)) ∙ e)
+
+pub tells-no : {P : Type 0} (t : Bool) → Tells t P → not t ≡ true → P → ⊥
+tells-no true told e p = true≢false (sym e)
+tells-no false told e p = told p
+
+pub tells-yes : {P : Type 0} (t : Bool) → Tells t P → not t ≡ false → P
+tells-yes true told e = told
+tells-yes false told e = true≢false e

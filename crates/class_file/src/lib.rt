@@ -1,18 +1,46 @@
 // A class file around a finished pool, both ways (document 02, No. 7; JVMS 4.1, 4.7.23).
 ghost use mathlib.Core.Path.{_≡_};
 ghost use mathlib.Core.List.{List};
+ghost use mathlib.Core.Option.{some};
 ghost use Prim.Native.Nat.{_+_, _<_, _≤_};
 ghost use lib.Dec.{leb};
 ghost use lib.ListN.{length, take, drop};
 ghost use Rattle.definition.specs.Basics.{same};
 ghost use Rattle.jvms.specs.Pool.{Slot};
 ghost use Rattle.jvms.specs.Written.{bytes2, bytes4};
+ghost use Rattle.writer.specs.Numbers.{number2};
 ghost use Rattle.places.specs.Standing.{slotOf, Noted};
 ghost use Rattle.raw_const.specs.Entries.{Wrote};
-ghost use Rattle.class_file.specs.ClassFile.{classBytes, nameConstant, isName};
-ghost use Rattle.class_file.specs.Answers.{partsOf, headBytes, membersBytes, attributesOf, frameSize, Tells, Head, NoMembers, OneAttribute};
+ghost use Rattle.class_file.specs.ClassFile.{named, classBytes, nameConstant, isName, writeClass, readClass};
+ghost use Rattle.class_file.specs.Answers.{partsOf, headBytes, membersBytes, attributesOf, frameSize, Tells, Head, NoMembers, OneAttribute, Right, answerOf, outAfter, partsAt, placesOf, Framed};
+use places::PoolRead;
 
 const MAGIC: u32 = 0xCAFEBABE;
+
+// With two bytes of their number they have the greatest length that four bytes hold.
+const MOST_BOOTSTRAPS: usize = 4294967293;
+
+// The file's length, or why there is none.
+pub enum Written {
+    File(usize),
+    Refused(u32),
+}
+
+// The parts of a file, or why it has none: its pool stands at 8..pool_end, and its bootstrap methods from `bootstraps` to the end.
+pub enum ClassRead {
+    Parts {
+        minor: u16,
+        major: u16,
+        pool_end: usize,
+        access_flags: u16,
+        this_class: u16,
+        super_class: u16,
+        name: u16,
+        count: u16,
+        bootstraps: usize,
+    },
+    Refused(u32),
+}
 
 // CONSTANT_Utf8 of "BootstrapMethods": its tag, its length and its bytes.
 const NAME: [u8; 19] = [
@@ -183,6 +211,75 @@ fn holds_name(bytes: &[u8], name: u16, places: &[usize; 65536]) -> bool
     spells_name(bytes, at)
 }
 
+// Whether a name slot is right: where none is given there are no bootstrap methods.
+fn is_named(pool: &[u8], name: u16, count: u16, table: &[usize; 65536]) -> bool
+    ensures { λ r. ⌜ ((slots : List Slot) → Noted (now (pool .entry)) slots (now (table .entry)) → r ≡ named (some slots) name count) ⌝ }
+{
+    if name == 0 {
+        return count == 0;
+    }
+    holds_name(pool, name, table)
+}
+
+// Whether parts make a file.
+fn is_proper(pool: &[u8], name: u16, count: u16, bootstraps: &[u8]) -> bool
+    ensures { λ r. ⌜ Tells r (Right (now (pool .entry)) name count (now (bootstraps .entry))) ⌝ }
+{
+    let mut table = [0usize; 65536];
+    let PoolRead::Good { next } = places::note_pool(pool, 0, &mut table) else {
+        return false;
+    };
+    if next != pool.len() {
+        return false;
+    }
+    if !is_named(pool, name, count, &table) {
+        return false;
+    }
+    if MOST_BOOTSTRAPS < bootstraps.len() {
+        return false;
+    }
+    places::note_methods(bootstraps, count, &mut table)
+}
+
+// The class file of parts: 27 if they make none, then 18 if it doesn't fit.
+pub fn write_class(
+    minor: u16,
+    major: u16,
+    pool: &[u8],
+    access_flags: u16,
+    this_class: u16,
+    super_class: u16,
+    name: u16,
+    count: u16,
+    bootstraps: &[u8],
+    out: &mut [u8],
+) -> Written
+    ensures { λ r. ⌜ r ≡ answerOf (writeClass (length (now (out .entry)))
+        (partsOf minor major (now (pool .entry)) «access_flags» «this_class» «super_class» name count (now (bootstraps .entry)))) ⌝ }
+    ensures { λ _. ⌜ now (out .exit) ≡ outAfter (writeClass (length (now (out .entry)))
+        (partsOf minor major (now (pool .entry)) «access_flags» «this_class» «super_class» name count (now (bootstraps .entry)))) (now (out .entry)) ⌝ }
+{
+    if !is_proper(pool, name, count, bootstraps) {
+        return Written::Refused(27);
+    }
+    if !has_room(out.len(), name, pool.len(), bootstraps.len()) {
+        return Written::Refused(18);
+    }
+    let end = write_file(
+        minor,
+        major,
+        pool,
+        access_flags,
+        this_class,
+        super_class,
+        name,
+        count,
+        bootstraps,
+        out,
+    );
+    Written::File(end)
+}
+
 // Whether a file begins with the magic number and has room for the versions.
 fn has_head(file: &[u8]) -> bool
     ensures { λ r. ⌜ Tells r (Head (now (file .entry))) ⌝ }
@@ -219,4 +316,22 @@ fn has_attribute(file: &[u8], at: usize) -> bool
         return false;
     }
     writer::get_u32(file, at + 2) as usize == file.len() - at - 6
+}
+
+// The parts of a file whose pool ends at a place, by what its attribute holds.
+fn parts_at(file: &[u8], end: usize, name: u16, count: u16, bootstraps: usize) -> ClassRead
+    requires { ⌜ (8 ≤ end) × (end + 14 ≤ length (now file)) ⌝ }
+    ensures { λ r. ⌜ r ≡ partsAt (now (file .entry)) end name count bootstraps ⌝ }
+{
+    ClassRead::Parts {
+        minor: writer::get_u16(file, 4),
+        major: writer::get_u16(file, 6),
+        pool_end: end,
+        access_flags: writer::get_u16(file, end),
+        this_class: writer::get_u16(file, end + 2),
+        super_class: writer::get_u16(file, end + 4),
+        name,
+        count,
+        bootstraps,
+    }
 }
