@@ -16,13 +16,13 @@ use Rattle.class_file.specs.Promises.{Fits}
 use Rattle.class_file.proofs.Local.{pool-before}
 use Rattle.class_file.proofs.Sound.{Sound, proper-sound, nameless}
 
-u2-back : (n : ℕ) (rest : List ℕ) → Is2 n → u2 (bytes2 n ++ rest) ≡ some (n, rest)
+pub u2-back : (n : ℕ) (rest : List ℕ) → Is2 n → u2 (bytes2 n ++ rest) ≡ some (n, rest)
 unfolding u2 u1 bytes2
 u2-back n rest h =
     let e : 256 * (n / 256) + n % 256 ≡ n = omega arith in
     ap (λ m. some (m, rest)) e
 
-u4-back : (n : ℕ) (rest : List ℕ) → Is4 n → u4 (bytes4 n ++ rest) ≡ some (n, rest)
+pub u4-back : (n : ℕ) (rest : List ℕ) → Is4 n → u4 (bytes4 n ++ rest) ≡ some (n, rest)
 unfolding u4 bytes4
 u4-back n rest h =
     let e : 65536 * (n / 65536) + n % 65536 ≡ n = omega arith in

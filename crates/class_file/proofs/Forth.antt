@@ -55,7 +55,7 @@ item-must P W r item n =
     record { used = t .used; are = t .are; left = t .left; is = rw (t .is .1, append-nil) (h .1 ∙ ap W (eqb-true m n (t .is .0))) }
 
 -- the bytes that a reader takes
-all-front : (l m : List ℕ) → All Is1 (l ++ m) → All Is1 l
+pub all-front : (l m : List ℕ) → All Is1 (l ++ m) → All Is1 l
 unfolding All
 all-front [] m h = tt
 all-front (b ∷ l) m h = (h .0, all-front l m (h .1))

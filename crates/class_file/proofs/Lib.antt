@@ -9,3 +9,6 @@ pub mod Naming
 pub mod Telling
 pub mod Proper
 pub mod Answering
+pub mod Placed
+pub mod Refusing
+pub mod Accepting

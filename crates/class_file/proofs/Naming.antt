@@ -24,7 +24,7 @@ name-read : (rest : List ℕ) → cp-info (nameConstant ++ rest) ≡ some (Utf8 
 unfolding nameConstant constant-bytes bytes2 ascii u1 u2 array structures structure cp-info
 name-read rest = refl
 
-bytes-behind : (bytes : List ℕ) → IsBytes bytes → (at : ℕ) → All Is1 (drop at bytes)
+pub bytes-behind : (bytes : List ℕ) → IsBytes bytes → (at : ℕ) → All Is1 (drop at bytes)
 bytes-behind bytes are at = all-bytes (drop at bytes) (λ i. rw getD-drop (are (at + i)))
 
 -- a constant is the name exactly if the name's bytes stand at its place

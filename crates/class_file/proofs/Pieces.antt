@@ -48,6 +48,10 @@ unfolding attributes-bytes
 attributes-one zero count b h = absurd (omega arith)
 attributes-one (suc n) count b h = simp append-assoc
 
+pub attributes-items :
+    (name count : ℕ) (b : List ℕ) → 0 < name → attributesOf name count b ≡ bytes2 1 ++ (bytes2 name ++ (bytes4 (2 + length b) ++ (bytes2 count ++ b)))
+attributes-items name count b h = attributes-one name count b h ∙ simp append-assoc
+
 pub length-one : (name count : ℕ) (b : List ℕ) → 0 < name → length (attributesOf name count b) ≡ 10 + length b
 unfolding bytes2 bytes4
 length-one name count b h = omega (arith, ap length (attributes-one name count b h))
@@ -65,6 +69,24 @@ pub file-pieces :
 unfolding classBytes attribute-bytes
 file-pieces minor major pool flags this super name count b =
     regrouped (bytes4 0xcafebabe) (bytes2 minor) (bytes2 major) pool (bytes2 flags) (bytes2 this) (bytes2 super) (bytes2 0) (bytes2 0) (bytes2 0) (attributesOf name count b)
+
+-- the same, each item before all that follows
+nested :
+    (a b c pool d e f g h i l : List ℕ) →
+    a ++ b ++ c ++ pool ++ d ++ e ++ f ++ g ++ h ++ i ++ l ≡ a ++ (b ++ (c ++ (pool ++ (d ++ (e ++ (f ++ (g ++ (h ++ (i ++ l)))))))))
+nested a b c pool d e f g h i l = simp append-assoc
+
+-- what stands behind the pool, before the attributes
+abbrev pub behind : ℕ → ℕ → ℕ → List ℕ → List ℕ
+behind flags this super l = bytes2 flags ++ (bytes2 this ++ (bytes2 super ++ (bytes2 0 ++ (bytes2 0 ++ (bytes2 0 ++ l)))))
+
+pub file-items :
+    (minor major : ℕ) (pool : List ℕ) (flags this super name count : ℕ) (b : List ℕ) →
+    classBytes (partsOf minor major pool flags this super name count b)
+    ≡ bytes4 0xcafebabe ++ (bytes2 minor ++ (bytes2 major ++ (pool ++ behind flags this super (attributesOf name count b))))
+unfolding classBytes attribute-bytes
+file-items minor major pool flags this super name count b =
+    nested (bytes4 0xcafebabe) (bytes2 minor) (bytes2 major) pool (bytes2 flags) (bytes2 this) (bytes2 super) (bytes2 0) (bytes2 0) (bytes2 0) (attributesOf name count b)
 
 pub length-file :
     (minor major : ℕ) (pool : List ℕ) (flags this super name count : ℕ) (b : List ℕ) →

@@ -1,5 +1,5 @@
 -- Whether parts are proper, by what reading their pool and their bootstrap methods told. Assumes nothing.
-use mathlib.Core.Bool.{Bool, true, false}
+use mathlib.Core.Bool.{Bool, true, false, not}
 use mathlib.Core.List.{List, [], _∷_}
 use mathlib.Core.Option.{Option, none, some}
 use mathlib.Core.Path.{_≡_, refl, sym, ap, subst, _∙_}
@@ -8,8 +8,8 @@ use native.Mathlib.Omega.{arith}
 use lib.Dec.{eqb}
 use lib.ListN.{length, drop, length-drop}
 use lib.Seq.{drop-length}
-use Rattle.jvms.specs.Pool.{_>>=_, u2, Slot, constant-pool, wholly, read-pool}
-use Rattle.facts.proofs.Lists.{none≢some, some-inj}
+use Rattle.jvms.specs.Pool.{_>>=_, u2, Slot, constant-pool, wholly, read-pool, BootstrapMethod, read-bootstrap-methods}
+use Rattle.facts.proofs.Lists.{none≢some, some-inj, true≢false}
 use Rattle.laws.proofs.reading.ReadIsSpelled.{wholly-some}
 use Rattle.places.specs.declared.PoolRead.{PoolRead}
 use Rattle.places.specs.declared.PoolRead.the-variants.{Good, Bad}
@@ -65,3 +65,13 @@ module _ (pool : List ℕ) (name count : ℕ) (bootstraps : List ℕ) where
   methods-tell found before after true read n short put =
       record { slots = found; pool-read = read; name-held = n; methods = put .0; methods-read = put .1; short = short }
   methods-tell found before after false read n short put = λ right. none≢some (sym (put .0) ∙ right .methods-read)
+
+-- what reading bootstrap methods told, by its answer
+module _ (bytes : List ℕ) (count : ℕ) (before after : List ℕ) where
+  pub methods-none : (r : Bool) → MethodsPut bytes count before after r → not r ≡ true → read-bootstrap-methods count bytes ≡ none
+  methods-none true put e = true≢false (sym e)
+  methods-none false put e = put .0
+
+  pub methods-some : (r : Bool) → MethodsPut bytes count before after r → not r ≡ false → (methods : List BootstrapMethod) × (read-bootstrap-methods count bytes ≡ some methods)
+  methods-some true put e = (put .0, put .1)
+  methods-some false put e = true≢false e

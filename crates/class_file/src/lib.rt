@@ -335,3 +335,59 @@ fn parts_at(file: &[u8], end: usize, name: u16, count: u16, bootstraps: usize) -
         bootstraps,
     }
 }
+
+// The parts of a file with one attribute, whose pool ends at a place.
+fn read_attribute(file: &[u8], end: usize, table: &mut [usize; 65536]) -> ClassRead
+    requires { ⌜ Framed (now file) end (now table) × (number2 (now file) (end + 12) ≡ 1) ⌝ }
+    ensures { λ r. ⌜ r ≡ placesOf (now (file .entry)) (readClass (now (file .entry))) ⌝ }
+{
+    let at = end + 14;
+    if !has_attribute(file, at) {
+        return ClassRead::Refused(27);
+    }
+    let name = writer::get_u16(file, at);
+    if !holds_name(file, name, table) {
+        return ClassRead::Refused(27);
+    }
+    let count = writer::get_u16(file, at + 6);
+    let from = at + 8;
+    if !places::note_methods(&file[from..], count, table) {
+        return ClassRead::Refused(27);
+    }
+    parts_at(file, end, name, count, from)
+}
+
+// The parts of a file whose pool ends at a place, by the number of its attributes.
+fn read_attributes(file: &[u8], end: usize, table: &mut [usize; 65536]) -> ClassRead
+    requires { ⌜ Framed (now file) end (now table) ⌝ }
+    ensures { λ r. ⌜ r ≡ placesOf (now (file .entry)) (readClass (now (file .entry))) ⌝ }
+{
+    let n = writer::get_u16(file, end + 12);
+    if n == 1 {
+        return read_attribute(file, end, table);
+    }
+    if n != 0 {
+        return ClassRead::Refused(27);
+    }
+    if file.len() != end + 14 {
+        return ClassRead::Refused(27);
+    }
+    parts_at(file, end, 0, 0, end + 14)
+}
+
+// The parts of a class file, as places in it: 27 if it isn't one of this frame.
+pub fn read_class(file: &[u8]) -> ClassRead
+    ensures { λ r. ⌜ r ≡ placesOf (now (file .entry)) (readClass (now (file .entry))) ⌝ }
+{
+    if !has_head(file) {
+        return ClassRead::Refused(27);
+    }
+    let mut table = [0usize; 65536];
+    let PoolRead::Good { next } = places::note_pool(file, 8, &mut table) else {
+        return ClassRead::Refused(27);
+    };
+    if !no_members(file, next) {
+        return ClassRead::Refused(27);
+    }
+    read_attributes(file, next, &mut table)
+}
