@@ -1,0 +1,14 @@
+pub mod Example
+pub mod Local
+pub mod Sound
+pub mod Back
+pub mod Forth
+pub mod BothWays
+pub mod Pieces
+pub mod Naming
+pub mod Telling
+pub mod Proper
+pub mod Answering
+pub mod Placed
+pub mod Refusing
+pub mod Accepting

@@ -1,0 +1,3 @@
+pub mod ClassFile
+pub mod Promises
+pub mod Answers
