@@ -1,0 +1,5 @@
+class Greeter {
+    Runnable greet(String name) {
+        return () -> System.out.println(name);
+    }
+}
