@@ -1,7 +1,7 @@
-/* The constant-pool builder and its block file, for C and C++ on x86-64.
+/* The constant-pool builder and its block file, for C and C++.
  *
- * Link target/staticlib/libcpool.a for cpool_run and target/staticlib/libblocks.a for the block functions; `rt staticlib cpool` and
- * `rt staticlib blocks` prove and write them. Document 01 is the page of rules: what a job is, and what each refusal number means.
+ * Link target/staticlib/libcpool.a for cpool_run and target/staticlib/libblocks.a for the block functions; `tools/library cpool blocks`
+ * proves and writes them, for x86-64 or for the machine that it runs on. Document 01 is the page of rules: what a job is, and what each refusal number means.
  *
  * What a caller owes, to every function here:
  * - each pointer points to as many elements as the length behind it says, aligned as its type, and isn't NULL, also where that

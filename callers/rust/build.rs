@@ -1,5 +1,4 @@
-//! Links the proved libraries. `rt staticlib cpool` and `rt staticlib blocks` write them; ROTBLOSSOM_LIBRARY names another
-//! folder.
+//! Links the proved libraries. `tools/library cpool blocks` writes them; ROTBLOSSOM_LIBRARY names another folder.
 
 use std::env;
 use std::path::Path;
@@ -14,7 +13,7 @@ fn main() {
         println!("cargo:rerun-if-changed={archive}");
         assert!(
             Path::new(&archive).exists(),
-            "{archive} isn't there: `rt staticlib {name}` writes it"
+            "{archive} isn't there: `tools/library {name}` writes it"
         );
         println!("cargo:rustc-link-lib=static={name}");
     }

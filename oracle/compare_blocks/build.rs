@@ -1,4 +1,4 @@
-//! Links the static library that `rt staticlib blocks` leaves in target/staticlib of the repository.
+//! Links the static library that `tools/library blocks` leaves in target/staticlib of the repository.
 
 fn main() {
     let here = std::env::var("CARGO_MANIFEST_DIR").unwrap();
