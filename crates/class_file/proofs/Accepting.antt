@@ -1,14 +1,14 @@
 -- A file of the frame is read as the parts that stand in it. Assumes nothing.
 use mathlib.Core.Bool.{true}
-use mathlib.Core.List.{List, [], _∷_, _++_, append-nil, append-assoc}
+use mathlib.Core.List.{List, [], _++_, append-nil, append-assoc}
 use mathlib.Core.Option.{some}
 use mathlib.Core.Path.{_≡_, refl, sym, ap, subst, _∙_}
-use Prim.Native.Nat.{ℕ, zero, suc, _+_, _*_, _-_, _<_, _≤_}
+use Prim.Native.Nat.{ℕ, zero, suc, _+_, _-_, _<_, _≤_}
 use native.Mathlib.Omega.{arith}
 use lib.ListN.{length, drop, length-drop, length-append, drop-of-length-le}
 use Rattle.definition.specs.Basics.{good}
-use Rattle.jvms.specs.Pool.{_>>=_, u2, array, Slot, constant-pool, wholly, read-pool, BootstrapMethod, read-bootstrap-methods}
-use Rattle.jvms.specs.Written.{bytes2, bytes4, Is1, Is2, Is4, All}
+use Rattle.jvms.specs.Pool.{array, wholly, read-pool, BootstrapMethod, read-bootstrap-methods}
+use Rattle.jvms.specs.Written.{bytes2, bytes4, Is1, Is2, All}
 use Rattle.writer.specs.Numbers.{number2, number4}
 use Rattle.facts.proofs.Lists.{true≢false}
 use Rattle.laws.specs.Statements.{IsBytes}
@@ -16,9 +16,8 @@ use Rattle.laws.proofs.reading.ReadIsSpelled.{all-bytes, item-u2, four-bytes, t
 use Rattle.laws.proofs.reading.SpelledIsRead.{pool-back}
 use Rattle.places.specs.Standing.{slotOf}
 use Rattle.places.proofs.Counting.{read-u2}
-use Rattle.class_file.specs.declared.ClassRead.{ClassRead}
 use Rattle.class_file.specs.declared.ClassRead.the-variants.{Parts as Places}
-use Rattle.class_file.specs.ClassFile.{Parts, isName, named, classBytes, readClass}
+use Rattle.class_file.specs.ClassFile.{isName, classBytes, readClass}
 use Rattle.class_file.specs.Promises.{Fits}
 use Rattle.class_file.specs.Answers.{partsOf, attributesOf, OneAttribute, Right, placesOf, partsAt, Framed}
 use Rattle.class_file.proofs.Sound.{sound-proper}

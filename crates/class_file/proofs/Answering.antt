@@ -6,7 +6,6 @@ use native.Mathlib.Nat.{zero-add}
 use native.Mathlib.Omega.{arith}
 use lib.ListN.{length, take, drop}
 use lib.Seq.{take-length}
-use Rattle.definition.specs.Basics.{Result, good, bad}
 use Rattle.definition.specs.Run.{overwrite}
 use Rattle.jvms.specs.Written.{bytes2}
 use Rattle.raw_const.specs.Entries.{Wrote}
@@ -14,7 +13,7 @@ use Rattle.class_file.specs.declared.Written.{Written}
 use Rattle.class_file.specs.declared.Written.the-variants.{File, Refused}
 use Rattle.class_file.specs.ClassFile.{Parts, classBytes, writeClass}
 use Rattle.class_file.specs.Answers.{partsOf, attributesOf, frameSize, Right, answerOf, outAfter}
-use Rattle.class_file.proofs.Sound.{Sound, sound-proper, nameless}
+use Rattle.class_file.proofs.Sound.{sound-proper, nameless}
 use Rattle.class_file.proofs.Pieces.{attributes-none, length-one, length-file, frame-none, frame-some}
 use Rattle.class_file.proofs.BothWays.{written-27, written-18, written-good}
 

@@ -1,17 +1,17 @@
 -- The file of proper parts is read as these parts. Assumes nothing.
-use mathlib.Core.Bool.{Bool, true, false}
-use mathlib.Core.List.{List, [], _∷_, _++_, append-nil, append-assoc}
-use mathlib.Core.Option.{Option, none, some}
-use mathlib.Core.Path.{_≡_, refl, sym, ap, _∙_}
+use mathlib.Core.Bool.{true}
+use mathlib.Core.List.{List, [], _++_, append-nil, append-assoc}
+use mathlib.Core.Option.{some}
+use mathlib.Core.Path.{_≡_, refl, ap}
 use Prim.Native.Nat.{ℕ, zero, suc, _+_, _*_, _-_, _/_, _%_, _<_}
 use native.Mathlib.Omega.{arith}
-use lib.ListN.{length, take, length-append}
+use lib.ListN.{length, length-append}
 use lib.Seq.{take-append-seam}
 use borrow.Author.Tests.{eq-eqb, lt-ltb}
 use Rattle.definition.specs.Basics.{good}
-use Rattle.jvms.specs.Pool.{Reader, return, andThen, _>>=_, u1, u2, u4, Slot, constant-pool, wholly, read-pool}
+use Rattle.jvms.specs.Pool.{Reader, _>>=_, u1, u2, u4, Slot, constant-pool, wholly, read-pool}
 use Rattle.jvms.specs.Written.{bytes2, bytes4, Is2, Is4}
-use Rattle.class_file.specs.ClassFile.{Parts, named, matches, proper, attribute-bytes, attributes-bytes, classBytes, only-if, _must-be_, bytes-of, all-left, Attribute, attribute, attributes, class-file, accepted, readClass}
+use Rattle.class_file.specs.ClassFile.{Parts, proper, attribute-bytes, attributes-bytes, classBytes, only-if, _must-be_, bytes-of, all-left, Attribute, attribute, attributes, class-file, accepted, readClass}
 use Rattle.class_file.specs.Promises.{Fits}
 use Rattle.class_file.proofs.Local.{pool-before}
 use Rattle.class_file.proofs.Sound.{Sound, proper-sound, nameless}

@@ -1,14 +1,14 @@
 -- EXACT, READ BACK and WRITTEN BACK. Assumes nothing.
 use mathlib.Core.Bool.{Bool, true, false}
 use mathlib.Core.List.{List}
-use mathlib.Core.Path.{_≡_, refl, sym, ap, _∙_}
+use mathlib.Core.Path.{_≡_, refl}
 use Prim.Native.Nat.{ℕ, _<_, _≤_}
 use lib.Dec.{leb}
 use lib.ListN.{length}
 use borrow.Author.Tests.{le-leb, lt-leb}
 use Rattle.definition.specs.Basics.{Result, good, bad}
 use Rattle.facts.proofs.Lists.{clash}
-use Rattle.class_file.specs.ClassFile.{Parts, proper, classBytes, fitting, writeClass, readClass}
+use Rattle.class_file.specs.ClassFile.{Parts, proper, classBytes, fitting, writeClass}
 use Rattle.class_file.specs.Promises.{Exact, ReadBack, WrittenBack}
 use Rattle.class_file.proofs.Back.{parts-back}
 use Rattle.class_file.proofs.Forth.{parts-forth}

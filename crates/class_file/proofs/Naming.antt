@@ -1,22 +1,23 @@
 -- Whether a slot holds the attribute's name, by the bytes at the place of its constant. Assumes nothing.
 use mathlib.Core.Bool.{Bool, true, false}
-use mathlib.Core.List.{List, [], _∷_, _++_}
+use mathlib.Core.List.{List, _++_}
 use mathlib.Core.Logic.{_⊎_, inl, inr}
 use mathlib.Core.Option.{Option, none, some}
-use mathlib.Core.Path.{_≡_, refl, sym, ap, subst, _∙_}
-use Prim.Native.Nat.{ℕ, zero, suc, _+_, _<_, _≤_}
+use mathlib.Core.Path.{_≡_, refl, sym, ap, _∙_}
+use Prim.Native.Nat.{ℕ, _+_, _<_, _≤_}
 use native.Mathlib.Omega.{arith}
 use lib.ListN.{length, take, drop, getD, length-take, length-drop, take-append-drop}
-use lib.Seq.{ext-getD, getD-take, getD-drop, take-append-seam}
+use lib.Seq.{ext-getD, getD-take, getD-drop}
 use Rattle.definition.specs.Ascii.{ascii}
 use Rattle.definition.specs.Basics.{same}
 use Rattle.jvms.specs.Pool.{u1, u2, array, Constant, Utf8, structures, structure, cp-info, Slot, usable, unusable}
 use Rattle.jvms.specs.Written.{bytes2, constant-bytes, slot-bytes, Is1, All}
 use Rattle.facts.proofs.Copies.{part-length}
-use Rattle.facts.proofs.Lists.{clash, none≢some, some-inj, same-true, same-refl, tests-agree, order}
+use Rattle.facts.proofs.Lists.{some-inj, same-true, same-refl, tests-agree, order}
 use Rattle.laws.specs.Statements.{IsBytes}
 use Rattle.laws.proofs.reading.ReadIsSpelled.{all-bytes, item-constant}
 use Rattle.places.specs.Standing.{slotOf, Noted}
+use Rattle.places.proofs.Found.{no-place, at-place}
 use Rattle.class_file.specs.ClassFile.{nameConstant, isName}
 
 -- the name's constant is read as it stands
@@ -107,17 +108,9 @@ module _ (bytes : List ℕ) (slots : List Slot) (table : List ℕ) (noted : Note
       go : (o : Option Slot) → slotOf slots n ≡ o → isName o ≡ false
       go none e = refl
       go (some unusable) e = refl
-      go (some (usable c)) e = absurd (omega (arith, noted .begins n c e .0))
+      go (some (usable c)) e = absurd (no-place noted n z c e)
 
   pub name-there : IsBytes bytes → 0 < getD table n 0 → isName (slotOf slots n) ≡ same (take 19 (drop (getD table n 0) bytes)) nameConstant
-  name-there are h = go (slotOf slots n) refl
-    where
-      nothing : ((c : Constant) → slotOf slots n ≡ some (usable c) → ⊥) → isName (slotOf slots n) ≡ same (take 19 (drop (getD table n 0) bytes)) nameConstant
-      nothing f = absurd (omega (arith, noted .no-more n f))
-
-      go : (o : Option Slot) → slotOf slots n ≡ o → isName (slotOf slots n) ≡ same (take 19 (drop (getD table n 0) bytes)) nameConstant
-      go none e = nothing (λ c f. none≢some (sym e ∙ f))
-      go (some unusable) e = nothing (λ c f. clash (cc))
-      go (some (usable c)) e =
-          let found = noted .begins n c e .1 in
-          ap isName e ∙ name-at bytes are (getD table n 0) c (found .0) (found .1)
+  name-there are h =
+      let (c, is, found) = at-place noted n h in
+      ap isName is ∙ name-at bytes are (getD table n 0) c (found .0) (found .1)

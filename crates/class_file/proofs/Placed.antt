@@ -1,23 +1,17 @@
 -- Where the parts of a file stand in it. Assumes nothing.
-use mathlib.Core.List.{List, [], _∷_, _++_}
-use mathlib.Core.Option.{Option, none, some}
-use mathlib.Core.Path.{_≡_, refl, sym, ap, subst, _∙_}
-use Prim.Native.Nat.{ℕ, zero, suc, _+_, _*_, _-_, _<_, _≤_}
+use mathlib.Core.List.{List, _++_}
+use mathlib.Core.Path.{_≡_, refl, sym, ap, _∙_}
+use Prim.Native.Nat.{ℕ, _+_, _-_, _≤_}
 use native.Mathlib.Omega.{arith}
-use lib.ListN.{length, drop, getD, length-drop, length-append}
-use lib.Seq.{drop-drop, getD-drop, drop-append-seam}
-use Rattle.jvms.specs.Pool.{_>>=_, u2, u4, Slot, constant-pool, read-pool}
-use Rattle.jvms.specs.Written.{bytes2, bytes4, Is1, Is2, Is4, All}
+use lib.ListN.{length, drop}
+use lib.Seq.{drop-drop, drop-append-seam}
+use Rattle.jvms.specs.Pool.{u2, u4}
+use Rattle.jvms.specs.Written.{bytes2, bytes4, Is2, Is4}
 use Rattle.writer.specs.Numbers.{number2, number4}
-use Rattle.facts.proofs.Lists.{some-inj}
-use Rattle.laws.specs.Statements.{IsBytes}
-use Rattle.laws.proofs.reading.ReadIsSpelled.{all-bytes, item-u2, four-bytes, takes-pool}
-use Rattle.laws.proofs.reading.SpelledIsRead.{pool-back}
 use Rattle.places.proofs.Finding.{finds-u2, finds-u4}
-use Rattle.places.proofs.Counting.{read-u2}
 use Rattle.class_file.specs.ClassFile.{Parts, classBytes}
 use Rattle.class_file.specs.Promises.{Fits}
-use Rattle.class_file.specs.Answers.{partsOf, attributesOf, Head, NoMembers}
+use Rattle.class_file.specs.Answers.{attributesOf, Head}
 use Rattle.class_file.proofs.Back.{u2-back, u4-back}
 use Rattle.class_file.proofs.Pieces.{behind, file-items}
 

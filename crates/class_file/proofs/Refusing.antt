@@ -1,12 +1,12 @@
 -- What a file that is read has, so that a file without it is refused. Assumes nothing.
 use mathlib.Core.Bool.{Bool, true, false}
-use mathlib.Core.List.{List, [], _∷_, _++_, append-nil}
+use mathlib.Core.List.{List, [], append-nil}
 use mathlib.Core.Option.{Option, none, some}
 use mathlib.Core.Path.{_≡_, refl, sym, ap, subst, _∙_}
 use Prim.Native.Nat.{ℕ, zero, suc, _+_, _<_, _≤_}
 use native.Mathlib.Omega.{arith}
 use lib.ListN.{length, drop, length-drop}
-use Rattle.definition.specs.Basics.{Result, good, bad}
+use Rattle.definition.specs.Basics.{good, bad}
 use Rattle.jvms.specs.Pool.{_>>=_, u2, Slot, constant-pool, wholly, read-bootstrap-methods}
 use Rattle.jvms.specs.Written.{bytes2}
 use Rattle.writer.specs.Numbers.{number2, number4}
@@ -17,9 +17,9 @@ use Rattle.places.specs.Standing.{slotOf}
 use Rattle.class_file.specs.declared.ClassRead.the-variants.{Refused}
 use Rattle.class_file.specs.ClassFile.{Parts, isName, proper, classBytes, class-file, accepted, readClass}
 use Rattle.class_file.specs.Promises.{Fits}
-use Rattle.class_file.specs.Answers.{attributesOf, Head, NoMembers, OneAttribute, placesOf, Framed}
+use Rattle.class_file.specs.Answers.{Head, NoMembers, OneAttribute, placesOf, Framed}
 use Rattle.class_file.proofs.Local.{pool-before}
-use Rattle.class_file.proofs.Sound.{Sound, proper-sound, nameless}
+use Rattle.class_file.proofs.Sound.{Sound, proper-sound}
 use Rattle.class_file.proofs.Proper.{named-some}
 use Rattle.class_file.proofs.Pieces.{attributes-none, attributes-items}
 use Rattle.class_file.proofs.Forth.{parts-forth}

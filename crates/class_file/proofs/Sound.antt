@@ -1,13 +1,13 @@
 -- What proper parts have, and that parts which have it are proper. Assumes nothing.
-use mathlib.Core.Bool.{Bool, true, false, _&&_}
+use mathlib.Core.Bool.{true, false, _&&_}
 use mathlib.Core.List.{List, [], _∷_}
 use mathlib.Core.Option.{Option, none, some}
-use mathlib.Core.Path.{_≡_, refl, sym, ap, _∙_}
-use Prim.Native.Nat.{ℕ, zero, suc, _≤_}
+use mathlib.Core.Path.{_≡_, refl, sym}
+use Prim.Native.Nat.{ℕ, _≤_}
 use lib.Dec.{leb}
 use lib.ListN.{length}
 use borrow.Author.Tests.{leb-true, le-leb, eqb-true}
-use Rattle.jvms.specs.Pool.{array, Slot, wholly, read-pool, BootstrapMethod, bootstrap-method, read-bootstrap-methods}
+use Rattle.jvms.specs.Pool.{array, Slot, wholly, read-pool, BootstrapMethod, read-bootstrap-methods}
 use Rattle.facts.proofs.Lists.{none≢some, true≢false, both-true}
 use Rattle.class_file.specs.ClassFile.{Parts, named, matches, proper}
 use Rattle.class_file.specs.Answers.{Right}

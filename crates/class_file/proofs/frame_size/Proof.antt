@@ -1,5 +1,4 @@
 -- `class_file::frame_size` meets its contract: 22 bytes without a name slot, else 30. Assumes nothing.
-use borrow.Author.Needs.{needs}
 use native.Mathlib.Omega.{arith}
 use Rattle.class_file.proofs.Pieces.{frame-none, frame-some}
 use Rattle.class_file.proofs.frame_size.Statement.{statement}

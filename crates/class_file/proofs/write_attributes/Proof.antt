@@ -1,7 +1,7 @@
 -- `class_file::write_attributes` meets its contract: the number of attributes, and the items of the one that there may be, one behind the other. Assumes nothing.
 use borrow.Author.Needs.{needs}
 use native.Mathlib.Omega.{arith}
-use mathlib.Core.Path.{_≡_, sym}
+use mathlib.Core.Path.{sym}
 use Prim.Native.Nat.{_+_, _<_, _≤_}
 use lib.ListN.{length}
 use Rattle.jvms.specs.Written.{bytes2, bytes4}

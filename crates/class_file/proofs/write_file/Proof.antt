@@ -2,10 +2,10 @@
 use borrow.Author.Needs.{needs}
 use native.Mathlib.Omega.{arith}
 use Prim.Native.Nat.{_+_, _≤_}
-use lib.ListN.{length, length-append}
+use lib.ListN.{length}
 use Rattle.jvms.specs.Written.{bytes2, bytes4}
 use Rattle.raw_const.proofs.Writes.{wrote-then, wrote-as}
-use Rattle.class_file.specs.Answers.{attributesOf, headBytes}
+use Rattle.class_file.specs.Answers.{attributesOf}
 use Rattle.class_file.proofs.Pieces.{file-pieces, length-file}
 use Rattle.class_file.proofs.write_file.Statement.{statement}
 use Rattle.class_file.proofs.write_file.Tie as tie
