@@ -1,1 +1,4 @@
 pub mod Example
+pub mod Counting
+pub mod Flags
+pub mod Promises

@@ -1,1 +1,1 @@
-// The trace of a loader over a finished pool (document 02, No. 12).
+// A loader's trace over a finished pool (document 02, No. 12).
