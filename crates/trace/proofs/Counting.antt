@@ -1,11 +1,12 @@
 -- Numbers that pass a test: whether there are any, which is the last, and how many. Assumes nothing.
-use mathlib.Core.Bool.{Bool, true, false, _&&_, _||_}
+use mathlib.Core.Bool.{Bool, true, false, _&&_, _||_, or-true}
+use mathlib.Core.Logic.{_⊎_, inl, inr}
 use mathlib.Core.Path.{_≡_, refl, sym, ap, _∙_}
 use Prim.Native.Nat.{ℕ, zero, suc, _+_, _≤_, _<_}
 use native.Mathlib.Omega.{arith}
 use lib.Dec.{leb}
 use borrow.Author.Tests.{le-leb, lt-leb}
-use Rattle.facts.proofs.Lists.{true≢false}
+use Rattle.facts.proofs.Lists.{true≢false, order}
 use Rattle.trace.specs.Trace.{some-from, behind-last, how-many}
 use Rattle.trace.specs.Step.{one}
 
@@ -21,6 +22,15 @@ module _ (p : ℕ → Bool) where
 
   pub none-behind : (n : ℕ) → some-from p n n ≡ false
   none-behind n = none-from n n (omega arith)
+
+  pub from-found : (m i n : ℕ) → m ≤ i → i < n → p i ≡ true → some-from p m n ≡ true
+  unfolding some-from
+  from-found m i zero h l e = absurd (omega arith)
+  from-found m i (suc n) h l e = from-more m n (omega arith) ∙ ways (order i n) (λ k. from-found m i n h k e)
+    where
+      ways : (i < n) ⊎ (n ≤ i) → (i < n → some-from p m n ≡ true) → (p n || some-from p m n) ≡ true
+      ways (inl k) again = rw (again k) (or-true (p n))
+      ways (inr k) again = let f : n ≡ i = omega arith in rw (f, e)
 
   pub behind-le : (n : ℕ) → behind-last p n ≤ n
   unfolding behind-last

@@ -2,3 +2,4 @@ pub mod Example
 pub mod Counting
 pub mod Flags
 pub mod Promises
+pub mod Stepping

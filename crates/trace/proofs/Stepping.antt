@@ -1,0 +1,76 @@
+-- What one step does to a table of flags, and the known actions of a trace. Assumes nothing.
+use mathlib.Core.Bool.{Bool, true, false, not, _&&_, and-false}
+use mathlib.Core.List.{List}
+use mathlib.Core.Path.{_≡_, refl, sym, ap, _∙_}
+use Prim.Native.Nat.{ℕ, zero, suc, _+_, _≤_, _<_}
+use native.Mathlib.Numerals.{add-one}
+use native.Mathlib.Omega.{arith}
+use lib.Dec.{eqb, ltb}
+use lib.ListN.{length, getD, set}
+use lib.Seq.{set-getD}
+use borrow.Author.Tests.{eq-eqb, ne-eqb, lt-ltb, le-ltb}
+use Rattle.trace.specs.Trace.{some-from, action, steps}
+use Rattle.trace.specs.Step.{next, flag-behind, passes-by, one}
+use Rattle.trace.proofs.Counting.{from-more, from-found}
+use Rattle.trace.proofs.Flags.{set-stays}
+
+-- ONE STEP
+
+module _ (a s : ℕ) (l : List ℕ) where
+  -- what a step of action a over slot s says and leaves
+  abbrev Stepped : Bool → Bool → List ℕ → Type 0
+  Stepped r says after = (says ≡ passes-by a r (getD l s 0)) × (after ≡ set l s (flag-behind a r (getD l s 0)))
+
+  pub step-clears : (r : Bool) → a ≡ 1 → Stepped r false (set l s 0)
+  unfolding next
+  step-clears r e = (rw e, rw e)
+
+  looks : a ≤ 1 → (a ≡ 1 → ⊥) → a ≡ 0
+  looks h n = ways a h n
+    where
+      ways : (b : ℕ) → b ≤ 1 → (b ≡ 1 → ⊥) → b ≡ 0
+      ways zero h n = refl
+      ways (suc zero) h n = absurd (n refl)
+      ways (suc (suc b)) h n = absurd (omega arith)
+
+  module _ (h : a ≤ 1) (n : a ≡ 1 → ⊥) where
+    pub step-set : (r : Bool) → (getD l s 0 ≡ 0 → ⊥) → Stepped r true l
+    unfolding next
+    step-set r f = rw (looks h n) (says r, leaves r)
+      where
+        clear : eqb (getD l s 0) 0 ≡ false
+        clear = ne-eqb (getD l s 0) 0 f
+
+        says : (q : Bool) → true ≡ passes-by 0 q (getD l s 0)
+        says q = rw clear
+
+        leaves : (q : Bool) → l ≡ set l s (flag-behind 0 q (getD l s 0))
+        leaves true = rw (set-stays (getD l s 0) clear) (sym (set-getD l s 0))
+        leaves false = sym (set-getD l s 0)
+
+    pub step-right : (r : Bool) → getD l s 0 ≡ 0 → r ≡ true → Stepped r true (set l s 1)
+    unfolding next
+    step-right r z e = rw (looks h n, z, e) (refl, refl)
+
+    pub step-wrong : (r : Bool) → getD l s 0 ≡ 0 → r ≡ false → Stepped r false l
+    unfolding next
+    step-wrong r z e = rw (looks h n, e) (rw z, sym (set-getD l s 0))
+
+-- THE ACTIONS OF A TRACE
+
+module _ (trace : List ℕ) where
+  abbrev pub Known : ℕ → Type 0
+  Known i = some-from (λ k. ltb 1 (action trace k)) 0 i ≡ false
+
+  pub known-first : Known 0
+  unfolding some-from
+  known-first = refl
+
+  pub known-more : (i : ℕ) → Known i → action trace i ≤ 1 → Known (i + 1)
+  known-more i k h = rw (add-one i, from-more (λ k. ltb 1 (action trace k)) 0 i (omega arith), le-ltb 1 (action trace i) h) k
+
+  pub unknown : (i : ℕ) → i < steps trace → 1 < action trace i → some-from (λ k. ltb 1 (action trace k)) 0 (steps trace) ≡ true
+  unknown i h u = from-found (λ k. ltb 1 (action trace k)) 0 i (steps trace) (omega arith) h (lt-ltb 1 (action trace i) u)
+
+  pub known-all : (i : ℕ) → Known i → i ≤ steps trace → steps trace ≤ i → true ≡ not (some-from (λ k. ltb 1 (action trace k)) 0 (steps trace))
+  known-all i k h l = let e : i ≡ steps trace = omega arith in rw (← e, k)

@@ -1,0 +1,15 @@
+use Rattle.trace.specs.Step.{one}
+use borrow.Author.Needs.{needs}
+use Rattle.trace.proofs.one.Statement.{statement}
+use Rattle.trace.proofs.one.Tie as tie
+
+returns : tie.Need-returns
+unfolding one
+returns c = rw (c .if1 .taken)
+
+returns-2 : tie.Need-returns-2
+unfolding one
+returns-2 c = rw (c .if1 .left)
+
+pub one-spec : {M : Type 1} → statement M
+one-spec = tie.close (tie.spec returns returns-2)

@@ -1,0 +1,48 @@
+use Rattle.trace.proofs.Stepping.{step-clears, step-set, step-right, step-wrong}
+use borrow.Author.Needs.{needs}
+use Rattle.trace.proofs.run_step.Statement.{statement}
+use Rattle.trace.proofs.run_step.Tie as tie
+
+slice-write-flags : tie.Need-slice-write-flags
+slice-write-flags c = search needs
+
+same-length : tie.Need-same-length
+same-length c = search needs
+
+returns : tie.Need-returns
+returns c = step-clears (c .before .args .action) (c .before .args .slot) (c .before .args .flags .now) (c .before .args .right) (c .if1 .taken)
+
+slice-read-if2 : tie.Need-slice-read-if2
+slice-read-if2 c = search needs
+
+returns-2 : tie.Need-returns-2
+returns-2 c =
+    step-set (c .before .before .before .args .action) (c .before .before .before .args .slot) (c .before .before .before .args .flags .now) (c .before .before .before .pre .0) (c .before .before .if1 .left) (c .before .before .before .args .right) (c .if2 .taken)
+
+slice-write-flags-2 : tie.Need-slice-write-flags-2
+slice-write-flags-2 c = search needs
+
+same-length-2 : tie.Need-same-length-2
+same-length-2 c = search needs
+
+returns-3 : tie.Need-returns-3
+returns-3 c =
+    step-right (c .before .before .before .before .args .action) (c .before .before .before .before .args .slot) (c .before .before .before .before .args .flags .now) (c .before .before .before .before .pre .0) (c .before .before .before .if1 .left) (c .before .before .before .before .args .right) (c .before .if2 .left) (c .if3 .taken)
+
+returns-4 : tie.Need-returns-4
+returns-4 c =
+    step-wrong (c .before .before .before .before .args .action) (c .before .before .before .before .args .slot) (c .before .before .before .before .args .flags .now) (c .before .before .before .before .pre .0) (c .before .before .before .if1 .left) (c .before .before .before .before .args .right) (c .before .if2 .left) (c .if3 .left)
+
+pub run-step-spec : {M : Type 1} → statement M
+run-step-spec =
+    tie.close
+    (tie.spec
+    slice-write-flags
+    same-length
+    returns
+    slice-read-if2
+    returns-2
+    slice-write-flags-2
+    same-length-2
+    returns-3
+    returns-4)
