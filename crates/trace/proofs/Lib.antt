@@ -3,3 +3,4 @@ pub mod Counting
 pub mod Flags
 pub mod Promises
 pub mod Stepping
+pub mod Going

@@ -1,3 +1,4 @@
 pub mod Trace
 pub mod Step
 pub mod Promises
+pub mod Answers

@@ -1,10 +1,12 @@
 // A loader's trace over a finished pool (document 02, No. 12).
 ghost use mathlib.Core.Bool.{not, _&&_};
 ghost use mathlib.Core.Path.{_≡_};
-ghost use Prim.Native.Nat.{_≤_, _<_};
+ghost use mathlib.Core.Bool.{false};
+ghost use Prim.Native.Nat.{ℕ, _≤_, _<_};
 ghost use lib.Dec.{eqb, ltb};
 ghost use lib.ListN.{length, getD, set};
-ghost use Rattle.trace.specs.Trace.{some-from, action, steps};
+ghost use Rattle.trace.specs.Trace.{some-from, action, steps, Report, report};
+ghost use Rattle.trace.specs.Answers.{counted, tag-by, held, OneStep};
 ghost use Rattle.trace.specs.Step.{flag-behind, passes-by, one};
 
 pub enum Traced {
@@ -85,4 +87,95 @@ fn one_rested(good: bool, bare: bool) -> usize
         return 0;
     }
     one(good)
+}
+
+fn tag_at(pool: &[u8], places: &[usize; 65536], slot: usize) -> u8
+    requires { ⌜ slot < 65536 ⌝ }
+    ensures { λ r. ⌜ r ≡ tag-by (now (pool .entry)) (now (places .entry)) slot ⌝ }
+{
+    let at = places[slot];
+    if at == 0 {
+        return 0;
+    }
+    if pool.len() <= at {
+        return 0;
+    }
+    pool[at]
+}
+
+// Whether a constant of a tag begins at a slot: none has the tag 0, which is told of a slot where none begins.
+fn is_right(pool: &[u8], places: &[usize; 65536], slot: usize, tag: u8) -> bool
+    requires { ⌜ slot < 65536 ⌝ }
+    ensures { λ r. ⌜ r ≡ held (now (pool .entry)) (now (places .entry)) slot tag ⌝ }
+{
+    if tag == 0 {
+        return false;
+    }
+    tag_at(pool, places, slot) == tag
+}
+
+// What a step adds to each count.
+struct Marks {
+    good: usize,
+    failed: usize,
+    rested: usize,
+}
+
+// Runs step i over the flags, and over a table that was clear at the start.
+fn run_both(
+    pool: &[u8],
+    places: &[usize; 65536],
+    trace: &[u8],
+    i: usize,
+    flags: &mut [u8],
+    clear: &mut [u8],
+) -> Marks
+    requires { ⌜ (i < steps (now trace)) × (action (now trace) i ≤ 1) ⌝ }
+    requires { ⌜ (length (now flags) ≡ 65536) × (length (now clear) ≡ 65536) ⌝ }
+    ensures { λ r. ⌜ OneStep (held (now (pool .entry)) (now (places .entry))) (now (trace .entry)) i
+        (now (flags .entry)) (now (clear .entry)) (now (flags .exit)) (now (clear .exit)) r ⌝ }
+{
+    let at = STEP * i;
+    let action = writer::get_u8(trace, at);
+    let slot = writer::get_u16(trace, at + 2) as usize;
+    let right = is_right(pool, places, slot, writer::get_u8(trace, at + 1));
+    let good = run_step(flags, action, slot, right);
+    let bare = run_step(clear, action, slot, right);
+    Marks {
+        good: one(good),
+        failed: one_failed(action, good),
+        rested: one_rested(good, bare),
+    }
+}
+
+// Runs a trace of known actions over the flags, and over a table that is clear at the start.
+fn run_steps(
+    pool: &[u8],
+    places: &[usize; 65536],
+    trace: &[u8],
+    flags: &mut [u8],
+    clear: &mut [u8],
+) -> Traced
+    requires { ⌜ some-from (λ i. ltb 1 (action (now trace) i)) 0 (steps (now trace)) ≡ false ⌝ }
+    requires { ⌜ (length (now flags) ≡ 65536) × (length (now clear) ≡ 65536) × ((s : ℕ) → getD (now clear) s 0 ≡ 0) ⌝ }
+    ensures { λ r. ⌜ r ≡ counted (report (held (now (pool .entry)) (now (places .entry))) (now (trace .entry)) (now (flags .entry))) ⌝ }
+    ensures { λ _. ⌜ now (flags .exit) ≡ report (held (now (pool .entry)) (now (places .entry))) (now (trace .entry)) (now (flags .entry)) .flags ⌝ }
+{
+    let n = trace.len() / STEP;
+    let mut good: usize = 0;
+    let mut failed: usize = 0;
+    let mut rested: usize = 0;
+    let mut i = 0;
+    while i < n {
+        let m = run_both(pool, places, trace, i, flags, clear);
+        good += m.good;
+        failed += m.failed;
+        rested += m.rested;
+        i += 1;
+    }
+    Traced::Counts {
+        good,
+        failed,
+        rested,
+    }
 }

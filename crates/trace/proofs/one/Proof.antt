@@ -1,5 +1,4 @@
 use Rattle.trace.specs.Step.{one}
-use borrow.Author.Needs.{needs}
 use Rattle.trace.proofs.one.Statement.{statement}
 use Rattle.trace.proofs.one.Tie as tie
 
