@@ -2,11 +2,11 @@
 use mathlib.Core.Bool.{Bool, true, false, _&&_, _||_, and-true, and-false}
 use mathlib.Core.List.{List}
 use mathlib.Core.Path.{_≡_, refl, sym, ap, _∙_}
-use Prim.Native.Nat.{ℕ, zero, suc, _≤_, _<_}
+use Prim.Native.Nat.{ℕ, zero, suc}
 use native.Mathlib.Omega.{arith}
 use lib.Dec.{eqb, eqb·suc-zero}
 use borrow.Author.Tests.{eq-eqb, ne-eqb}
-use Rattle.trace.specs.Trace.{some-from, behind-last, action, expected, slot, clears-at, left, right, finds-at, flag}
+use Rattle.trace.specs.Trace.{some-from, behind-last, action, slot, clears-at, left, right, finds-at, flag}
 use Rattle.trace.specs.Step.{next, flag-behind}
 use Rattle.trace.proofs.Counting.{from-more, none-behind, behind-le, behind-here, behind-before}
 

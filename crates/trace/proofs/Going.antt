@@ -1,5 +1,5 @@
 -- How the counts and the tables of flags go from step to step. Assumes nothing.
-use mathlib.Core.Bool.{Bool, true, false, not, _&&_}
+use mathlib.Core.Bool.{Bool, not, _&&_}
 use mathlib.Core.List.{List}
 use mathlib.Core.Logic.{_⊎_, inl, inr}
 use mathlib.Core.Path.{_≡_, refl, sym, ap, _∙_}
@@ -14,7 +14,7 @@ use Rattle.facts.proofs.Lists.{equal}
 use Rattle.facts.proofs.Chunks.{length-from, from-get}
 use Rattle.trace.specs.declared.Traced.the-variants.{Counts}
 use Rattle.trace.specs.declared.Marks.{Marks}
-use Rattle.trace.specs.Trace.{how-many, action, expected, slot, steps, looks-up, right, flag, succeeds, fails, rests, all-clear, Report, report}
+use Rattle.trace.specs.Trace.{how-many, action, expected, slot, steps, right, flag, succeeds, fails, rests, all-clear, report}
 use Rattle.trace.specs.Step.{flag-behind, passes-by, one}
 use Rattle.trace.specs.Answers.{counted, OneStep}
 use Rattle.trace.proofs.Counting.{many-more, many-le, one-le}
@@ -22,13 +22,13 @@ use Rattle.trace.proofs.Flags.{flag-first, flag-here, flag-there}
 
 -- what one step's calls give is a step
 pub one-step :
-    (holds : ℕ → ℕ → Bool) (trace : List ℕ) (i : ℕ) (flags clear flags′ clear′ : List ℕ) (m : Marks) (a t s : ℕ) (r g b : Bool) →
+    {holds : ℕ → ℕ → Bool} {trace : List ℕ} {i : ℕ} {flags clear flags′ clear′ : List ℕ} {m : Marks} {a t s : ℕ} {r g b : Bool} →
     s < 65536 → a ≡ action trace i → t ≡ expected trace i → s ≡ slot trace i → r ≡ holds s t →
     (g ≡ passes-by a r (getD flags s 0)) × (flags′ ≡ set flags s (flag-behind a r (getD flags s 0))) →
     (b ≡ passes-by a r (getD clear s 0)) × (clear′ ≡ set clear s (flag-behind a r (getD clear s 0))) →
     m .good ≡ one g → m .failed ≡ one (eqb a 0 && not g) → m .rested ≡ one (g && not b) →
     OneStep holds trace i flags clear flags′ clear′ m
-one-step holds trace i flags clear flags′ clear′ m a t s r g b small ae te se re ge be mg mf mr = record {
+one-step {holds} {trace} {i} {flags} {clear} {flags′} {clear′} {m} {a} {t} {s} {r} {g} {b} small ae te se re ge be mg mf mr = record {
   in-table = omega arith;
   good-is = rw (← is-right, ← ae, ← se) (mg ∙ ap one (ge .0));
   failed-is = rw (← is-right, ← ae, ← se) (mf ∙ ap (λ (x : Bool). one (eqb a 0 && not x)) (ge .0));

@@ -4,3 +4,5 @@ pub mod Flags
 pub mod Promises
 pub mod Stepping
 pub mod Going
+pub mod Holding
+pub mod Running

@@ -2,16 +2,15 @@
 use mathlib.Core.Bool.{Bool, true, false, not, _&&_, _||_}
 use mathlib.Core.List.{List}
 use mathlib.Core.Logic.{_⊎_, _≢_, inl, inr}
-use mathlib.Core.Path.{_≡_, refl, sym, ap, _∙_}
-use Prim.Native.Nat.{ℕ, zero, suc, _+_, _≤_, _<_}
+use mathlib.Core.Path.{_≡_, refl, ap, _∙_}
+use Prim.Native.Nat.{ℕ, zero, suc, _+_, _≤_}
 use native.Mathlib.Omega.{arith}
 use lib.Dec.{eqb, eqb·suc-zero}
-use borrow.Author.Tests.{eq-eqb, ne-eqb, eqb-true}
+use borrow.Author.Tests.{ne-eqb, eqb-true}
 use lib.ListN.{length, getD}
-use Rattle.definition.specs.Basics.{from}
 use Rattle.facts.proofs.Chunks.{length-from, from-get}
 use Rattle.facts.proofs.Lists.{true≢false}
-use Rattle.trace.specs.Trace.{some-from, behind-last, action, slot, steps, looks-up, clears, clears-at, right, finds-at, flag, succeeds, fails, rests, all-clear, Report, report}
+use Rattle.trace.specs.Trace.{some-from, behind-last, action, slot, steps, looks-up, clears-at, right, finds-at, flag, succeeds, fails, rests, all-clear, report}
 use Rattle.trace.specs.Step.{next, one}
 use Rattle.trace.specs.Promises.{EveryLookUp, RestingAreGood, NoneRests, RestsWhen, StepByStep, Later, LaterFlags}
 use Rattle.trace.proofs.Counting.{many-none, many-mono, many-both, none-then}

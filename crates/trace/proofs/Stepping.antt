@@ -1,38 +1,31 @@
 -- What one step does to a table of flags, and the known actions of a trace. Assumes nothing.
-use mathlib.Core.Bool.{Bool, true, false, not, _&&_, and-false}
+use mathlib.Core.Bool.{Bool, true, false, not}
 use mathlib.Core.List.{List}
 use mathlib.Core.Logic.{_⊎_, inl, inr}
-use mathlib.Core.Path.{_≡_, refl, sym, ap, _∙_}
+use mathlib.Core.Path.{_≡_, refl, sym, _∙_}
 use Prim.Native.Nat.{ℕ, zero, suc, _+_, _≤_, _<_}
 use native.Mathlib.Numerals.{add-one}
 use native.Mathlib.Omega.{arith}
 use lib.Dec.{eqb, ltb}
-use lib.ListN.{length, getD, set}
+use lib.ListN.{getD, set}
 use lib.Seq.{set-getD}
-use borrow.Author.Tests.{eq-eqb, ne-eqb, lt-ltb, le-ltb}
+use borrow.Author.Tests.{ne-eqb, lt-ltb, le-ltb}
 use Rattle.facts.proofs.Lists.{order, true≢false}
+use Rattle.places.specs.Noting.{tagAt}
 use Rattle.trace.specs.Trace.{some-from, action, steps}
-use Rattle.trace.specs.Step.{next, flag-behind, passes-by, one}
-use Rattle.trace.specs.Answers.{tag-by, held}
+use Rattle.trace.specs.Step.{next, flag-behind, passes-by}
+use Rattle.trace.specs.Answers.{held}
 use Rattle.trace.proofs.Counting.{from-more, from-found}
 use Rattle.trace.proofs.Flags.{set-stays}
 
 -- WHAT BEGINS AT A SLOT
 
 module _ (pool places : List ℕ) (s : ℕ) where
-  pub tag-none : getD places s 0 ≡ 0 → 0 ≡ tag-by pool places s
-  unfolding tag-by
-  tag-none e = rw (e, tag-by)
-
-  pub tag-there : (getD places s 0 ≡ 0 → ⊥) → getD pool (getD places s 0) 0 ≡ tag-by pool places s
-  unfolding tag-by
-  tag-there h = rw (ne-eqb (getD places s 0) 0 h, tag-by)
-
   pub never-zero : (t : ℕ) → t ≡ 0 → false ≡ held pool places s t
   unfolding held
   never-zero t e = rw e
 
-  pub held-other : (t r : ℕ) → (t ≡ 0 → ⊥) → r ≡ tag-by pool places s → eqb r t ≡ held pool places s t
+  pub held-other : (t r : ℕ) → (t ≡ 0 → ⊥) → r ≡ tagAt pool places s → eqb r t ≡ held pool places s t
   unfolding held
   held-other t r h e = rw (ne-eqb t 0 h, e)
 

@@ -1,11 +1,12 @@
 -- What the code's results mean, and what its tables say. Assumes nothing.
-use mathlib.Core.Bool.{Bool, true, false, not, _&&_}
+use mathlib.Core.Bool.{Bool, not, _&&_}
 use mathlib.Core.List.{List}
 use mathlib.Core.Path.{_≡_}
 use Prim.Native.Nat.{ℕ, _<_}
 use lib.Dec.{eqb}
 use lib.ListN.{getD, set}
 use Rattle.definition.specs.Basics.{Result, good, bad}
+use Rattle.places.specs.Noting.{tagAt}
 use Rattle.trace.specs.declared.Traced.{Traced}
 use Rattle.trace.specs.declared.Traced.the-variants.{Counts, Refused}
 use Rattle.trace.specs.declared.Marks.{Marks}
@@ -20,13 +21,9 @@ unfoldable pub answer : Result ℕ Report → Traced
 answer (good r) = counted r
 answer (bad code) = Refused code
 
--- the tag at a slot by a table of places: 0 where nothing begins
-unfoldable pub tag-by : List ℕ → List ℕ → ℕ → ℕ
-tag-by pool places s = elim (eqb (getD places s 0) 0) [ true ↦ 0 | false ↦ getD pool (getD places s 0) 0 ]
-
 -- an entry of this tag begins at this slot, by a table of places
 unfoldable pub held : List ℕ → List ℕ → ℕ → ℕ → Bool
-held pool places s t = not (eqb t 0) && eqb (tag-by pool places s) t
+held pool places s t = not (eqb t 0) && eqb (tagAt pool places s) t
 
 -- what step i adds to the counts and leaves in two tables of flags, the lent ones and those of a start with all flags clear
 pub record OneStep (holds : ℕ → ℕ → Bool) (trace : List ℕ) (i : ℕ) (flags clear flags′ clear′ : List ℕ) (m : Marks) : Type 0 where

@@ -6,7 +6,7 @@ use mathlib.Core.Path.{_≡_}
 use Prim.Native.Nat.{ℕ, suc, _+_, _≤_, _<_}
 use lib.Dec.{eqb}
 use lib.ListN.{length, getD}
-use Rattle.trace.specs.Trace.{some-from, behind-last, how-many, slot, steps, looks-up, clears, clears-at, right, finds-at, flag, succeeds, rests, Report, report}
+use Rattle.trace.specs.Trace.{some-from, behind-last, how-many, slot, steps, looks-up, clears, clears-at, right, finds-at, flag, succeeds, rests, report}
 
 -- each look-up is good or failed
 abbrev pub EveryLookUp : Type 0

@@ -119,15 +119,19 @@ report holds trace lent =
       flags = from (λ s. flag holds trace start s (steps trace)) 0 (length lent);
     }
 
--- the report, or the number of a refusal: 21 for the pool, then 28 for the trace and the flags
-unfoldable pub judged : Option (List Slot) → Bool → (List Slot → Report) → Result ℕ Report
-judged none fits told = bad 21
-judged (some slots) false told = bad 28
-judged (some slots) true told = good (told slots)
+-- 28: a cut trace, an unknown action, or flags that aren't 65,536
+unfoldable pub run-over : (ℕ → ℕ → Bool) → List ℕ → List ℕ → Result ℕ Report
+run-over holds trace lent =
+    elim (well-formed trace && eqb (length lent) 65536) [ true ↦ good (report holds trace lent) | false ↦ bad 28 ]
 
+-- 21, first: no pool
+unfoldable pub run-read : Option (List Slot) → List ℕ → List ℕ → Result ℕ Report
+run-read none trace lent = bad 21
+run-read (some slots) trace lent = run-over (holds slots) trace lent
+
+-- a trace over a pool, from the flags that are lent
 unfoldable pub run : List ℕ → List ℕ → List ℕ → Result ℕ Report
-run pool trace lent =
-    judged (read-pool pool) (well-formed trace && eqb (length lent) 65536) (λ slots. report (holds slots) trace lent)
+run pool trace lent = run-read (read-pool pool) trace lent
 
 -- the flags afterwards: a refusal leaves them as they were
 unfoldable pub flags-after : Result ℕ Report → List ℕ → List ℕ

@@ -5,8 +5,9 @@ ghost use mathlib.Core.Bool.{false};
 ghost use Prim.Native.Nat.{ℕ, _≤_, _<_};
 ghost use lib.Dec.{eqb, ltb};
 ghost use lib.ListN.{length, getD, set};
-ghost use Rattle.trace.specs.Trace.{some-from, action, steps, Report, report};
-ghost use Rattle.trace.specs.Answers.{counted, tag-by, held, OneStep};
+ghost use Rattle.trace.specs.Trace.{some-from, action, steps, report, run-over, run, flags-after};
+use places::PoolRead;
+ghost use Rattle.trace.specs.Answers.{counted, answer, held, OneStep};
 ghost use Rattle.trace.specs.Step.{flag-behind, passes-by, one};
 
 pub enum Traced {
@@ -89,29 +90,14 @@ fn one_rested(good: bool, bare: bool) -> usize
     one(good)
 }
 
-fn tag_at(pool: &[u8], places: &[usize; 65536], slot: usize) -> u8
-    requires { ⌜ slot < 65536 ⌝ }
-    ensures { λ r. ⌜ r ≡ tag-by (now (pool .entry)) (now (places .entry)) slot ⌝ }
-{
-    let at = places[slot];
-    if at == 0 {
-        return 0;
-    }
-    if pool.len() <= at {
-        return 0;
-    }
-    pool[at]
-}
-
 // Whether a constant of a tag begins at a slot: none has the tag 0, which is told of a slot where none begins.
-fn is_right(pool: &[u8], places: &[usize; 65536], slot: usize, tag: u8) -> bool
-    requires { ⌜ slot < 65536 ⌝ }
+fn is_right(pool: &[u8], places: &[usize; 65536], slot: u16, tag: u8) -> bool
     ensures { λ r. ⌜ r ≡ held (now (pool .entry)) (now (places .entry)) slot tag ⌝ }
 {
     if tag == 0 {
         return false;
     }
-    tag_at(pool, places, slot) == tag
+    places::tag_at(pool, places, slot) == tag
 }
 
 // What a step adds to each count.
@@ -137,8 +123,9 @@ fn run_both(
 {
     let at = STEP * i;
     let action = writer::get_u8(trace, at);
-    let slot = writer::get_u16(trace, at + 2) as usize;
-    let right = is_right(pool, places, slot, writer::get_u8(trace, at + 1));
+    let number = writer::get_u16(trace, at + 2);
+    let right = is_right(pool, places, number, writer::get_u8(trace, at + 1));
+    let slot = number as usize;
     let good = run_step(flags, action, slot, right);
     let bare = run_step(clear, action, slot, right);
     Marks {
@@ -178,4 +165,38 @@ fn run_steps(
         failed,
         rested,
     }
+}
+
+// Judges the trace and the flags before anything is written.
+fn run_over(pool: &[u8], places: &[usize; 65536], trace: &[u8], flags: &mut [u8]) -> Traced
+    ensures { λ r. ⌜ r ≡ answer (run-over (held (now (pool .entry)) (now (places .entry))) (now (trace .entry)) (now (flags .entry))) ⌝ }
+    ensures { λ _. ⌜ now (flags .exit)
+        ≡ flags-after (run-over (held (now (pool .entry)) (now (places .entry))) (now (trace .entry)) (now (flags .entry))) (now (flags .entry)) ⌝ }
+{
+    if trace.len() % STEP != 0 {
+        return Traced::Refused(28);
+    }
+    if flags.len() != SLOTS {
+        return Traced::Refused(28);
+    }
+    if !known_actions(trace) {
+        return Traced::Refused(28);
+    }
+    let mut clear = [0u8; 65536];
+    run_steps(pool, places, trace, flags, &mut clear)
+}
+
+// Runs a trace over a pool, from a flag for each slot that the caller lends, and leaves the flags as the trace ends.
+pub fn run_trace(pool: &[u8], trace: &[u8], flags: &mut [u8]) -> Traced
+    ensures { λ r. ⌜ r ≡ answer (run (now (pool .entry)) (now (trace .entry)) (now (flags .entry))) ⌝ }
+    ensures { λ _. ⌜ now (flags .exit) ≡ flags-after (run (now (pool .entry)) (now (trace .entry)) (now (flags .entry))) (now (flags .entry)) ⌝ }
+{
+    let mut places = [0usize; 65536];
+    let PoolRead::Good { next } = places::note_pool(pool, 0, &mut places) else {
+        return Traced::Refused(21);
+    };
+    if next != pool.len() {
+        return Traced::Refused(21);
+    }
+    run_over(pool, &places, trace, flags)
 }

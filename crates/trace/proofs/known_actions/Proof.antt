@@ -1,13 +1,14 @@
-use native.Mathlib.Omega.{arith}
-use Rattle.trace.proofs.Stepping.{known-first, known-more, known-all, unknown}
-use mathlib.Core.Bool.{false, not}
+-- `trace::known_actions` meets its contract: no step before this one has an unknown action. Assumes nothing.
+use mathlib.Core.Bool.{false}
 use mathlib.Core.Path.{_≡_, refl}
 use Prim.Native.Nat.{_≤_, _-_}
+use native.Mathlib.Omega.{arith}
 use lib.Dec.{ltb}
-use Rattle.trace.specs.Trace.{some-from, action, steps}
 use borrow.Author.Needs.{needs}
-use Rattle.trace.proofs.known_actions.Statement.{statement}
+use Rattle.trace.specs.Trace.{some-from, action, steps}
+use Rattle.trace.proofs.Stepping.{known-first, known-more, known-all, unknown}
 use Rattle.trace.proofs.known_actions.Tie as tie
+use Rattle.trace.proofs.known_actions.Statement.{statement}
 
 abbrev Inv-loop : tie.InvT-loop
 Inv-loop trace n i₀ i = (n ≡ steps trace) × (i ≤ n) × (some-from (λ k. ltb 1 (action trace k)) 0 i ≡ false)
@@ -25,7 +26,9 @@ shared-slice-read-if1 : tie.Need-shared-slice-read-if1 Inv-loop μ-loop
 shared-slice-read-if1 c = search needs
 
 returns : tie.Need-returns Inv-loop μ-loop
-returns c = rw (unknown (c .before .before .before .before .args .trace .now) (c .before .before .before .loop .i) (c .before .before .loop-test .taken) (c .if1 .taken))
+returns c =
+    let head = c .before .before .before in
+    rw (unknown (head .before .args .trace .now) (head .loop .i) (c .before .before .loop-test .taken) (c .if1 .taken))
 
 add-i : tie.Need-add-i Inv-loop μ-loop
 add-i c = search needs
@@ -34,11 +37,14 @@ loop-less : tie.Need-loop-less Inv-loop μ-loop
 loop-less c = search needs
 
 loop-again : tie.Need-loop-again Inv-loop μ-loop
-loop-again c = (refl, omega arith, known-more (c .before .before .before .before .args .trace .now) (c .before .before .before .loop .i) (c .before .before .before .loop .inv .2) (c .if1 .left))
+loop-again c =
+    let head = c .before .before .before in
+    (refl, omega arith, known-more (head .before .args .trace .now) (head .loop .i) (head .loop .inv .2) (c .if1 .left))
 
 returns-2 : tie.Need-returns-2 Inv-loop μ-loop
 returns-2 c =
-    known-all (c .before .before .args .trace .now) (c .before .loop .i) (c .before .loop .inv .2) (c .before .loop .inv .1) (c .loop-test .left)
+    let head = c .before in
+    known-all (head .before .args .trace .now) (head .loop .i) (head .loop .inv .2) (head .loop .inv .1) (c .loop-test .left)
 
 pub known-actions-spec : {M : Type 1} → statement M
 known-actions-spec =

@@ -1,10 +1,11 @@
+-- `trace::one_failed` meets its contract. Assumes nothing.
 use mathlib.Core.Bool.{and-true, and-false}
 use mathlib.Core.Path.{_∙_}
 use lib.Dec.{eqb}
-use Rattle.trace.specs.Step.{one}
 use borrow.Author.Needs.{needs}
-use Rattle.trace.proofs.one_failed.Statement.{statement}
+use Rattle.trace.specs.Step.{one}
 use Rattle.trace.proofs.one_failed.Tie as tie
+use Rattle.trace.proofs.one_failed.Statement.{statement}
 
 returns : tie.Need-returns
 unfolding one

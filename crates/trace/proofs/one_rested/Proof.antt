@@ -1,9 +1,10 @@
+-- `trace::one_rested` meets its contract. Assumes nothing.
 use mathlib.Core.Bool.{and-true, and-false}
 use mathlib.Core.Path.{_∙_}
-use Rattle.trace.specs.Step.{one}
 use borrow.Author.Needs.{needs}
-use Rattle.trace.proofs.one_rested.Statement.{statement}
+use Rattle.trace.specs.Step.{one}
 use Rattle.trace.proofs.one_rested.Tie as tie
+use Rattle.trace.proofs.one_rested.Statement.{statement}
 
 returns : tie.Need-returns
 unfolding one

@@ -1,9 +1,9 @@
+-- `trace::run_both` meets its contract: what its calls give is a step. Assumes nothing.
 use native.Mathlib.Omega.{arith}
-use Rattle.trace.specs.Answers.{held}
-use Rattle.trace.proofs.Going.{one-step}
 use borrow.Author.Needs.{needs}
-use Rattle.trace.proofs.run_both.Statement.{statement}
+use Rattle.trace.proofs.Going.{one-step}
 use Rattle.trace.proofs.run_both.Tie as tie
+use Rattle.trace.proofs.run_both.Statement.{statement}
 
 mul-at : tie.Need-mul-at
 mul-at c = search needs
@@ -17,9 +17,6 @@ add-get-u16 c = search needs
 get-u16-requires : tie.Need-get-u16-requires
 get-u16-requires c κs = search needs
 
-cast-slot : tie.Need-cast-slot
-cast-slot c = search needs
-
 add-get-u8 : tie.Need-add-get-u8
 add-get-u8 c = search needs
 
@@ -28,6 +25,9 @@ get-u8-requires-2 c κs = search needs
 
 is-right-requires : tie.Need-is-right-requires
 is-right-requires c κs = search needs
+
+cast-slot : tie.Need-cast-slot
+cast-slot c = search needs
 
 run-step-requires : tie.Need-run-step-requires
 run-step-requires c κs = search needs
@@ -51,7 +51,12 @@ same-length-2 : tie.Need-same-length-2
 same-length-2 c = search needs
 
 returns : tie.Need-returns
-returns c = one-step (held (c .before .before .before .before .before .before .before .before .before .before .before .before .before .before .before .before .before .before .before .args .pool .now) (c .before .before .before .before .before .before .before .before .before .before .before .before .before .before .before .before .before .before .before .args .places .now)) (c .before .before .before .before .before .before .before .before .before .before .before .before .before .before .before .before .before .before .before .args .trace .now) (c .before .before .before .before .before .before .before .before .before .before .before .before .before .before .before .before .before .before .before .args .i) (c .before .before .before .before .before .before .before .before .before .before .before .before .before .before .before .before .before .before .before .args .flags .now) (c .before .before .before .before .before .before .before .before .before .before .before .before .before .before .before .before .before .before .before .args .clear .now) _ _ _ (c .before .before .before .before .before .before .before .before .before .before .before .before .before .before .get-u8 .result) (c .before .before .before .before .before .before .before .before .before .before .before .before .get-u82 .result) (c .before .before .before .before .before .before .before .before .before .before .before .before .before .get-u16 .result) (c .before .before .before .before .before .before .before .before .before .before .before .is-right .result) (c .before .before .before .before .before .before .before .before .before .run-step .result) (c .before .before .before .before .before .run-step2 .result) (omega arith) (c .before .before .before .before .before .before .before .before .before .before .before .before .before .before .get-u8 .ensures) (c .before .before .before .before .before .before .before .before .before .before .before .before .get-u82 .ensures) (c .before .before .before .before .before .before .before .before .before .before .before .before .before .get-u16 .ensures) (c .before .before .before .before .before .before .before .before .before .before .before .is-right .ensures) (c .before .before .before .before .before .before .before .before .before .run-step .ensures) (c .before .before .before .before .before .run-step2 .ensures) (c .before .before .one .ensures) (c .before .one-failed .ensures) (c .one-rested .ensures)
+returns c =
+    let stepped2 = c .before .before .before .before .before in
+    let stepped = stepped2 .before .before .before .before in
+    let right = stepped .before .before in
+    let read = right .before in
+    one-step (omega (arith, read)) (read .before .before .get-u8 .ensures) (read .get-u82 .ensures) (read .before .get-u16 .ensures) (right .is-right .ensures) (stepped .run-step .ensures) (stepped2 .run-step2 .ensures) (c .before .before .one .ensures) (c .before .one-failed .ensures) (c .one-rested .ensures)
 
 pub run-both-spec : {M : Type 1} → statement M
 run-both-spec =
@@ -61,10 +66,10 @@ run-both-spec =
     get-u8-requires
     add-get-u16
     get-u16-requires
-    cast-slot
     add-get-u8
     get-u8-requires-2
     is-right-requires
+    cast-slot
     run-step-requires
     run-step-requires-2
     one-requires
