@@ -71,6 +71,11 @@ module _ (holds : ℕ → ℕ → Bool) (trace : List ℕ) where
         ways s h (inr other) =
             getD-set-other l (slot trace i) s v 0 other ∙ t .has s h ∙ sym (flag-there holds trace start s i (λ f. other (sym f)))
 
+    passes-at : (i : ℕ) → Table start l i → slot trace i < 65536 →
+        passes-by (action trace i) (right holds trace i) (getD l (slot trace i) 0) ≡ succeeds holds trace start i
+    unfolding succeeds
+    passes-at i t small = ap (passes-by (action trace i) (right holds trace i)) (t .has (slot trace i) small)
+
   -- the counts and the tables before step i
   pub record Going (lent flags clear : List ℕ) (good failed rested i : ℕ) : Type 0 where
     pub flags-are : Table (λ s. getD lent s 0) flags i
@@ -90,50 +95,51 @@ module _ (holds : ℕ → ℕ → Bool) (trace : List ℕ) where
     resteds = refl;
   }
 
-  module _ (lent flags clear : List ℕ) (good failed rested i : ℕ) (going : Going lent flags clear good failed rested i) where
-    module _ (flags′ clear′ : List ℕ) (m : Marks) (step : OneStep holds trace i flags clear flags′ clear′ m) where
-      passes : passes-by (action trace i) (right holds trace i) (getD flags (slot trace i) 0) ≡ succeeds holds trace (λ s. getD lent s 0) i
-      unfolding succeeds
-      passes = ap (passes-by (action trace i) (right holds trace i)) (going .flags-are .has (slot trace i) (step .in-table))
-
-      passes-clear : passes-by (action trace i) (right holds trace i) (getD clear (slot trace i) 0) ≡ succeeds holds trace all-clear i
-      unfolding succeeds
-      passes-clear = ap (passes-by (action trace i) (right holds trace i)) (going .clear-are .has (slot trace i) (step .in-table))
-
-      more : (p : ℕ → Bool) (n k : ℕ) → n ≡ how-many p i → k ≡ one (p i) → n + k ≡ how-many p (i + 1)
-      more p n k e f = rw (add-one i, many-more p i, e, f)
-
-      -- no count passes the steps
-      pub going-small : (good + m .good ≤ i + 1) × (failed + m .failed ≤ i + 1) × (rested + m .rested ≤ i + 1)
-      going-small = (
-        small (succeeds holds trace (λ s. getD lent s 0)) good (m .good) _ (going .goods) (step .good-is),
-        small (fails holds trace (λ s. getD lent s 0)) failed (m .failed) _ (going .faileds) (step .failed-is),
-        small (rests holds trace (λ s. getD lent s 0)) rested (m .rested) _ (going .resteds) (step .rested-is),
-      )
-        where
-          small : (p : ℕ → Bool) (n k : ℕ) (b : Bool) → n ≡ how-many p i → k ≡ one b → n + k ≤ i + 1
-          small p n k b e f = omega (arith, many-le p i, one-le b)
-
-      pub going-more : Going lent flags′ clear′ (good + m .good) (failed + m .failed) (rested + m .rested) (i + 1)
-      unfolding fails rests
-      going-more = record {
-        flags-are = table-more (λ s. getD lent s 0) flags i flags′ (going .flags-are) (step .in-table) (step .flags-are);
-        clear-are = table-more all-clear clear i clear′ (going .clear-are) (step .in-table) (step .clear-are);
-        goods = more (succeeds holds trace (λ s. getD lent s 0)) good (m .good) (going .goods) (step .good-is ∙ ap one passes);
-        faileds = more (fails holds trace (λ s. getD lent s 0)) failed (m .failed) (going .faileds) (step .failed-is ∙ rw passes);
-        resteds = more (rests holds trace (λ s. getD lent s 0)) rested (m .rested) (going .resteds) (step .rested-is ∙ rw (passes, passes-clear));
-      }
-
-    pub going-last : length lent ≡ 65536 → i ≡ steps trace →
-        (Counts good failed rested ≡ counted (report holds trace lent)) × (flags ≡ report holds trace lent .flags)
-    unfolding report
-    going-last z e = (
-      rw (going .goods, going .faileds, going .resteds, e),
-      ext-getD 0 flags _ (going .flags-are .size ∙ sym (length-from (λ s. flag holds trace (λ t. getD lent t 0) s (steps trace)) 0 (length lent) ∙ z)) same,
+module _ {holds : ℕ → ℕ → Bool} {trace lent flags clear : List ℕ} {good failed rested i : ℕ} (going : Going holds trace lent flags clear good failed rested i) where
+  module _ {flags′ clear′ : List ℕ} {m : Marks} (step : OneStep holds trace i flags clear flags′ clear′ m) where
+    -- no count passes the steps
+    pub going-small : (good + m .good ≤ i + 1) × (failed + m .failed ≤ i + 1) × (rested + m .rested ≤ i + 1)
+    going-small = (
+      small (succeeds holds trace (λ s. getD lent s 0)) good (m .good) _ (going .goods) (step .good-is),
+      small (fails holds trace (λ s. getD lent s 0)) failed (m .failed) _ (going .faileds) (step .failed-is),
+      small (rests holds trace (λ s. getD lent s 0)) rested (m .rested) _ (going .resteds) (step .rested-is),
     )
       where
-        same : (s : ℕ) → s < length flags → getD flags s 0 ≡ getD (from (λ t. flag holds trace (λ u. getD lent u 0) t (steps trace)) 0 (length lent)) s 0
-        same s h =
-            let k : s < length lent = omega (arith, going .flags-are .size) in
-            let o : 0 + s ≡ s = omega arith in
-            rw (from-get (λ t. flag holds trace (λ u. getD lent u 0) t (steps trace)) 0 (length lent) s 0 k, o, ← e) (going .flags-are .has s (omega arith))
+        small : (p : ℕ → Bool) (n k : ℕ) (b : Bool) → n ≡ how-many p i → k ≡ one b → n + k ≤ i + 1
+        small p n k b e f = omega (arith, many-le p i, one-le b)
+
+    pub going-more : Going holds trace lent flags′ clear′ (good + m .good) (failed + m .failed) (rested + m .rested) (i + 1)
+    unfolding fails rests
+    going-more = record {
+      flags-are = table-more holds trace (λ s. getD lent s 0) flags i flags′ (going .flags-are) (step .in-table) (step .flags-are);
+      clear-are = table-more holds trace all-clear clear i clear′ (going .clear-are) (step .in-table) (step .clear-are);
+      goods = more (succeeds holds trace (λ s. getD lent s 0)) good (m .good) (going .goods) (step .good-is ∙ rw lent-passes);
+      faileds = more (fails holds trace (λ s. getD lent s 0)) failed (m .failed) (going .faileds) (step .failed-is ∙ rw lent-passes);
+      resteds = more (rests holds trace (λ s. getD lent s 0)) rested (m .rested) (going .resteds) (step .rested-is ∙ rw (lent-passes, clear-passes));
+    }
+      where
+        lent-passes : passes-by (action trace i) (right holds trace i) (getD flags (slot trace i) 0) ≡ succeeds holds trace (λ s. getD lent s 0) i
+        lent-passes = passes-at holds trace (λ s. getD lent s 0) flags i (going .flags-are) (step .in-table)
+
+        clear-passes : passes-by (action trace i) (right holds trace i) (getD clear (slot trace i) 0) ≡ succeeds holds trace all-clear i
+        clear-passes = passes-at holds trace all-clear clear i (going .clear-are) (step .in-table)
+
+        more : (p : ℕ → Bool) (n k : ℕ) → n ≡ how-many p i → k ≡ one (p i) → n + k ≡ how-many p (i + 1)
+        more p n k e f = rw (add-one i, many-more p i, e, f)
+
+  pub going-last : length lent ≡ 65536 → i ≡ steps trace →
+      (Counts good failed rested ≡ counted (report holds trace lent)) × (flags ≡ report holds trace lent .flags)
+  unfolding report
+  going-last z e = (
+    rw (going .goods, going .faileds, going .resteds, e),
+    ext-getD 0 flags _ (going .flags-are .size ∙ sym (length-from later 0 (length lent) ∙ z)) same,
+  )
+    where
+      later : ℕ → ℕ
+      later s = flag holds trace (λ t. getD lent t 0) s (steps trace)
+
+      same : (s : ℕ) → s < length flags → getD flags s 0 ≡ getD (from later 0 (length lent)) s 0
+      same s h =
+          let k : s < length lent = omega (arith, going .flags-are .size) in
+          let o : 0 + s ≡ s = omega arith in
+          rw (from-get later 0 (length lent) s 0 k, o, ← e) (going .flags-are .has s (omega arith))

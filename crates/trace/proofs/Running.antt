@@ -6,7 +6,7 @@ use mathlib.Core.Option.{none, some}
 use mathlib.Core.Path.{_≡_, sym, ap, subst, _∙_}
 use Prim.Native.Nat.{ℕ, _%_, _≤_, _<_}
 use native.Mathlib.Omega.{arith}
-use lib.Dec.{eqb, ltb}
+use lib.Dec.{eqb}
 use lib.ListN.{length, drop}
 use lib.Seq.{drop-cons, drop-length}
 use borrow.Author.Tests.{eq-eqb, ne-eqb}
@@ -19,7 +19,7 @@ use Rattle.places.specs.Noting.{Blank, PoolNoted}
 use Rattle.places.proofs.Rows.{pool-table}
 use Rattle.trace.specs.declared.Traced.{Traced}
 use Rattle.trace.specs.declared.Traced.the-variants.{Refused}
-use Rattle.trace.specs.Trace.{some-from, action, steps, well-formed, Report, report, run-over, run-read, run, flags-after}
+use Rattle.trace.specs.Trace.{steps, unknown-action, well-formed, Report, report, run-over, run-read, run, flags-after}
 use Rattle.trace.specs.Answers.{counted, answer, held}
 use Rattle.trace.proofs.Holding.{held-holds}
 
@@ -33,9 +33,6 @@ refused result lent code e = (rw e, rw e)
 
 -- THE TRACE AND THE FLAGS
 
-abbrev unknown-action : List ℕ → Bool
-unknown-action trace = some-from (λ i. ltb 1 (action trace i)) 0 (steps trace)
-
 module _ (holds : ℕ → ℕ → Bool) (trace lent : List ℕ) where
   unfit : (well-formed trace && eqb (length lent) 65536) ≡ false → Gave (run-over holds trace lent) lent lent (Refused 28)
   unfolding run-over
@@ -48,11 +45,11 @@ module _ (holds : ℕ → ℕ → Bool) (trace lent : List ℕ) where
   pub few-flags : (length lent ≡ 65536 → ⊥) → Gave (run-over holds trace lent) lent lent (Refused 28)
   few-flags h = unfit (rw (ne-eqb (length lent) 65536 h) (and-false (well-formed trace)))
 
-  pub strange : unknown-action trace ≡ true → Gave (run-over holds trace lent) lent lent (Refused 28)
+  pub strange : unknown-action trace (steps trace) ≡ true → Gave (run-over holds trace lent) lent lent (Refused 28)
   unfolding well-formed
   strange h = unfit (rw (h, and-false (eqb (length trace % 4) 0)))
 
-  pub formed : (later : List ℕ) (r : Traced) → length trace % 4 ≡ 0 → length lent ≡ 65536 → unknown-action trace ≡ false →
+  pub formed : (later : List ℕ) (r : Traced) → length trace % 4 ≡ 0 → length lent ≡ 65536 → unknown-action trace (steps trace) ≡ false →
       (r ≡ counted (report holds trace lent)) × (later ≡ report holds trace lent .flags) → Gave (run-over holds trace lent) lent later r
   unfolding answer flags-after run-over well-formed
   formed later r whole many known (told, left) = (told ∙ sym (ap answer goes), left ∙ sym (ap (λ x. flags-after x lent) goes))

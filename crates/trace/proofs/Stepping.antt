@@ -12,7 +12,7 @@ use lib.Seq.{set-getD}
 use borrow.Author.Tests.{ne-eqb, lt-ltb, le-ltb}
 use Rattle.facts.proofs.Lists.{order, true≢false}
 use Rattle.places.specs.Noting.{tagAt}
-use Rattle.trace.specs.Trace.{some-from, action, steps}
+use Rattle.trace.specs.Trace.{some-from, action, steps, unknown-action}
 use Rattle.trace.specs.Step.{next, flag-behind, passes-by}
 use Rattle.trace.specs.Answers.{held}
 use Rattle.trace.proofs.Counting.{from-more, from-found}
@@ -74,23 +74,20 @@ module _ (a s : ℕ) (l : List ℕ) where
 -- THE ACTIONS OF A TRACE
 
 module _ (trace : List ℕ) where
-  abbrev pub Known : ℕ → Type 0
-  Known i = some-from (λ k. ltb 1 (action trace k)) 0 i ≡ false
-
-  pub known-first : Known 0
+  pub known-first : unknown-action trace 0 ≡ false
   unfolding some-from
   known-first = refl
 
-  pub known-more : (i : ℕ) → Known i → action trace i ≤ 1 → Known (i + 1)
+  pub known-more : (i : ℕ) → unknown-action trace i ≡ false → action trace i ≤ 1 → unknown-action trace (i + 1) ≡ false
   known-more i k h = rw (add-one i, from-more (λ k. ltb 1 (action trace k)) 0 i (omega arith), le-ltb 1 (action trace i) h) k
 
-  pub unknown : (i : ℕ) → i < steps trace → 1 < action trace i → some-from (λ k. ltb 1 (action trace k)) 0 (steps trace) ≡ true
+  pub unknown : (i : ℕ) → i < steps trace → 1 < action trace i → unknown-action trace (steps trace) ≡ true
   unknown i h u = from-found (λ k. ltb 1 (action trace k)) 0 i (steps trace) (omega arith) h (lt-ltb 1 (action trace i) u)
 
-  pub known-all : (i : ℕ) → Known i → i ≤ steps trace → steps trace ≤ i → true ≡ not (some-from (λ k. ltb 1 (action trace k)) 0 (steps trace))
+  pub known-all : (i : ℕ) → unknown-action trace i ≡ false → i ≤ steps trace → steps trace ≤ i → true ≡ not (unknown-action trace (steps trace))
   known-all i k h l = let e : i ≡ steps trace = omega arith in rw (← e, k)
 
-  pub known-at : (i : ℕ) → Known (steps trace) → i < steps trace → action trace i ≤ 1
+  pub known-at : (i : ℕ) → unknown-action trace (steps trace) ≡ false → i < steps trace → action trace i ≤ 1
   known-at i k h = ways (order 1 (action trace i))
     where
       ways : (1 < action trace i) ⊎ (action trace i ≤ 1) → action trace i ≤ 1

@@ -54,9 +54,13 @@ looks-up trace i = eqb (action trace i) 0
 abbrev pub clears : List ℕ → ℕ → Bool
 clears trace i = eqb (action trace i) 1
 
+-- some step before step n neither looks up nor clears
+abbrev pub unknown-action : List ℕ → ℕ → Bool
+unknown-action trace n = some-from (λ i. ltb 1 (action trace i)) 0 n
+
 -- whole steps, each of a known action
 unfoldable pub well-formed : List ℕ → Bool
-well-formed trace = eqb (length trace % 4) 0 && not (some-from (λ i. ltb 1 (action trace i)) 0 (steps trace))
+well-formed trace = eqb (length trace % 4) 0 && not (unknown-action trace (steps trace))
 
 -- step i clears the flag of slot s
 unfoldable pub clears-at : List ℕ → ℕ → ℕ → Bool

@@ -1,14 +1,13 @@
 // A loader's trace over a finished pool (document 02, No. 12).
-ghost use mathlib.Core.Bool.{not, _&&_};
+ghost use mathlib.Core.Bool.{false, not, _&&_};
 ghost use mathlib.Core.Path.{_≡_};
-ghost use mathlib.Core.Bool.{false};
 ghost use Prim.Native.Nat.{ℕ, _≤_, _<_};
-ghost use lib.Dec.{eqb, ltb};
+ghost use lib.Dec.{eqb};
 ghost use lib.ListN.{length, getD, set};
-ghost use Rattle.trace.specs.Trace.{some-from, action, steps, report, run-over, run, flags-after};
-use places::PoolRead;
-ghost use Rattle.trace.specs.Answers.{counted, answer, held, OneStep};
+ghost use Rattle.trace.specs.Trace.{action, steps, unknown-action, report, run-over, run, flags-after};
 ghost use Rattle.trace.specs.Step.{flag-behind, passes-by, one};
+ghost use Rattle.trace.specs.Answers.{counted, answer, held, OneStep};
+use places::PoolRead;
 
 pub enum Traced {
     // How many look-ups were good, how many failed, and how many of the good ones rested only on a flag from the start.
@@ -31,7 +30,7 @@ const SLOTS: usize = 65536;
 
 // Whether the action of each step is known.
 fn known_actions(trace: &[u8]) -> bool
-    ensures { λ r. ⌜ r ≡ not (some-from (λ i. ltb 1 (action (now (trace .entry)) i)) 0 (steps (now (trace .entry)))) ⌝ }
+    ensures { λ r. ⌜ r ≡ not (unknown-action (now (trace .entry)) (steps (now (trace .entry)))) ⌝ }
 {
     let n = trace.len() / STEP;
     let mut i = 0;
@@ -42,6 +41,16 @@ fn known_actions(trace: &[u8]) -> bool
         i += 1;
     }
     true
+}
+
+// Whether a constant of a tag begins at a slot: none has the tag 0, which is told of a slot where none begins.
+fn is_right(pool: &[u8], places: &[usize; 65536], slot: u16, tag: u8) -> bool
+    ensures { λ r. ⌜ r ≡ held (now (pool .entry)) (now (places .entry)) slot tag ⌝ }
+{
+    if tag == 0 {
+        return false;
+    }
+    places::tag_at(pool, places, slot) == tag
 }
 
 // Runs a step over a table of flags. Whether it is a look-up that succeeds.
@@ -59,18 +68,20 @@ fn run_step(flags: &mut [u8], action: u8, slot: usize, right: bool) -> bool
     }
     if right {
         flags[slot] = 1;
-        return true;
+        true
+    } else {
+        false
     }
-    false
 }
 
+// What a test adds to a count.
 fn one(b: bool) -> usize
     ensures { λ r. ⌜ r ≡ one b ⌝ }
 {
     if b { 1 } else { 0 }
 }
 
-// Of a look-up that doesn't succeed, 1.
+// What a step adds to the look-ups that failed.
 fn one_failed(action: u8, good: bool) -> usize
     ensures { λ r. ⌜ r ≡ one (eqb action 0 && not good) ⌝ }
 {
@@ -80,7 +91,7 @@ fn one_failed(action: u8, good: bool) -> usize
     one(action == LOOK_UP)
 }
 
-// Of a look-up that succeeds, and wouldn't had all flags been clear at the start, 1.
+// What a step adds to those that rested on a flag from the start: it is good, and wouldn't be had all flags been clear there.
 fn one_rested(good: bool, bare: bool) -> usize
     ensures { λ r. ⌜ r ≡ one (good && not bare) ⌝ }
 {
@@ -88,16 +99,6 @@ fn one_rested(good: bool, bare: bool) -> usize
         return 0;
     }
     one(good)
-}
-
-// Whether a constant of a tag begins at a slot: none has the tag 0, which is told of a slot where none begins.
-fn is_right(pool: &[u8], places: &[usize; 65536], slot: u16, tag: u8) -> bool
-    ensures { λ r. ⌜ r ≡ held (now (pool .entry)) (now (places .entry)) slot tag ⌝ }
-{
-    if tag == 0 {
-        return false;
-    }
-    places::tag_at(pool, places, slot) == tag
 }
 
 // What a step adds to each count.
@@ -143,7 +144,7 @@ fn run_steps(
     flags: &mut [u8],
     clear: &mut [u8],
 ) -> Traced
-    requires { ⌜ some-from (λ i. ltb 1 (action (now trace) i)) 0 (steps (now trace)) ≡ false ⌝ }
+    requires { ⌜ unknown-action (now trace) (steps (now trace)) ≡ false ⌝ }
     requires { ⌜ (length (now flags) ≡ 65536) × (length (now clear) ≡ 65536) × ((s : ℕ) → getD (now clear) s 0 ≡ 0) ⌝ }
     ensures { λ r. ⌜ r ≡ counted (report (held (now (pool .entry)) (now (places .entry))) (now (trace .entry)) (now (flags .entry))) ⌝ }
     ensures { λ _. ⌜ now (flags .exit) ≡ report (held (now (pool .entry)) (now (places .entry))) (now (trace .entry)) (now (flags .entry)) .flags ⌝ }

@@ -3,15 +3,14 @@ use mathlib.Core.Bool.{false}
 use mathlib.Core.Path.{_≡_, refl}
 use Prim.Native.Nat.{_≤_, _-_}
 use native.Mathlib.Omega.{arith}
-use lib.Dec.{ltb}
 use borrow.Author.Needs.{needs}
-use Rattle.trace.specs.Trace.{some-from, action, steps}
+use Rattle.trace.specs.Trace.{steps, unknown-action}
 use Rattle.trace.proofs.Stepping.{known-first, known-more, known-all, unknown}
 use Rattle.trace.proofs.known_actions.Tie as tie
 use Rattle.trace.proofs.known_actions.Statement.{statement}
 
 abbrev Inv-loop : tie.InvT-loop
-Inv-loop trace n i₀ i = (n ≡ steps trace) × (i ≤ n) × (some-from (λ k. ltb 1 (action trace k)) 0 i ≡ false)
+Inv-loop trace n i₀ i = (n ≡ steps trace) × (i ≤ n) × (unknown-action trace i ≡ false)
 
 abbrev μ-loop : tie.MeasureT-loop
 μ-loop trace n i₀ i = n - i

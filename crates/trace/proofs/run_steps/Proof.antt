@@ -29,24 +29,15 @@ run-both-requires c κs =
 
 add-good : tie.Need-add-good Inv-loop μ-loop
 add-good c =
-    let head = c .before .before .before .before .before .before .before .before .before in
-    let start = head .before .before .before .before .before in
-    let step = c .before .before .before .before .before .run-both in
-    omega (arith, (going-small (held (start .args .pool .now) (start .args .places .now)) (start .args .trace .now) (start .args .flags .now) (head .loop .flags) (head .loop .clear) (head .loop .good) (head .loop .failed) (head .loop .rested) (head .loop .i) (head .loop .inv .2) _ _ (step .result) (step .ensures)) .0)
+    omega (arith, going-small (c .before .before .before .before .before .before .before .before .before .loop .inv .2) (c .before .before .before .before .before .run-both .ensures) .0)
 
 add-failed : tie.Need-add-failed Inv-loop μ-loop
 add-failed c =
-    let head = c .before .before .before .before .before .before .before .before .before .before in
-    let start = head .before .before .before .before .before in
-    let step = c .before .before .before .before .before .before .run-both in
-    omega (arith, (going-small (held (start .args .pool .now) (start .args .places .now)) (start .args .trace .now) (start .args .flags .now) (head .loop .flags) (head .loop .clear) (head .loop .good) (head .loop .failed) (head .loop .rested) (head .loop .i) (head .loop .inv .2) _ _ (step .result) (step .ensures)) .1)
+    omega (arith, going-small (c .before .before .before .before .before .before .before .before .before .before .loop .inv .2) (c .before .before .before .before .before .before .run-both .ensures) .1)
 
 add-rested : tie.Need-add-rested Inv-loop μ-loop
 add-rested c =
-    let head = c .before .before .before .before .before .before .before .before .before .before .before in
-    let start = head .before .before .before .before .before in
-    let step = c .before .before .before .before .before .before .before .run-both in
-    omega (arith, (going-small (held (start .args .pool .now) (start .args .places .now)) (start .args .trace .now) (start .args .flags .now) (head .loop .flags) (head .loop .clear) (head .loop .good) (head .loop .failed) (head .loop .rested) (head .loop .i) (head .loop .inv .2) _ _ (step .result) (step .ensures)) .2)
+    omega (arith, going-small (c .before .before .before .before .before .before .before .before .before .before .before .loop .inv .2) (c .before .before .before .before .before .before .before .run-both .ensures) .2)
 
 add-i : tie.Need-add-i Inv-loop μ-loop
 add-i c = omega arith
@@ -56,10 +47,7 @@ loop-less c = omega arith
 
 loop-again : tie.Need-loop-again Inv-loop μ-loop
 loop-again c =
-    let head = c .before .before .before .before .before .before .before .before .before .before .before in
-    let start = head .before .before .before .before .before in
-    let step = c .before .before .before .before .before .before .before .run-both in
-    (refl, omega (arith, c .before .before .before .before .before .before .before .before .before .before .loop-test .taken), going-more (held (start .args .pool .now) (start .args .places .now)) (start .args .trace .now) (start .args .flags .now) (head .loop .flags) (head .loop .clear) (head .loop .good) (head .loop .failed) (head .loop .rested) (head .loop .i) (head .loop .inv .2) _ _ (step .result) (step .ensures))
+    (refl, omega arith, going-more (c .before .before .before .before .before .before .before .before .before .before .before .loop .inv .2) (c .before .before .before .before .before .before .before .run-both .ensures))
 
 same-length : tie.Need-same-length Inv-loop μ-loop
 same-length c =
@@ -71,9 +59,7 @@ same-length-2 c =
 
 returns : tie.Need-returns Inv-loop μ-loop
 returns c =
-    let head = c .before in
-    let start = head .before .before .before .before .before in
-    going-last (held (start .args .pool .now) (start .args .places .now)) (start .args .trace .now) (start .args .flags .now) (head .loop .flags) (head .loop .clear) (head .loop .good) (head .loop .failed) (head .loop .rested) (head .loop .i) (head .loop .inv .2) (start .pre .1 .0) (omega arith)
+    going-last (c .before .loop .inv .2) (c .before .before .before .before .before .before .pre .1 .0) (omega arith)
 
 pub run-steps-spec : {M : Type 1} → statement M
 run-steps-spec =
