@@ -1,10 +1,12 @@
 -- A pool and traces over it, computed by the definition. Assumes nothing.
-use mathlib.Core.Bool.{false}
+use mathlib.Core.Bool.{true, false}
 use mathlib.Core.List.{List, [], _∷_}
 use mathlib.Core.Option.{some}
 use mathlib.Core.Path.{_≡_, refl}
 use Prim.Native.Nat.{ℕ}
-use Rattle.definition.specs.Basics.{bad, from}
+use lib.ListN.{length}
+use borrow.Author.Tests.{eq-eqb}
+use Rattle.definition.specs.Basics.{good, bad, from}
 use Rattle.jvms.specs.Pool.{u1, u2, u4, array, structures, structure, cp-info, takes-two, slots, constant-pool, wholly, read-pool, Slot, usable, unusable, Utf8, Class, Long}
 use Rattle.places.specs.Standing.{tag, slotOf}
 use Rattle.trace.specs.Trace.{some-from, behind-last, how-many, begins, holds, well-formed, clears-at, left, finds-at, flag, succeeds, fails, rests, report, run-over, run-read, run}
@@ -51,6 +53,15 @@ told : report (holds standing) trace lent
     ≡ record { good-ones = 8; failed-ones = 3; resting-ones = 3; flags = 7 ∷ 1 ∷ 9 ∷ 1 ∷ 0 ∷ 0 ∷ [] }
 unfolding all-of-it standing lent trace
 told = refl
+
+-- over this pool it is run from any 65,536 flags
+fits : well-formed trace ≡ true
+unfolding all-of-it trace
+fits = refl
+
+accepted : (flags : List ℕ) → length flags ≡ 65536 → run pool trace flags ≡ good (report (holds standing) trace flags)
+unfolding run run-read run-over
+accepted flags many = rw (pool-read, fits, eq-eqb (length flags) 65536 many, run-over)
 
 -- the pool comes first, then a cut trace, an unknown action and too few flags
 no-pool : run (0 ∷ []) (0 ∷ []) lent ≡ bad 21

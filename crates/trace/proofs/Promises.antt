@@ -12,7 +12,7 @@ use Rattle.facts.proofs.Chunks.{length-from, from-get}
 use Rattle.facts.proofs.Lists.{true≢false}
 use Rattle.trace.specs.Trace.{some-from, behind-last, action, slot, steps, looks-up, clears-at, right, finds-at, flag, succeeds, fails, rests, all-clear, report}
 use Rattle.trace.specs.Step.{next, one}
-use Rattle.trace.specs.Promises.{EveryLookUp, RestingAreGood, NoneRests, RestsWhen, StepByStep, Later, LaterFlags}
+use Rattle.trace.specs.Promises.{EveryLookUp, RestingAreGood, NoneRests, RestsWhen, SetWhen, StepByStep, Later, LaterFlags}
 use Rattle.trace.proofs.Counting.{many-none, many-mono, many-both, none-then}
 use Rattle.trace.proofs.Flags.{flag-of, not-found, set-before, set-stays, flag-is, flag-first, flag-here, flag-there}
 
@@ -117,6 +117,24 @@ rests-when holds trace start i = ways (some-from (clears-at trace s) 0 i) refl
         && not (eqb (start s) 0))
     ways true e = by-flags ∙ off (looks-up trace i && not (right holds trace i)) (not (some-from (clears-at trace s) 0 i)) _ _ _ (ap not e)
     ways false e = rw (none-then (clears-at trace s) i e) at by-flags
+
+is-set : (a b : Bool) (x : ℕ) → not (eqb (flag-of a b x) 0) ≡ (b || not a && not (eqb x 0))
+is-set true true x = refl
+is-set true false x = refl
+is-set false true zero = refl
+is-set false false zero = refl
+is-set false b (suc x) = ap (λ y. not (eqb y 0)) (set-before b (suc x) e) ∙ rw e (either b)
+  where
+    e : eqb (suc x) 0 ≡ false
+    e = eqb·suc-zero x
+
+    either : (c : Bool) → true ≡ (c || true)
+    either true = refl
+    either false = refl
+
+pub set-when : SetWhen
+set-when holds trace start s i =
+    rw (flag-is holds trace start s i) (is-set (some-from (clears-at trace s) 0 i) (some-from (finds-at holds trace s) (behind-last (clears-at trace s) i) i) (start s))
 
 next-set : (f : Bool) (x : ℕ) → x ≢ 0 → next false f x ≡ x
 unfolding next

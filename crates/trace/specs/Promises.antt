@@ -1,5 +1,5 @@
 -- What is promised of a trace's counts and of the flags that it leaves. Assumes nothing.
-use mathlib.Core.Bool.{Bool, true, false, not, _&&_}
+use mathlib.Core.Bool.{Bool, true, false, not, _&&_, _||_}
 use mathlib.Core.List.{List}
 use mathlib.Core.Logic.{_⊎_, _≢_}
 use mathlib.Core.Path.{_≡_}
@@ -33,6 +33,14 @@ RestsWhen =
     && not (some-from (clears-at trace (slot trace i)) 0 i)
     && not (some-from (finds-at holds trace (slot trace i)) 0 i)
     && not (eqb (start (slot trace i)) 0))
+
+-- when a flag is set: a look-up behind the last clearing step finds its tag, or no step clears it and it was set at the start
+abbrev pub SetWhen : Type 0
+SetWhen =
+    (holds : ℕ → ℕ → Bool) (trace : List ℕ) (start : ℕ → ℕ) (s i : ℕ) →
+    not (eqb (flag holds trace start s i) 0)
+    ≡ (some-from (finds-at holds trace s) (behind-last (clears-at trace s) i) i
+    || not (some-from (clears-at trace s) 0 i) && not (eqb (start s) 0))
 
 -- how a flag goes from step to step, as the document tells it
 pub record StepByStep (holds : ℕ → ℕ → Bool) (trace : List ℕ) (start : ℕ → ℕ) : Type 0 where

@@ -1,4 +1,4 @@
--- What one step makes of the flag of its slot, and of the counts. Assumes nothing.
+-- What one step makes of the flag of its slot, and of the counts, for the contracts of the code's parts. Assumes nothing.
 use mathlib.Core.Bool.{Bool, true, false, not, _&&_, _||_}
 use Prim.Native.Nat.{ℕ}
 use lib.Dec.{eqb}

@@ -1,5 +1,5 @@
--- Document 02, No. 12: a loader's trace over a finished pool. What is said of a step goes by the trace up to it and by the flags at the start,
--- and the counts and the later flags go by that. Assumes nothing.
+-- Document 02, No. 12: a loader's trace over a finished pool. The steps are numbered from 0. What is said of a step is a sentence over the steps
+-- before it and the flags at the start, with no state; the counts are how many steps it holds of. Assumes nothing.
 use mathlib.Core.Bool.{Bool, true, false, not, _&&_, _||_}
 use mathlib.Core.List.{List}
 use mathlib.Core.Option.{Option, none, some}
@@ -26,7 +26,7 @@ unfoldable pub how-many : (ℕ → Bool) → ℕ → ℕ
 how-many p zero = 0
 how-many p (suc n) = elim (p n) [ true ↦ suc (how-many p n) | false ↦ how-many p n ]
 
--- an entry of this tag begins at a slot, by what stands there
+-- an entry of this tag begins at a slot, by what stands there: nothing at 0 and past the pool, and none in the second slot of a wide one
 unfoldable pub begins : Option Slot → ℕ → Bool
 begins none t = false
 begins (some unusable) t = false
@@ -82,7 +82,7 @@ module _ (holds : ℕ → ℕ → Bool) (trace : List ℕ) where
 
   -- and the flags at the start, a byte for each slot
   module _ (start : ℕ → ℕ) where
-    -- the flag of slot s before step i: what clearing leaves, but 1 where that is clear and a look-up behind the last clearing finds its tag
+    -- the flag of slot s before step i: what clearing leaves; but where that is 0, and a look-up behind the last clearing step finds its tag, 1
     unfoldable pub flag : ℕ → ℕ → ℕ
     flag s i =
         elim (eqb (left trace start s i) 0 && some-from (finds-at s) (behind-last (clears-at trace s) i) i) [
@@ -102,7 +102,7 @@ module _ (holds : ℕ → ℕ → Bool) (trace : List ℕ) where
 abbrev pub all-clear : ℕ → ℕ
 all-clear s = 0
 
--- step i is good only by a flag from the start: it wouldn't be, had all flags been clear there
+-- step i is good only by a flag from the start: it wouldn't be had all flags been clear there
 unfoldable pub rests : (ℕ → ℕ → Bool) → List ℕ → (ℕ → ℕ) → ℕ → Bool
 rests holds trace start i = succeeds holds trace start i && not (succeeds holds trace all-clear i)
 

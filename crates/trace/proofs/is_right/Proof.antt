@@ -1,8 +1,8 @@
 -- `trace::is_right` meets its contract. Assumes nothing.
 use borrow.Author.Needs.{needs}
 use Rattle.trace.proofs.Stepping.{never-zero, held-other}
-use Rattle.trace.proofs.is_right.Tie as tie
 use Rattle.trace.proofs.is_right.Statement.{statement}
+use Rattle.trace.proofs.is_right.Tie as tie
 
 returns : tie.Need-returns
 returns c =

@@ -6,8 +6,8 @@ use native.Mathlib.Omega.{arith}
 use borrow.Author.Needs.{needs}
 use Rattle.trace.specs.Trace.{steps, unknown-action}
 use Rattle.trace.proofs.Stepping.{known-first, known-more, known-all, unknown}
-use Rattle.trace.proofs.known_actions.Tie as tie
 use Rattle.trace.proofs.known_actions.Statement.{statement}
+use Rattle.trace.proofs.known_actions.Tie as tie
 
 abbrev Inv-loop : tie.InvT-loop
 Inv-loop trace n i₀ i = (n ≡ steps trace) × (i ≤ n) × (unknown-action trace i ≡ false)

@@ -1,7 +1,7 @@
 -- `trace::one` meets its contract. Assumes nothing.
 use Rattle.trace.specs.Step.{one}
-use Rattle.trace.proofs.one.Tie as tie
 use Rattle.trace.proofs.one.Statement.{statement}
+use Rattle.trace.proofs.one.Tie as tie
 
 returns : tie.Need-returns
 unfolding one

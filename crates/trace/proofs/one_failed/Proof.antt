@@ -4,8 +4,8 @@ use mathlib.Core.Path.{_∙_}
 use lib.Dec.{eqb}
 use borrow.Author.Needs.{needs}
 use Rattle.trace.specs.Step.{one}
-use Rattle.trace.proofs.one_failed.Tie as tie
 use Rattle.trace.proofs.one_failed.Statement.{statement}
+use Rattle.trace.proofs.one_failed.Tie as tie
 
 returns : tie.Need-returns
 unfolding one

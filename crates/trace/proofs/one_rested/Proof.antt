@@ -3,8 +3,8 @@ use mathlib.Core.Bool.{and-true, and-false}
 use mathlib.Core.Path.{_∙_}
 use borrow.Author.Needs.{needs}
 use Rattle.trace.specs.Step.{one}
-use Rattle.trace.proofs.one_rested.Tie as tie
 use Rattle.trace.proofs.one_rested.Statement.{statement}
+use Rattle.trace.proofs.one_rested.Tie as tie
 
 returns : tie.Need-returns
 unfolding one

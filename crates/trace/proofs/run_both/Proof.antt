@@ -2,8 +2,8 @@
 use native.Mathlib.Omega.{arith}
 use borrow.Author.Needs.{needs}
 use Rattle.trace.proofs.Going.{one-step}
-use Rattle.trace.proofs.run_both.Tie as tie
 use Rattle.trace.proofs.run_both.Statement.{statement}
+use Rattle.trace.proofs.run_both.Tie as tie
 
 mul-at : tie.Need-mul-at
 mul-at c = search needs

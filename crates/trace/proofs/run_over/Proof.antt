@@ -5,8 +5,8 @@ use borrow.Author.Needs.{needs}
 use Rattle.places.proofs.Rows.{blank-zeros}
 use Rattle.trace.specs.Answers.{held}
 use Rattle.trace.proofs.Running.{cut, few-flags, strange, formed}
-use Rattle.trace.proofs.run_over.Tie as tie
 use Rattle.trace.proofs.run_over.Statement.{statement}
+use Rattle.trace.proofs.run_over.Tie as tie
 
 returns : tie.Need-returns
 returns c =

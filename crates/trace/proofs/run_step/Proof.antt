@@ -1,8 +1,8 @@
 -- `trace::run_step` meets its contract, one law for each way through it. Assumes nothing.
 use borrow.Author.Needs.{needs}
 use Rattle.trace.proofs.Stepping.{step-clears, step-set, step-right, step-wrong}
-use Rattle.trace.proofs.run_step.Tie as tie
 use Rattle.trace.proofs.run_step.Statement.{statement}
+use Rattle.trace.proofs.run_step.Tie as tie
 
 slice-write-flags : tie.Need-slice-write-flags
 slice-write-flags c = search needs

@@ -6,8 +6,8 @@ use Rattle.trace.specs.Trace.{steps}
 use Rattle.trace.specs.Answers.{held}
 use Rattle.trace.proofs.Stepping.{known-at}
 use Rattle.trace.proofs.Going.{Going, going-first, going-small, going-more, going-last}
-use Rattle.trace.proofs.run_steps.Tie as tie
 use Rattle.trace.proofs.run_steps.Statement.{statement}
+use Rattle.trace.proofs.run_steps.Tie as tie
 
 abbrev Inv-loop : tie.InvT-loop
 Inv-loop pool places trace flags₀ clear₀ n good₀ failed₀ rested₀ i₀ flags clear good failed rested i =

@@ -2,8 +2,8 @@
 use borrow.Author.Needs.{needs}
 use Rattle.places.proofs.Rows.{blank-zeros}
 use Rattle.trace.proofs.Running.{unread, more-behind, goes-on}
-use Rattle.trace.proofs.run_trace.Tie as tie
 use Rattle.trace.proofs.run_trace.Statement.{statement}
+use Rattle.trace.proofs.run_trace.Tie as tie
 
 note-pool-requires : tie.Need-note-pool-requires
 note-pool-requires c κs = search needs
