@@ -80,23 +80,31 @@ fn slot_of(pool: &[u8], text: &[u8]) -> u16 {
     slot
 }
 
-/// Files of just the room, and of a byte less and more.
+/// A file of just the room, or a byte shorter or longer, with an attribute or without.
 fn long_parts(random: &mut Random) -> Parts {
-    let length = ROOM - 1 + random.below(3);
-    let around = 8 + 14 + 2 + 3 * 4 + 65_535 * 2;
-    let rest = length - around - 50_000;
-    let texts = [65_535, 65_535, 50_000, rest].map(|n| Constant::Text(vec![b'x'; n]));
-    Parts {
+    let named = random.chance(1, 2);
+    let mut constants = vec![
+        Constant::Text(NAME.to_vec()),
+        Constant::Text(vec![b'x'; 65_535]),
+    ];
+    constants.push(constants[1].clone());
+    let mut parts = Parts {
         minor: 0,
         major: 52,
-        pool: pool_of(&texts),
+        pool: pool_of(&constants),
         access: 0,
         this_class: 0,
         super_class: 0,
-        name: 0,
-        count: 0,
-        bootstraps: Vec::new(),
-    }
+        name: u16::from(named),
+        count: u16::from(named),
+        bootstraps: if named { vec![0; 4] } else { Vec::new() },
+    };
+    let unfilled = parts.write(ROOM).expect("it leaves room").len();
+    let text_of_none = 3;
+    let wanted = ROOM - 1 + random.below(3);
+    constants.push(Constant::Text(vec![b'y'; wanted - unfilled - text_of_none]));
+    parts.pool = pool_of(&constants);
+    parts
 }
 
 /// One of the parts off; by chance they may still make a file.

@@ -151,6 +151,24 @@ fn both_ways() {
     assert!(good > 300, "{good}");
 }
 
+/// Files about the room come with an attribute and without, of all three lengths.
+#[test]
+fn long_files_end_about_the_room() {
+    let mut random = Random::new(17);
+    let mut seen = std::collections::BTreeSet::new();
+    for _ in 0..40_000 {
+        if let Frame::Write(parts) = made::next(&mut random)
+            && parts.pool.len() > 100_000
+            && let Ok(file) = parts.write(usize::MAX)
+            && file.len().abs_diff(ROOM) < 2
+        {
+            seen.insert((parts.name, file.len()));
+            assert_eq!(parts.write(ROOM).is_ok(), file.len() <= ROOM);
+        }
+    }
+    assert_eq!(seen.len(), 6, "{seen:?}");
+}
+
 #[test]
 fn all_damages_are_there() {
     let file = by_hand();

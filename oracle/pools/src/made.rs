@@ -1,7 +1,8 @@
 //! Seeded pools with bootstrap methods: right ones, of which the references lead anywhere, and damaged ones.
 
 use crate::constant::{Bootstrap, Constant, TAGS, bootstraps_of, pool_of};
-use crate::frame::Frame;
+use crate::frame::{Frame, ROOM};
+use crate::listing::list;
 use jobs::random::Random;
 
 /// A frame, and what was done to it.
@@ -102,12 +103,13 @@ const DOUBLES: &[u64] = &[
     0x7fef_ffff_ffff_ffff,
 ];
 
-/// One in 500 is full or explodes; of the others one in four is left whole.
+/// One in 400 is full, explodes or ends about the room; of the others one in four is left whole.
 pub fn next(random: &mut Random) -> Made {
     match random.below(2000) {
         0 => made("full", full(random)),
-        1..=3 => made("exploding", exploding(random)),
-        4..500 => made("whole", whole(random)),
+        1 => made("about the room", about_the_room(random)),
+        2..=4 => made("exploding", exploding(random)),
+        5..500 => made("whole", whole(random)),
         _ => {
             let mut frame = whole(random);
             let (how, damage) = random.pick(&DAMAGES);
@@ -296,6 +298,17 @@ fn exploding(random: &mut Random) -> Frame {
         })
         .collect();
     frame_of(&constants, &methods)
+}
+
+/// A listing of just the room, or a byte shorter or longer: a text again and again, and one that fills it up.
+fn about_the_room(random: &mut Random) -> Frame {
+    let mut constants = vec![Constant::One(8, 17); 16];
+    constants.push(Constant::Text(vec![b'x'; 61_000]));
+    let unfilled = [&constants[..], &[Constant::Text(Vec::new())]].concat();
+    let listed = list(ROOM, &pool_of(&unfilled), 0, &[]).expect("it leaves room");
+    let wanted = ROOM - 1 + random.below(3);
+    constants.push(Constant::Text(vec![b'y'; wanted - listed.len()]));
+    frame_of(&constants, &[])
 }
 
 fn change(random: &mut Random, bytes: &mut [u8]) {

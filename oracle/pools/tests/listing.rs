@@ -148,7 +148,8 @@ fn made_pools_are_what_they_say() {
     let mut random = Random::new(1);
     let mut tags = std::collections::BTreeSet::new();
     let mut outcomes = [0; 3];
-    for _ in 0..4000 {
+    let mut lengths = std::collections::BTreeSet::new();
+    for _ in 0..20_000 {
         let made = made::next(&mut random);
         let Frame {
             pool,
@@ -163,6 +164,10 @@ fn made_pools_are_what_they_say() {
             assert_eq!(&bootstraps_of(&methods), bootstraps);
             tags.extend(constants.iter().map(Constant::tag));
         }
+        if made.how == "about the room" {
+            let text = list(usize::MAX, pool, *count, bootstraps).unwrap();
+            lengths.insert(text.len() as i64 - ROOM as i64);
+        }
         outcomes[match list(ROOM, pool, *count, bootstraps) {
             Ok(_) => 0,
             Err(Refused::NoPool) => 1,
@@ -173,6 +178,7 @@ fn made_pools_are_what_they_say() {
         assert_eq!(Frame::read(&mut &stream[..]).unwrap(), Some(made.frame));
     }
     assert_eq!(tags.len(), 17);
+    assert_eq!(lengths.into_iter().collect::<Vec<_>>(), [-1, 0, 1]);
     assert!(outcomes.iter().all(|n| *n > 0), "{outcomes:?}");
 }
 
