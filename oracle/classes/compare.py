@@ -36,22 +36,21 @@ def shown(folder, files):
 
 
 def difference_in_javap(wanted, text):
-    number = lambda pattern: int(re.search(pattern, text)[1], 0)
+    def number(pattern):
+        return int(re.search(pattern, text)[1], 0)
+
     reads = {
         "minor": number(r"  minor version: (\d+)"),
         "major": number(r"  major version: (\d+)"),
         "access": number(r"  flags: \((0x[0-9a-f]+)\)"),
         "this": number(r"  this_class: #(\d+) "),
         "super": number(r"  super_class: #(\d+) "),
-    }
-    names = {
         "class_name": re.search(r"  this_class: #\d+ +// \"?([^\"\n]*)", text)[1],
         "super_name": re.search(r"  super_class: #\d+ +// \"?([^\"\n]*)", text)[1],
     }
     counts = re.search(r"  interfaces: (\d+), fields: (\d+), methods: (\d+), attributes: (\d+)", text)
     methods = re.findall(r"^  (\d+): #\d+ ", text, re.MULTILINE)
     last_slots = [int(slot) for slot in re.findall(r"^ *#(\d+) = ", text, re.MULTILINE)]
-    reads |= names
     for what, value in reads.items():
         if value != wanted[what]:
             return f"{what} is {value}"
@@ -94,13 +93,16 @@ def main():
     if [line[0] for line in lines] != defined:
         print("the loader tells of other files")
         failed += 1
+    taken = 0
     for file, *words in lines:
         found = difference_in_loader(classes[file], words)
         if found:
             print(f"loader, {file}: {found}, wanted {classes[file]}")
             failed += 1
+        else:
+            taken += 1
     with_attribute = sum(wanted["name"] != 0 for wanted in classes.values())
-    print(f"javap showed {len(texts)} class files, {with_attribute} with BootstrapMethods; a loader defined {len(lines)}; {failed} differ")
+    print(f"javap showed {len(texts)} class files, {with_attribute} with BootstrapMethods; a loader defined {taken} of {len(lines)}; {failed} differ")
     sys.exit(1 if failed else 0)
 
 
