@@ -86,6 +86,16 @@ fn attempt(random: &mut Random, number: usize) -> Option<Loadable> {
         asked.push(job.add(20, &[], &[name]));
     }
     let records = job.finish(random, asked);
+    Some(Loadable {
+        parts: parts_of(random, &records, ACCESS[access])?,
+        class_name,
+        super_name,
+        defined,
+    })
+}
+
+/// The parts around what the module builds; this and super class are the first two answers.
+fn parts_of(random: &mut Random, records: &[Record], access: u16) -> Option<Parts> {
     let Outcome::Built {
         answers,
         pool,
@@ -93,31 +103,23 @@ fn attempt(random: &mut Random, number: usize) -> Option<Loadable> {
         bootstraps,
         name_slot,
         ..
-    } = run_job(&encode(&records))
+    } = run_job(&encode(records))
     else {
         return None;
     };
     let major = 55 + random.below(7) as u16;
-    let parts = Parts {
-        minor: if major == 55 {
-            random.below(4) as u16
-        } else {
-            0
-        },
+    // from 56 on the minor version has a meaning
+    let minor = if major == 55 { random.below(4) } else { 0 };
+    Some(Parts {
+        minor: minor as u16,
         major,
         pool,
-        access: ACCESS[access],
+        access,
         this_class: answers[0],
         super_class: answers[1],
         name: name_slot,
         count: bootstrap_count,
         bootstraps,
-    };
-    Some(Loadable {
-        parts,
-        class_name,
-        super_name,
-        defined,
     })
 }
 
@@ -127,7 +129,7 @@ struct Job {
     definitions: Vec<Record>,
     constants: u16,
     bootstraps: u16,
-    /// Constants that an argument of a bootstrap may be, and those that are wide.
+    /// Constants that an argument of a bootstrap may be.
     arguments: Vec<u16>,
 }
 
