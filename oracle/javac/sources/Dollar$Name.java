@@ -1,0 +1,6 @@
+package small;
+
+class Dollar$Name {
+    int $ = 1;
+    int _a1 = $;
+}

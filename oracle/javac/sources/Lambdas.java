@@ -1,0 +1,11 @@
+package small;
+
+class Lambdas {
+    static Runnable plain() {
+        return () -> System.out.println("run");
+    }
+
+    static java.util.function.IntUnaryOperator capturing(int by) {
+        return x -> x * by;
+    }
+}

@@ -1,0 +1,10 @@
+package small;
+
+class LocalClass {
+    static int count(String text) {
+        class Counter {
+            int n = text.length();
+        }
+        return new Counter().n;
+    }
+}

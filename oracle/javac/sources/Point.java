@@ -1,0 +1,7 @@
+package small;
+
+record Point(int x, int y) {
+    Point {
+        if (x < 0) throw new IllegalArgumentException("x " + x);
+    }
+}

@@ -1,0 +1,9 @@
+package small;
+
+enum Season {
+    SPRING, SUMMER, AUTUMN, WINTER;
+
+    Season next() {
+        return values()[(ordinal() + 1) % values().length];
+    }
+}

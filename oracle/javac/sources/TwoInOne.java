@@ -1,0 +1,9 @@
+package small;
+
+class TwoInOne {
+    Other other = new Other();
+}
+
+class Other {
+    TwoInOne one;
+}

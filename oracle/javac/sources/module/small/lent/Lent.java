@@ -1,0 +1,3 @@
+package small.lent;
+
+public class Lent {}

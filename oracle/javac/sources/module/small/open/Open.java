@@ -1,0 +1,3 @@
+package small.open;
+
+public class Open {}

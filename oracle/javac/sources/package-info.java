@@ -1,0 +1,3 @@
+/** Small sources, each with constants of its own kind. */
+@Deprecated
+package small;
