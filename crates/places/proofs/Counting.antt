@@ -10,7 +10,7 @@ use lib.ListN.{length, drop}
 use lib.Seq.{drop-cons}
 use Rattle.jvms.specs.Pool.{_>>=_, u1, u2, slots, constant-pool}
 use Rattle.writer.specs.Numbers.{number2}
-use Rattle.places.specs.Noting.{SlotsNoted, PoolNoted}
+use Rattle.places.specs.Noting.{placedUpTo, SlotsNoted, PoolNoted}
 use Rattle.places.specs.declared.PoolRead.{PoolRead}
 use Rattle.places.specs.declared.PoolRead.the-variants.{Good, Bad}
 use Rattle.places.proofs.Finding.{finds-u2}
@@ -34,14 +34,18 @@ cut-u2 bytes at few = go (u2 (drop at bytes)) refl
 
 module _ (bytes : List ℕ) (at : ℕ) where
   -- no count, and a count of 0
-  pub no-count : length bytes < at + 2 → (u2 >>= constant-pool) (drop at bytes) ≡ none
-  no-count few = rw (cut-u2 bytes at few)
+  pub no-count : (before : List ℕ) → length bytes < at + 2 → PoolNoted bytes at before before Bad
+  unfolding placedUpTo
+  no-count before few = let cut = cut-u2 bytes at few in (rw cut, refl, rw cut)
 
-  pub zero-count : (count : ℕ) → at + 2 ≤ length bytes → count ≡ number2 bytes at → count ≡ 0 → (u2 >>= constant-pool) (drop at bytes) ≡ none
-  unfolding constant-pool
-  zero-count count enough is zero =
+  pub zero-count :
+      (before : List ℕ) (count : ℕ) → at + 2 ≤ length bytes → count ≡ number2 bytes at → count ≡ 0 →
+      PoolNoted bytes at before before Bad
+  unfolding constant-pool placedUpTo
+  zero-count before count enough is zero =
       let e : number2 bytes at ≡ 0 = omega arith in
-      rw (read-u2 bytes at enough, e)
+      let read = read-u2 bytes at enough in
+      (rw (read, e), refl, rw (read, e))
 
   -- a count that leaves slots to read
   counted :
@@ -56,7 +60,9 @@ module _ (bytes : List ℕ) (at : ℕ) where
       (count : ℕ) (before after : List ℕ) (r : PoolRead) → at + 2 ≤ length bytes → count ≡ number2 bytes at → 0 < count → count < 65536 →
       SlotsNoted bytes (at + 2) (count - 1) before after r →
       PoolNoted bytes at before after r
-  pool-noted count before after Bad enough is any low h = (counted count enough is any ∙ h .0, h .1)
+  pool-noted count before after Bad enough is any low h =
+      let read = read-u2 bytes at enough in
+      (counted count enough is any ∙ h .0, h .1, rw (read, ← is) (h .2))
   pool-noted count before after (Good next) enough is any low h =
       let (found, read, from, to, noted) = h in
       let size = slots-size (count - 1) false bytes (at + 2) enough found (drop next bytes) read in

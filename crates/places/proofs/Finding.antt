@@ -57,7 +57,9 @@ finds-bind P Q r f s p first next = go (r (drop p s)) refl
         next a e inside is b rest (subst (λ l. f a l ≡ some (b, rest)) left k)
 
 -- and it is what was read there
-pub finds-itself : {A : Type 0} (Q : A → ℕ → Type 0) (r : Reader A) (s : List ℕ) (p : ℕ) → Finds Q r s p → Finds (λ a e. (r (drop p s) ≡ some (a, drop e s)) × Q a e) r s p
+pub finds-itself :
+    {A : Type 0} (Q : A → ℕ → Type 0) (r : Reader A) (s : List ℕ) (p : ℕ) → Finds Q r s p →
+    Finds (λ a e. (r (drop p s) ≡ some (a, drop e s)) × Q a e) r s p
 finds-itself Q r s p finds a rest read =
     let (e, inside, left, is) = finds a rest read in
     (e, inside, left, (read ∙ ap (λ l. some (a, l)) left, is))
@@ -265,14 +267,15 @@ finds-constant s p =
     rw (h .1) (of-tag s p t (sym (h .0)) structures each-right)
 
 -- indexes, one after the other
-finds-indexes :
-    (n : ℕ) (s : List ℕ) (p : ℕ) → p ≤ length s →
-    Finds (λ l e. (length l ≡ n) × ((k : ℕ) → k < n → getD l k 0 ≡ number2 s (p + 2 * k)) × (e ≡ p + 2 * n)) (array n u2) s p
+abbrev Indexes : ℕ → List ℕ → ℕ → List ℕ → ℕ → Type 0
+Indexes n s p l e = (length l ≡ n) × ((k : ℕ) → k < n → getD l k 0 ≡ number2 s (p + 2 * k)) × (e ≡ p + 2 * n)
+
+finds-indexes : (n : ℕ) (s : List ℕ) (p : ℕ) → p ≤ length s → Finds (Indexes n s p) (array n u2) s p
 unfolding array
 finds-indexes zero s p inside = finds-return _ [] s p inside (refl, (λ k h. absurd (omega arith)), omega arith)
 finds-indexes (suc n) s p inside =
     finds-bind (λ x e. (x ≡ number2 s p) × (e ≡ p + 2)) _ u2 _ s p (finds-u2 s p) λ x e in₁ h.
-    finds-bind (λ l e′. (length l ≡ n) × ((k : ℕ) → k < n → getD l k 0 ≡ number2 s (e + 2 * k)) × (e′ ≡ e + 2 * n)) _ (array n u2) _ s e (finds-indexes n s e in₁) λ l e′ in₂ k.
+    finds-bind (Indexes n s e) _ (array n u2) _ s e (finds-indexes n s e in₁) λ l e′ in₂ k.
     finds-return _ _ s e′ in₂ (ap suc (k .0), each x e l (h .0) (h .1) (k .1), omega arith)
   where
     each :
@@ -296,7 +299,7 @@ unfolding bootstrap-method
 finds-method s p =
     finds-bind (λ x e. (x ≡ number2 s p) × (e ≡ p + 2)) (MethodStands s p) u2 _ s p (finds-u2 s p) λ x e in₁ h.
     finds-bind (λ n e′. (n ≡ number2 s e) × (e′ ≡ e + 2)) (MethodStands s p) u2 _ s e (finds-u2 s e) λ n e′ in₂ k.
-    finds-bind (λ l e″. (length l ≡ n) × ((i : ℕ) → i < n → getD l i 0 ≡ number2 s (e′ + 2 * i)) × (e″ ≡ e′ + 2 * n)) (MethodStands s p) (array n u2) _ s e′ (finds-indexes n s e′ in₂) λ l e″ in₃ j.
+    finds-bind (Indexes n s e′) (MethodStands s p) (array n u2) _ s e′ (finds-indexes n s e′ in₂) λ l e″ in₃ j.
     let second : e′ ≡ p + 4 = omega arith in
     finds-return (MethodStands s p) (record { bootstrap-method-ref = x; bootstrap-arguments = l }) s e″ in₃ (record {
       handle = h .0;

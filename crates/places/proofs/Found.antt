@@ -76,10 +76,14 @@ module _ (s : List ℕ) (p : ℕ) (c : Constant) (there : ConstantAt s p c) wher
       let (e, low, h) = by-tag Q _ t shape is finds in
       (h .0, omega arith)
 
-  index-there : (t : ℕ) (C : ℕ → Constant) → structure t structures ≡ (u2 >>= λ n. return (C n)) → getD s p 0 ≡ t → (c ≡ C (number2 s (p + 1))) × (p + 3 ≤ length s)
+  index-there :
+      (t : ℕ) (C : ℕ → Constant) → structure t structures ≡ (u2 >>= λ n. return (C n)) → getD s p 0 ≡ t →
+      (c ≡ C (number2 s (p + 1))) × (p + 3 ≤ length s)
   index-there = one-there (number2 s) 2 u2 (finds-u2 s) (p + 3) (omega arith)
 
-  four-there : (t : ℕ) (C : ℕ → Constant) → structure t structures ≡ (u4 >>= λ n. return (C n)) → getD s p 0 ≡ t → (c ≡ C (number4 s (p + 1))) × (p + 5 ≤ length s)
+  four-there :
+      (t : ℕ) (C : ℕ → Constant) → structure t structures ≡ (u4 >>= λ n. return (C n)) → getD s p 0 ≡ t →
+      (c ≡ C (number4 s (p + 1))) × (p + 5 ≤ length s)
   four-there = one-there (number4 s) 4 u4 (finds-u4 s) (p + 5) (omega arith)
 
   indexes-there :

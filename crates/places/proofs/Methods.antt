@@ -1,6 +1,6 @@
 -- Bootstrap methods, one behind the other: a pass over them, and what it leaves in a table. Assumes nothing.
 use mathlib.Core.Bool.{Bool, true, false}
-use mathlib.Core.List.{List, [], _∷_, _++_, append-nil}
+use mathlib.Core.List.{List, [], _∷_, _++_, append-nil, append-assoc}
 use mathlib.Core.Option.{Option, none, some}
 use mathlib.Core.Path.{_≡_, refl, sym, ap, ap₂, subst, _∙_}
 use Prim.Native.Nat.{ℕ, zero, suc, _+_, _*_, _-_, _<_, _≤_}
@@ -16,7 +16,7 @@ use Rattle.writer.specs.Numbers.{number2}
 use Rattle.facts.proofs.Lists.{none≢some, some-inj, found-inside, same-place}
 use Rattle.laws.proofs.reading.ReadIsSpelled.{wholly-some}
 use Rattle.places.specs.Standing.{MethodAt, MethodsNoted}
-use Rattle.places.specs.Noting.{starts, MethodPassed, MethodsPut}
+use Rattle.places.specs.Noting.{starts, startsUpTo, MethodPassed, MethodsPut}
 use Rattle.places.specs.declared.PoolRead.the-variants.{Good, Bad}
 use Rattle.places.proofs.Finding.{then-nothing, then-joined, Finds, finds-return, finds-bind, finds-itself, MethodStands, finds-method}
 use Rattle.places.proofs.Counting.{read-u2}
@@ -77,8 +77,10 @@ starts-more :
 unfolding starts each-of
 starts-more [] m p = ap (λ q. q ∷ []) (omega arith)
 starts-more (x ∷ l) m p =
-    let e : p + length (bootstrap-method-bytes x) + length (each-of bootstrap-method-bytes l) ≡ p + length (bootstrap-method-bytes x ++ each-of bootstrap-method-bytes l) = simp length-append (omega arith) in
-    ap (λ r. p ∷ r) (starts-more l m (p + length (bootstrap-method-bytes x)) ∙ ap (λ q. starts l (p + length (bootstrap-method-bytes x)) ++ q ∷ []) e)
+    let next = p + length (bootstrap-method-bytes x) in
+    let e : next + length (each-of bootstrap-method-bytes l) ≡ p + length (bootstrap-method-bytes x ++ each-of bootstrap-method-bytes l) =
+    simp length-append (omega arith) in
+    ap (λ r. p ∷ r) (starts-more l m next ∙ ap (λ q. starts l next ++ q ∷ []) e)
 
 starts-length : (l : List BootstrapMethod) (p : ℕ) → length (starts l p) ≡ length l
 unfolding starts
@@ -98,6 +100,7 @@ pub record Passed (bytes before : List ℕ) (at i : ℕ) (table : List ℕ) : Ty
   pub noted : table ≡ sets before 0 (starts found 0)
   pub reads :
       (k : ℕ) → array (length found + k) bootstrap-method bytes ≡ andThen (array k bootstrap-method (drop at bytes)) (λ more. return (found ++ more))
+  pub leaves : (k : ℕ) → startsUpTo (length found + k) bytes 0 ≡ starts found 0 ++ startsUpTo k bytes at
 
 pub passed-none : (bytes before : List ℕ) → Passed bytes before 0 0 before
 unfolding starts each-of
@@ -109,16 +112,18 @@ passed-none bytes before =
       inside = omega arith;
       noted = refl;
       reads = λ k. ap (λ n. array n bootstrap-method bytes) (zero-add k) ∙ then-nothing (array k bootstrap-method bytes);
+      leaves = λ k. ap (λ n. startsUpTo n bytes 0) (zero-add k);
     }
 
 module _ {bytes before : List ℕ} {at i : ℕ} {table : List ℕ} (p : Passed bytes before at i table) where
   pub passed-more : (next : ℕ) → MethodPassed bytes at (Good next) → Passed bytes before next (i + 1) (set table i at)
-  unfolding array
+  unfolding array startsUpTo
   passed-more next (m, read, inside) =
       let (e, low, left, stands) = finds-method bytes at m (drop next bytes) read in
       let ends : next ≡ at + length (bootstrap-method-bytes m) = omega (arith, same-place bytes next e inside low left, stands .behind, method-size m) in
       let index : i ≡ 0 + length (starts (p .found) 0) = omega (arith, p .many, starts-length (p .found) 0) in
       let place : at ≡ 0 + length (each-of bootstrap-method-bytes (p .found)) = omega (arith, p .here) in
+      let size : (k : ℕ) → length (p .found ++ m ∷ []) + k ≡ length (p .found) + suc k = λ k. simp length-append (omega arith) in
       record {
         found = p .found ++ m ∷ [];
         many = simp length-append (omega (arith, p .many));
@@ -130,11 +135,17 @@ module _ {bytes before : List ℕ} {at i : ℕ} {table : List ℕ} (p : Passed b
             ∙ sym (sets-more (starts (p .found) 0) before 0 (0 + length (each-of bootstrap-method-bytes (p .found))))
             ∙ ap (sets before 0) (sym (starts-more (p .found) m 0));
         reads = λ k.
-            let size : length (p .found ++ m ∷ []) + k ≡ length (p .found) + suc k = simp length-append (omega arith) in
-            ap (λ n. array n bootstrap-method bytes) size
+            ap (λ n. array n bootstrap-method bytes) (size k)
             ∙ p .reads (suc k)
             ∙ ap (λ o. andThen (andThen o (λ a. array k bootstrap-method >>= λ l. return (a ∷ l))) (λ more. return (p .found ++ more))) read
             ∙ then-joined (p .found) (m ∷ []) (array k bootstrap-method (drop next bytes));
+        leaves = λ k.
+            let here : startsUpTo (suc k) bytes at ≡ at ∷ startsUpTo k bytes next = rw (startsUpTo, read, ends) in
+            ap (λ n. startsUpTo n bytes 0) (size k)
+            ∙ p .leaves (suc k)
+            ∙ ap (λ l. starts (p .found) 0 ++ l) (here ∙ ap (λ q. q ∷ startsUpTo k bytes next) place)
+            ∙ sym (append-assoc (starts (p .found) 0) ((0 + length (each-of bootstrap-method-bytes (p .found))) ∷ []) (startsUpTo k bytes next))
+            ∙ ap (λ l. l ++ startsUpTo k bytes next) (sym (starts-more (p .found) m 0));
       }
 
   passed-size : length table ≡ length before
@@ -142,49 +153,51 @@ module _ {bytes before : List ℕ} {at i : ℕ} {table : List ℕ} (p : Passed b
 
   -- no method stands here, though one more is asked for
   pub passed-bad : MethodPassed bytes at Bad → (n : ℕ) → i < n → MethodsPut bytes n before table false
-  unfolding read-bootstrap-methods array wholly
+  unfolding read-bootstrap-methods array wholly startsUpTo
   passed-bad read n more =
       let k = n - i - 1 in
       let size : n ≡ length (p .found) + suc k = omega (arith, p .many) in
       let none : array n bootstrap-method bytes ≡ none = rw size (p .reads (suc k) ∙ rw read) in
-      (ap wholly none, passed-size)
+      let left : startsUpTo n bytes 0 ≡ starts (p .found) 0 = rw size (p .leaves (suc k) ∙ rw (startsUpTo, read) (append-nil (starts (p .found) 0))) in
+      (ap wholly none, passed-size, p .noted ∙ ap (sets before 0) (sym left))
 
   -- all methods are found, and they take all bytes or not
   pub passed-all : (n : ℕ) → n ≡ i → MethodsPut bytes n before table (eqb at (length bytes))
-  unfolding read-bootstrap-methods array wholly
+  unfolding read-bootstrap-methods array wholly startsUpTo
   passed-all n last = go (eqb at (length bytes)) refl
     where
+      size : n ≡ length (p .found) + 0
+      size = omega (arith, p .many)
+
       all : array n bootstrap-method bytes ≡ some (p .found, drop at bytes)
-      all =
-          let size : n ≡ length (p .found) + 0 = omega (arith, p .many) in
-          rw size (p .reads 0 ∙ ap (λ l. some (l, drop at bytes)) (append-nil (p .found)))
+      all = rw size (p .reads 0 ∙ ap (λ l. some (l, drop at bytes)) (append-nil (p .found)))
 
       go : (b : Bool) → eqb at (length bytes) ≡ b → MethodsPut bytes n before table b
       go true e =
           let end : at ≡ length bytes = eqb-true at (length bytes) e in
           (p .found, ap wholly (all ∙ ap (λ l. some (p .found, l)) (ap (λ q. drop q bytes) end ∙ drop-length bytes)), omega (arith, p .many), p .noted)
       go false e =
+          let left : startsUpTo n bytes 0 ≡ starts (p .found) 0 = rw size (p .leaves 0 ∙ append-nil (starts (p .found) 0)) in
           let low : at < length bytes = omega (arith, eqb-false at (length bytes) e, p .inside) in
-          (ap wholly (all ∙ ap (λ l. some (p .found, l)) (drop-cons bytes at 0 low)), passed-size)
+          (ap wholly (all ∙ ap (λ l. some (p .found, l)) (drop-cons bytes at 0 low)), passed-size, p .noted ∙ ap (sets before 0) (sym left))
 
 -- methods that are read stand at their places
-finds-methods :
-    (n : ℕ) (s : List ℕ) (p : ℕ) → p ≤ length s →
-    Finds (λ l e. (k : ℕ) (m : BootstrapMethod) → getElem? l k ≡ some m → MethodAt s (getD (starts l p) k 0) m) (array n bootstrap-method) s p
+abbrev InRow : List ℕ → ℕ → List BootstrapMethod → Type 0
+InRow s p l = (k : ℕ) (m : BootstrapMethod) → getElem? l k ≡ some m → MethodAt s (getD (starts l p) k 0) m
+
+finds-methods : (n : ℕ) (s : List ℕ) (p : ℕ) → p ≤ length s → Finds (λ l e. InRow s p l) (array n bootstrap-method) s p
 unfolding array starts
 finds-methods zero s p inside = finds-return _ [] s p inside (λ k m is. none≢some is)
 finds-methods (suc n) s p inside =
-    finds-bind (λ m e. (bootstrap-method (drop p s) ≡ some (m, drop e s)) × MethodStands s p m e) _ bootstrap-method _ s p (finds-itself (MethodStands s p) bootstrap-method s p (finds-method s p)) λ m e in₁ h.
-    finds-bind (λ l e′. (k : ℕ) (x : BootstrapMethod) → getElem? l k ≡ some x → MethodAt s (getD (starts l e) k 0) x) _ (array n bootstrap-method) _ s e (finds-methods n s e in₁) λ l e′ in₂ rest.
+    let first = finds-itself (MethodStands s p) bootstrap-method s p (finds-method s p) in
+    finds-bind (λ m e. (bootstrap-method (drop p s) ≡ some (m, drop e s)) × MethodStands s p m e) _ bootstrap-method _ s p first λ m e in₁ h.
+    finds-bind (λ l e′. InRow s e l) _ (array n bootstrap-method) _ s e (finds-methods n s e in₁) λ l e′ in₂ rest.
     let ends : e ≡ p + length (bootstrap-method-bytes m) = omega (arith, h .1 .behind, method-size m) in
-    finds-return _ (m ∷ l) s e′ in₂ (each m e l (drop e s, h .0) (rw ends at rest))
+    finds-return _ (m ∷ l) s e′ in₂ (each m l (drop e s, h .0) (rw ends at rest))
   where
-    each :
-        (m : BootstrapMethod) (e : ℕ) (l : List BootstrapMethod) → MethodAt s p m →
-        ((k : ℕ) (x : BootstrapMethod) → getElem? l k ≡ some x → MethodAt s (getD (starts l (p + length (bootstrap-method-bytes m))) k 0) x) →
-        (k : ℕ) (x : BootstrapMethod) → getElem? (m ∷ l) k ≡ some x → MethodAt s (getD (p ∷ starts l (p + length (bootstrap-method-bytes m))) k 0) x
-    each m e l there rest zero x is = subst (λ y. MethodAt s p y) (some-inj is) there
-    each m e l there rest (suc k) x is = rest k x is
+    each : (m : BootstrapMethod) (l : List BootstrapMethod) → MethodAt s p m → InRow s (p + length (bootstrap-method-bytes m)) l → InRow s p (m ∷ l)
+    each m l there rest zero x is = subst (λ y. MethodAt s p y) (some-inj is) there
+    each m l there rest (suc k) x is = rest k x is
 
 -- a table that their places were put into is a note of them
 pub methods-table :

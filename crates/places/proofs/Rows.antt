@@ -29,7 +29,8 @@ unfolding slots
 finds-slots zero false s p inside = finds-return _ [] s p inside (refl, tt)
 finds-slots zero true s p inside = finds-fail _ s p
 finds-slots (suc n) false s p inside =
-    finds-bind (λ c e. (cp-info (drop p s) ≡ some (c, drop e s)) × Stands s p c e) _ cp-info _ s p (finds-itself (Stands s p) cp-info s p (finds-constant s p)) λ c e in₁ h.
+    let first = finds-itself (Stands s p) cp-info s p (finds-constant s p) in
+    finds-bind (λ c e. (cp-info (drop p s) ≡ some (c, drop e s)) × Stands s p c e) _ cp-info _ s p first λ c e in₁ h.
     finds-bind (λ l e′. (length l ≡ n) × InRow s e l) _ (slots n (takes-two c)) _ s e (finds-slots n (takes-two c) s e in₁) λ l e′ in₂ k.
     finds-return _ (usable c ∷ l) s e′ in₂ (ap suc (k .0), ((drop e s, h .0), rw (← (h .1 .behind)) (k .1)))
 finds-slots (suc n) true s p inside =
@@ -105,7 +106,8 @@ blank-zeros = (length-replicate {0} {A = ℕ} 65536 0, λ n. replicate-either (�
 
 -- a pool that was noted in such a table is what the table notes
 pub pool-table :
-    (bytes : List ℕ) (at : ℕ) (before after : List ℕ) (next : ℕ) → Blank before → (h : PoolNoted bytes at before after (Good next)) → Noted bytes (h .0) after
+    (bytes : List ℕ) (at : ℕ) (before after : List ℕ) (next : ℕ) → Blank before → (h : PoolNoted bytes at before after (Good next)) →
+    Noted bytes (h .0) after
 unfolding slotOf
 pool-table bytes at before after next blank h =
     let (found, read, from, to, few, is) = h in

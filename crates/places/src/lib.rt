@@ -6,11 +6,11 @@ ghost use Rattle.definition.specs.Shapes.{isWide};
 ghost use Rattle.places.specs.Noting.{width, SlotsNoted, PoolNoted, tagAt, MethodPassed, MethodsPut};
 use raw_const::Extent;
 
-// What reading a pool found.
+// What reading a pool, or a bootstrap method, found.
 pub enum PoolRead {
-    // A pool, and the place behind it.
+    // It is there, and this is the place behind it.
     Good { next: usize },
-    // No pool.
+    // It isn't there.
     Bad,
 }
 

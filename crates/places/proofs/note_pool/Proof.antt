@@ -1,19 +1,18 @@
 -- `places::note_pool` meets its contract: a count that is there and not 0, and then the slots. Assumes nothing.
 use borrow.Author.Needs.{needs}
-use mathlib.Core.Path.{refl}
 use native.Mathlib.Omega.{arith}
 use Rattle.places.proofs.Counting.{no-count, zero-count, pool-noted}
 use Rattle.places.proofs.note_pool.Statement.{statement}
 use Rattle.places.proofs.note_pool.Tie as tie
 
 returns : tie.Need-returns
-returns c = (no-count (c .before .before .args .bytes .now) (c .before .before .args .at) (omega arith), refl)
+returns c = let args = c .before .before .args in no-count (args .bytes .now) (args .at) (args .places .now) (omega arith)
 
 sub-if2 : tie.Need-sub-if2
 sub-if2 c = search needs
 
 returns-2 : tie.Need-returns-2
-returns-2 c = (no-count (c .before .before .before .args .bytes .now) (c .before .before .before .args .at) (omega arith), refl)
+returns-2 c = let args = c .before .before .before .args in no-count (args .bytes .now) (args .at) (args .places .now) (omega arith)
 
 get-u16-requires : tie.Need-get-u16-requires
 get-u16-requires c κs = search needs
@@ -24,7 +23,7 @@ cast-count c = search needs
 returns-3 : tie.Need-returns-3
 returns-3 c =
     let args = c .before .before .before .before .before .args in
-    (zero-count (args .bytes .now) (args .at) (c .before .get-u16 .result) (omega arith) (c .before .get-u16 .ensures) (c .if3 .taken), refl)
+    zero-count (args .bytes .now) (args .at) (args .places .now) (c .before .get-u16 .result) (omega arith) (c .before .get-u16 .ensures) (c .if3 .taken)
 
 add-note-slots : tie.Need-add-note-slots
 add-note-slots c = search needs

@@ -1,23 +1,21 @@
 -- `places::note_slots` meets its contract: the loop has passed the slots before this one, and each turn notes one constant more. Assumes nothing.
 use borrow.Author.Needs.{needs}
-use mathlib.Core.Bool.{false}
-use mathlib.Core.Option.{none}
-use mathlib.Core.Path.{_≡_, subst}
+use mathlib.Core.Path.{subst}
 use Prim.Native.Nat.{_-_, _<_}
 use native.Mathlib.Omega.{arith}
-use lib.ListN.{drop}
 use Rattle.definition.specs.Shapes.{isWide}
-use Rattle.jvms.specs.Pool.{slots}
 use Rattle.raw_const.specs.Entries.{ReadAt}
-use Rattle.raw_const.specs.declared.Extent.the-variants.{Entry as Whole, Bad}
+use Rattle.raw_const.specs.declared.Extent.the-variants.{Entry as Whole, Bad as NoEntry}
+use Rattle.places.specs.Noting.{SlotsNoted}
+use Rattle.places.specs.declared.PoolRead.the-variants.{Bad}
 use Rattle.laws.specs.Statements.{IsBytes}
-use Rattle.places.proofs.Passing.{Passed, passed-none, passed-bad, passed-all, passed-size, passed-turn, width-small, entry-read, entry-bad}
+use Rattle.places.proofs.Passing.{Passed, passed-none, passed-bad, passed-all, passed-turn, width-small, entry-read, entry-bad}
 use Rattle.places.proofs.note_slots.Statement.{statement}
 use Rattle.places.proofs.note_slots.Tie as tie
 
 abbrev Inv-loop : tie.InvT-loop
 Inv-loop bytes start count places₀ at₀ slot₀ places at slot =
-    Passed bytes start places₀ at slot places × (count < slot → slots (count - 1) false (drop start bytes) ≡ none)
+    Passed bytes start places₀ at slot places × (count < slot → SlotsNoted bytes start (count - 1) places₀ places Bad)
 
 abbrev μ-loop : tie.MeasureT-loop
 μ-loop bytes start count places₀ at₀ slot₀ places at slot = count - slot
@@ -40,9 +38,9 @@ returns : tie.Need-returns Inv-loop μ-loop
 returns c =
     let bytes = c .before .before .before .before .before .before .args .bytes .now in
     let head = c .before .before .before .before .loop in
-    let read : ReadAt bytes (head .at) Bad = subst (λ r. ReadAt bytes (head .at) r) (c .enum-told .given .1) (c .before .before .read-entry .ensures) in
+    let read : ReadAt bytes (head .at) NoEntry = subst (λ r. ReadAt bytes (head .at) r) (c .enum-told .given .1) (c .before .before .read-entry .ensures) in
     let bad = entry-bad bytes (λ i. c .before .before .before .before .before .shared-slice-known .given i .fits) (head .at) read in
-    (passed-bad (head .inv .0) bad (c .before .before .before .before .before .before .args .count - 1) (omega arith), passed-size (head .inv .0))
+    passed-bad (head .inv .0) bad (c .before .before .before .before .before .before .args .count - 1) (omega arith)
 
 mul-places : tie.Need-mul-places Inv-loop μ-loop
 mul-places c = search needs
@@ -70,7 +68,8 @@ loop-again c =
     let told : ReadAt bytes (head .at) (Whole tag next) =
     subst (λ r. ReadAt bytes (head .at) r) (c .before .before .tag .given .1) (c .before .before .before .before .read-entry .ensures) in
     let read = entry-read bytes are (head .at) tag next told in
-    passed-turn (head .inv .0) are tag next (start .args .count) (c .slots-of .result) read (c .before .before .before .before .before .loop-test .taken) (c .slots-of .ensures)
+    let low = c .before .before .before .before .before .loop-test .taken in
+    passed-turn (head .inv .0) are tag next (start .args .count) (c .slots-of .result) read low (c .slots-of .ensures)
 
 returns-2 : tie.Need-returns-2 Inv-loop μ-loop
 returns-2 c =
@@ -78,7 +77,7 @@ returns-2 c =
     (p .found, passed-all p (c .before .before .before .before .args .count - 1) (omega arith), omega (arith, p .here), p .inside, p .noted)
 
 returns-3 : tie.Need-returns-3 Inv-loop μ-loop
-returns-3 c = (c .before .before .loop .inv .1 (omega arith), passed-size (c .before .before .loop .inv .0))
+returns-3 c = c .before .before .loop .inv .1 (omega arith)
 
 pub note-slots-spec : {M : Type 1} → statement M
 note-slots-spec =
