@@ -12,3 +12,4 @@ pub mod Answering
 pub mod Placed
 pub mod Refusing
 pub mod Accepting
+pub mod OnlyName

@@ -2,12 +2,15 @@
 use mathlib.Core.Bool.{true}
 use mathlib.Core.List.{List}
 use mathlib.Core.Logic.{_↔_}
+use mathlib.Core.Option.{Option, some}
 use mathlib.Core.Path.{_≡_}
 use Prim.Native.Nat.{ℕ, _≤_}
 use lib.ListN.{length}
+use Rattle.definition.specs.Ascii.{ascii}
 use Rattle.definition.specs.Basics.{good}
+use Rattle.jvms.specs.Pool.{Utf8, Slot, usable}
 use Rattle.jvms.specs.Written.{Is1, Is2, All}
-use Rattle.class_file.specs.ClassFile.{Parts, proper, classBytes, writeClass, readClass}
+use Rattle.class_file.specs.ClassFile.{Parts, isName, proper, classBytes, writeClass, readClass}
 
 -- parts whose numbers fit their bytes and whose bytes are bytes
 pub record Fits (p : Parts) : Type 0 where
@@ -20,6 +23,10 @@ pub record Fits (p : Parts) : Type 0 where
   pub name-fits : Is2 (p .name)
   pub count-fits : Is2 (p .count)
   pub bootstraps-fits : All Is1 (p .bootstraps)
+
+-- NAMED: the slots whose bytes are the name's are those that hold the text
+abbrev pub Named : Type 0
+Named = (slot : Option Slot) → (isName slot ≡ true) ↔ (slot ≡ some (usable (Utf8 (ascii "BootstrapMethods"))))
 
 -- EXACT: the files that are read are those that proper parts make, and what is read are these parts; so each set of parts has one file
 abbrev pub Exact : Type 0
