@@ -1,6 +1,6 @@
 -- Lines that were counted and then written are the listing (specs/Lists.antt). Assumes nothing.
 use mathlib.Core.Bool.{true}
-use mathlib.Core.List.{List, _++_}
+use mathlib.Core.List.{List, [], _∷_, _++_}
 use mathlib.Core.Logic.{_⊎_, inl, inr}
 use mathlib.Core.Option.{Option, none, some}
 use mathlib.Core.Path.{_≡_, refl, sym, ap, _∙_, subst}
@@ -45,6 +45,11 @@ module _ {before after : List ℕ} {room end : ℕ} {text : List ℕ} (p : Print
   in-front h =
       let zero : 0 + length text ≡ length text = omega arith in
       p .out (omega arith) ∙ (λ i. take-length text i ++ drop (zero i) before)
+
+-- a part of no bytes, in front of the others
+pub none-lent : (part rest : List ℕ) → length part ≡ 0 → part ++ rest ≡ rest
+none-lent [] rest e = refl
+none-lent (x ∷ part) rest e = absurd (omega arith)
 
 -- ---- the listing of bytes whose pool and methods are read
 

@@ -80,7 +80,7 @@ fn put_lines(
     at
 }
 
-// The text is counted before a byte of it is written.
+// The text is counted, with no byte of `out` lent, before it is written.
 fn list_read(
     pool: &[u8],
     places: &[usize; 65536],
@@ -93,8 +93,7 @@ fn list_read(
     ensures { λ r. ⌜ Lists (now (pool .entry)) count (now (methods .entry)) (now (out .entry)) (now (out .exit)) r ⌝ }
 {
     let room = out.len();
-    let mut nowhere = [0u8; 0];
-    let end = put_lines(pool, places, count, methods, table, &mut nowhere, room);
+    let end = put_lines(pool, places, count, methods, table, &mut out[..0], room);
     if room < end {
         return Listed::Refused(18);
     }
