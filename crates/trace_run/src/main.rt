@@ -1,7 +1,7 @@
 // Reads frames from standard input, runs in each a loader's trace over a pool (document 02, No. 12) and prints a line for it: `good G failed
 // F rested R flags` or `refused CODE flags`, then every flag that isn't 0 in the end, as ` SLOT=VALUE`.
 //
-// A frame: the pool's length (four bytes, at most 262,144) and bytes; the trace's length (at most 65,536) and bytes; how long the table of
+// A frame: the pool's length (four bytes, at most 262,144) and bytes; the trace's length (at most 4,194,304) and bytes; how long the table of
 // flags is (four bytes, at most 65,600); how many flags are given (two bytes); each flag's slot (two bytes) and value. Others are 0.
 use frames::FRAME_CUT;
 use frames::GO_ON;
@@ -114,7 +114,7 @@ fn run_given(
 // One trace, if there is one.
 fn next_trace(
     pool: &mut [u8; 262144],
-    trace: &mut [u8; 65536],
+    trace: &mut [u8; 4194304],
     given: &mut [u8; 196608],
     text: &mut [u8; 1048576],
 ) -> u8 {
@@ -123,7 +123,7 @@ fn next_trace(
         return frames::without(n);
     }
     let size = frames::next_block(trace);
-    if 65536 < size {
+    if 4194304 < size {
         return FRAME_CUT;
     }
     let mut head = [0u8; 6];
@@ -144,7 +144,7 @@ fn next_trace(
 // Traces in turn; how the stream ends is told.
 fn run_stream(
     pool: &mut [u8; 262144],
-    trace: &mut [u8; 65536],
+    trace: &mut [u8; 4194304],
     given: &mut [u8; 196608],
     text: &mut [u8; 1048576],
 ) {
@@ -159,7 +159,7 @@ fn run_stream(
 
 fn main() {
     let mut pool = [0u8; 262144];
-    let mut trace = [0u8; 65536];
+    let mut trace = [0u8; 4194304];
     let mut given = [0u8; 196608];
     let mut text = [0u8; 1048576];
     run_stream(&mut pool, &mut trace, &mut given, &mut text);
