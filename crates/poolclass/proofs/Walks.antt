@@ -1,0 +1,2 @@
+-- Made by walks.py.
+pub mod run_job
