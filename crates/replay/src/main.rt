@@ -1,162 +1,138 @@
-// Runs stored jobs and prints a line for each. `stdout` has the Rust's lines for them, so that the builder is held to the Rust where
-// there is no Rust; `make` beside src/ makes both files anew.
+// Runs stored jobs, packed as packed.rt says, and prints a line for each. `stdout` has the Rust's lines for them, so that the builder is
+// held to the Rust where there is no Rust; `make` beside src/ makes both files anew.
 //
-// A job is packed: how many parts it has (one byte); how much it is lent of work, gaps, answers, pool, bootstraps and class name (four
-// bytes each), which is no more than it needs; then the parts. A part is a pattern and how often it stands in the job: times (four
-// bytes), the pattern's length, two places in it and a step (two bytes each), the pattern. Each time, the two-byte numbers at both places
-// grow by the step; there is no place 65535.
-//
-// It needs `ulimit -s 65536`, which .ci/run asks for: a job that uses up the bootstrap indexes is lent 7.9 MB of work (docs/DECISIONS.md).
-use batch::Lent;
-use batch::SHORT_JOB;
+// All memory is the stack's, the only one that there is: 44 MB for the longest job, so that it needs `ulimit -s 65536`, which .ci/run
+// asks for (docs/DECISIONS.md).
+mod line;
+mod packed;
+
+use cpool::Outcome;
 use libc::STDERR_FILENO;
-ghost use Prim.Native.Nat.{_+_, _≤_};
+use packed::Lent;
+use packed::ROOM;
+use packed::lent_of;
+use packed::next_packed;
+use slots::Gap;
+ghost use Prim.Native.Nat.{_≤_};
 
-// More than the longest job has, for those that are too long.
-const ROOM: usize = 1114112;
-
-// The length of a job that can't be unpacked.
-const BROKEN: usize = 1114113;
-
-struct Part {
-    times: u32,
-    size: u16,
-    first: u16,
-    second: u16,
-    step: u16,
-}
-
-fn part_of(head: &[u8; 12]) -> Part {
-    Part {
-        times: writer::get_u32(head, 0),
-        size: writer::get_u16(head, 4),
-        first: writer::get_u16(head, 6),
-        second: writer::get_u16(head, 8),
-        step: writer::get_u16(head, 10),
-    }
-}
-
-fn grow(pattern: &mut [u8; 65536], place: u16, step: u16) {
-    if place == 65535 {
-        return;
-    }
-    let n = writer::get_u16(pattern, place as usize);
-    writer::put_u16(pattern, place as usize, std::num::wrapping_add_u16(n, step));
-}
-
-// Puts a pattern into the job once; where it ends.
-fn put_once(job: &mut [u8; 1114112], at: usize, pattern: &[u8; 65536], size: u16) -> usize {
-    let n = size as usize;
-    if ROOM < at {
-        return BROKEN;
-    }
-    if ROOM - at < n {
-        return BROKEN;
-    }
-    writer::copy(pattern, 0, job, at, n);
-    at + n
-}
-
-fn step_on(job: &mut [u8; 1114112], at: usize, pattern: &mut [u8; 65536], part: Part) -> usize {
-    let end = put_once(job, at, pattern, part.size);
-    grow(pattern, part.first, part.step);
-    grow(pattern, part.second, part.step);
-    end
-}
-
-fn repeat(job: &mut [u8; 1114112], start: usize, pattern: &mut [u8; 65536], part: Part) -> usize {
-    let mut at = start;
-    let mut left = part.times;
-    while 0 < left {
-        at = step_on(job, at, pattern, part);
-        left -= 1;
-    }
-    at
-}
-
-fn next_part(job: &mut [u8; 1114112], at: usize, pattern: &mut [u8; 65536]) -> usize {
-    let mut head = [0u8; 12];
-    if !batch::read_part(&mut head, 12) {
-        return BROKEN;
-    }
-    let part = part_of(&head);
-    if !batch::read_part(pattern, part.size as usize) {
-        return BROKEN;
-    }
-    repeat(job, at, pattern, part)
-}
-
-// Unpacks a job; its length.
-fn unpack(job: &mut [u8; 1114112], parts: u8) -> usize {
-    let mut pattern = [0u8; 65536];
-    let mut at = 0;
-    let mut left = parts;
-    while 0 < left {
-        at = next_part(job, at, &mut pattern);
-        left -= 1;
-    }
-    at
-}
-
-fn number(head: &[u8; 25], at: usize) -> usize
-    requires { ⌜ at + 4 ≤ 25 ⌝ }
+fn least(a: usize, b: usize) -> usize
+    ensures { λ r. ⌜ r ≤ b ⌝ }
 {
-    writer::get_u32(head, at) as usize
+    if a < b { a } else { b }
 }
 
-fn lent_of(head: &[u8; 25]) -> Lent {
-    Lent {
-        words: number(head, 1),
-        gaps: number(head, 5),
-        answers: number(head, 9),
-        pool: number(head, 13),
-        bootstraps: number(head, 17),
-        class_name: number(head, 21),
-    }
+// Runs a job with outputs whole, and of work and gaps no more than is lent.
+fn run_within(
+    job: &[u8],
+    words: usize,
+    most: usize,
+    work: &mut [u32],
+    gaps: &mut [Gap],
+    answers: &mut [u16],
+    pool: &mut [u8],
+    bootstraps: &mut [u8],
+    class_name: &mut [u8],
+) -> Outcome {
+    let words = least(words, work.len());
+    let most = least(most, gaps.len());
+    cpool::run(
+        job,
+        &mut work[..words],
+        &mut gaps[..most],
+        answers,
+        pool,
+        bootstraps,
+        class_name,
+    )
 }
 
-fn run_one(
-    job: &[u8; 1114112],
+// Runs the job that the first n bytes are.
+fn run_lent(
+    job: &[u8],
     n: usize,
     lent: Lent,
-    work: &mut [u32; 394240],
-    pool: &mut [u8; 1048576],
-    bootstraps: &mut [u8; 1048576],
-) -> bool {
-    if n <= SHORT_JOB {
-        return batch::short_run(job, n, lent, work, pool, bootstraps);
-    }
-    batch::long_run(job, n, lent)
+    work: &mut [u32],
+    gaps: &mut [Gap],
+    answers: &mut [u16],
+    pool: &mut [u8],
+    bootstraps: &mut [u8],
+    class_name: &mut [u8],
+) -> Outcome {
+    let size = least(n, job.len());
+    let asked = least(lent.answers, answers.len());
+    let pool_size = least(lent.pool, pool.len());
+    let rows_size = least(lent.bootstraps, bootstraps.len());
+    let name_size = least(lent.class_name, class_name.len());
+    run_within(
+        &job[..size],
+        lent.words,
+        lent.gaps,
+        work,
+        gaps,
+        &mut answers[..asked],
+        &mut pool[..pool_size],
+        &mut bootstraps[..rows_size],
+        &mut class_name[..name_size],
+    )
 }
 
 // One job, if there is one; whether to go on.
 fn next_job(
     job: &mut [u8; 1114112],
-    work: &mut [u32; 394240],
-    pool: &mut [u8; 1048576],
-    bootstraps: &mut [u8; 1048576],
+    work: &mut [u32; 6292480],
+    gaps: &mut [Gap],
+    answers: &mut [u16; 349526],
+    pool: &mut [u8; 8388608],
+    bootstraps: &mut [u8; 8388608],
+    class_name: &mut [u8; 65536],
 ) -> bool {
     let mut head = [0u8; 25];
-    if !batch::read_part(&mut head, 25) {
-        return false;
-    }
-    let n = unpack(job, head[0]);
+    let n = next_packed(job, &mut head);
     if ROOM < n {
         return false;
     }
-    run_one(job, n, lent_of(&head), work, pool, bootstraps)
+    let lent = lent_of(&head);
+    let outcome = run_lent(
+        job,
+        n,
+        lent,
+        work,
+        gaps,
+        answers,
+        pool,
+        bootstraps,
+        class_name,
+    );
+    line::print_outcome(outcome, answers, pool, bootstraps, class_name)
 }
 
 fn run_all(
     job: &mut [u8; 1114112],
-    work: &mut [u32; 394240],
-    pool: &mut [u8; 1048576],
-    bootstraps: &mut [u8; 1048576],
+    work: &mut [u32; 6292480],
+    gaps: &mut [Gap],
+    answers: &mut [u16; 349526],
+    pool: &mut [u8; 8388608],
+    bootstraps: &mut [u8; 8388608],
+    class_name: &mut [u8; 65536],
 ) {
     let mut turns = u64::MAX;
-    while 0 < turns && next_job(job, work, pool, bootstraps) {
+    while 0 < turns && next_job(job, work, gaps, answers, pool, bootstraps, class_name) {
         turns -= 1;
     }
+}
+
+// Runs all jobs over gaps for the longest one.
+fn run_over_gaps(
+    job: &mut [u8; 1114112],
+    work: &mut [u32; 6292480],
+    answers: &mut [u16; 349526],
+    pool: &mut [u8; 8388608],
+    bootstraps: &mut [u8; 8388608],
+    class_name: &mut [u8; 65536],
+) {
+    let gap = slots::no_gap();
+    let mut gaps = [gap; 209717];
+    run_all(job, work, &mut gaps, answers, pool, bootstraps, class_name);
 }
 
 fn main() {
@@ -165,8 +141,17 @@ fn main() {
         b"replay: a stack below 64 MB ends it (ulimit -s 65536)\n",
     );
     let mut job = [0u8; 1114112];
-    let mut work = [0u32; 394240];
-    let mut pool = [0u8; 1048576];
-    let mut bootstraps = [0u8; 1048576];
-    run_all(&mut job, &mut work, &mut pool, &mut bootstraps);
+    let mut work = [0u32; 6292480];
+    let mut answers = [0u16; 349526];
+    let mut pool = [0u8; 8388608];
+    let mut bootstraps = [0u8; 8388608];
+    let mut class_name = [0u8; 65536];
+    run_over_gaps(
+        &mut job,
+        &mut work,
+        &mut answers,
+        &mut pool,
+        &mut bootstraps,
+        &mut class_name,
+    );
 }

@@ -1,0 +1,12 @@
+-- Made by walks.py out of what the borrow checker makes of the same function over arrays. Assumes nothing.
+use borrow.Fn.Kinds
+use borrow.Table.Referent
+use denote.Array
+use mathlib.Core.List
+use mir.Syntax
+
+abbrev pub ps : List.List (Kinds.PK 6)
+ps = List._∷_ (Kinds.pMut (Array.Array (Referent.rtF (Referent.fInt Syntax.w8)) 1114112) 0 tt) (List._∷_ (Kinds.pMut (Array.Array (Referent.rtF (Referent.fInt Syntax.w32)) 6292480) 1 tt) (List._∷_ (Kinds.pMut (Array.Array (Referent.rtF (Referent.fInt Syntax.w16)) 349526) 2 tt) (List._∷_ (Kinds.pMut (Array.Array (Referent.rtF (Referent.fInt Syntax.w8)) 8388608) 3 tt) (List._∷_ (Kinds.pMut (Array.Array (Referent.rtF (Referent.fInt Syntax.w8)) 8388608) 4 tt) (List._∷_ (Kinds.pMut (Array.Array (Referent.rtF (Referent.fInt Syntax.w8)) 65536) 5 tt) List.[])))))
+
+abbrev pub r : Kinds.RK 6
+r = Kinds.rUnit

@@ -1,0 +1,24 @@
+-- `replay::line::write_part` meets its contract. Assumes nothing.
+use mathlib.Core.Path.{sym}
+use native.Mathlib.Omega.{arith}
+use lib.Seq.{length-take-le}
+use borrow.Author.Needs.{needs}
+use Rattle.replay.proofs.line.write_part.Statement.{statement}
+use Rattle.replay.proofs.line.write_part.Tie as tie
+
+returns : tie.Need-returns
+returns c = search needs
+
+slice-aggregate-write-all : tie.Need-slice-aggregate-write-all
+slice-aggregate-write-all c =
+    sym (length-take-le (c .before .before .before .args .n) (c .before .before .before .args .s .now) (omega arith))
+
+write-all-requires : tie.Need-write-all-requires
+write-all-requires c κs = search needs
+
+returns-2 : tie.Need-returns-2
+returns-2 c = search needs
+
+pub write-part-spec : {M : Type 1} → statement M
+write-part-spec =
+    tie.close (tie.spec returns slice-aggregate-write-all write-all-requires returns-2)
