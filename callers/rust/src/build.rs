@@ -1,6 +1,7 @@
 //! A job built in memory of our own.
 
 use crate::{Gap, LONGEST_JOB, Lent, Refusal, least_gaps, least_work, run};
+use std::fmt;
 
 /// 65,534 entries of a text of 65,535 bytes, behind the count.
 const LONGEST_POOL: usize = 2 + 65_534 * 65_538;
@@ -30,6 +31,40 @@ pub struct Built {
     pub name_slot: usize,
     pub class_name: Option<Vec<u8>>,
     pub visits: usize,
+}
+
+/// As oracle/'s driver prints it: `built answers N A.. pool LENGTH HEX bootstraps COUNT LENGTH HEX name SLOT class LENGTH HEX visits V`, no
+/// bytes as `-` and no class name as `class none`.
+impl fmt::Display for Built {
+    fn fmt(&self, f: &mut fmt::Formatter<'_>) -> fmt::Result {
+        write!(f, "built answers {}", self.answers.len())?;
+        for answer in &self.answers {
+            write!(f, " {answer}")?;
+        }
+        write!(f, " pool {}", counted_hex(&self.pool))?;
+        let rows = counted_hex(&self.bootstraps);
+        write!(f, " bootstraps {} {rows}", self.bootstrap_count)?;
+        write!(f, " name {} class ", self.name_slot)?;
+        match &self.class_name {
+            Some(name) => f.write_str(&counted_hex(name))?,
+            None => f.write_str("none")?,
+        }
+        write!(f, " visits {}", self.visits)
+    }
+}
+
+/// How many bytes there are, and their hex digits.
+fn counted_hex(bytes: &[u8]) -> String {
+    const DIGITS: &[u8; 16] = b"0123456789abcdef";
+    let mut text = format!("{} ", bytes.len());
+    if bytes.is_empty() {
+        text.push('-');
+    }
+    for byte in bytes {
+        text.push(char::from(DIGITS[usize::from(byte >> 4)]));
+        text.push(char::from(DIGITS[usize::from(byte & 15)]));
+    }
+    text
 }
 
 /// Builds a job. 2 and 18, which tell of too little memory, are never the answer: what is lent grows until the outputs fit.

@@ -6,7 +6,7 @@ use driver::{Outcome, run_job};
 use jobs::heavy;
 use jobs::random::Random;
 use jobs::record::Record;
-use jobs::stream::{frame, heavy_jobs, seeded};
+use jobs::stream::{heavy_jobs, seeded};
 use std::fs::File;
 use std::io::{self, BufWriter, Write};
 use std::path::{Path, PathBuf};
@@ -22,7 +22,13 @@ const SEEDED: &[(&str, u64, usize)] = &[
 
 const HEAVY: &str = "heavy";
 
-/// The jobs of a kind in two files: framed, and a line each.
+/// The longest part of a packed job.
+const LONGEST_PART: usize = 65_535;
+
+/// Where no number of a part grows.
+const NO_PLACE: u16 = 65_535;
+
+/// The jobs of a kind in two files: packed for crates/replay, and a line each.
 pub struct Set {
     pub kind: &'static str,
     pub size: usize,
@@ -50,15 +56,15 @@ fn make_set(
 ) -> io::Result<Set> {
     let jobs = folder.join(format!("{kind}.jobs"));
     let lines = folder.join(format!("{kind}.lines"));
-    let mut framed = BufWriter::new(File::create(&jobs)?);
+    let mut packed = BufWriter::new(File::create(&jobs)?);
     let mut told = BufWriter::new(File::create(&lines)?);
     let mut size = 0;
     for job in made {
-        frame(&mut framed, &job)?;
+        packed.write_all(&pack(&job))?;
         writeln!(told, "{}", right_line(&job))?;
         size += 1;
     }
-    framed.flush()?;
+    packed.flush()?;
     told.flush()?;
     Ok(Set {
         kind,
@@ -66,6 +72,24 @@ fn make_set(
         jobs,
         lines,
     })
+}
+
+/// A job as crates/replay takes it, in parts that stand in it once, with the least work and gaps and all outputs.
+fn pack(job: &[u8]) -> Vec<u8> {
+    let parts = job.chunks(LONGEST_PART);
+    let mut packed = vec![u8::try_from(parts.len()).expect("at most 17 parts")];
+    let (work, gaps) = (6 * job.len() as u32 + 1024, job.len() as u32 / 5 + 2);
+    for lent in [work, gaps, u32::MAX, u32::MAX, u32::MAX, u32::MAX] {
+        packed.extend(lent.to_be_bytes());
+    }
+    for part in parts {
+        packed.extend(1u32.to_be_bytes());
+        for number in [part.len() as u16, NO_PLACE, NO_PLACE, 0] {
+            packed.extend(number.to_be_bytes());
+        }
+        packed.extend(part);
+    }
+    packed
 }
 
 /// What the job at this place of a set is called, if it has a name.
@@ -114,6 +138,16 @@ mod tests {
             assert_eq!(right_line(&with_slots(1, 2)), "refused 12 5");
             assert_eq!(right_line(&with_slots(2, 1)), "refused 13 5");
         }
+    }
+
+    #[test]
+    fn a_packed_job_is_its_parts() {
+        let head = [2, 0, 6, 4, 0, 0, 0, 0x33, 0x35];
+        let all = [0xff; 16];
+        let first = [0, 0, 0, 1, 0xff, 0xff, 0xff, 0xff, 0xff, 0xff, 0, 0];
+        let second = [0, 0, 0, 1, 0, 1, 0xff, 0xff, 0xff, 0xff, 0, 0, 7];
+        let expected = [&head[..], &all, &first, &[7; 65_535], &second].concat();
+        assert_eq!(pack(&[7; 65_536]), expected);
     }
 
     #[test]

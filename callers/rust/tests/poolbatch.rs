@@ -1,0 +1,110 @@
+//! The program poolbatch: lines, statuses and messages.
+
+mod common;
+
+use common::*;
+use rotblossom::LONGEST_JOB;
+use std::fs::File;
+use std::io::Write;
+use std::process::{Command, Output, Stdio};
+use std::thread;
+
+const PROGRAM: &str = env!("CARGO_BIN_EXE_poolbatch");
+
+const CASE_B_LINE: &str =
+    "built answers 1 1 pool 9 000307000201000141 bootstraps 0 0 - name 0 class 1 41 visits 4\n";
+
+fn framed(job: &[u8]) -> Vec<u8> {
+    let length = u32::try_from(job.len()).expect("a length of four bytes");
+    [&length.to_be_bytes(), job].concat()
+}
+
+/// Runs a command on a stream.
+fn run(mut command: Command, stream: Vec<u8>) -> Output {
+    let mut child = command
+        .stdin(Stdio::piped())
+        .stderr(Stdio::piped())
+        .spawn()
+        .expect("it starts");
+    let mut input = child.stdin.take().expect("an input");
+    // A program that ends early doesn't read all.
+    let writer = thread::spawn(move || input.write_all(&stream).is_ok());
+    let output = child.wait_with_output().expect("it ends");
+    writer.join().expect("the stream was offered");
+    output
+}
+
+fn poolbatch(stream: Vec<u8>) -> Output {
+    let mut command = Command::new(PROGRAM);
+    command.stdout(Stdio::piped());
+    run(command, stream)
+}
+
+#[track_caller]
+fn assert_ends(output: Output, status: i32, lines: &str, message: &str) {
+    let text = |bytes| String::from_utf8(bytes).expect("text");
+    assert_eq!(text(output.stdout), lines);
+    let said = text(output.stderr);
+    assert!(said.starts_with(message), "{said}");
+    assert_eq!(said.is_empty(), message.is_empty(), "{said}");
+    assert_eq!(output.status.code(), Some(status));
+}
+
+/// The cases of document 01 and some more, each in hex; the lines are oracle/'s driver's.
+#[test]
+fn stored_jobs_have_the_drivers_lines() {
+    let jobs = include_str!("poolbatch/jobs");
+    let stream = jobs.lines().flat_map(|job| framed(&bytes(job))).collect();
+    assert_ends(poolbatch(stream), 0, include_str!("poolbatch/lines"), "");
+}
+
+#[test]
+fn no_job_is_no_line() {
+    assert_ends(poolbatch(vec![]), 0, "", "");
+}
+
+#[test]
+fn a_frame_that_is_too_long_is_refused_and_skipped() {
+    let mut stream = framed(&vec![0x50; LONGEST_JOB + 1]);
+    stream.extend(framed(&bytes(CASE_B)));
+    let lines = format!("refused 1 0\n{CASE_B_LINE}");
+    assert_ends(poolbatch(stream), 0, &lines, "");
+}
+
+/// Sixteen texts, of which the first is asked for. It must be lent 25 MB.
+#[test]
+fn the_longest_job_runs_on_a_stack_of_256_kb() {
+    let mut job: Vec<u8> = (0..15).flat_map(|i| long_text(65_535, b'a' + i)).collect();
+    job.extend(long_text(65_493, b'z'));
+    job.extend(bytes("50 51 01 0000 60 02 00 0000"));
+    assert_eq!(job.len(), LONGEST_JOB);
+    let mut command = Command::new("sh");
+    command.args(["-c", "ulimit -s 256 && exec \"$0\"", PROGRAM]);
+    command.stdout(Stdio::piped());
+    let text = "61".repeat(65_535);
+    let lines = format!(
+        "built answers 1 1 pool 65540 000201ffff{text} bootstraps 0 0 - name 0 class none visits 2\n"
+    );
+    assert_ends(run(command, framed(&job)), 0, &lines, "");
+}
+
+/// Cut inside the second frame's length, inside its job, and inside one that is skipped.
+#[test]
+fn a_cut_frame_has_a_status_and_a_message() {
+    let first = framed(&bytes(CASE_B));
+    let too_long = framed(&vec![0; LONGEST_JOB + 1]);
+    for cut in [&first[..3], &first[..first.len() - 1], &too_long[..9]] {
+        let stream = [&first, cut].concat();
+        let message = "poolbatch: cut frame behind 1 jobs";
+        assert_ends(poolbatch(stream), 1, CASE_B_LINE, message);
+    }
+}
+
+#[test]
+fn an_output_that_cannot_be_written_has_a_status_and_a_message() {
+    let full = File::options().write(true).open("/dev/full");
+    let mut command = Command::new(PROGRAM);
+    command.stdout(full.expect("a device that is full"));
+    let output = run(command, framed(&bytes(CASE_B)));
+    assert_ends(output, 2, "", "poolbatch: output failed behind 1 jobs");
+}
