@@ -2,6 +2,7 @@
 
 use crate::figures::*;
 use crate::sets::{COLLIDING, SIZES};
+use crate::worst::GENERATORS;
 use jobs::large::KINDS;
 use std::fmt::Write;
 
@@ -209,7 +210,7 @@ fn slowest(figures: &Figures) -> String {
         "Slowest jobs",
         "Jobs | End | How many | Middle ratio | Above 0.2 | Above 1 | Highest ratio | Ours, ns | Rust, ns | The slowest | Job",
     );
-    for family in ["small", "damaged", "ldcfull", "pairs", "orders", "heavy"] {
+    for family in GENERATORS.into_iter().chain(["heavy"]) {
         for end in ["built", "refused"] {
             let text = |measure| figures.text(measure, family, end).unwrap_or("-");
             let columns = [

@@ -4,9 +4,9 @@ use crate::clock::least;
 use crate::figures::Figures;
 use crate::sides::{self, Job, Memory};
 use driver::outcome::push_hex;
+use jobs::heavy;
 use jobs::random::Random;
-use jobs::record::encode;
-use jobs::{damaged, heavy, pairs, small};
+use jobs::stream::seeded;
 
 const SEED: u64 = 61;
 const STEPS: usize = 4_000;
@@ -47,9 +47,12 @@ fn timed(name: String, job: Job, memory: &mut Memory, rounds: usize) -> Timed {
     }
 }
 
+pub const GENERATORS: [&str; 5] = ["small", "damaged", "ldcfull", "pairs", "orders"];
+
 pub fn generators(figures: &mut Figures) {
-    for (name, make) in GENERATORS {
+    for name in GENERATORS {
         eprintln!("{name}");
+        let make = seeded(name).expect("the generators have this kind");
         let mut random = Random::new(SEED);
         let jobs = (0..STEPS).flat_map(|step| {
             let made = make(&mut random).into_iter();
@@ -62,22 +65,6 @@ pub fn generators(figures: &mut Figures) {
         .iter()
         .map(|(name, make)| (name.to_string(), make()));
     generator(figures, "heavy", jobs);
-}
-
-type Make = fn(&mut Random) -> Vec<Vec<u8>>;
-
-const GENERATORS: [(&str, Make); 5] = [
-    ("small", |random| vec![encode(&small::small_job(random))]),
-    ("damaged", |random| vec![damaged::damaged_job(random)]),
-    ("ldcfull", |random| {
-        vec![encode(&small::ldc_full_job(random))]
-    }),
-    ("pairs", |random| both(pairs::literal_pair(random))),
-    ("orders", |random| both(pairs::order_pair(random))),
-];
-
-fn both((first, second): pairs::Pair) -> Vec<Vec<u8>> {
-    vec![encode(&first), encode(&second)]
 }
 
 /// Times every job that reaches the module, the built ones and the refused ones apart.
