@@ -83,22 +83,14 @@ fn refused_by_raw_definitions(code: u8, place: usize, possible: &[u8]) -> Result
 
 fn built(outcome: Outcome) -> Result<Built, String> {
     match outcome {
-        Outcome::Built {
-            answers,
-            pool,
-            bootstrap_count,
-            bootstraps,
-            name_slot,
-            class_name,
-            visits,
-        } => Ok(Built {
-            answers,
-            pool,
-            bootstrap_count: bootstrap_count.into(),
-            bootstraps,
-            name_slot: name_slot.into(),
-            class_name,
-            visits: visits as usize,
+        Outcome::Built(built) => Ok(Built {
+            answers: built.answers,
+            pool: built.pool,
+            bootstrap_count: built.bootstrap_count.into(),
+            bootstraps: built.bootstraps,
+            name_slot: built.name_slot.into(),
+            class_name: built.class_name,
+            visits: built.visits as usize,
         }),
         other => Err(other.line()),
     }

@@ -3,7 +3,7 @@
 use driver::end_of_definitions::faults;
 use driver::form::decode;
 use driver::outcome::push_hex;
-use driver::{Outcome, run_job};
+use driver::{Built, Outcome, run_job};
 use jobs::record::Record;
 
 /// The lengths that a caller lends; document 01, "Lent memory".
@@ -65,17 +65,11 @@ pub fn claim(job: &[u8], lending: Lending) -> Claim {
 
 fn needs(outcome: &Outcome) -> [usize; 4] {
     match outcome {
-        Outcome::Built {
-            answers,
-            pool,
-            bootstraps,
-            class_name,
-            ..
-        } => [
-            answers.len(),
-            pool.len(),
-            bootstraps.len(),
-            class_name.as_ref().map_or(0, Vec::len),
+        Outcome::Built(built) => [
+            built.answers.len(),
+            built.pool.len(),
+            built.bootstraps.len(),
+            built.class_name.as_ref().map_or(0, Vec::len),
         ],
         _ => [0; 4],
     }
@@ -132,7 +126,7 @@ fn answer(job: &[u8], outcome: &Outcome) -> (String, End) {
             let (code, end) = number(job, *code, *place);
             (refused(code, *place), end)
         }
-        Outcome::Built { .. } => (built(outcome), End::Elsewhere),
+        Outcome::Built(it) => (built(it), End::Elsewhere),
         _ => panic!("the Rust has no answer: {}", outcome.line()),
     }
 }
@@ -157,28 +151,20 @@ fn refused(code: u8, place: usize) -> String {
     format!("bad (record {{ code = {code}; place = {place} }})")
 }
 
-fn built(outcome: &Outcome) -> String {
-    let Outcome::Built {
-        answers,
-        pool,
-        bootstrap_count,
-        bootstraps,
-        name_slot,
-        class_name,
-        visits,
-    } = outcome
-    else {
-        unreachable!("only built jobs are shown as built");
-    };
-    let class = class_name
+fn built(built: &Built) -> String {
+    let class = built
+        .class_name
         .as_ref()
         .map_or("none".into(), |name| format!("some ({})", packed(name)));
     format!(
-        "good (record {{ answers = {}; pool = {}; bootstrapCount = {bootstrap_count}; bootstraps = {}; \
-         name = {name_slot}; class = {class}; visits = {visits} }})",
-        numbers(answers),
-        packed(pool),
-        packed(bootstraps),
+        "good (record {{ answers = {}; pool = {}; bootstrapCount = {}; bootstraps = {}; \
+         name = {}; class = {class}; visits = {} }})",
+        numbers(&built.answers),
+        packed(&built.pool),
+        built.bootstrap_count,
+        packed(&built.bootstraps),
+        built.name_slot,
+        built.visits,
     )
 }
 

@@ -284,7 +284,7 @@ fn claims(set: &Set, passes: fn(&[u8]) -> bool) -> Vec<Claim> {
 }
 
 fn is_quick(job: &[u8]) -> bool {
-    !matches!(run_job(job), Outcome::Built { pool, .. } if pool.len() > QUICK_POOL)
+    !matches!(run_job(job), Outcome::Built(built) if built.pool.len() > QUICK_POOL)
 }
 
 fn jobs_of(set: &Set) -> Vec<Vec<u8>> {
