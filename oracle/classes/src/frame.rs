@@ -1,7 +1,7 @@
 //! The frames that the program `class_file_run` reads, and the line that it must print for one.
 
 use crate::file::Parts;
-use driver::outcome::push_hex;
+use jobs::hex::hex;
 use pools::frame::{read_part, write_part};
 use std::io::{self, Read, Write};
 
@@ -96,10 +96,7 @@ fn part(input: &mut impl Read) -> io::Result<Vec<u8>> {
 }
 
 pub fn file_line(file: &[u8]) -> String {
-    let mut line = String::from("file ");
-    push_hex(&mut line, file);
-    line.push('\n');
-    line
+    format!("file {}\n", hex(file))
 }
 
 /// The numbers, with the places where the pool ends and the bootstraps begin.

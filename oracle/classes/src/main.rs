@@ -6,6 +6,7 @@ use classes::file::Parts;
 use classes::frame::{Frame, file_line};
 use classes::loadable::{self, Loadable};
 use classes::made;
+use jobs::hex;
 use jobs::random::Random;
 use pools::held::{Ends, Sent, hold};
 use std::error::Error;
@@ -138,7 +139,7 @@ fn make(
     }
     let mut told = String::new();
     for (n, (line, class)) in lines.iter().zip(&made).enumerate() {
-        let file = line.strip_prefix("file ").and_then(bytes_of);
+        let file = line.strip_prefix("file ").and_then(hex::parse);
         let file = file.ok_or_else(|| format!("class {n}: {line}"))?;
         fs::write(folder.join(format!("{n}.class")), file)?;
         tell(&mut told, n, class)?;
@@ -196,11 +197,4 @@ fn printed_by(program: &[String], input: Vec<u8>) -> Result<String, Box<dyn Erro
     child.wait()?;
     sender.join().map_err(|_| "sending failed")??;
     Ok(printed)
-}
-
-fn bytes_of(hex: &str) -> Option<Vec<u8>> {
-    let digit = |byte: u8| char::from(byte).to_digit(16);
-    let (pairs, odd) = hex.as_bytes().as_chunks::<2>();
-    let byte = |[high, low]: &[u8; 2]| Some((16 * digit(*high)? + digit(*low)?) as u8);
-    odd.is_empty().then(|| pairs.iter().map(byte).collect())?
 }

@@ -2,8 +2,8 @@
 
 use driver::end_of_definitions::faults;
 use driver::form::decode;
-use driver::outcome::push_hex;
 use driver::{Built, Outcome, run_job};
+use jobs::hex::hex;
 use jobs::record::Record;
 
 /// The lengths that a caller lends; document 01, "Lent memory".
@@ -197,24 +197,20 @@ fn packed(bytes: &[u8]) -> String {
             at += 1;
             continue;
         }
-        parts.push(hex(&bytes[from..at]));
+        parts.push(texts(&bytes[from..at]));
         parts.push(format!("emptyTexts {run}"));
         at += 3 * run;
         from = at;
     }
-    parts.push(hex(&bytes[from..]));
+    parts.push(texts(&bytes[from..]));
     format!("concat ({} ∷ [])", parts.join(" ∷ "))
 }
 
 /// Hex texts of at most 64 bytes each: a long text is slow to take apart.
-fn hex(bytes: &[u8]) -> String {
+fn texts(bytes: &[u8]) -> String {
     let texts: Vec<String> = bytes
         .chunks(64)
-        .map(|chunk| {
-            let mut text = String::new();
-            push_hex(&mut text, chunk);
-            format!("bytes \"{text}\"")
-        })
+        .map(|chunk| format!("bytes \"{}\"", hex(chunk)))
         .collect();
     if texts.is_empty() {
         "[]".into()
@@ -226,7 +222,8 @@ fn hex(bytes: &[u8]) -> String {
 #[cfg(test)]
 mod tests {
     use super::*;
-    use crate::directed::{BOTH_NUMBERS, bytes};
+    use crate::directed::BOTH_NUMBERS;
+    use jobs::hex::bytes;
 
     #[test]
     fn with_both_numbers_possible_the_lower_slot_decides() {

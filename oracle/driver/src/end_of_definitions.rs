@@ -64,19 +64,13 @@ fn with_one_raw(records: &[Record], place: usize) -> Vec<Record> {
 mod tests {
     use super::*;
     use crate::form::decode;
+    use jobs::hex::bytes;
 
     /// Two bootstraps and two Classes: the first of each has an undefined name x, the second leads to itself by y.
     const ENTRIES: &str = "07020178 07020179 410179010001 40020178 0000 40010001 0000";
 
     fn faults_with(raws: &str) -> Vec<u8> {
-        let digits: Vec<u32> = format!("{ENTRIES} {raws} 50 600200 0000")
-            .chars()
-            .filter_map(|digit| digit.to_digit(16))
-            .collect();
-        let job: Vec<u8> = digits
-            .chunks(2)
-            .map(|pair| (16 * pair[0] + pair[1]) as u8)
-            .collect();
+        let job = bytes(&format!("{ENTRIES} {raws} 50 600200 0000"));
         faults(&decode(&job).expect("the job is well formed"))
     }
 

@@ -1,5 +1,6 @@
 //! What a job came to, and its one-line text.
 
+use jobs::hex::hex;
 use std::fmt::Write;
 
 #[derive(Clone, Debug, PartialEq, Eq)]
@@ -65,20 +66,9 @@ fn count_and_numbers(numbers: &[u16]) -> String {
 
 /// `LENGTH HEX`, with `-` for no bytes.
 fn length_and_hex(bytes: &[u8]) -> String {
-    let mut text = format!("{} ", bytes.len());
-    if bytes.is_empty() {
-        text.push('-');
-    }
-    push_hex(&mut text, bytes);
-    text
-}
-
-pub fn push_hex(text: &mut String, bytes: &[u8]) {
-    const DIGITS: &[u8; 16] = b"0123456789abcdef";
-    text.reserve(2 * bytes.len());
-    for byte in bytes {
-        text.push(DIGITS[usize::from(byte >> 4)].into());
-        text.push(DIGITS[usize::from(byte & 15)].into());
+    match bytes {
+        [] => "0 -".into(),
+        bytes => format!("{} {}", bytes.len(), hex(bytes)),
     }
 }
 

@@ -1,7 +1,8 @@
 //! Drives both copies of the module, the plain and the counted, through a job's records.
 
 use crate::end_of_definitions::faults;
-use crate::outcome::{Built, Outcome, push_hex};
+use crate::outcome::{Built, Outcome};
+use jobs::hex::hex;
 use jobs::record::{ClassSlot, Constant, Record, Reference};
 use std::cell::Cell;
 use std::panic::{self, AssertUnwindSafe};
@@ -333,9 +334,7 @@ fn hex_reference(reference: &Reference) -> Reference {
 }
 
 fn hex_name(name: &[u8]) -> Vec<u8> {
-    let mut text = String::new();
-    push_hex(&mut text, name);
-    text.into_bytes()
+    hex(name).into_bytes()
 }
 
 thread_local! {

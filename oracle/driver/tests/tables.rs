@@ -5,6 +5,7 @@ mod common;
 
 use common::bytes;
 use driver::{Outcome, run_job};
+use jobs::hex::hex;
 use std::fs;
 use std::path::Path;
 
@@ -74,10 +75,4 @@ fn printed(outcome: &Outcome) -> String {
         b.name_slot,
         b.visits,
     )
-}
-
-fn hex(bytes: &[u8]) -> String {
-    let mut text = String::new();
-    driver::outcome::push_hex(&mut text, bytes);
-    text
 }

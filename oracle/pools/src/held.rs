@@ -1,5 +1,6 @@
 //! A program that reads frames and prints an answer for each, held to the answers that are right.
 
+use jobs::hex::hex;
 use std::collections::BTreeMap;
 use std::io::{self, BufRead, BufReader, BufWriter, Write};
 use std::process::{Command, Stdio};
@@ -110,17 +111,9 @@ fn read_answer(output: &mut impl BufRead, ends: Ends) -> io::Result<Vec<u8>> {
 }
 
 fn show(number: usize, sent: &Sent, answer: &[u8]) {
-    let hex: String = sent
-        .bytes
-        .iter()
-        .take(4096)
-        .map(|b| format!("{b:02x}"))
-        .collect();
-    println!(
-        "frame {number} ({}), {} bytes: {hex}",
-        sent.counted,
-        sent.bytes.len()
-    );
+    let length = sent.bytes.len();
+    let front = hex(&sent.bytes[..length.min(4096)]);
+    println!("frame {number} ({}), {length} bytes: {front}", sent.counted);
     println!("wanted:\n{}", String::from_utf8_lossy(&sent.answer));
     println!("printed:\n{}", String::from_utf8_lossy(answer));
 }

@@ -3,8 +3,8 @@
 use crate::clock::least;
 use crate::figures::Figures;
 use crate::sides::{self, Job, Memory};
-use driver::outcome::push_hex;
 use jobs::heavy;
+use jobs::hex::hex;
 use jobs::random::Random;
 use jobs::stream::seeded;
 
@@ -109,16 +109,14 @@ fn group(figures: &mut Figures, name: &str, end: &str, all: &[Timed]) {
     let told = all.iter().take(NAMED);
     let told = told.map(|t| format!("{} {:.2}", t.name, t.ratio()));
     put("slowest_names", told.collect::<Vec<_>>().join("; "));
-    put("slowest_job", hex(&slowest.job.bytes));
+    put("slowest_job", told_job(&slowest.job.bytes));
 }
 
 /// A short job in hex.
-fn hex(bytes: &[u8]) -> String {
+fn told_job(bytes: &[u8]) -> String {
     const MOST: usize = 200;
-    if bytes.len() > MOST {
-        return format!("{} bytes", bytes.len());
+    match bytes.len() {
+        ..=MOST => hex(bytes),
+        length => format!("{length} bytes"),
     }
-    let mut text = String::new();
-    push_hex(&mut text, bytes);
-    text
 }

@@ -4,25 +4,13 @@
 #![allow(dead_code, unused_imports)]
 
 use driver::{Built, Outcome, run_job};
+pub use jobs::hex::bytes;
 pub use jobs::make::{ask, ask_ldc, constant, int, long};
 use jobs::record::{ClassSlot, Record, Reference, encode};
 use std::ops::RangeInclusive;
 
 /// "BootstrapMethods" in hex.
 pub const NAME: &str = "426f6f7473747261704d6574686f6473";
-
-pub fn bytes(hex: &str) -> Vec<u8> {
-    let digits: Vec<u8> = hex
-        .chars()
-        .filter(|c| *c != ' ')
-        .map(|c| c.to_digit(16).unwrap() as u8)
-        .collect();
-    assert_eq!(digits.len() % 2, 0, "half a byte in {hex:?}");
-    digits
-        .chunks(2)
-        .map(|pair| pair[0] << 4 | pair[1])
-        .collect()
-}
 
 /// The line of a job in hex.
 pub fn line(hex: &str) -> String {
