@@ -1,8 +1,9 @@
 //! What a part of the comparison came to.
 
 use crate::check::Calls;
-use crate::expected::{AtEndOfDefinitions, End, Expected};
+use crate::expected::{End, Expected};
 use crate::parts::Part;
+use driver::end_of_definitions::AtEndOfDefinitions;
 use driver::tally::grouped;
 
 const LAST_REFUSAL: usize = 17;

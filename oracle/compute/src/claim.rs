@@ -1,6 +1,6 @@
 //! A job and the Rust's answer as a claim about the definition, in antt.
 
-use driver::end_of_definitions::faults;
+use driver::end_of_definitions::{AtEndOfDefinitions, faults, first_number};
 use driver::form::decode;
 use driver::{Built, Outcome, run_job};
 use jobs::hex::hex;
@@ -40,27 +40,19 @@ pub fn lending(index: usize) -> Lending {
 /// What `run` is of a job.
 pub struct Claim {
     pub text: String,
-    pub end: End,
-}
-
-/// Whether the claim tells a refusal at record 50, and which numbers the Rust may give there.
-#[derive(Clone, Copy, Debug, PartialEq, Eq)]
-pub enum End {
-    Elsewhere,
-    OneNumber,
-    BothNumbers,
+    pub at_end: AtEndOfDefinitions,
 }
 
 pub fn claim(job: &[u8], lending: Lending) -> Claim {
     let outcome = run_job(job);
     let lent = lent(job, &outcome, lending);
     let run = format!("run {} ({})", lent_text(&lent), packed(job));
-    let (answer, end) = match refused_for_room(job, &outcome, lending) {
-        Some((code, place)) => (refused(code, place), End::Elsewhere),
+    let (answer, at_end) = match refused_for_room(job, &outcome, lending) {
+        Some((code, place)) => (refused(code, place), AtEndOfDefinitions::No),
         None => answer(job, &outcome),
     };
     let text = format!("{run} ≡ {answer}");
-    Claim { text, end }
+    Claim { text, at_end }
 }
 
 fn needs(outcome: &Outcome) -> [usize; 4] {
@@ -120,31 +112,26 @@ fn records(job: &[u8]) -> Vec<Record> {
     decode(job).expect("a built job is well formed")
 }
 
-fn answer(job: &[u8], outcome: &Outcome) -> (String, End) {
+fn answer(job: &[u8], outcome: &Outcome) -> (String, AtEndOfDefinitions) {
     match outcome {
         Outcome::Refused { code, place } => {
-            let (code, end) = number(job, *code, *place);
-            (refused(code, *place), end)
+            let (code, at_end) = number(job, *code, *place);
+            (refused(code, *place), at_end)
         }
-        Outcome::Built(it) => (built(it), End::Elsewhere),
+        Outcome::Built(it) => (built(it), AtEndOfDefinitions::No),
         _ => panic!("the Rust has no answer: {}", outcome.line()),
     }
 }
 
 /// The refusal's number. Which of several faults at record 50 is met first is a hash map's choice in the Rust; where they
 /// have different numbers, it is the first's by document 01's order.
-fn number(job: &[u8], code: u8, place: usize) -> (u8, End) {
+fn number(job: &[u8], code: u8, place: usize) -> (u8, AtEndOfDefinitions) {
     let records = match decode(job) {
         Ok(records) if records[place] == Record::EndOfDefinitions => records,
-        _ => return (code, End::Elsewhere),
+        _ => return (code, AtEndOfDefinitions::No),
     };
     let faults = faults(&records);
-    assert!(faults.contains(&code), "{code} is none of {faults:?}");
-    if faults.iter().all(|fault| *fault == code) {
-        (code, End::OneNumber)
-    } else {
-        (faults[0], End::BothNumbers)
-    }
+    first_number(code, &faults).unwrap_or_else(|| panic!("{code} is none of {faults:?}"))
 }
 
 fn refused(code: u8, place: usize) -> String {
@@ -229,7 +216,7 @@ mod tests {
     fn with_both_numbers_possible_the_lower_slot_decides() {
         for (job, code, place) in BOTH_NUMBERS {
             let claim = claim(&bytes(job), Lending::Plenty);
-            assert_eq!(claim.end, End::BothNumbers);
+            assert_eq!(claim.at_end, AtEndOfDefinitions::SeveralNumbers);
             let answer = format!("≡ {}", refused(*code, *place));
             assert!(claim.text.ends_with(&answer), "{}", claim.text);
         }
@@ -239,7 +226,7 @@ mod tests {
     fn with_one_number_possible_it_is_the_rusts() {
         let job = bytes("07020178 07020179 4300010000 4300020001 50 600200 0000");
         let claim = claim(&job, Lending::Plenty);
-        assert_eq!(claim.end, End::OneNumber);
+        assert_eq!(claim.at_end, AtEndOfDefinitions::OneNumber);
         assert!(claim.text.ends_with(&refused(12, 4)), "{}", claim.text);
     }
 }

@@ -11,7 +11,8 @@ mod scratch;
 mod tables;
 mod wrong;
 
-use claim::{Claim, End, Lending};
+use claim::{Claim, Lending};
+use driver::end_of_definitions::AtEndOfDefinitions;
 use driver::{Outcome, run_job};
 use jobs::random::Random;
 use jobs::stream::seeded;
@@ -129,10 +130,10 @@ fn set_agrees(definition: &Path, set: &Set, batch: Option<usize>) -> Result<bool
     let verdicts =
         Scratch::new(definition, set.kind)?.judge(&texts, range.clone(), set.too_long)?;
     let count = |verdict| verdicts.values().filter(|v| **v == verdict).count();
-    let ended = |end| {
+    let ended = |at_end| {
         claims[range.clone()]
             .iter()
-            .filter(|c| c.end == end)
+            .filter(|c| c.at_end == at_end)
             .count()
     };
     println!(
@@ -144,8 +145,8 @@ fn set_agrees(definition: &Path, set: &Set, batch: Option<usize>) -> Result<bool
         count(Verdict::Holds),
         count(Verdict::Differs),
         count(Verdict::TooLong),
-        ended(End::OneNumber),
-        ended(End::BothNumbers),
+        ended(AtEndOfDefinitions::OneNumber),
+        ended(AtEndOfDefinitions::SeveralNumbers),
     );
     let mut all = true;
     for (number, verdict) in verdicts {
