@@ -6,7 +6,10 @@ use std::io::{self, BufWriter, StdinLock, Write};
 use std::process::ExitCode;
 
 /// Runs a program on its arguments: it fails where something differs, and tells an error.
-pub fn run_main(name: &str, run: fn(&[String]) -> Result<bool, Box<dyn Error>>) -> ExitCode {
+pub fn run_main(
+    name: &str,
+    run: impl FnOnce(&[String]) -> Result<bool, Box<dyn Error>>,
+) -> ExitCode {
     let arguments: Vec<String> = env::args().skip(1).collect();
     match run(&arguments) {
         Ok(true) => ExitCode::SUCCESS,
