@@ -29,6 +29,19 @@ pub enum Refused {
 }
 
 impl Parts {
+    /// All but the pool and the bootstraps.
+    pub fn numbers(&self) -> [u16; 7] {
+        [
+            self.minor,
+            self.major,
+            self.access,
+            self.this_class,
+            self.super_class,
+            self.name,
+            self.count,
+        ]
+    }
+
     fn make_a_file(&self) -> bool {
         let Some(pool) = Pool::read(&self.pool) else {
             return false;

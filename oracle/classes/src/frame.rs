@@ -1,8 +1,8 @@
 //! The frames that the program `class_file_run` reads, and the line that it must print for one.
 
 use crate::file::Parts;
-use driver::outcome::push_hex;
-use pools::frame::{read_part, write_part};
+use jobs::hex::hex;
+use pools::frame::{read_array, read_part, write_part};
 use std::io::{self, Read, Write};
 
 /// The room that `class_file_run` lends for a file.
@@ -22,22 +22,11 @@ impl Frame {
         match self {
             Frame::Write(parts) => {
                 out.write_all(&[WRITE])?;
-                let Parts {
-                    minor,
-                    major,
-                    pool,
-                    access,
-                    this_class,
-                    super_class,
-                    name,
-                    count,
-                    bootstraps,
-                } = parts;
-                for number in [minor, major, access, this_class, super_class, name, count] {
+                for number in parts.numbers() {
                     out.write_all(&number.to_be_bytes())?;
                 }
-                write_part(out, pool)?;
-                write_part(out, bootstraps)
+                write_part(out, &parts.pool)?;
+                write_part(out, &parts.bootstraps)
             }
             Frame::Read(file) => {
                 out.write_all(&[READ])?;
@@ -53,27 +42,20 @@ impl Frame {
             return Ok(None);
         }
         if kind == [READ] {
-            return Ok(Some(Frame::Read(part(input)?)));
+            return Ok(Some(Frame::Read(read_part(input)?)));
         }
-        let mut numbers = [0; 7];
-        for number in &mut numbers {
-            let mut bytes = [0; 2];
-            input.read_exact(&mut bytes)?;
-            *number = u16::from_be_bytes(bytes);
-        }
-        let [minor, major, access, this_class, super_class, name, count] = numbers;
-        let pool = part(input)?;
-        let bootstraps = part(input)?;
+        let mut number = || read_array(input).map(u16::from_be_bytes);
+        // in the order of `numbers`
         Ok(Some(Frame::Write(Parts {
-            minor,
-            major,
-            pool,
-            access,
-            this_class,
-            super_class,
-            name,
-            count,
-            bootstraps,
+            minor: number()?,
+            major: number()?,
+            access: number()?,
+            this_class: number()?,
+            super_class: number()?,
+            name: number()?,
+            count: number()?,
+            pool: read_part(input)?,
+            bootstraps: read_part(input)?,
         })))
     }
 
@@ -91,29 +73,13 @@ impl Frame {
     }
 }
 
-fn part(input: &mut impl Read) -> io::Result<Vec<u8>> {
-    read_part(input)?.ok_or(io::ErrorKind::UnexpectedEof.into())
-}
-
 pub fn file_line(file: &[u8]) -> String {
-    let mut line = String::from("file ");
-    push_hex(&mut line, file);
-    line.push('\n');
-    line
+    format!("file {}\n", hex(file))
 }
 
 /// The numbers, with the places where the pool ends and the bootstraps begin.
 fn parts_line(parts: &Parts, pool_end: usize, length: usize) -> String {
-    let Parts {
-        minor,
-        major,
-        access,
-        this_class,
-        super_class,
-        name,
-        count,
-        ..
-    } = parts;
+    let [minor, major, access, this_class, super_class, name, count] = parts.numbers();
     let at = length - parts.bootstraps.len();
     format!(
         "parts {minor} {major} {pool_end} {access} {this_class} {super_class} {name} {count} {at}\n"

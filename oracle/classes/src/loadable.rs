@@ -96,15 +96,7 @@ fn attempt(random: &mut Random, number: usize) -> Option<Loadable> {
 
 /// The parts around what the module builds; this and super class are the first two answers.
 fn parts_of(random: &mut Random, records: &[Record], access: u16) -> Option<Parts> {
-    let Outcome::Built {
-        answers,
-        pool,
-        bootstrap_count,
-        bootstraps,
-        name_slot,
-        ..
-    } = run_job(&encode(records))
-    else {
+    let Outcome::Built(built) = run_job(&encode(records)) else {
         return None;
     };
     let major = 55 + random.below(7) as u16;
@@ -113,13 +105,13 @@ fn parts_of(random: &mut Random, records: &[Record], access: u16) -> Option<Part
     Some(Parts {
         minor: minor as u16,
         major,
-        pool,
+        pool: built.pool,
         access,
-        this_class: answers[0],
-        super_class: answers[1],
-        name: name_slot,
-        count: bootstrap_count,
-        bootstraps,
+        this_class: built.answers[0],
+        super_class: built.answers[1],
+        name: built.name_slot,
+        count: built.bootstrap_count,
+        bootstraps: built.bootstraps,
     })
 }
 

@@ -6,28 +6,22 @@ use classes::file::Parts;
 use classes::frame::{Frame, file_line};
 use classes::loadable::{self, Loadable};
 use classes::made;
+use jobs::hex;
 use jobs::random::Random;
-use pools::held::{Ends, Sent, hold};
+use pools::held::{Ends, Sent, hold, start};
+use pools::program::{run_main, serve};
 use std::error::Error;
 use std::fmt::Write as _;
-use std::io::{self, BufReader, BufWriter, Read, Write};
+use std::io::{self, Write};
 use std::path::Path;
-use std::process::{Command, ExitCode, Stdio};
-use std::{env, fs, thread};
+use std::process::ExitCode;
+use std::{fs, thread};
 
 const USAGE: &str = "usage: classes serve | classes compare WHAT -- PROGRAM.. | classes make SEED COUNT FOLDER -- PROGRAM..
 WHAT: seeded SEED COUNT | damages SEED";
 
 fn main() -> ExitCode {
-    let arguments: Vec<String> = env::args().skip(1).collect();
-    match run(&arguments) {
-        Ok(true) => ExitCode::SUCCESS,
-        Ok(false) => ExitCode::FAILURE,
-        Err(error) => {
-            eprintln!("classes: {error}");
-            ExitCode::FAILURE
-        }
-    }
+    run_main("classes", run)
 }
 
 fn run(arguments: &[String]) -> Result<bool, Box<dyn Error>> {
@@ -38,7 +32,10 @@ fn run(arguments: &[String]) -> Result<bool, Box<dyn Error>> {
     };
     let words: Vec<&str> = words.iter().map(String::as_str).collect();
     match words[..] {
-        ["serve"] => serve().map(|()| true).map_err(Into::into),
+        ["serve"] => {
+            serve(|input| Ok(Frame::read(input)?.map(|f| f.answer().into())))?;
+            Ok(true)
+        }
         ["compare", "seeded", seed, count] => {
             compare_seeded(seed.parse()?, count.parse()?, program)
         }
@@ -50,18 +47,7 @@ fn run(arguments: &[String]) -> Result<bool, Box<dyn Error>> {
     }
 }
 
-fn serve() -> io::Result<()> {
-    let mut input = BufReader::new(io::stdin().lock());
-    let mut output = BufWriter::new(io::stdout().lock());
-    while let Some(frame) = Frame::read(&mut input)? {
-        output.write_all(frame.answer().as_bytes())?;
-    }
-    output.flush()
-}
-
 fn sent(frame: &Frame, answer: String) -> Sent {
-    let mut bytes = Vec::new();
-    frame.write(&mut bytes).expect("a vector takes all bytes");
     let did = match frame {
         Frame::Write(_) => "write",
         Frame::Read(_) => "read",
@@ -70,11 +56,7 @@ fn sent(frame: &Frame, answer: String) -> Sent {
         Some(("refused", code)) => format!("refused {}", code.trim_end()),
         _ => "good".into(),
     };
-    Sent {
-        bytes,
-        answer: answer.into(),
-        counted: format!("{did}: {outcome}"),
-    }
+    Sent::new(|out| frame.write(out), answer, format!("{did}: {outcome}"))
 }
 
 fn compare_seeded(seed: u64, count: usize, program: &[String]) -> Result<bool, Box<dyn Error>> {
@@ -138,7 +120,7 @@ fn make(
     }
     let mut told = String::new();
     for (n, (line, class)) in lines.iter().zip(&made).enumerate() {
-        let file = line.strip_prefix("file ").and_then(bytes_of);
+        let file = line.strip_prefix("file ").and_then(hex::parse);
         let file = file.ok_or_else(|| format!("class {n}: {line}"))?;
         fs::write(folder.join(format!("{n}.class")), file)?;
         tell(&mut told, n, class)?;
@@ -156,51 +138,25 @@ fn tell(told: &mut String, n: usize, class: &Loadable) -> std::fmt::Result {
         defined,
     } = class;
     let slots = u16::from_be_bytes([parts.pool[0], parts.pool[1]]);
-    let numbers = [
-        parts.minor,
-        parts.major,
-        parts.access,
-        parts.this_class,
-        parts.super_class,
-        slots,
-        parts.name,
-        parts.count,
-    ];
+    let [numbers @ .., name, count] = parts.numbers();
+    let numbers = numbers.into_iter().chain([slots, name, count]);
     write!(
         told,
         "{n}.class\t{class_name}\t{super_name}\t{}",
         u8::from(*defined)
     )?;
-    numbers
-        .iter()
-        .try_for_each(|number| write!(told, "\t{number}"))?;
+    for number in numbers {
+        write!(told, "\t{number}")?;
+    }
     writeln!(told)
 }
 
 fn printed_by(program: &[String], input: Vec<u8>) -> Result<String, Box<dyn Error>> {
-    let (name, arguments) = program.split_first().ok_or(USAGE)?;
-    let mut child = Command::new(name)
-        .args(arguments)
-        .stdin(Stdio::piped())
-        .stdout(Stdio::piped())
-        .stderr(Stdio::null())
-        .spawn()?;
-    let mut stdin = child.stdin.take().ok_or("no input")?;
+    program.first().ok_or(USAGE)?;
+    let (mut child, mut stdin, stdout) = start(program)?;
     let sender = thread::spawn(move || stdin.write_all(&input));
-    let mut printed = String::new();
-    child
-        .stdout
-        .take()
-        .ok_or("no output")?
-        .read_to_string(&mut printed)?;
+    let printed = io::read_to_string(stdout)?;
     child.wait()?;
     sender.join().map_err(|_| "sending failed")??;
     Ok(printed)
-}
-
-fn bytes_of(hex: &str) -> Option<Vec<u8>> {
-    let digit = |byte: u8| char::from(byte).to_digit(16);
-    let (pairs, odd) = hex.as_bytes().as_chunks::<2>();
-    let byte = |[high, low]: &[u8; 2]| Some((16 * digit(*high)? + digit(*low)?) as u8);
-    odd.is_empty().then(|| pairs.iter().map(byte).collect())?
 }

@@ -263,8 +263,7 @@ pub fn line(end: &End) -> String {
 /// Bytes in hex, cut where they would fill a screen.
 pub fn hex(bytes: &[u8]) -> String {
     const SHOWN: usize = 2048;
-    let mut text = String::new();
-    driver::outcome::push_hex(&mut text, &bytes[..bytes.len().min(SHOWN)]);
+    let mut text = jobs::hex::hex(&bytes[..bytes.len().min(SHOWN)]);
     if bytes.len() > SHOWN {
         text.push_str("...");
     }

@@ -1,6 +1,6 @@
 //! What the Rust says of a job, and so what the library must say.
 
-use driver::end_of_definitions::faults;
+use driver::end_of_definitions::{AtEndOfDefinitions, faults, first_number};
 use driver::{Outcome, form, run};
 use jobs::record::Record;
 use rotblossom::{Built, Refusal};
@@ -10,16 +10,6 @@ use rotblossom::{Built, Refusal};
 pub enum End {
     Built(Built),
     Refused(Refusal),
-}
-
-/// Whether record 50 refused the job, where the Rust's order is a hash map's.
-#[derive(Clone, Copy, Debug, PartialEq, Eq)]
-pub enum AtEndOfDefinitions {
-    No,
-    /// Only this number was possible.
-    OneNumber,
-    /// 12 and 13 both were: the first one in document 01's order must be given.
-    SeveralNumbers,
 }
 
 pub struct Expected {
@@ -65,40 +55,24 @@ fn refused(code: u8, place: usize) -> Expected {
 
 /// The Rust's own number must be one of those that are possible; the first of them is expected.
 fn refused_by_raw_definitions(code: u8, place: usize, possible: &[u8]) -> Result<Expected, String> {
-    if !possible.contains(&code) {
-        return Err(format!(
-            "refused {code} {place}, and possible are {possible:?}"
-        ));
-    }
-    let first = possible[0];
-    let alike = possible.iter().all(|number| *number == first);
+    let (first, at_end_of_definitions) = first_number(code, possible)
+        .ok_or_else(|| format!("refused {code} {place}, and possible are {possible:?}"))?;
     Ok(Expected {
-        at_end_of_definitions: match alike {
-            true => AtEndOfDefinitions::OneNumber,
-            false => AtEndOfDefinitions::SeveralNumbers,
-        },
+        at_end_of_definitions,
         ..refused(first, place)
     })
 }
 
 fn built(outcome: Outcome) -> Result<Built, String> {
     match outcome {
-        Outcome::Built {
-            answers,
-            pool,
-            bootstrap_count,
-            bootstraps,
-            name_slot,
-            class_name,
-            visits,
-        } => Ok(Built {
-            answers,
-            pool,
-            bootstrap_count: bootstrap_count.into(),
-            bootstraps,
-            name_slot: name_slot.into(),
-            class_name,
-            visits: visits as usize,
+        Outcome::Built(built) => Ok(Built {
+            answers: built.answers,
+            pool: built.pool,
+            bootstrap_count: built.bootstrap_count.into(),
+            bootstraps: built.bootstraps,
+            name_slot: built.name_slot.into(),
+            class_name: built.class_name,
+            visits: built.visits as usize,
         }),
         other => Err(other.line()),
     }

@@ -9,13 +9,14 @@ mod parts;
 mod tally;
 
 use check::{Checker, hex, line};
+use driver::tally::grouped;
 use expected::expected;
 use parts::{Jobs, Part};
 use std::process::ExitCode;
 use std::sync::Mutex;
 use std::thread;
 use std::time::{Duration, Instant};
-use tally::{HEAD, Tally, grouped, row};
+use tally::{HEAD, Tally, row};
 
 const USAGE: &str = "usage: compare [--threads N] [heavy | short | KIND SEED COUNT]
        KIND is small, damaged, pairs, orders or ldcfull";

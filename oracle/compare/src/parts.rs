@@ -1,8 +1,7 @@
 //! The parts of the comparison: which jobs, by which seed, and how many.
 
 use jobs::random::Random;
-use jobs::record::encode;
-use jobs::{damaged, heavy, pairs, small};
+use jobs::stream::{heavy_jobs, seeded};
 
 /// Jobs in a row, made as they are asked for.
 pub type Jobs = Box<dyn Iterator<Item = Vec<u8>> + Send>;
@@ -54,7 +53,7 @@ impl Part {
     /// The jobs of a known part. The generated ones are those of `generate KIND SEED`.
     pub fn jobs(&self) -> Option<Jobs> {
         match (&self.kind[..], self.drawn) {
-            ("heavy", None) => Some(Box::new(heavy::LIST.iter().map(|(_, make)| make()))),
+            ("heavy", None) => Some(Box::new(heavy_jobs())),
             ("short", None) => Some(Box::new(short_strings())),
             (kind, Some((seed, count))) => {
                 let step = seeded(kind)?;
@@ -65,24 +64,6 @@ impl Part {
             _ => None,
         }
     }
-}
-
-/// One step of a generator: a job, or two that belong together.
-type Step = fn(&mut Random) -> Vec<Vec<u8>>;
-
-fn seeded(kind: &str) -> Option<Step> {
-    Some(match kind {
-        "small" => |random| vec![encode(&small::small_job(random))],
-        "ldcfull" => |random| vec![encode(&small::ldc_full_job(random))],
-        "damaged" => |random| vec![damaged::damaged_job(random)],
-        "pairs" => |random| both(pairs::literal_pair(random)),
-        "orders" => |random| both(pairs::order_pair(random)),
-        _ => return None,
-    })
-}
-
-fn both((first, second): pairs::Pair) -> Vec<Vec<u8>> {
-    vec![encode(&first), encode(&second)]
 }
 
 /// Every byte string of up to two bytes, and every one of three that begins as a record does.

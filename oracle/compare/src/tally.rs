@@ -1,8 +1,10 @@
 //! What a part of the comparison came to.
 
 use crate::check::Calls;
-use crate::expected::{AtEndOfDefinitions, End, Expected};
+use crate::expected::{End, Expected};
 use crate::parts::Part;
+use driver::end_of_definitions::AtEndOfDefinitions;
+use driver::tally::grouped;
 
 const LAST_REFUSAL: usize = 17;
 const DIFFERENCES_SHOWN: usize = 5;
@@ -105,30 +107,9 @@ pub fn row(part: &Part, tally: &Tally) -> String {
     format!("| {} |", cells.join(" | "))
 }
 
-/// A number with a comma before every three digits.
-pub fn grouped(number: u64) -> String {
-    let digits = number.to_string();
-    let mut text = String::new();
-    for (place, digit) in digits.chars().enumerate() {
-        if place > 0 && (digits.len() - place).is_multiple_of(3) {
-            text.push(',');
-        }
-        text.push(digit);
-    }
-    text
-}
-
 #[cfg(test)]
 mod tests {
     use super::*;
-
-    #[test]
-    fn numbers_are_grouped_by_three() {
-        assert_eq!(grouped(0), "0");
-        assert_eq!(grouped(999), "999");
-        assert_eq!(grouped(1_000), "1,000");
-        assert_eq!(grouped(10_000_000), "10,000,000");
-    }
 
     #[test]
     fn sums_keep_every_difference_and_tell_the_first() {

@@ -1,9 +1,9 @@
 //! A job and the Rust's answer as a claim about the definition, in antt.
 
-use driver::end_of_definitions::faults;
+use driver::end_of_definitions::{AtEndOfDefinitions, faults, first_number};
 use driver::form::decode;
-use driver::outcome::push_hex;
-use driver::{Outcome, run_job};
+use driver::{Built, Outcome, run_job};
+use jobs::hex::hex;
 use jobs::record::Record;
 
 /// The lengths that a caller lends; document 01, "Lent memory".
@@ -40,42 +40,28 @@ pub fn lending(index: usize) -> Lending {
 /// What `run` is of a job.
 pub struct Claim {
     pub text: String,
-    pub end: End,
-}
-
-/// Whether the claim tells a refusal at record 50, and which numbers the Rust may give there.
-#[derive(Clone, Copy, Debug, PartialEq, Eq)]
-pub enum End {
-    Elsewhere,
-    OneNumber,
-    BothNumbers,
+    pub at_end: AtEndOfDefinitions,
 }
 
 pub fn claim(job: &[u8], lending: Lending) -> Claim {
     let outcome = run_job(job);
     let lent = lent(job, &outcome, lending);
     let run = format!("run {} ({})", lent_text(&lent), packed(job));
-    let (answer, end) = match refused_for_room(job, &outcome, lending) {
-        Some((code, place)) => (refused(code, place), End::Elsewhere),
+    let (answer, at_end) = match refused_for_room(job, &outcome, lending) {
+        Some((code, place)) => (refused(code, place), AtEndOfDefinitions::No),
         None => answer(job, &outcome),
     };
     let text = format!("{run} ≡ {answer}");
-    Claim { text, end }
+    Claim { text, at_end }
 }
 
 fn needs(outcome: &Outcome) -> [usize; 4] {
     match outcome {
-        Outcome::Built {
-            answers,
-            pool,
-            bootstraps,
-            class_name,
-            ..
-        } => [
-            answers.len(),
-            pool.len(),
-            bootstraps.len(),
-            class_name.as_ref().map_or(0, Vec::len),
+        Outcome::Built(built) => [
+            built.answers.len(),
+            built.pool.len(),
+            built.bootstraps.len(),
+            built.class_name.as_ref().map_or(0, Vec::len),
         ],
         _ => [0; 4],
     }
@@ -126,59 +112,46 @@ fn records(job: &[u8]) -> Vec<Record> {
     decode(job).expect("a built job is well formed")
 }
 
-fn answer(job: &[u8], outcome: &Outcome) -> (String, End) {
+fn answer(job: &[u8], outcome: &Outcome) -> (String, AtEndOfDefinitions) {
     match outcome {
         Outcome::Refused { code, place } => {
-            let (code, end) = number(job, *code, *place);
-            (refused(code, *place), end)
+            let (code, at_end) = number(job, *code, *place);
+            (refused(code, *place), at_end)
         }
-        Outcome::Built { .. } => (built(outcome), End::Elsewhere),
+        Outcome::Built(it) => (built(it), AtEndOfDefinitions::No),
         _ => panic!("the Rust has no answer: {}", outcome.line()),
     }
 }
 
 /// The refusal's number. Which of several faults at record 50 is met first is a hash map's choice in the Rust; where they
 /// have different numbers, it is the first's by document 01's order.
-fn number(job: &[u8], code: u8, place: usize) -> (u8, End) {
+fn number(job: &[u8], code: u8, place: usize) -> (u8, AtEndOfDefinitions) {
     let records = match decode(job) {
         Ok(records) if records[place] == Record::EndOfDefinitions => records,
-        _ => return (code, End::Elsewhere),
+        _ => return (code, AtEndOfDefinitions::No),
     };
     let faults = faults(&records);
-    assert!(faults.contains(&code), "{code} is none of {faults:?}");
-    if faults.iter().all(|fault| *fault == code) {
-        (code, End::OneNumber)
-    } else {
-        (faults[0], End::BothNumbers)
-    }
+    first_number(code, &faults).unwrap_or_else(|| panic!("{code} is none of {faults:?}"))
 }
 
 fn refused(code: u8, place: usize) -> String {
     format!("bad (record {{ code = {code}; place = {place} }})")
 }
 
-fn built(outcome: &Outcome) -> String {
-    let Outcome::Built {
-        answers,
-        pool,
-        bootstrap_count,
-        bootstraps,
-        name_slot,
-        class_name,
-        visits,
-    } = outcome
-    else {
-        unreachable!("only built jobs are shown as built");
-    };
-    let class = class_name
+fn built(built: &Built) -> String {
+    let class = built
+        .class_name
         .as_ref()
         .map_or("none".into(), |name| format!("some ({})", packed(name)));
     format!(
-        "good (record {{ answers = {}; pool = {}; bootstrapCount = {bootstrap_count}; bootstraps = {}; \
-         name = {name_slot}; class = {class}; visits = {visits} }})",
-        numbers(answers),
-        packed(pool),
-        packed(bootstraps),
+        "good (record {{ answers = {}; pool = {}; bootstrapCount = {}; bootstraps = {}; \
+         name = {}; class = {class}; visits = {} }})",
+        numbers(&built.answers),
+        packed(&built.pool),
+        built.bootstrap_count,
+        packed(&built.bootstraps),
+        built.name_slot,
+        built.visits,
     )
 }
 
@@ -211,24 +184,20 @@ fn packed(bytes: &[u8]) -> String {
             at += 1;
             continue;
         }
-        parts.push(hex(&bytes[from..at]));
+        parts.push(texts(&bytes[from..at]));
         parts.push(format!("emptyTexts {run}"));
         at += 3 * run;
         from = at;
     }
-    parts.push(hex(&bytes[from..]));
+    parts.push(texts(&bytes[from..]));
     format!("concat ({} ∷ [])", parts.join(" ∷ "))
 }
 
 /// Hex texts of at most 64 bytes each: a long text is slow to take apart.
-fn hex(bytes: &[u8]) -> String {
+fn texts(bytes: &[u8]) -> String {
     let texts: Vec<String> = bytes
         .chunks(64)
-        .map(|chunk| {
-            let mut text = String::new();
-            push_hex(&mut text, chunk);
-            format!("bytes \"{text}\"")
-        })
+        .map(|chunk| format!("bytes \"{}\"", hex(chunk)))
         .collect();
     if texts.is_empty() {
         "[]".into()
@@ -240,13 +209,14 @@ fn hex(bytes: &[u8]) -> String {
 #[cfg(test)]
 mod tests {
     use super::*;
-    use crate::directed::{BOTH_NUMBERS, bytes};
+    use crate::directed::BOTH_NUMBERS;
+    use jobs::hex::bytes;
 
     #[test]
     fn with_both_numbers_possible_the_lower_slot_decides() {
         for (job, code, place) in BOTH_NUMBERS {
             let claim = claim(&bytes(job), Lending::Plenty);
-            assert_eq!(claim.end, End::BothNumbers);
+            assert_eq!(claim.at_end, AtEndOfDefinitions::SeveralNumbers);
             let answer = format!("≡ {}", refused(*code, *place));
             assert!(claim.text.ends_with(&answer), "{}", claim.text);
         }
@@ -256,7 +226,7 @@ mod tests {
     fn with_one_number_possible_it_is_the_rusts() {
         let job = bytes("07020178 07020179 4300010000 4300020001 50 600200 0000");
         let claim = claim(&job, Lending::Plenty);
-        assert_eq!(claim.end, End::OneNumber);
+        assert_eq!(claim.at_end, AtEndOfDefinitions::OneNumber);
         assert!(claim.text.ends_with(&refused(12, 4)), "{}", claim.text);
     }
 }

@@ -1,5 +1,7 @@
 //! Jobs in hex for points that generated ones meet too seldom.
 
+use jobs::hex::bytes;
+
 const JOBS: &[&str] = &[
     // The form pass: which fault wins, and at which record.
     "",
@@ -58,16 +60,4 @@ const Y_BEFORE_X: &str = "07020178 07020179 410179010001 4300020000 4300010001 5
 
 pub fn jobs() -> Vec<Vec<u8>> {
     JOBS.iter().map(|text| bytes(text)).collect()
-}
-
-pub fn bytes(text: &str) -> Vec<u8> {
-    let digits: Vec<u8> = text
-        .chars()
-        .filter(|c| *c != ' ')
-        .map(|c| c.to_digit(16).expect("a hex digit") as u8)
-        .collect();
-    digits
-        .chunks_exact(2)
-        .map(|pair| 16 * pair[0] + pair[1])
-        .collect()
 }

@@ -11,11 +11,11 @@ mod scratch;
 mod tables;
 mod wrong;
 
-use claim::{Claim, End, Lending};
+use claim::{Claim, Lending};
+use driver::end_of_definitions::AtEndOfDefinitions;
 use driver::{Outcome, run_job};
 use jobs::random::Random;
-use jobs::record::encode;
-use jobs::{damaged, pairs, small};
+use jobs::stream::seeded;
 use scratch::{BATCH, Scratch, Verdict};
 use std::error::Error;
 use std::io;
@@ -28,23 +28,19 @@ use wrong::Wrong;
 const USAGE: &str = "usage: compute agree DEFINITION [KIND [BATCH]] | compute wrong DEFINITION [NAME..] | \
                      compute tables DEFINITION [NAME..]";
 
-type Make = fn(&mut Random) -> Vec<Vec<u8>>;
-
 /// A kind of job, a seed, how many times to make it, how much the n-th claim lends, and the numbers of the claims that
 /// take the checker more steps than it has.
 struct Set {
     kind: &'static str,
-    make: Make,
     seed: u64,
     count: usize,
     lending: fn(usize) -> Lending,
     too_long: &'static [usize],
 }
 
-const fn set(kind: &'static str, make: Make, seed: u64, count: usize) -> Set {
+const fn set(kind: &'static str, seed: u64, count: usize) -> Set {
     Set {
         kind,
-        make,
         seed,
         count,
         lending: claim::lending,
@@ -55,7 +51,6 @@ const fn set(kind: &'static str, make: Make, seed: u64, count: usize) -> Set {
 /// Each of these is there for one point, so nothing may be short.
 const DIRECTED: Set = Set {
     kind: "directed",
-    make: directed_jobs,
     seed: 0,
     count: 1,
     lending: |_| Lending::Plenty,
@@ -69,19 +64,15 @@ const AGREE: &[Set] = &[
     DIRECTED,
     Set {
         too_long: SMALL_TOO_LONG,
-        ..set("small", small_job, 101, 1700)
+        ..set("small", 101, 1700)
     },
-    set("damaged", damaged_job, 102, 1000),
-    set("pairs", literal_pair, 103, 250),
-    set("orders", order_pair, 104, 100),
-    set("ldcfull", ldc_full_job, 105, 10),
+    set("damaged", 102, 1000),
+    set("pairs", 103, 250),
+    set("orders", 104, 100),
+    set("ldcfull", 105, 10),
 ];
 
-const NOTICE: &[Set] = &[
-    DIRECTED,
-    set("small", small_job, 201, 200),
-    set("damaged", damaged_job, 202, 60),
-];
+const NOTICE: &[Set] = &[DIRECTED, set("small", 201, 200), set("damaged", 202, 60)];
 
 /// Pools longer than this take the checker some 20 s each.
 const QUICK_POOL: usize = 5_000;
@@ -139,10 +130,10 @@ fn set_agrees(definition: &Path, set: &Set, batch: Option<usize>) -> Result<bool
     let verdicts =
         Scratch::new(definition, set.kind)?.judge(&texts, range.clone(), set.too_long)?;
     let count = |verdict| verdicts.values().filter(|v| **v == verdict).count();
-    let ended = |end| {
+    let ended = |at_end| {
         claims[range.clone()]
             .iter()
-            .filter(|c| c.end == end)
+            .filter(|c| c.at_end == at_end)
             .count()
     };
     println!(
@@ -154,8 +145,8 @@ fn set_agrees(definition: &Path, set: &Set, batch: Option<usize>) -> Result<bool
         count(Verdict::Holds),
         count(Verdict::Differs),
         count(Verdict::TooLong),
-        ended(End::OneNumber),
-        ended(End::BothNumbers),
+        ended(AtEndOfDefinitions::OneNumber),
+        ended(AtEndOfDefinitions::SeveralNumbers),
     );
     let mut all = true;
     for (number, verdict) in verdicts {
@@ -294,40 +285,14 @@ fn claims(set: &Set, passes: fn(&[u8]) -> bool) -> Vec<Claim> {
 }
 
 fn is_quick(job: &[u8]) -> bool {
-    !matches!(run_job(job), Outcome::Built { pool, .. } if pool.len() > QUICK_POOL)
+    !matches!(run_job(job), Outcome::Built(built) if built.pool.len() > QUICK_POOL)
 }
 
 fn jobs_of(set: &Set) -> Vec<Vec<u8>> {
+    if set.kind == DIRECTED.kind {
+        return directed::jobs();
+    }
+    let step = seeded(set.kind).expect("the generators have this kind");
     let mut random = Random::new(set.seed);
-    (0..set.count)
-        .flat_map(|_| (set.make)(&mut random))
-        .collect()
-}
-
-fn directed_jobs(_: &mut Random) -> Vec<Vec<u8>> {
-    directed::jobs()
-}
-
-fn small_job(random: &mut Random) -> Vec<Vec<u8>> {
-    vec![encode(&small::small_job(random))]
-}
-
-fn ldc_full_job(random: &mut Random) -> Vec<Vec<u8>> {
-    vec![encode(&small::ldc_full_job(random))]
-}
-
-fn damaged_job(random: &mut Random) -> Vec<Vec<u8>> {
-    vec![damaged::damaged_job(random)]
-}
-
-fn literal_pair(random: &mut Random) -> Vec<Vec<u8>> {
-    both(pairs::literal_pair(random))
-}
-
-fn order_pair(random: &mut Random) -> Vec<Vec<u8>> {
-    both(pairs::order_pair(random))
-}
-
-fn both((first, second): pairs::Pair) -> Vec<Vec<u8>> {
-    vec![encode(&first), encode(&second)]
+    (0..set.count).flat_map(|_| step(&mut random)).collect()
 }

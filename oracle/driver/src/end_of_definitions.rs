@@ -4,6 +4,26 @@ use crate::Outcome;
 use crate::run::refusal_of_definitions;
 use jobs::record::Record;
 
+/// Whether record 50 refused a job.
+#[derive(Clone, Copy, Debug, PartialEq, Eq)]
+pub enum AtEndOfDefinitions {
+    No,
+    /// Only this number was possible.
+    OneNumber,
+    /// 12 and 13 both were: the first one in document 01's order must be given.
+    SeveralNumbers,
+}
+
+/// The number that record 50 must refuse with, the first of those possible; none if the module's own isn't one of them.
+pub fn first_number(own: u8, possible: &[u8]) -> Option<(u8, AtEndOfDefinitions)> {
+    let first = *possible.first()?;
+    let at_end = match possible.iter().all(|number| *number == first) {
+        true => AtEndOfDefinitions::OneNumber,
+        false => AtEndOfDefinitions::SeveralNumbers,
+    };
+    possible.contains(&own).then_some((first, at_end))
+}
+
 /// The numbers of the faults that record 50 can meet: of the raw constants by rising slot, or, where none of them fails,
 /// of the raw bootstraps by rising index. The module takes all raw constants first, too. What was resolved before a fault
 /// has none, so each raw definition fails as it does alone in the job.
@@ -64,19 +84,13 @@ fn with_one_raw(records: &[Record], place: usize) -> Vec<Record> {
 mod tests {
     use super::*;
     use crate::form::decode;
+    use jobs::hex::bytes;
 
     /// Two bootstraps and two Classes: the first of each has an undefined name x, the second leads to itself by y.
     const ENTRIES: &str = "07020178 07020179 410179010001 40020178 0000 40010001 0000";
 
     fn faults_with(raws: &str) -> Vec<u8> {
-        let digits: Vec<u32> = format!("{ENTRIES} {raws} 50 600200 0000")
-            .chars()
-            .filter_map(|digit| digit.to_digit(16))
-            .collect();
-        let job: Vec<u8> = digits
-            .chunks(2)
-            .map(|pair| (16 * pair[0] + pair[1]) as u8)
-            .collect();
+        let job = bytes(&format!("{ENTRIES} {raws} 50 600200 0000"));
         faults(&decode(&job).expect("the job is well formed"))
     }
 

@@ -1,33 +1,16 @@
 //! Framed jobs: four big-endian bytes of length, then so many bytes.
 
+use jobs::stream::read_frame;
 use std::io::{self, ErrorKind, Read};
 
 const LONGEST_FRAME: u32 = 64 << 20;
 
 /// The next frame, or `None` where the input ends between frames.
 pub fn next_frame(input: &mut impl Read) -> io::Result<Option<Vec<u8>>> {
-    let mut prefix = Vec::new();
-    input.by_ref().take(4).read_to_end(&mut prefix)?;
-    if prefix.is_empty() {
-        return Ok(None);
-    }
-    let prefix = prefix.try_into().map_err(|_| cut())?;
-    let length = u32::from_be_bytes(prefix);
-    if length > LONGEST_FRAME {
-        let text = format!("a frame of {length} bytes is over {LONGEST_FRAME}");
-        return Err(io::Error::new(ErrorKind::InvalidData, text));
-    }
-    let mut frame = Vec::new();
-    input.by_ref().take(length.into()).read_to_end(&mut frame)?;
-    if frame.len() == length as usize {
-        Ok(Some(frame))
-    } else {
-        Err(cut())
-    }
-}
-
-fn cut() -> io::Error {
-    io::Error::new(ErrorKind::UnexpectedEof, "the last frame is cut")
+    read_frame(input, LONGEST_FRAME).map_err(|error| match error.kind() {
+        kind @ ErrorKind::UnexpectedEof => io::Error::new(kind, "the last frame is cut"),
+        _ => error,
+    })
 }
 
 #[cfg(test)]

@@ -8,7 +8,7 @@ pub mod outcome;
 pub mod run;
 pub mod tally;
 
-pub use outcome::Outcome;
+pub use outcome::{Built, Outcome};
 
 /// The form pass, then the module.
 pub fn run_job(job: &[u8]) -> Outcome {

@@ -1,5 +1,6 @@
 //! What a job came to, and its one-line text.
 
+use jobs::hex::hex;
 use std::fmt::Write;
 
 #[derive(Clone, Debug, PartialEq, Eq)]
@@ -8,16 +9,7 @@ pub enum Outcome {
         code: u8,
         place: usize,
     },
-    Built {
-        answers: Vec<u16>,
-        pool: Vec<u8>,
-        bootstrap_count: u16,
-        bootstraps: Vec<u8>,
-        /// 0 means none.
-        name_slot: u16,
-        class_name: Option<Vec<u8>>,
-        visits: u64,
-    },
+    Built(Built),
     /// A panic of the module, which document 01 has no number for.
     Panicked(String),
     /// An error of the module that stands for none of document 01's numbers.
@@ -27,26 +19,34 @@ pub enum Outcome {
     },
 }
 
+#[derive(Clone, Debug, PartialEq, Eq)]
+pub struct Built {
+    pub answers: Vec<u16>,
+    pub pool: Vec<u8>,
+    pub bootstrap_count: u16,
+    pub bootstraps: Vec<u8>,
+    /// 0 means none.
+    pub name_slot: u16,
+    pub class_name: Option<Vec<u8>>,
+    pub visits: u64,
+}
+
 impl Outcome {
     /// One line, without its newline.
     pub fn line(&self) -> String {
         match self {
             Outcome::Refused { code, place } => format!("refused {code} {place}"),
-            Outcome::Built {
-                answers,
-                pool,
-                bootstrap_count,
-                bootstraps,
-                name_slot,
-                class_name,
-                visits,
-            } => format!(
-                "built answers {} pool {} bootstraps {bootstrap_count} {} \
-                 name {name_slot} class {} visits {visits}",
-                count_and_numbers(answers),
-                length_and_hex(pool),
-                length_and_hex(bootstraps),
-                class_name.as_deref().map_or("none".into(), length_and_hex),
+            Outcome::Built(b) => format!(
+                "built answers {} pool {} bootstraps {} {} name {} class {} visits {}",
+                count_and_numbers(&b.answers),
+                length_and_hex(&b.pool),
+                b.bootstrap_count,
+                length_and_hex(&b.bootstraps),
+                b.name_slot,
+                b.class_name
+                    .as_deref()
+                    .map_or("none".into(), length_and_hex),
+                b.visits,
             ),
             Outcome::Panicked(message) => format!("panic {}", on_one_line(message)),
             Outcome::UnknownMessage { message, place } => {
@@ -66,20 +66,9 @@ fn count_and_numbers(numbers: &[u16]) -> String {
 
 /// `LENGTH HEX`, with `-` for no bytes.
 fn length_and_hex(bytes: &[u8]) -> String {
-    let mut text = format!("{} ", bytes.len());
-    if bytes.is_empty() {
-        text.push('-');
-    }
-    push_hex(&mut text, bytes);
-    text
-}
-
-pub fn push_hex(text: &mut String, bytes: &[u8]) {
-    const DIGITS: &[u8; 16] = b"0123456789abcdef";
-    text.reserve(2 * bytes.len());
-    for byte in bytes {
-        text.push(DIGITS[usize::from(byte >> 4)].into());
-        text.push(DIGITS[usize::from(byte & 15)].into());
+    match bytes {
+        [] => "0 -".into(),
+        bytes => format!("{} {}", bytes.len(), hex(bytes)),
     }
 }
 
@@ -103,7 +92,7 @@ mod tests {
     }
 
     fn built(answers: Vec<u16>, bytes: &[u8], class_name: Option<Vec<u8>>) -> Outcome {
-        Outcome::Built {
+        Outcome::Built(Built {
             answers,
             pool: bytes.to_vec(),
             bootstrap_count: 2,
@@ -111,7 +100,7 @@ mod tests {
             name_slot: 7,
             class_name,
             visits: 5,
-        }
+        })
     }
 
     #[test]

@@ -1,7 +1,8 @@
 //! Drives both copies of the module, the plain and the counted, through a job's records.
 
 use crate::end_of_definitions::faults;
-use crate::outcome::{Outcome, push_hex};
+use crate::outcome::{Built, Outcome};
+use jobs::hex::hex;
 use jobs::record::{ClassSlot, Constant, Record, Reference};
 use std::cell::Cell;
 use std::panic::{self, AssertUnwindSafe};
@@ -12,16 +13,6 @@ const SOURCE: &str = "job";
 
 const UNDEFINED: u8 = 12;
 const CIRCULAR: u8 = 13;
-
-/// What a build gave.
-pub struct Finished {
-    answers: Vec<u16>,
-    pool: Vec<u8>,
-    bootstrap_count: u16,
-    bootstraps: Vec<u8>,
-    name_slot: u16,
-    class_name: Option<Vec<u8>>,
-}
 
 /// An error of the module: its text, and the record in turn.
 pub struct Stop {
@@ -36,7 +27,7 @@ type Ending<T> = Result<Result<T, Stop>, String>;
 macro_rules! driver_of {
     ($name:ident, $copy:ident) => {
         pub mod $name {
-            use super::{ClassSlot, Constant, Finished, Record, Reference, SOURCE, Stop};
+            use super::{Built, ClassSlot, Constant, Record, Reference, SOURCE, Stop};
             use $copy::assemble::cpool::{
                 BsAttrNameNeeded, FlatConst, Pool, PoolResolver, RefType, UnresolvedConst,
             };
@@ -146,7 +137,7 @@ macro_rules! driver_of {
             }
 
             /// Runs the records in turn, from `Pool::new` to `build`.
-            pub fn execute(plan: Plan<'_>) -> Result<Finished, Stop> {
+            pub fn execute(plan: Plan<'_>) -> Result<Built, Stop> {
                 let end_of_definitions = plan.definitions.len();
                 let build = end_of_definitions + 1 + plan.requests.len();
                 let mut resolver = define(plan.definitions)?;
@@ -219,7 +210,7 @@ macro_rules! driver_of {
                 name: u8,
                 class_slot: u16,
                 answers: Vec<u16>,
-            ) -> Result<Finished, Error> {
+            ) -> Result<Built, Error> {
                 let name_needed = match name {
                     0 => BsAttrNameNeeded::Always(SPAN),
                     1 => BsAttrNameNeeded::IfPresent(SPAN),
@@ -228,13 +219,15 @@ macro_rules! driver_of {
                 let mut pool = BufWriter::default();
                 let builder = resolver.end();
                 let (bootstraps, class_name) = builder.build(&mut pool, name_needed, class_slot)?;
-                Ok(Finished {
+                Ok(Built {
                     answers,
                     pool: pool.into_buf(),
                     bootstrap_count: bootstraps.num_bs,
                     bootstraps: bootstraps.buf,
                     name_slot: bootstraps.name.unwrap_or(0),
                     class_name: class_name.map(|name| name.as_bytes().to_vec()),
+                    // only the counted copy knows, beside its result
+                    visits: 0,
                 })
             }
         }
@@ -268,7 +261,7 @@ pub fn run_counted(records: &[Record]) -> Outcome {
     settled(ending, visits)
 }
 
-fn counted_run(named: &[Record]) -> (Ending<Finished>, u64) {
+fn counted_run(named: &[Record]) -> (Ending<Built>, u64) {
     let plan = with_count::plan(named);
     counted::reset_visits();
     let ending = caught(|| with_count::execute(plan));
@@ -341,9 +334,7 @@ fn hex_reference(reference: &Reference) -> Reference {
 }
 
 fn hex_name(name: &[u8]) -> Vec<u8> {
-    let mut text = String::new();
-    push_hex(&mut text, name);
-    text.into_bytes()
+    hex(name).into_bytes()
 }
 
 thread_local! {
@@ -376,17 +367,9 @@ pub fn caught<T>(execute: impl FnOnce() -> Result<T, Stop>) -> Ending<T> {
     })
 }
 
-fn settled(ending: Ending<Finished>, visits: u64) -> Outcome {
+fn settled(ending: Ending<Built>, visits: u64) -> Outcome {
     match ending {
-        Ok(Ok(finished)) => Outcome::Built {
-            answers: finished.answers,
-            pool: finished.pool,
-            bootstrap_count: finished.bootstrap_count,
-            bootstraps: finished.bootstraps,
-            name_slot: finished.name_slot,
-            class_name: finished.class_name,
-            visits,
-        },
+        Ok(Ok(built)) => Outcome::Built(Built { visits, ..built }),
         Ok(Err(stop)) => stopped(stop),
         Err(message) => Outcome::Panicked(message),
     }

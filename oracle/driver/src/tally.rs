@@ -1,4 +1,4 @@
-//! Counts of outcomes, for judging what a set of jobs reaches.
+//! Counts of outcomes, for judging what a set of jobs reaches, and how tables show counts.
 
 use crate::outcome::Outcome;
 use std::fmt::{self, Display};
@@ -36,5 +36,39 @@ impl Display for Tally {
             writeln!(f, "refused {code} {count}")?;
         }
         Ok(())
+    }
+}
+
+/// A number without its fraction, with a comma before every three digits.
+pub fn grouped(number: impl Display) -> String {
+    let digits = format!("{number:.0}");
+    let mut text = String::new();
+    for (place, digit) in digits.chars().enumerate() {
+        if place > 0 && (digits.len() - place).is_multiple_of(3) {
+            text.push(',');
+        }
+        text.push(digit);
+    }
+    text
+}
+
+#[cfg(test)]
+mod tests {
+    use super::*;
+
+    #[test]
+    fn numbers_are_grouped_by_three() {
+        assert_eq!(grouped(0), "0");
+        assert_eq!(grouped(999), "999");
+        assert_eq!(grouped(1_000), "1,000");
+        assert_eq!(grouped(10_000_000), "10,000,000");
+    }
+
+    #[test]
+    fn fractions_are_rounded_away() {
+        assert_eq!(grouped(7.4), "7");
+        assert_eq!(grouped(999.0), "999");
+        assert_eq!(grouped(1_000.0), "1,000");
+        assert_eq!(grouped(12_345_678.0), "12,345,678");
     }
 }

@@ -4,21 +4,8 @@
 mod common;
 
 use common::*;
-use driver::Outcome;
+use driver::{Built, Outcome};
 use jobs::record::{Record, Reference};
-
-/// A build of nothing but pool bytes.
-fn built_pool(answers: Vec<u16>, pool: Vec<u8>, visits: u64) -> Outcome {
-    Outcome::Built {
-        answers,
-        pool,
-        bootstrap_count: 0,
-        bootstraps: vec![],
-        name_slot: 0,
-        class_name: None,
-        visits,
-    }
-}
 
 // Point 1: the first faulty record wins; within a record 3, then 5, then 4; all of 60 counts
 // before what is behind it.
@@ -315,7 +302,7 @@ fn point_6_a_slot_above_255_is_16_for_ldc() {
     assert_eq!(with_slots_to_255_raw(&[ask_ldc(1)]), refused(15, 259));
     // The first answer is indeed 256.
     match with_slots_to_255_raw(&[ask(1)]) {
-        Outcome::Built { answers, .. } => assert_eq!(answers, [256]),
+        Outcome::Built(built) => assert_eq!(built.answers, [256]),
         other => panic!("{}", other.line()),
     }
 }
@@ -376,7 +363,7 @@ fn two_dynamics_and_one_free_index(second_bootstrap: u16) -> Outcome {
 fn point_7_sharing_before_raw_ones_are_written() {
     let mut bootstraps = bytes("0008 0000");
     bootstraps.extend(bytes("0009 0000").repeat(65_534));
-    let expected = Outcome::Built {
+    let expected = Outcome::Built(Built {
         answers: vec![1, 2],
         pool: bytes("0003 11 0000 0001 11 0000 0002"),
         bootstrap_count: 65_535,
@@ -384,7 +371,7 @@ fn point_7_sharing_before_raw_ones_are_written() {
         name_slot: 0,
         class_name: None,
         visits: 65_546,
-    };
+    });
     assert!(two_dynamics_and_one_free_index(1) == expected);
     // 65,539 definitions, 50, two requests: the build is record 65542.
     assert_eq!(two_dynamics_and_one_free_index(2), refused(17, 65_542));
@@ -536,7 +523,7 @@ fn point_13_bootstraps_longer_than_65535_bytes() {
     ];
     let mut copy = bytes("0009 ffff");
     copy.extend(bytes("0007").repeat(65_535));
-    let expected = Outcome::Built {
+    let expected = Outcome::Built(Built {
         answers: vec![],
         pool: bytes("0001"),
         bootstrap_count: 2,
@@ -544,6 +531,6 @@ fn point_13_bootstraps_longer_than_65535_bytes() {
         name_slot: 0,
         class_name: None,
         visits: 65_538,
-    };
+    });
     assert!(outcome(&records) == expected);
 }

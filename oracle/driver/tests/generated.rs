@@ -87,18 +87,15 @@ fn shape(records: &[Record]) -> String {
         } if records[place] == Record::EndOfDefinitions => {
             format!("unresolved at {place}")
         }
-        Outcome::Built {
-            answers,
-            bootstrap_count,
-            bootstraps,
-            name_slot,
-            class_name,
-            visits,
-            pool,
-        } => format!(
-            "{answers:?} {:?} {bootstrap_count} {bootstraps:?} {name_slot} {} {visits}",
-            &pool[..2],
-            class_name.is_some()
+        Outcome::Built(b) => format!(
+            "{:?} {:?} {} {:?} {} {} {}",
+            b.answers,
+            &b.pool[..2],
+            b.bootstrap_count,
+            b.bootstraps,
+            b.name_slot,
+            b.class_name.is_some(),
+            b.visits
         ),
         other => other.line(),
     }

@@ -172,15 +172,7 @@ fn k_a_long_at_65533() {
     let mut pool = bytes("ffff");
     pool.extend(bytes("010000").repeat(65_532));
     pool.extend(bytes("05 0000000000000001"));
-    let expected = Outcome::Built {
-        answers: vec![],
-        pool,
-        bootstrap_count: 0,
-        bootstraps: vec![],
-        name_slot: 0,
-        class_name: None,
-        visits: 2,
-    };
+    let expected = built_pool(vec![], pool, 2);
     let job = "05 0000000000000001 43 fffd 0000 50 60 02 00 0000";
     assert!(driver::run_job(&bytes(job)) == expected);
 }
@@ -205,15 +197,7 @@ fn all_slots_raw(behind: &[Record]) -> Outcome {
 fn k_all_slots_raw_and_nothing_asked() {
     let mut pool = bytes("ffff");
     pool.extend(bytes("03 00000001").repeat(65_534));
-    let expected = Outcome::Built {
-        answers: vec![],
-        pool,
-        bootstrap_count: 0,
-        bootstraps: vec![],
-        name_slot: 0,
-        class_name: None,
-        visits: 65_535,
-    };
+    let expected = built_pool(vec![], pool, 65_535);
     assert!(all_slots_raw(&[build()]) == expected);
 }
 

@@ -152,9 +152,9 @@ fn a_wide_one_without_two_neighbours_is_14() {
     // The one free slot is 65534, used up by an Int; then the count is 65535.
     records[65_536] = ask(0);
     match outcome(&records) {
-        Outcome::Built { answers, pool, .. } => {
-            assert_eq!(answers, [65_534]);
-            assert_eq!(pool[..2], [0xff, 0xff]);
+        Outcome::Built(built) => {
+            assert_eq!(built.answers, [65_534]);
+            assert_eq!(built.pool[..2], [0xff, 0xff]);
         }
         other => panic!("{}", other.line()),
     }

@@ -5,6 +5,7 @@ mod common;
 
 use common::bytes;
 use driver::{Outcome, run_job};
+use jobs::hex::hex;
 use std::fs;
 use std::path::Path;
 
@@ -56,34 +57,22 @@ fn row(line: &str) -> Row {
 
 /// What the program prints for an outcome: the driver's line, with each part on a line of its own.
 fn printed(outcome: &Outcome) -> String {
-    let Outcome::Built {
-        answers,
-        pool,
-        bootstrap_count,
-        bootstraps,
-        name_slot,
-        class_name,
-        visits,
-    } = outcome
-    else {
+    let Outcome::Built(b) = outcome else {
         return format!("{}\n", outcome.line());
     };
-    let answers_text: String = answers.iter().map(|answer| format!("{answer}\n")).collect();
-    let class = class_name.as_ref().map_or("none\n".into(), |name| {
+    let answers: String = b.answers.iter().map(|slot| format!("{slot}\n")).collect();
+    let class = b.class_name.as_ref().map_or("none\n".into(), |name| {
         format!("{}\n{}\n", name.len(), hex(name))
     });
     format!(
-        "answers {}\n{answers_text}pool {}\n{}\nbootstraps {bootstrap_count} {}\n{}\nname {name_slot}\nclass {class}visits {visits}\n",
-        answers.len(),
-        pool.len(),
-        hex(pool),
-        bootstraps.len(),
-        hex(bootstraps),
+        "answers {}\n{answers}pool {}\n{}\nbootstraps {} {}\n{}\nname {}\nclass {class}visits {}\n",
+        b.answers.len(),
+        b.pool.len(),
+        hex(&b.pool),
+        b.bootstrap_count,
+        b.bootstraps.len(),
+        hex(&b.bootstraps),
+        b.name_slot,
+        b.visits,
     )
-}
-
-fn hex(bytes: &[u8]) -> String {
-    let mut text = String::new();
-    driver::outcome::push_hex(&mut text, bytes);
-    text
 }

@@ -2,6 +2,7 @@
 
 pub mod damaged;
 pub mod heavy;
+pub mod hex;
 pub mod large;
 pub mod make;
 pub mod pairs;

@@ -3,7 +3,7 @@
 use crate::random::Random;
 use crate::record::encode;
 use crate::{damaged, heavy, pairs, small};
-use std::io::{self, Write};
+use std::io::{self, ErrorKind, Read, Write};
 
 /// One step of a seeded kind: a job, or two that belong together.
 pub type Step = fn(&mut Random) -> Vec<Vec<u8>>;
@@ -31,4 +31,26 @@ pub fn frame(out: &mut impl Write, job: &[u8]) -> io::Result<()> {
     let length = u32::try_from(job.len()).expect("a job's length fits four bytes");
     out.write_all(&length.to_be_bytes())?;
     out.write_all(job)
+}
+
+/// The next frame, or none where the input ends between frames.
+pub fn read_frame(input: &mut impl Read, longest: u32) -> io::Result<Option<Vec<u8>>> {
+    let mut length = Vec::new();
+    input.by_ref().take(4).read_to_end(&mut length)?;
+    if length.is_empty() {
+        return Ok(None);
+    }
+    let length = length.try_into().map_err(|_| ErrorKind::UnexpectedEof)?;
+    let length = u32::from_be_bytes(length);
+    if length > longest {
+        let text = format!("a frame of {length} bytes is over {longest}");
+        return Err(io::Error::new(ErrorKind::InvalidData, text));
+    }
+    let mut frame = Vec::new();
+    input.by_ref().take(length.into()).read_to_end(&mut frame)?;
+    if frame.len() == length as usize {
+        Ok(Some(frame))
+    } else {
+        Err(ErrorKind::UnexpectedEof.into())
+    }
 }

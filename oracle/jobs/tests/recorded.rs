@@ -1,12 +1,10 @@
 //! The same seed gives the same bytes: hashes recorded when the generators were written.
 //! A change of a generator changes them; then record the new ones.
 
-use jobs::damaged::damaged_job;
-use jobs::pairs::{Pair, literal_pair, order_pair};
+use jobs::large;
 use jobs::random::Random;
 use jobs::record::encode;
-use jobs::small::{ldc_full_job, small_job};
-use jobs::{heavy, large};
+use jobs::stream::{heavy_jobs, seeded};
 
 const RECORDED: [(&str, u64); 7] = [
     ("small", 0x9264_b943_53df_e0fd),
@@ -30,24 +28,22 @@ fn hash(jobs: impl Iterator<Item = Vec<u8>>) -> u64 {
     hash
 }
 
-fn seeded(make: fn(&mut Random) -> Vec<u8>) -> u64 {
+/// A kind's hash, with the two jobs of a pair as one.
+fn of_kind(kind: &'static str) -> (&'static str, u64) {
+    let step = seeded(kind).unwrap();
     let mut random = Random::new(1);
-    hash((0..300).map(|_| make(&mut random)))
-}
-
-fn joined((first, second): Pair) -> Vec<u8> {
-    [encode(&first), encode(&second)].concat()
+    (kind, hash((0..300).map(|_| step(&mut random).concat())))
 }
 
 #[test]
 fn jobs_are_those_recorded() {
     let found = [
-        ("small", seeded(|r| encode(&small_job(r)))),
-        ("ldcfull", seeded(|r| encode(&ldc_full_job(r)))),
-        ("damaged", seeded(damaged_job)),
-        ("pairs", seeded(|r| joined(literal_pair(r)))),
-        ("orders", seeded(|r| joined(order_pair(r)))),
-        ("heavy", hash(heavy::LIST.iter().map(|(_, make)| make()))),
+        of_kind("small"),
+        of_kind("ldcfull"),
+        of_kind("damaged"),
+        of_kind("pairs"),
+        of_kind("orders"),
+        ("heavy", hash(heavy_jobs())),
         (
             "large",
             hash(large::KINDS.iter().map(|(_, make)| encode(&make(1_000)))),

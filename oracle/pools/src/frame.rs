@@ -1,7 +1,11 @@
 //! The frames that the program `poollist` reads, and what it must print for one: the lines or a refusal, and an empty line.
 
 use crate::listing;
+use jobs::stream::read_frame;
 use std::io::{self, Read, Write};
+
+/// A part of a frame is written as a job is.
+pub use jobs::stream::frame as write_part;
 
 /// The room that `poollist` lends for a text.
 pub const ROOM: usize = 1 << 20;
@@ -23,16 +27,13 @@ impl Frame {
 
     /// The next frame, or none where the input ends.
     pub fn read(input: &mut impl Read) -> io::Result<Option<Self>> {
-        let Some(pool) = read_part(input)? else {
+        let Some(pool) = next_part(input)? else {
             return Ok(None);
         };
-        let mut count = [0; 2];
-        input.read_exact(&mut count)?;
-        let bootstraps = read_part(input)?.ok_or(io::ErrorKind::UnexpectedEof)?;
         Ok(Some(Self {
             pool,
-            count: u16::from_be_bytes(count),
-            bootstraps,
+            count: u16::from_be_bytes(read_array(input)?),
+            bootstraps: read_part(input)?,
         }))
     }
 
@@ -44,28 +45,17 @@ impl Frame {
     }
 }
 
-pub fn write_part(out: &mut impl Write, bytes: &[u8]) -> io::Result<()> {
-    let length = u32::try_from(bytes.len()).expect("a part's length fits four bytes");
-    out.write_all(&length.to_be_bytes())?;
-    out.write_all(bytes)
+/// A part, or none where the input ends before it.
+pub fn next_part(input: &mut impl Read) -> io::Result<Option<Vec<u8>>> {
+    read_frame(input, u32::MAX)
 }
 
-/// A four-byte length and so many bytes, or none where the input ends before the length.
-pub fn read_part(input: &mut impl Read) -> io::Result<Option<Vec<u8>>> {
-    let mut length = Vec::new();
-    input.by_ref().take(4).read_to_end(&mut length)?;
-    if length.is_empty() {
-        return Ok(None);
-    }
-    let length: [u8; 4] = length
-        .try_into()
-        .map_err(|_| io::ErrorKind::UnexpectedEof)?;
-    let length = u32::from_be_bytes(length);
-    let mut bytes = Vec::new();
-    input.by_ref().take(length.into()).read_to_end(&mut bytes)?;
-    if bytes.len() == length as usize {
-        Ok(Some(bytes))
-    } else {
-        Err(io::ErrorKind::UnexpectedEof.into())
-    }
+pub fn read_part(input: &mut impl Read) -> io::Result<Vec<u8>> {
+    next_part(input)?.ok_or(io::ErrorKind::UnexpectedEof.into())
+}
+
+pub fn read_array<const N: usize>(input: &mut impl Read) -> io::Result<[u8; N]> {
+    let mut bytes = [0; N];
+    input.read_exact(&mut bytes)?;
+    Ok(bytes)
 }

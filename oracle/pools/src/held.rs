@@ -1,8 +1,9 @@
 //! A program that reads frames and prints an answer for each, held to the answers that are right.
 
+use jobs::hex::hex;
 use std::collections::BTreeMap;
 use std::io::{self, BufRead, BufReader, BufWriter, Write};
-use std::process::{Command, Stdio};
+use std::process::{Child, ChildStdin, ChildStdout, Command, Stdio};
 use std::thread;
 
 /// Differences that are shown in full.
@@ -13,6 +14,22 @@ pub struct Sent {
     pub bytes: Vec<u8>,
     pub answer: Vec<u8>,
     pub counted: String,
+}
+
+impl Sent {
+    pub fn new(
+        write: impl FnOnce(&mut Vec<u8>) -> io::Result<()>,
+        answer: impl Into<Vec<u8>>,
+        counted: String,
+    ) -> Sent {
+        let mut bytes = Vec::new();
+        write(&mut bytes).expect("a vector takes all bytes");
+        Sent {
+            bytes,
+            answer: answer.into(),
+            counted,
+        }
+    }
 }
 
 /// Where an answer ends: behind its line, or behind the first empty one.
@@ -40,11 +57,8 @@ impl Tally {
     }
 }
 
-/// Starts the program and holds its answers to those wanted. `frames` is asked twice, for what is sent and for the comparison.
-pub fn hold<I>(program: &[String], ends: Ends, frames: impl Fn() -> I + Sync) -> io::Result<Tally>
-where
-    I: Iterator<Item = Sent>,
-{
+/// A program that is started, its input and its output.
+pub fn start(program: &[String]) -> io::Result<(Child, ChildStdin, ChildStdout)> {
     let (name, arguments) = program.split_first().ok_or(io::ErrorKind::NotFound)?;
     let mut child = Command::new(name)
         .args(arguments)
@@ -53,11 +67,20 @@ where
         .stderr(Stdio::null())
         .spawn()?;
     let input = child.stdin.take().expect("the input is piped");
-    let output = BufReader::new(child.stdout.take().expect("the output is piped"));
+    let output = child.stdout.take().expect("the output is piped");
+    Ok((child, input, output))
+}
+
+/// Starts the program and holds its answers to those wanted. `frames` is asked twice, for what is sent and for the comparison.
+pub fn hold<I>(program: &[String], ends: Ends, frames: impl Fn() -> I + Sync) -> io::Result<Tally>
+where
+    I: Iterator<Item = Sent>,
+{
+    let (mut child, input, output) = start(program)?;
     let tally = thread::scope(|scope| {
         // a program that stops early closes its input: the comparison tells of it
         scope.spawn(|| _ = send(input, frames()));
-        compare(output, ends, frames())
+        compare(BufReader::new(output), ends, frames())
     })?;
     child.wait()?;
     Ok(tally)
@@ -110,17 +133,9 @@ fn read_answer(output: &mut impl BufRead, ends: Ends) -> io::Result<Vec<u8>> {
 }
 
 fn show(number: usize, sent: &Sent, answer: &[u8]) {
-    let hex: String = sent
-        .bytes
-        .iter()
-        .take(4096)
-        .map(|b| format!("{b:02x}"))
-        .collect();
-    println!(
-        "frame {number} ({}), {} bytes: {hex}",
-        sent.counted,
-        sent.bytes.len()
-    );
+    let length = sent.bytes.len();
+    let front = hex(&sent.bytes[..length.min(4096)]);
+    println!("frame {number} ({}), {length} bytes: {front}", sent.counted);
     println!("wanted:\n{}", String::from_utf8_lossy(&sent.answer));
     println!("printed:\n{}", String::from_utf8_lossy(answer));
 }

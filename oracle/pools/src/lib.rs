@@ -8,3 +8,4 @@ pub mod held;
 pub mod hex_float;
 pub mod listing;
 pub mod made;
+pub mod program;

@@ -7,10 +7,10 @@ use pools::class_file::cut_out;
 use pools::frame::Frame;
 use pools::held::{Ends, Sent, hold};
 use pools::made::{self, Made};
-use std::env;
+use pools::program::{run_main, serve};
 use std::error::Error;
 use std::fs;
-use std::io::{self, BufReader, BufWriter, Write};
+use std::io::{self, BufWriter, Write};
 use std::process::ExitCode;
 
 const USAGE: &str =
@@ -18,21 +18,13 @@ const USAGE: &str =
 WHAT: short | damaged SEED COUNT";
 
 fn main() -> ExitCode {
-    let arguments: Vec<String> = env::args().skip(1).collect();
-    match run(&arguments) {
-        Ok(true) => ExitCode::SUCCESS,
-        Ok(false) => ExitCode::FAILURE,
-        Err(error) => {
-            eprintln!("pools: {error}");
-            ExitCode::FAILURE
-        }
-    }
+    run_main("pools", run)
 }
 
 fn run(arguments: &[String]) -> Result<bool, Box<dyn Error>> {
     let (command, rest) = arguments.split_first().ok_or(USAGE)?;
     match command.as_str() {
-        "list" if rest.is_empty() => list()?,
+        "list" if rest.is_empty() => serve(|input| Ok(Frame::read(input)?.map(|f| f.answer())))?,
         "cut" => cut(rest)?,
         "frames" => write_frames(What::named(rest)?)?,
         "compare" => {
@@ -73,15 +65,6 @@ impl What {
     }
 }
 
-fn list() -> io::Result<()> {
-    let mut input = BufReader::new(io::stdin().lock());
-    let mut output = BufWriter::new(io::stdout().lock());
-    while let Some(frame) = Frame::read(&mut input)? {
-        output.write_all(&frame.answer())?;
-    }
-    output.flush()
-}
-
 fn cut(files: &[String]) -> Result<(), Box<dyn Error>> {
     let mut output = BufWriter::new(io::stdout().lock());
     for file in files {
@@ -100,20 +83,13 @@ fn write_frames(what: What) -> io::Result<()> {
 }
 
 fn sent(made: Made) -> Sent {
-    let mut bytes = Vec::new();
-    made.frame
-        .write(&mut bytes)
-        .expect("a vector takes all bytes");
     let answer = made.frame.answer();
     let outcome = match answer.strip_prefix(b"refused ") {
         Some(code) => format!("refused {}", String::from_utf8_lossy(code).trim_end()),
         None => "listed".into(),
     };
-    Sent {
-        bytes,
-        answer,
-        counted: format!("{}: {outcome}", made.how),
-    }
+    let counted = format!("{}: {outcome}", made.how);
+    Sent::new(|out| made.frame.write(out), answer, counted)
 }
 
 fn compare(what: What, program: &[String]) -> Result<bool, Box<dyn Error>> {

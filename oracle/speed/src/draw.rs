@@ -1,7 +1,7 @@
 //! Draws the ratios as a picture: a row a family, a dot a size, on a logarithmic scale; time on the left, instructions on the right.
 
 use crate::figures::*;
-use jobs::large::KINDS;
+use crate::sets::families;
 use std::fmt::Write;
 
 const WIDTH: f64 = 1_000.0;
@@ -77,17 +77,8 @@ pub fn picture(figures: &Figures) -> String {
     svg
 }
 
-/// The families, and all small jobs together.
-fn families() -> impl Iterator<Item = &'static str> {
-    KINDS.iter().map(|(name, _)| *name).chain(["all"])
-}
-
-fn row_count() -> usize {
-    KINDS.len() + 1
-}
-
 fn bottom() -> f64 {
-    TOP + ROW * row_count() as f64
+    TOP + ROW * families().count() as f64
 }
 
 /// Where a ratio stands in a panel.

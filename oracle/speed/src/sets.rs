@@ -22,6 +22,11 @@ pub fn large(kind: Large, constants: usize) -> Job {
     Job::new(encode(&kind(constants))).expect("a large job is well formed")
 }
 
+/// The families, and all small jobs together.
+pub fn families() -> impl Iterator<Item = &'static str> {
+    KINDS.iter().map(|(name, _)| *name).chain(["all"])
+}
+
 pub fn kind_named(family: &str) -> Option<Large> {
     let (_, kind) = KINDS.iter().find(|(name, _)| *name == family)?;
     Some(*kind)

@@ -91,7 +91,7 @@ pub fn measured_ours(job: &[u8], memory: &mut Memory) -> Result<Told, Refusal> {
 }
 
 /// What the module came to; it is kept until the clock is read.
-pub type Ended = Result<driver::run::Finished, driver::run::Stop>;
+pub type Ended = Result<driver::Built, driver::run::Stop>;
 
 /// The module alone: from `Pool::new` to `build`.
 #[inline(never)]

@@ -1,7 +1,9 @@
 //! The figures as tables for the page.
 
 use crate::figures::*;
-use crate::sets::{COLLIDING, SIZES};
+use crate::sets::{COLLIDING, SIZES, families};
+use crate::worst::GENERATORS;
+use driver::tally::grouped;
 use jobs::large::KINDS;
 use std::fmt::Write;
 
@@ -29,9 +31,8 @@ fn rows(figures: &Figures, measure: &str) -> Vec<(&'static str, String)> {
     let sizes = [SMALL.to_string()]
         .into_iter()
         .chain(SIZES.map(|n| n.to_string()));
-    let families = KINDS.iter().map(|(name, _)| *name).chain(["all"]);
     let of_family = |family| sizes.clone().map(move |size| (family, size));
-    families
+    families()
         .flat_map(of_family)
         .filter(|(family, size)| figures.text(measure, family, size).is_some())
         .collect()
@@ -209,7 +210,7 @@ fn slowest(figures: &Figures) -> String {
         "Slowest jobs",
         "Jobs | End | How many | Middle ratio | Above 0.2 | Above 1 | Highest ratio | Ours, ns | Rust, ns | The slowest | Job",
     );
-    for family in ["small", "damaged", "ldcfull", "pairs", "orders", "heavy"] {
+    for family in GENERATORS.into_iter().chain(["heavy"]) {
         for end in ["built", "refused"] {
             let text = |measure| figures.text(measure, family, end).unwrap_or("-");
             let columns = [
@@ -230,30 +231,9 @@ fn slowest(figures: &Figures) -> String {
     table
 }
 
-/// A whole number with commas.
-fn grouped(value: f64) -> String {
-    let digits = format!("{value:.0}");
-    let mut text = String::new();
-    for (i, digit) in digits.chars().enumerate() {
-        if i > 0 && (digits.len() - i).is_multiple_of(3) {
-            text.push(',');
-        }
-        text.push(digit);
-    }
-    text
-}
-
 #[cfg(test)]
 mod tests {
     use super::*;
-
-    #[test]
-    fn commas_stand_between_thousands() {
-        assert_eq!(grouped(7.4), "7");
-        assert_eq!(grouped(999.0), "999");
-        assert_eq!(grouped(1_000.0), "1,000");
-        assert_eq!(grouped(12_345_678.0), "12,345,678");
-    }
 
     #[test]
     fn stages_are_differences_and_come_to_the_whole() {

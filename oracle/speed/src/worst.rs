@@ -3,10 +3,10 @@
 use crate::clock::least;
 use crate::figures::Figures;
 use crate::sides::{self, Job, Memory};
-use driver::outcome::push_hex;
+use jobs::heavy;
+use jobs::hex::hex;
 use jobs::random::Random;
-use jobs::record::encode;
-use jobs::{damaged, heavy, pairs, small};
+use jobs::stream::seeded;
 
 const SEED: u64 = 61;
 const STEPS: usize = 4_000;
@@ -47,9 +47,12 @@ fn timed(name: String, job: Job, memory: &mut Memory, rounds: usize) -> Timed {
     }
 }
 
+pub const GENERATORS: [&str; 5] = ["small", "damaged", "ldcfull", "pairs", "orders"];
+
 pub fn generators(figures: &mut Figures) {
-    for (name, make) in GENERATORS {
+    for name in GENERATORS {
         eprintln!("{name}");
+        let make = seeded(name).expect("the generators have this kind");
         let mut random = Random::new(SEED);
         let jobs = (0..STEPS).flat_map(|step| {
             let made = make(&mut random).into_iter();
@@ -62,22 +65,6 @@ pub fn generators(figures: &mut Figures) {
         .iter()
         .map(|(name, make)| (name.to_string(), make()));
     generator(figures, "heavy", jobs);
-}
-
-type Make = fn(&mut Random) -> Vec<Vec<u8>>;
-
-const GENERATORS: [(&str, Make); 5] = [
-    ("small", |random| vec![encode(&small::small_job(random))]),
-    ("damaged", |random| vec![damaged::damaged_job(random)]),
-    ("ldcfull", |random| {
-        vec![encode(&small::ldc_full_job(random))]
-    }),
-    ("pairs", |random| both(pairs::literal_pair(random))),
-    ("orders", |random| both(pairs::order_pair(random))),
-];
-
-fn both((first, second): pairs::Pair) -> Vec<Vec<u8>> {
-    vec![encode(&first), encode(&second)]
 }
 
 /// Times every job that reaches the module, the built ones and the refused ones apart.
@@ -122,16 +109,14 @@ fn group(figures: &mut Figures, name: &str, end: &str, all: &[Timed]) {
     let told = all.iter().take(NAMED);
     let told = told.map(|t| format!("{} {:.2}", t.name, t.ratio()));
     put("slowest_names", told.collect::<Vec<_>>().join("; "));
-    put("slowest_job", hex(&slowest.job.bytes));
+    put("slowest_job", told_job(&slowest.job.bytes));
 }
 
 /// A short job in hex.
-fn hex(bytes: &[u8]) -> String {
+fn told_job(bytes: &[u8]) -> String {
     const MOST: usize = 200;
-    if bytes.len() > MOST {
-        return format!("{} bytes", bytes.len());
+    match bytes.len() {
+        ..=MOST => hex(bytes),
+        length => format!("{length} bytes"),
     }
-    let mut text = String::new();
-    push_hex(&mut text, bytes);
-    text
 }

@@ -1,7 +1,7 @@
 //! The frames that the program `trace_run` reads, and the line that it must print for one.
 
 use crate::count::count;
-use pools::frame::{read_part, write_part};
+use pools::frame::{next_part, read_array, read_part, write_part};
 use std::fmt::Write as _;
 use std::io::{self, Read, Write};
 
@@ -30,13 +30,13 @@ impl Frame {
 
     /// The next frame, or none where the input ends.
     pub fn read(input: &mut impl Read) -> io::Result<Option<Self>> {
-        let Some(pool) = read_part(input)? else {
+        let Some(pool) = next_part(input)? else {
             return Ok(None);
         };
-        let trace = read_part(input)?.ok_or(io::ErrorKind::UnexpectedEof)?;
-        let [a, b, c, d, high, low] = array(input)?;
+        let trace = read_part(input)?;
+        let [a, b, c, d, high, low] = read_array(input)?;
         let set = (0..u16::from_be_bytes([high, low])).map(|_| {
-            let [high, low, value] = array(input)?;
+            let [high, low, value] = read_array(input)?;
             Ok((u16::from_be_bytes([high, low]), value))
         });
         let set = set.collect::<io::Result<_>>()?;
@@ -70,10 +70,4 @@ impl Frame {
         line.push('\n');
         line
     }
-}
-
-fn array<const N: usize>(input: &mut impl Read) -> io::Result<[u8; N]> {
-    let mut bytes = [0; N];
-    input.read_exact(&mut bytes)?;
-    Ok(bytes)
 }

@@ -3,9 +3,9 @@
 
 use jobs::random::Random;
 use pools::held::{Ends, Sent, hold};
-use std::env;
+use pools::program::{run_main, serve};
 use std::error::Error;
-use std::io::{self, BufReader, BufWriter, Write};
+use std::io::{self, BufWriter, Write};
 use std::process::ExitCode;
 use traces::frame::Frame;
 use traces::made;
@@ -14,21 +14,13 @@ const USAGE: &str =
     "usage: traces count | traces frames SEED COUNT | traces compare SEED COUNT PROGRAM..";
 
 fn main() -> ExitCode {
-    let arguments: Vec<String> = env::args().skip(1).collect();
-    match run(&arguments) {
-        Ok(true) => ExitCode::SUCCESS,
-        Ok(false) => ExitCode::FAILURE,
-        Err(error) => {
-            eprintln!("traces: {error}");
-            ExitCode::FAILURE
-        }
-    }
+    run_main("traces", run)
 }
 
 fn run(arguments: &[String]) -> Result<bool, Box<dyn Error>> {
     let words: Vec<&str> = arguments.iter().map(String::as_str).collect();
     match words[..] {
-        ["count"] => count()?,
+        ["count"] => serve(|input| Ok(Frame::read(input)?.map(|f| f.answer().into())))?,
         ["frames", seed, number] => write_frames(frames(seed.parse()?, number.parse()?))?,
         ["compare", seed, number, _, ..] => {
             let (seed, number) = (seed.parse()?, number.parse()?);
@@ -47,15 +39,6 @@ fn frames(seed: u64, number: usize) -> impl Iterator<Item = Frame> {
     (0..number).map(move |_| made::next(&mut random))
 }
 
-fn count() -> io::Result<()> {
-    let mut input = BufReader::new(io::stdin().lock());
-    let mut output = BufWriter::new(io::stdout().lock());
-    while let Some(frame) = Frame::read(&mut input)? {
-        output.write_all(frame.answer().as_bytes())?;
-    }
-    output.flush()
-}
-
 fn write_frames(frames: impl Iterator<Item = Frame>) -> io::Result<()> {
     let mut output = BufWriter::new(io::stdout().lock());
     for frame in frames {
@@ -65,17 +48,11 @@ fn write_frames(frames: impl Iterator<Item = Frame>) -> io::Result<()> {
 }
 
 fn sent(frame: Frame) -> Sent {
-    let mut bytes = Vec::new();
-    frame.write(&mut bytes).expect("a vector takes all bytes");
     let answer = frame.answer();
     let counted = match answer.split(' ').collect::<Vec<_>>()[..] {
         ["refused", code, ..] => format!("refused {code}"),
         ["good", _, "failed", _, "rested", "0", ..] => "counted, none rested".into(),
         _ => "counted, some rested".into(),
     };
-    Sent {
-        bytes,
-        answer: answer.into(),
-        counted,
-    }
+    Sent::new(|out| frame.write(out), answer, counted)
 }

@@ -2,6 +2,7 @@
 
 use super::*;
 use crate::expected::expected;
+use jobs::hex::bytes;
 
 /// Case b of document 01: one answer, nine bytes of pool, a class name.
 const BUILT: &str = "01 0001 41  07 01 0000  50  51 01 0001  60 02 01 0000";
@@ -17,18 +18,6 @@ const CIRCLE_FIRST: &str =
 const CIRCLE: &str = "07 02 01 79  41 01 79 01 0000  43 0001 0000  50  60 02 00 0000";
 /// An unknown kind.
 const BAD_FORM: &str = "00";
-
-fn bytes(hex: &str) -> Vec<u8> {
-    let digits: Vec<u8> = hex
-        .chars()
-        .filter_map(|digit| digit.to_digit(16))
-        .map(|digit| digit as u8)
-        .collect();
-    digits
-        .chunks(2)
-        .map(|pair| pair[0] << 4 | pair[1])
-        .collect()
-}
 
 /// All that is checked of a job, several times since memory differs from run to run.
 fn checked(hex: &str, library: Library) -> Result<(), String> {

@@ -1,27 +1,16 @@
 //! What the tests share: jobs from hex text or from records, and ranges of raw definitions.
 
 // Each test file uses only some of these.
-#![allow(dead_code)]
+#![allow(dead_code, unused_imports)]
 
-use driver::{Outcome, run_job};
-use jobs::record::{ClassSlot, Constant, Record, Reference, encode};
+use driver::{Built, Outcome, run_job};
+pub use jobs::hex::bytes;
+pub use jobs::make::{ask, ask_ldc, constant, int, long};
+use jobs::record::{ClassSlot, Record, Reference, encode};
 use std::ops::RangeInclusive;
 
 /// "BootstrapMethods" in hex.
 pub const NAME: &str = "426f6f7473747261704d6574686f6473";
-
-pub fn bytes(hex: &str) -> Vec<u8> {
-    let digits: Vec<u8> = hex
-        .chars()
-        .filter(|c| *c != ' ')
-        .map(|c| c.to_digit(16).unwrap() as u8)
-        .collect();
-    assert_eq!(digits.len() % 2, 0, "half a byte in {hex:?}");
-    digits
-        .chunks(2)
-        .map(|pair| pair[0] << 4 | pair[1])
-        .collect()
-}
 
 /// The line of a job in hex.
 pub fn line(hex: &str) -> String {
@@ -37,12 +26,17 @@ pub fn refused(code: u8, place: usize) -> Outcome {
     Outcome::Refused { code, place }
 }
 
-pub fn int(value: u32) -> Record {
-    constant(3, &value.to_be_bytes(), vec![])
-}
-
-pub fn long(value: u64) -> Record {
-    constant(5, &value.to_be_bytes(), vec![])
+/// A build of nothing but pool bytes.
+pub fn built_pool(answers: Vec<u16>, pool: Vec<u8>, visits: u64) -> Outcome {
+    Outcome::Built(Built {
+        answers,
+        pool,
+        bootstrap_count: 0,
+        bootstraps: vec![],
+        name_slot: 0,
+        class_name: None,
+        visits,
+    })
 }
 
 pub fn dynamic(bootstrap: u16, raw_name_and_type: u16) -> Record {
@@ -51,14 +45,6 @@ pub fn dynamic(bootstrap: u16, raw_name_and_type: u16) -> Record {
         Reference::Raw(raw_name_and_type),
     ];
     constant(17, &[], references)
-}
-
-pub fn constant(tag: u8, literal: &[u8], references: Vec<Reference>) -> Record {
-    Record::Constant(Constant {
-        tag,
-        literal: literal.to_vec(),
-        references,
-    })
 }
 
 /// A bootstrap without arguments.
@@ -75,14 +61,6 @@ pub fn raw_constants(slots: RangeInclusive<u16>, entry: u16) -> impl Iterator<It
 
 pub fn raw_bootstraps(indexes: RangeInclusive<u16>, entry: u16) -> impl Iterator<Item = Record> {
     indexes.map(move |index| Record::RawBootstrap { index, entry })
-}
-
-pub fn ask(entry: u16) -> Record {
-    Record::Ask(Reference::Entry(entry))
-}
-
-pub fn ask_ldc(entry: u16) -> Record {
-    Record::AskLdc(Reference::Entry(entry))
 }
 
 /// A build without the name and with class slot 0.
