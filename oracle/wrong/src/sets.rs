@@ -1,6 +1,6 @@
 //! The jobs that every builder is run on, and the lines that the right one prints of them.
 
-use driver::end_of_definitions::faults;
+use driver::end_of_definitions::{faults, first_number};
 use driver::form::decode;
 use driver::{Outcome, run_job};
 use jobs::heavy;
@@ -112,8 +112,9 @@ fn right_line(job: &[u8]) -> String {
     match at_end {
         Some((code, place, records)) => {
             let possible = faults(&records);
-            assert!(possible.contains(&code), "{code} is none of {possible:?}");
-            let code = possible[0];
+            let Some((code, _)) = first_number(code, &possible) else {
+                panic!("{code} is none of {possible:?}");
+            };
             Outcome::Refused { code, place }.line()
         }
         None => outcome.line(),
