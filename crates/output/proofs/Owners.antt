@@ -7,6 +7,7 @@ use Prim.Native.Nat.{ℕ, zero, suc, _+_, _-_, _≤_, _<_}
 use native.Mathlib.Omega.{arith}
 use lib.Dec.{eqb}
 use lib.ListN.{length, getD}
+use borrow.Author.Count.{below-more}
 use borrow.Author.Tests.{eq-eqb, ne-eqb, eqb-true}
 use Rattle.store.specs.Store.{Store, size, Kept}
 use Rattle.store.specs.Chains.{headOf, Chains, Sought, Heads, linked}
@@ -15,7 +16,7 @@ use Rattle.store.proofs.Hashing.{head-lt}
 use Rattle.store.proofs.Walking.{last-le, last-again, last-hit, last-yes, last-no, chains-more}
 use Rattle.store.proofs.Keeping.{kept-put}
 use Rattle.interner.specs.Nodes.{nodeCount}
-use Rattle.output.specs.Contents.{linkOf, OwnersMade}
+use Rattle.output.specs.Contents.{linkOf, NoneAbove, OwnersMade}
 use Rattle.facts.proofs.Lists.{equal}
 
 -- THE SEARCH finds the one item that there is
@@ -24,6 +25,14 @@ pub link-miss : (keys : List ℕ) (n key : ℕ) → ((i : ℕ) → i < n → get
 link-miss keys zero key f = refl
 link-miss keys (suc n) key f =
     last-no (λ i. eqb (getD keys i 0) key) n (ne-eqb (getD keys n 0) key (f n (omega arith))) ∙ link-miss keys n key (λ i h. f i (omega arith))
+
+-- a number above all of them is not there
+pub link-above : (keys : List ℕ) (n top key : ℕ) → NoneAbove keys n top → top < key → linkOf keys n key ≡ 0
+link-above keys n top key low h = link-miss keys n key (λ i l e. omega (arith, low i l))
+
+-- one more of them, where the bound rises to it
+pub above-more : (keys : List ℕ) (n top new : ℕ) → NoneAbove keys n top → (top ≤ new) × (getD keys n 0 ≤ new) → NoneAbove keys (n + 1) new
+above-more keys n top new low up = below-more (λ i. getD keys i 0 ≤ new) n (λ i l. omega (arith, low i l)) (up .1)
 
 pub link-hit :
     (keys : List ℕ) (n key i : ℕ) → i < n → getD keys i 0 ≡ key → ((j : ℕ) → i < j → j < n → getD keys j 0 ≡ key → ⊥) → linkOf keys n key ≡ suc i

@@ -5,7 +5,8 @@ use mathlib.Core.Option.{Option, none, some}
 use mathlib.Core.Path.{_≡_, refl, sym}
 use Prim.Native.Nat.{ℕ, _+_, _-_, _≤_, _<_}
 use native.Mathlib.Omega.{arith}
-use lib.ListN.{length, getD, take, drop, length-append}
+use lib.ListN.{length, getD, set, take, drop, length-append}
+use lib.Seq.{paste}
 use borrow.Author.Tests.{lt-ltb, le-ltb, ne-eqb}
 use Rattle.definition.specs.Ascii.{ascii}
 use Rattle.definition.specs.Basics.{lookup}
@@ -16,8 +17,9 @@ use Rattle.definition.specs.Run.{entryBytes, slotBytes}
 use Rattle.facts.proofs.Lists.{clash, equal, order}
 use Rattle.facts.proofs.Tables.{looked-up}
 use Rattle.laws.specs.Statements.{IsBytes}
-use Rattle.raw_const.specs.Entries.{LiteralFits, entryOf}
+use Rattle.raw_const.specs.Entries.{LiteralFits, entryOf, Wrote}
 use Rattle.raw_const.proofs.Shaped.{entry-parts}
+use Rattle.raw_const.proofs.Writes.{wrote-then, wrote-byte, wrote-short}
 use Rattle.job.specs.Stored.{Spans}
 use Rattle.job.specs.declared.Stretch.{Stretch}
 use Rattle.store.specs.Store.{Store, size}
@@ -123,8 +125,12 @@ text-fits n h = record { asText = λ _. h; asBits = λ size q. clash (text-bits 
     text-bits : (size : ℕ) → _≡_ {A = Option (List Field)} (some (text ∷ [])) (some (bits size ∷ [])) → _≡_ {A = ℕ} 0 1
     text-bits size q = cc
 
-pub empty-bytes : (s : List ℕ) → entryBytes (entryOf 1 0 (take 0 (drop 0 s)) 0 0) ≡ entryBytes (textEntry [])
-empty-bytes s = parts-are (textEntry []) 1 0 (take 0 (drop 0 s)) 0 0 refl refl refl refl refl
+pub wrote-empty :
+    (d d₁ d₂ : List ℕ) (at : ℕ) → at + 3 ≤ length d → d₁ ≡ set d at 1 → d₂ ≡ paste d₁ (at + 1) (be2 0) 2 → Wrote d at (entryBytes (textEntry [])) d₂ (at + 3)
+unfolding entryBytes lookup shapes writeFields be2
+wrote-empty d d₁ d₂ at room a b =
+    let e : at + 3 ≡ at + 1 + 2 = omega arith in
+    rw e (wrote-then (wrote-byte d at 1 (omega arith) a) (omega arith) (wrote-short d₁ (at + 1) 0 b))
 
 pub name-whole : take 16 (drop 0 attributeName) ≡ attributeName
 unfolding attributeName ascii

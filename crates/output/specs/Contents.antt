@@ -154,6 +154,10 @@ linkWord wide (suc k) = k
 abbrev pub linkOf : List ℕ → ℕ → ℕ → ℕ
 linkOf keys n key = last (λ i. eqb (getD keys i 0) key) n
 
+-- none of the first n numbers is above this one
+abbrev pub NoneAbove : List ℕ → ℕ → ℕ → Type 0
+NoneAbove keys n top = (i : ℕ) → i < n → getD keys i 0 ≤ top
+
 -- a slot above 0, where `wide` tells whether the slot before holds a wide constant
 unfoldable pub ownerWord : ℕ → List ℕ → List ℕ → List ℕ → List ℕ → ℕ → ℕ → ℕ → Bool → ℕ
 ownerWord name marks given keys entries raws nodes slot wide =

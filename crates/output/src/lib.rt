@@ -30,7 +30,7 @@ use store::find_number;
 use store::load;
 use store::push_link;
 use store::size_of;
-ghost use mathlib.Core.List.{List, map};
+ghost use mathlib.Core.List.{List, [], map};
 ghost use mathlib.Core.Logic.{_⊎_};
 ghost use mathlib.Core.Path.{_≡_};
 ghost use Prim.Native.Nat.{ℕ, _+_, _-_, _*_, _<_, _≤_};
@@ -49,7 +49,7 @@ ghost use Rattle.store.specs.Regions.{COUNTS, MARKS, GIVEN, INDEXES, OWNER-HEAD
 ghost use Rattle.store.specs.Chains.{Heads};
 ghost use Rattle.store.specs.Words.{ENTRY, HALF, cut, childSlot};
 ghost use Rattle.interner.specs.Nodes.{nodeCount};
-ghost use Rattle.output.specs.Contents.{NOTHING, ATTRIBUTE, childNumber, ChildThere, childCount, finishedIn, Made, KidsNumbered, ShortChild, shownIn, wideIn, IsContent, rawWord, linkWord, linkOf, ownerIn, nameSlot, wideAt, contentIn, Searched, Owned, heldIn, HeldOrder, Sweep, OwnersMade, poolIn, Finished};
+ghost use Rattle.output.specs.Contents.{NOTHING, ATTRIBUTE, childNumber, ChildThere, childCount, finishedIn, Made, KidsNumbered, ShortChild, textEntry, shownIn, wideIn, IsContent, rawWord, linkWord, linkOf, NoneAbove, ownerIn, nameSlot, wideAt, contentIn, Searched, Owned, heldIn, HeldOrder, Sweep, OwnersMade, poolIn, Finished};
 ghost use Rattle.output.specs.Names.{textOf, classSlotIn, classIn, NameIs, ClassAt};
 ghost use Rattle.output.specs.Rows.{slotsFrom, rowIn, Slotted, RowReady, rawRows, rawIndexIn, inlineIndexIn, rawNodeIn, rowCountIn, reachedAt, passed, rowNodeIn, rowsIn, constantsFor, RowsReady};
 
@@ -225,6 +225,16 @@ fn write_node(pool: &mut [u8], at: usize, job: &[u8], w: &[u32], p: &[usize], k:
     raw_const::write_entry(pool, at, tag, 0, job, start, s.end - start, 0, 0)
 }
 
+// Writes the empty text; the place behind it: `entryBytes`. It fills most slots of a sparse pool, so it doesn't go by the table of fields.
+fn write_empty(pool: &mut [u8], at: usize) -> usize
+    requires { ⌜ at + 3 ≤ length (now pool) ⌝ }
+    ensures { λ r. ⌜ Wrote (now (pool .entry)) at (entryBytes (textEntry [])) (now (pool .exit)) r ⌝ }
+{
+    writer::put_u8(pool, at, 1);
+    writer::put_u16(pool, at + 1, 0);
+    at + 3
+}
+
 // Writes a content; the place behind it: `slotBytes`.
 fn write_content(
     pool: &mut [u8],
@@ -244,7 +254,7 @@ fn write_content(
         return at;
     }
     if content == EMPTY {
-        return raw_const::write_entry(pool, at, 1, 0, job, 0, 0, 0, 0);
+        return write_empty(pool, at);
     }
     let name = attribute_name();
     raw_const::write_entry(pool, at, 1, 0, &name, 0, 16, 0, 0)
@@ -275,8 +285,17 @@ fn raw_content(w: &[u32], p: &[usize], e: usize) -> usize
     resolver::node_of(w, p, e)
 }
 
-// What a slot that is neither raw nor the name's holds: a node that has it, else nothing behind a wide constant, else the empty text:
-// `lookup`, `behind`.
+// What a slot that nobody owns holds: nothing behind a wide constant, else the empty text: `behind`.
+fn unowned(wide: bool) -> usize
+    ensures { λ r. ⌜ r ≡ linkWord wide 0 ⌝ }
+{
+    if wide {
+        return NOTHING;
+    }
+    EMPTY
+}
+
+// What a slot that is neither raw nor the name's holds: a node that has it, else it is unowned: `lookup`, `behind`.
 fn given_content(w: &[u32], p: &[usize], slot: usize, wide: bool) -> usize
     requires { ⌜ On (now p) (length (now w)) × Searched (now p) (store (now p) (now w)) × (0 < slot) × IsWord slot ⌝ }
     ensures { λ r. ⌜ r ≡ linkWord wide (linkOf (store (now (p .entry)) (now (w .entry)) GIVEN) (nodeCount (store (now (p .entry)) (now (w .entry)))) slot) ⌝ }
@@ -285,10 +304,7 @@ fn given_content(w: &[u32], p: &[usize], slot: usize, wide: bool) -> usize
     if 0 < link {
         return link - 1;
     }
-    if wide {
-        return NOTHING;
-    }
-    EMPTY
+    unowned(wide)
 }
 
 // What a slot above 0 holds, `wide` telling whether the slot before holds a wide constant: `lookup slot owned`, `behind`.
@@ -350,17 +366,38 @@ fn held_slot(w: &[u32], p: &[usize], i: usize) -> usize
     PAST
 }
 
-// What a slot holds, where `raws` raw slots are below it, `held` is the next one, and `wide` tells of the slot before: `contentOf`.
+// The highest slot that a node has been given; 0 where there is none. A pool can end far above it, at a raw slot, and no slot between
+// needs a search.
+fn last_given(w: &[u32], p: &[usize]) -> usize
+    requires { ⌜ On (now p) (length (now w)) × Searched (now p) (store (now p) (now w)) ⌝ }
+    ensures { λ r. ⌜ NoneAbove (store (now (p .entry)) (now (w .entry)) GIVEN) (nodeCount (store (now (p .entry)) (now (w .entry)))) r ⌝ }
+{
+    let n = load(w, p, COUNTS, NODE_COUNT);
+    let mut last = 0;
+    let mut k = 0;
+    while k < n {
+        let given = load(w, p, GIVEN, k);
+        if last < given {
+            last = given;
+        }
+        k += 1;
+    }
+    last
+}
+
+// What a slot holds, where no node has one above `last`, `raws` raw slots are below it, `held` is the next one, and `wide` tells of the
+// slot before: `contentOf`.
 fn next_content(
     w: &[u32],
     p: &[usize],
     slot: usize,
     name: usize,
+    last: usize,
     raws: usize,
     held: usize,
     wide: bool,
 ) -> usize
-    requires { ⌜ On (now p) (length (now w)) × Searched (now p) (store (now p) (now w)) × HeldOrder (now p) (store (now p) (now w)) × Sweep (store (now p) (now w)) slot raws held × (name ≡ nameSlot (store (now p) (now w))) × (0 < slot) × (slot < 65536) ⌝ }
+    requires { ⌜ On (now p) (length (now w)) × Searched (now p) (store (now p) (now w)) × HeldOrder (now p) (store (now p) (now w)) × Sweep (store (now p) (now w)) slot raws held × (name ≡ nameSlot (store (now p) (now w))) × (0 < slot) × (slot < 65536) × NoneAbove (store (now p) (now w) GIVEN) (nodeCount (store (now p) (now w))) last ⌝ }
     ensures { λ r. ⌜ r ≡ ownerIn (store (now (p .entry)) (now (w .entry))) slot wide ⌝ }
 {
     if slot == name {
@@ -368,6 +405,9 @@ fn next_content(
     }
     if slot == held {
         return raw_content(w, p, raws::raw_entry(w, p, raws));
+    }
+    if last < slot {
+        return unowned(wide);
     }
     given_content(w, p, slot, wide)
 }
@@ -379,13 +419,14 @@ pub fn pool_length(job: &[u8], w: &[u32], p: &[usize]) -> usize
 {
     let end = load(w, p, COUNTS, POOL_COUNT);
     let name = load(w, p, COUNTS, NAME_SLOT);
+    let last = last_given(w, p);
     let mut size = 2;
     let mut raws = 0;
     let mut held = held_slot(w, p, 0);
     let mut wide = false;
     let mut slot = 1;
     while slot < end {
-        let content = next_content(w, p, slot, name, raws, held, wide);
+        let content = next_content(w, p, slot, name, last, raws, held, wide);
         size += content_length(job, w, p, content);
         wide = is_wide(job, w, p, content);
         if slot == held {
@@ -404,6 +445,7 @@ pub fn write_pool(pool: &mut [u8], job: &[u8], w: &[u32], p: &[usize])
 {
     let end = load(w, p, COUNTS, POOL_COUNT);
     let name = load(w, p, COUNTS, NAME_SLOT);
+    let last = last_given(w, p);
     writer::put_u16(pool, 0, end as u16);
     let mut at = 2;
     let mut raws = 0;
@@ -411,7 +453,7 @@ pub fn write_pool(pool: &mut [u8], job: &[u8], w: &[u32], p: &[usize])
     let mut wide = false;
     let mut slot = 1;
     while slot < end {
-        let holds = next_content(w, p, slot, name, raws, held, wide);
+        let holds = next_content(w, p, slot, name, last, raws, held, wide);
         at = write_content(pool, at, job, w, p, holds);
         wide = is_wide(job, w, p, holds);
         if slot == held {
