@@ -4,6 +4,14 @@
 use libc::STDERR_FILENO;
 use libc::STDIN_FILENO;
 use libc::STDOUT_FILENO;
+ghost use mathlib.Core.Bool.{false};
+ghost use mathlib.Core.List.{[], _∷_};
+ghost use mathlib.Core.Path.{_≡_};
+ghost use Prim.Native.Nat.{_≤_, _<_};
+ghost use lib.ListN.{length};
+ghost use Rattle.definition.specs.Ascii.{ascii, decimal, hex};
+ghost use Rattle.frames.specs.Line.{put, putNumber};
+ghost use Rattle.frames.specs.Stream.{cut, afterLine, withoutBlock, PartRead, BlockRead};
 
 // What a block's length is where the stream ends, and where it ends inside the block or the block is longer than its room.
 pub const NO_MORE: usize = 4294967296;
@@ -19,13 +27,17 @@ pub const FRAME_CUT: u8 = 2;
 
 pub const WRITE_FAILED: u8 = 3;
 
-pub fn after(written: bool) -> u8 {
+pub fn after(written: bool) -> u8
+    ensures { λ r. ⌜ r ≡ afterLine written ⌝ }
+{
     if written { GO_ON } else { WRITE_FAILED }
 }
 
 // How a frame ends whose first block isn't there.
-pub fn without(length: usize) -> u8 {
-    if length == NO_MORE {
+pub fn without(size: usize) -> u8
+    ensures { λ r. ⌜ r ≡ withoutBlock size ⌝ }
+{
+    if size == NO_MORE {
         STREAM_ENDS
     } else {
         FRAME_CUT
@@ -33,14 +45,18 @@ pub fn without(length: usize) -> u8 {
 }
 
 // Reads the first n bytes; whether all of them came.
-pub fn read_part(s: &mut [u8], n: usize) -> bool {
+pub fn read_part(s: &mut [u8], n: usize) -> bool
+    ensures { λ r. ⌜ PartRead (now (s .entry)) n (now (s .exit)) r ⌝ }
+{
     if s.len() < n {
         return false;
     }
     io::read_full(STDIN_FILENO, &mut s[..n]) == n
 }
 
-fn next_length() -> usize {
+fn next_length() -> usize
+    ensures { λ r. ⌜ r ≤ cut ⌝ }
+{
     let mut head = [0u8; 4];
     let got = io::read_full(STDIN_FILENO, &mut head);
     if got == 0 {
@@ -53,7 +69,9 @@ fn next_length() -> usize {
 }
 
 // Reads a length of four bytes, and so many bytes into the beginning of s; the length.
-pub fn next_block(s: &mut [u8]) -> usize {
+pub fn next_block(s: &mut [u8]) -> usize
+    ensures { λ r. ⌜ BlockRead (now (s .entry)) (now (s .exit)) r ⌝ }
+{
     let n = next_length();
     if NO_MORE <= n {
         return n;
@@ -76,52 +94,65 @@ pub fn tell(program: &[u8], how: u8, frames: u64) {
 }
 
 // Writes the first n bytes of a text; whether it has so many and all were written.
-pub fn write_part(text: &[u8], n: usize) -> bool {
+pub fn write_part(text: &[u8], n: usize) -> bool
+    ensures { λ r. ⌜ (length (now (text .entry)) < n → r ≡ false) ⌝ }
+{
     if text.len() < n {
         return false;
     }
     io::write_all(STDOUT_FILENO, &text[..n])
 }
 
-// Puts a word at a place of a text; where it ends, which is past the text where it doesn't fit.
-pub fn put_word(text: &mut [u8], at: usize, word: &[u8]) -> usize {
+// Puts a word at a place of a text, whole or not at all; where it ends, or one past the text's end where it doesn't fit.
+pub fn put_word(text: &mut [u8], at: usize, word: &[u8]) -> usize
+    ensures { λ r. ⌜ (now (text .exit), r) ≡ put (now (text .entry), at) (now (word .entry)) ⌝ }
+{
     let room = text.len();
-    if room < at {
-        return at;
+    let size = word.len();
+    if size <= room && at <= room - size {
+        writer::copy(word, 0, text, at, size);
+        return at + size;
     }
-    printing::put_word(text, room, at, word)
+    room + 1
 }
 
-pub fn put_decimal(text: &mut [u8], at: usize, n: usize) -> usize {
-    let room = text.len();
-    if room < at {
-        return at;
-    }
-    printing::put_decimal(text, room, at, n)
+pub fn put_decimal(text: &mut [u8], at: usize, n: usize) -> usize
+    ensures { λ r. ⌜ (now (text .exit), r) ≡ put (now (text .entry), at) (decimal n) ⌝ }
+{
+    let mut digits = [0u8; 20];
+    let k = io::decimal(n as u64, &mut digits);
+    put_word(text, at, &digits[..k])
 }
 
 // A byte as two hex digits.
-pub fn put_hex(text: &mut [u8], at: usize, b: u8) -> usize {
-    let room = text.len();
-    if room < at {
-        return at;
-    }
-    printing::put_hex(text, room, at, b as usize, 2)
+pub fn put_hex(text: &mut [u8], at: usize, b: u8) -> usize
+    ensures { λ r. ⌜ (now (text .exit), r) ≡ put (now (text .entry), at) (hex (b ∷ [])) ⌝ }
+{
+    let mut digits = [0u8; 2];
+    printing::put_hex(&mut digits, 2, 0, b as usize, 2);
+    put_word(text, at, &digits)
 }
 
 // A number's decimal digits, behind a space.
-pub fn put_number(text: &mut [u8], at: usize, n: usize) -> usize {
+pub fn put_number(text: &mut [u8], at: usize, n: usize) -> usize
+    ensures { λ r. ⌜ (now (text .exit), r) ≡ putNumber (now (text .entry), at) n ⌝ }
+{
     let digits = put_word(text, at, b" ");
     put_decimal(text, digits, n)
 }
 
-pub fn put_refusal(text: &mut [u8], code: u32) -> usize {
+pub fn put_refusal(text: &mut [u8], code: u32) -> usize
+    ensures { λ r. ⌜ (now (text .exit), r) ≡ putNumber (put (now (text .entry), 0) (ascii "refused")) code ⌝ }
+{
     let word = put_word(text, 0, b"refused");
     put_number(text, word, code as usize)
 }
 
 // Ends a line that reaches to a place, and writes it.
-pub fn end_line(text: &mut [u8], at: usize) -> bool {
+pub fn end_line(text: &mut [u8], at: usize) -> bool
+    ensures { λ _. ⌜ now (text .exit) ≡ put (now (text .entry), at) (ascii "\n") .0 ⌝ }
+    ensures { λ r. ⌜ (length (now (text .entry)) ≤ at → r ≡ false) ⌝ }
+{
     let end = put_word(text, at, b"\n");
     write_part(text, end)
 }
