@@ -5,4 +5,5 @@ pub mod Counting
 pub mod Placing
 pub mod Sweeping
 pub mod Ordering
+pub mod Inserting
 pub mod Starting
