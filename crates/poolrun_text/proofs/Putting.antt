@@ -5,7 +5,7 @@ use Prim.Native.Nat.{ℕ, zero, suc, _+_, _*_, _<_, _≤_}
 use native.Mathlib.Numerals.{add-one}
 use native.Mathlib.Omega.{arith}
 use lib.ListN.{length, take, drop, set, getD, length-append, length-take}
-use lib.Seq.{paste, take-paste, drop-paste, take-length, take-suc-set, drop-set-lt, drop-drop, take-suc, length-take-le}
+use lib.Seq.{paste, take-paste, drop-paste, take-suc-set, drop-set-lt, drop-drop, take-suc, length-take-le}
 use Rattle.io.specs.Counts.{Counts}
 use Rattle.definition.specs.Basics.{concat}
 use Rattle.poolrun_text.specs.Text.{Behind}
@@ -70,6 +70,3 @@ module _ (f : ℕ → List ℕ) where
   pub parts-more :
       (l : List ℕ) (i : ℕ) → i < length l → concat (map f (take (suc i) l)) ≡ concat (map f (take i l)) ++ f (getD l i 0)
   parts-more l i h = ap (λ m. concat (map f m)) (take-suc l i 0 h) ∙ concat-more (take i l) (getD l i 0)
-
-  pub parts-all : (l : List ℕ) → concat (map f (take (length l) l)) ≡ concat (map f l)
-  parts-all l = ap (λ m. concat (map f m)) (take-length l)

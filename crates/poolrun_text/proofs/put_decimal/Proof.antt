@@ -3,7 +3,7 @@ use mathlib.Core.Path.{_∙_}
 use native.Mathlib.Omega.{arith}
 use borrow.Author.Needs.{needs}
 use Rattle.poolrun_text.proofs.Putting.{reworded}
-use Rattle.poolrun_text.proofs.Decimals.{decimal-is, few}
+use Rattle.printing.proofs.Decimals.{decimal-is, few}
 use Rattle.poolrun_text.proofs.put_decimal.Statement.{statement}
 use Rattle.poolrun_text.proofs.put_decimal.Tie as tie
 
