@@ -1,5 +1,4 @@
 pub mod Putting
-pub mod Decimals
 pub mod Texts
 pub mod Reading
 pub mod Running

@@ -6,11 +6,12 @@ use mathlib.Core.Path.{_≡_, refl, sym, ap, _∙_}
 use Prim.Native.Nat.{ℕ, suc, _+_, _*_, _-_, _<_, _≤_}
 use native.Mathlib.Omega.{arith}
 use lib.Dec.{eqb}
-use lib.ListN.{length, take, drop, length-append}
+use lib.ListN.{length, take, drop, replicate, length-append, length-replicate}
 use lib.Seq.{length-take-le}
 use Rattle.definition.specs.Basics.{Result, good, bad, Refusal}
 use Rattle.definition.specs.Run.{Built, Lent, lentOf, run, returned, classOut, overwrite}
 use Rattle.definition.specs.Blocks.{printed, poolrunLent}
+use Rattle.slots.specs.declared.Gap.{Gap}
 use Rattle.slots.specs.Gaps.{gapOf}
 use Rattle.cpool.specs.declared.ClassLength.{ClassLength}
 use Rattle.cpool.specs.declared.ClassLength.the-variants as classLength
@@ -106,6 +107,27 @@ room-cut {out} {asked} {poolSize} {rowsSize} {size} {class} answers pool bootstr
 length-map : {A B : Type 0} (f : A → B) (l : List A) → length (map f l) ≡ length l
 length-map f [] = refl
 length-map f (x ∷ l) = ap (λ (n : ℕ). suc n) (length-map f l)
+
+-- arrays of the lengths that the program lends
+pub lengths-lent :
+    (gap : Gap) →
+    Lengths
+    (length (replicate {0} {A = ℕ} 16384 0))
+    (length (replicate {0} {A = Gap} 514 gap))
+    (length (replicate {0} {A = ℕ} 32768 0))
+    (length (replicate {0} {A = ℕ} 65536 0))
+    (length (replicate {0} {A = ℕ} 65536 0))
+    (length (replicate {0} {A = ℕ} 65536 0))
+lengths-lent gap =
+    let long : length (replicate {0} {A = ℕ} 65536 0) ≡ 65536 = length-replicate {0} {A = ℕ} 65536 0 in
+    record {
+      work-is = length-replicate {0} {A = ℕ} 16384 0;
+      gaps-is = length-replicate {0} {A = Gap} 514 gap;
+      answers-is = length-replicate {0} {A = ℕ} 32768 0;
+      pool-is = long;
+      bootstraps-is = long;
+      class-is = long;
+    }
 
 -- memory of those lengths is what the program lends
 pub lent-is :

@@ -4,7 +4,7 @@ use mathlib.Core.List.{List, [], _∷_, _++_, map}
 use mathlib.Core.Option.{Option, none, some}
 use mathlib.Core.Path.{_≡_}
 use Prim.Native.Nat.{ℕ, _+_, _*_, _/_, _%_, _≤_}
-use lib.ListN.{length, take}
+use lib.ListN.{length, take, drop}
 use Rattle.definition.specs.Basics.{Result, good, bad, Refusal, concat}
 use Rattle.definition.specs.Ascii.{ascii, decimal, hex, hexDigit}
 use Rattle.definition.specs.Blocks.{line, classText, printed, poolrunLent}
@@ -17,10 +17,11 @@ use Rattle.cpool.specs.declared.Outcome.{Outcome}
 use Rattle.cpool.specs.declared.Outcome.the-variants as outcome
 use Rattle.cpool.specs.Ran.{bytesOf}
 
--- text stands behind the first `at` bytes of a buffer, which stay as they were, and ends at r
+-- text stands behind the first `at` bytes of a buffer and ends at r; the bytes before it and behind it stay as they were
 pub record Behind (before after : List ℕ) (at r : ℕ) (text : List ℕ) : Type 0 where
   pub end-is : r ≡ at + length text
   pub text-is : take r after ≡ take at before ++ text
+  pub rest-is : drop r after ≡ drop r before
 
 -- a byte in hex
 unfoldable pub twoDigits : ℕ → List ℕ

@@ -8,7 +8,7 @@ ghost use mathlib.Core.Path.{_≡_};
 ghost use mathlib.Core.List.{[], _∷_, _++_};
 ghost use mathlib.Core.Option.{none, some};
 ghost use Prim.Native.Nat.{_+_, _*_, _<_, _≤_};
-ghost use lib.ListN.{length, take};
+ghost use lib.ListN.{length, take, drop};
 ghost use Rattle.io.specs.Counts.{Counts};
 ghost use Rattle.definition.specs.Ascii.{decimal, hex, hexDigit};
 ghost use Rattle.definition.specs.Blocks.{line, classText, printed, poolrunLent, poolrun};
@@ -40,6 +40,16 @@ fn put_word(out: &mut [u8], at: usize, word: &[u8]) -> usize
     at + n
 }
 
+// Puts the first k bytes of a number's digits.
+fn put_digits(out: &mut [u8], at: usize, digits: &[u8; 20], k: usize) -> usize
+    requires { ⌜ (k ≤ 20) × (at + 20 ≤ length (now out)) ⌝ }
+    ensures { λ r. ⌜ r ≡ at + k ⌝ }
+    ensures { λ r. ⌜ Behind (now (out .entry)) (now (out .exit)) at r (take k (now (digits .entry))) ⌝ }
+{
+    writer::copy(digits, 0, out, at, k);
+    at + k
+}
+
 // Puts a number's decimal digits, at most 20.
 fn put_decimal(out: &mut [u8], at: usize, n: usize) -> usize
     requires { ⌜ at + 20 ≤ length (now out) ⌝ }
@@ -48,7 +58,7 @@ fn put_decimal(out: &mut [u8], at: usize, n: usize) -> usize
 {
     let mut digits = [0u8; 20];
     let k = io::decimal(n as u64, &mut digits);
-    put_word(out, at, &digits[..k])
+    put_digits(out, at, &digits, k)
 }
 
 // Puts a line of a number.
@@ -220,7 +230,7 @@ fn put_last(
 
 fn put_refusal(out: &mut [u8], code: usize, place: usize) -> usize
     requires { ⌜ 50 ≤ length (now out) ⌝ }
-    ensures { λ r. ⌜ Counts r (now (out .exit)) × (take r (now (out .exit)) ≡ refusedText code place) ⌝ }
+    ensures { λ r. ⌜ Behind (now (out .entry)) (now (out .exit)) 0 r (refusedText code place) ⌝ }
 {
     put_two(out, 0, b"refused ", code, place)
 }
@@ -238,7 +248,7 @@ fn put_built(
     visits: usize,
 ) -> usize
     requires { ⌜ Room (length (now out)) (length (now answers)) (length (now pool)) (length (now bootstraps)) (bytesOf size) (length (now «class_name»)) ⌝ }
-    ensures { λ r. ⌜ Counts r (now (out .exit)) × (take r (now (out .exit)) ≡ builtText (now (answers .entry)) (now (pool .entry)) count (now (bootstraps .entry)) name (nameOf size (now («class_name» .entry))) visits) ⌝ }
+    ensures { λ r. ⌜ Behind (now (out .entry)) (now (out .exit)) 0 r (builtText (now (answers .entry)) (now (pool .entry)) count (now (bootstraps .entry)) name (nameOf size (now («class_name» .entry))) visits) ⌝ }
 {
     let first = put_asked(out, 0, answers);
     let second = put_pool(out, first, pool);
@@ -256,7 +266,7 @@ fn print(
     class_name: &[u8],
 ) -> usize
     requires { ⌜ Fits outcome (length (now out)) (length (now answers)) (length (now pool)) (length (now bootstraps)) (length (now «class_name»)) ⌝ }
-    ensures { λ r. ⌜ Counts r (now (out .exit)) × (take r (now (out .exit)) ≡ textOf outcome (now (answers .entry)) (now (pool .entry)) (now (bootstraps .entry)) (now («class_name» .entry))) ⌝ }
+    ensures { λ r. ⌜ Behind (now (out .entry)) (now (out .exit)) 0 r (textOf outcome (now (answers .entry)) (now (pool .entry)) (now (bootstraps .entry)) (now («class_name» .entry))) ⌝ }
 {
     match outcome {
         Outcome::Built {
@@ -296,7 +306,7 @@ fn run_over(
 ) -> usize
     requires { ⌜ (n ≤ length (now job)) × (1114112 ≤ length (now out)) ⌝ }
     requires { ⌜ Lengths (length (now work)) (length (now gaps)) (length (now answers)) (length (now pool)) (length (now bootstraps)) (length (now «class_name»)) ⌝ }
-    ensures { λ r. ⌜ Counts r (now (out .exit)) × (take r (now (out .exit)) ≡ printed (run poolrunLent (take n (now (job .entry))))) ⌝ }
+    ensures { λ r. ⌜ Behind (now (out .entry)) (now (out .exit)) 0 r (printed (run poolrunLent (take n (now (job .entry))))) ⌝ }
 {
     let outcome = cpool::run(&job[..n], work, gaps, answers, pool, bootstraps, class_name);
     print(out, outcome, answers, pool, bootstraps, class_name)
@@ -305,7 +315,7 @@ fn run_over(
 // Runs a job over memory of its own.
 fn run_text(job: &[u8], n: usize, out: &mut [u8]) -> usize
     requires { ⌜ (n ≤ length (now job)) × (1114112 ≤ length (now out)) ⌝ }
-    ensures { λ r. ⌜ Counts r (now (out .exit)) × (take r (now (out .exit)) ≡ printed (run poolrunLent (take n (now (job .entry))))) ⌝ }
+    ensures { λ r. ⌜ Behind (now (out .entry)) (now (out .exit)) 0 r (printed (run poolrunLent (take n (now (job .entry))))) ⌝ }
 {
     let mut work = [0u32; 16384];
     let gap = slots::no_gap();
@@ -331,7 +341,7 @@ fn run_text(job: &[u8], n: usize, out: &mut [u8]) -> usize
 fn read_text(read: BlocksRead, job: &[u8], out: &mut [u8]) -> usize
     requires { ⌜ ReadInto read (length (now job)) ⌝ }
     requires { ⌜ 1114112 ≤ length (now out) ⌝ }
-    ensures { λ r. ⌜ Counts r (now (out .exit)) × (take r (now (out .exit)) ≡ readText read (now (job .entry))) ⌝ }
+    ensures { λ r. ⌜ Behind (now (out .entry)) (now (out .exit)) 0 r (readText read (now (job .entry))) ⌝ }
 {
     match read {
         BlocksRead::Read(n) => run_text(job, n, out),
@@ -345,17 +355,19 @@ fn read_text(read: BlocksRead, job: &[u8], out: &mut [u8]) -> usize
 // Reads a file that isn't too long, and runs its job.
 fn file_text(file: &[u8], out: &mut [u8]) -> usize
     requires { ⌜ (length (now file) ≤ 2560) × (1114112 ≤ length (now out)) ⌝ }
-    ensures { λ r. ⌜ Counts r (now (out .exit)) × (take r (now (out .exit)) ≡ poolrun (now (file .entry))) ⌝ }
+    ensures { λ r. ⌜ Behind (now (out .entry)) (now (out .exit)) 0 r (poolrun (now (file .entry))) ⌝ }
 {
     let mut job = [0u8; 2560];
     let read = blocks::read_blocks(file, &mut job);
     read_text(read, &job, out)
 }
 
-// What `poolrun` prints for a file: the first bytes of out, as many as are returned.
+// What `poolrun` prints for a file: the first bytes of out, as many as are returned. The bytes behind them stay as they were.
 pub fn text(file: &[u8], out: &mut [u8; 1114112]) -> usize
     ensures { λ r. ⌜ Counts r (now (out .exit)) ⌝ }
+    ensures { λ r. ⌜ r ≡ length (poolrun (now (file .entry))) ⌝ }
     ensures { λ r. ⌜ take r (now (out .exit)) ≡ poolrun (now (file .entry)) ⌝ }
+    ensures { λ r. ⌜ drop r (now (out .exit)) ≡ drop r (now (out .entry)) ⌝ }
 {
     if LONGEST_FILE < file.len() {
         put_refusal(out, 1, 0)

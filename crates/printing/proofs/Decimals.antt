@@ -5,6 +5,7 @@ use mathlib.Core.Path.{_≡_, refl, sym, ap, subst, _∙_}
 use Prim.Native.Nat.{ℕ, zero, suc, _+_, _*_, _-_, _/_, _%_, _^_, _<_, _≤_}
 use native.Mathlib.Nat.{pow-suc}
 use native.Mathlib.Omega.{arith}
+use lib.Pow.{pow-add}
 use borrow.Author.Tests.{lt-ltb, le-ltb}
 use Rattle.io.specs.Digits.{glyph, digits as ioDigits, Fewest}
 use Rattle.definition.specs.Ascii.{digits, decimal, hexDigit}
@@ -65,6 +66,19 @@ decimal-is (suc (suc k)) n (low, below, above) =
     let high : 10 ≤ n = omega (arith, p, one, up) in
     let rest = decimal-is (suc k) (n / 10) (omega arith, omega (arith, below, up₂), λ _. subst (λ j. 10 ^ j ≤ n / 10) (sym down₂) (omega (arith, p, up))) in
     (λ i. rest i ++ (glyph-low (n % 10) (omega arith) i ∷ [])) ∙ sym (decimal-more n high)
+
+-- a number of 64 bits has at most 20 digits
+pub few : (k n : ℕ) → n < 18446744073709551616 → Fewest 10 1 n k → k ≤ 20
+few k n small (low, below, above) = ways (order 20 k)
+  where
+    ways : (20 < k) ⊎ (k ≤ 20) → k ≤ 20
+    ways (inr h) = h
+    ways (inl h) =
+        let j = k - 21 in
+        let place : k - 1 ≡ 20 + j = omega arith in
+        let much : 10 ^ (20 + j) ≤ n = subst (λ i. 10 ^ i ≤ n) place (above (omega arith)) in
+        let split : 10 ^ (20 + j) ≡ 100000000000000000000 * 10 ^ j = pow-add 10 20 j in
+        absurd (omega (arith, much, split, power-low j, small))
 
 -- a hex digit of the code is the definition's
 pub hex-low : (n : ℕ) → n < 10 → 48 + n ≡ hexDigit n

@@ -1,5 +1,5 @@
 -- `poolrun_text::digit` meets its contract. Assumes nothing.
-use Rattle.poolrun_text.proofs.Decimals.{hex-low, hex-high}
+use Rattle.printing.proofs.Decimals.{hex-low, hex-high}
 use native.Mathlib.Omega.{arith}
 use borrow.Author.Needs.{needs}
 use Rattle.poolrun_text.proofs.digit.Statement.{statement}

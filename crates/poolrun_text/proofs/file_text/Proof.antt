@@ -1,7 +1,7 @@
 -- `poolrun_text::file_text` meets its contract. Assumes nothing.
 use lib.ListN.{replicate}
+use Rattle.poolrun_text.proofs.Putting.{reworded}
 use Rattle.poolrun_text.proofs.Reading.{read-text}
-use mathlib.Core.Path.{_∙_}
 use borrow.Author.Needs.{needs}
 use Rattle.poolrun_text.proofs.file_text.Statement.{statement}
 use Rattle.poolrun_text.proofs.file_text.Tie as tie
@@ -27,7 +27,7 @@ returns : tie.Need-returns
 returns c =
     let b = c .before .before .before .before .before .before .read-blocks in
     let told = c .before .before .read-text .ensures in
-    (told .0, told .1 ∙ read-text (c .before .before .before .before .before .before .before .before .before .before .args .file .now) (c .before .before .before .before .before .before .before .before .before .before .pre .0) (b .result) (replicate 2560 0) (b .last .1 .0) (b .ensures .0) (b .ensures .1) .1)
+    reworded (read-text (c .before .before .before .before .before .before .before .before .before .before .args .file .now) (c .before .before .before .before .before .before .before .before .before .before .pre .0) (b .result) (replicate 2560 0) (b .last .1 .0) (b .ensures .0) (b .ensures .1) .1) told
 
 pub file-text-spec : {M : Type 1} → statement M
 file-text-spec =

@@ -1,10 +1,11 @@
 -- `poolrun_text::print` meets its contract. By cases on the outcome. Assumes nothing.
+use Rattle.poolrun_text.proofs.Putting.{reworded}
 use Rattle.poolrun_text.proofs.Running.{room-cut}
 use Rattle.poolrun_text.specs.Text.{Fits, textOf}
 use Rattle.cpool.specs.declared.Outcome.{Outcome}
 use lib.Seq.{length-take-le}
 use lib.ListN.{length}
-use mathlib.Core.Path.{sym, ap, subst, _∙_}
+use mathlib.Core.Path.{sym, ap, subst}
 use borrow.Author.Needs.{needs}
 use Rattle.poolrun_text.proofs.print.Statement.{statement}
 use Rattle.poolrun_text.proofs.print.Tie as tie
@@ -81,7 +82,7 @@ unfolding textOf
 returns c =
     let a = c .before .before .before .before .before .before .before .before .before .before .before .before .before .before .before .args in
     let told = c .before .before .put-built .ensures in
-    (told .0, told .1 ∙ ap (λ (o : Outcome). textOf o (a .answers .now) (a .pool .now) (a .bootstraps .now) (a .class-name .now)) (sym (c .before .before .before .before .before .before .before .before .outcome .given .1)))
+    reworded (ap (λ (o : Outcome). textOf o (a .answers .now) (a .pool .now) (a .bootstraps .now) (a .class-name .now)) (sym (c .before .before .before .before .before .before .before .before .outcome .given .1))) told
 
 same-length-2 : tie.Need-same-length-2
 same-length-2 c = search needs
@@ -91,7 +92,7 @@ unfolding textOf
 returns-2 c =
     let a = c .before .before .before .before .before .before .before .before .before .before .before .before .args in
     let told = c .before .before .put-refusal .ensures in
-    (told .0, told .1 ∙ ap (λ (o : Outcome). textOf o (a .answers .now) (a .pool .now) (a .bootstraps .now) (a .class-name .now)) (sym (c .before .before .before .before .before .outcome2 .given .1)))
+    reworded (ap (λ (o : Outcome). textOf o (a .answers .now) (a .pool .now) (a .bootstraps .now) (a .class-name .now)) (sym (c .before .before .before .before .before .outcome2 .given .1))) told
 
 pub print-spec : {M : Type 1} → statement M
 print-spec =

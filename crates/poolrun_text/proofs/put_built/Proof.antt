@@ -1,6 +1,6 @@
 -- `poolrun_text::put_built` meets its contract. Assumes nothing.
 use Rattle.poolrun_text.proofs.Texts.{built-is}
-use Rattle.poolrun_text.proofs.Putting.{then, whole, reworded}
+use Rattle.poolrun_text.proofs.Putting.{then, reworded}
 use Rattle.poolrun_text.specs.Text.{nameOf}
 use native.Mathlib.Omega.{arith}
 use borrow.Author.Needs.{needs}
@@ -28,7 +28,7 @@ returns c =
     let texts = then (then (then (c .before .before .before .before .before .before .before .before .before .before .before .before .before .before .put-asked .ensures .1) (c .before .before .before .before .before .before .before .before .before .before .put-pool .ensures .1)) (c .before .before .before .before .before .before .put-bootstraps .ensures .1)) (c .before .before .put-last .ensures .1) in
     let all =
     built-is (a .answers .now) (a .pool .now) (a .count) (a .bootstraps .now) (a .name) (nameOf (a .size) (a .class-name .now)) (a .visits) in
-    whole (omega arith) (reworded all texts)
+    reworded all texts
 
 pub put-built-spec : {M : Type 1} → statement M
 put-built-spec =

@@ -1,5 +1,4 @@
 -- `poolrun_text::put_refusal` meets its contract. Assumes nothing.
-use Rattle.poolrun_text.proofs.Putting.{whole}
 use Rattle.poolrun_text.specs.Text.{refusedText}
 use Rattle.definition.specs.Ascii.{ascii}
 use native.Mathlib.Omega.{arith}
@@ -19,7 +18,7 @@ same-length c = search needs
 
 returns : tie.Need-returns
 unfolding refusedText ascii
-returns c = whole (omega arith) (c .before .before .put-two .ensures .1)
+returns c = c .before .before .put-two .ensures .1
 
 pub put-refusal-spec : {M : Type 1} → statement M
 put-refusal-spec =

@@ -1,8 +1,9 @@
 -- `poolrun_text::read_text` meets its contract. By cases on how the file was read. Assumes nothing.
+use Rattle.poolrun_text.proofs.Putting.{reworded}
 use Rattle.poolrun_text.specs.Text.{ReadInto, readText}
 use Rattle.blocks.specs.declared.BlocksRead.{BlocksRead}
 use lib.ListN.{length}
-use mathlib.Core.Path.{sym, ap, subst, _∙_}
+use mathlib.Core.Path.{sym, ap, subst}
 use borrow.Author.Needs.{needs}
 use Rattle.poolrun_text.proofs.read_text.Statement.{statement}
 use Rattle.poolrun_text.proofs.read_text.Tie as tie
@@ -46,7 +47,7 @@ returns : tie.Need-returns
 unfolding readText
 returns c =
     let told = c .before .before .run-text .ensures in
-    (told .0, told .1 ∙ ap (λ (x : BlocksRead). readText x (c .before .before .before .before .before .before .before .before .before .args .job .now)) (sym (c .before .before .before .before .before .read .given .1)))
+    reworded (ap (λ (x : BlocksRead). readText x (c .before .before .before .before .before .before .before .before .before .args .job .now)) (sym (c .before .before .before .before .before .read .given .1))) told
 
 same-length-2 : tie.Need-same-length-2
 same-length-2 c = search needs
@@ -55,7 +56,7 @@ returns-2 : tie.Need-returns-2
 unfolding readText
 returns-2 c =
     let told = c .before .before .put-refusal .ensures in
-    (told .0, told .1 ∙ ap (λ (x : BlocksRead). readText x (c .before .before .before .before .before .before .before .before .args .job .now)) (sym (c .before .before .before .before .enum-told .given .1)))
+    reworded (ap (λ (x : BlocksRead). readText x (c .before .before .before .before .before .before .before .before .args .job .now)) (sym (c .before .before .before .before .enum-told .given .1))) told
 
 same-length-3 : tie.Need-same-length-3
 same-length-3 c = search needs
@@ -64,7 +65,7 @@ returns-3 : tie.Need-returns-3
 unfolding readText
 returns-3 c =
     let told = c .before .before .put-refusal2 .ensures in
-    (told .0, told .1 ∙ ap (λ (x : BlocksRead). readText x (c .before .before .before .before .before .before .before .before .args .job .now)) (sym (c .before .before .before .before .enum-told2 .given .1)))
+    reworded (ap (λ (x : BlocksRead). readText x (c .before .before .before .before .before .before .before .before .args .job .now)) (sym (c .before .before .before .before .enum-told2 .given .1))) told
 
 same-length-4 : tie.Need-same-length-4
 same-length-4 c = search needs
@@ -73,7 +74,7 @@ returns-4 : tie.Need-returns-4
 unfolding readText
 returns-4 c =
     let told = c .before .before .put-refusal3 .ensures in
-    (told .0, told .1 ∙ ap (λ (x : BlocksRead). readText x (c .before .before .before .before .before .before .before .before .before .args .job .now)) (sym (c .before .before .before .before .before .read2 .given .1)))
+    reworded (ap (λ (x : BlocksRead). readText x (c .before .before .before .before .before .before .before .before .before .args .job .now)) (sym (c .before .before .before .before .before .read2 .given .1))) told
 
 same-length-5 : tie.Need-same-length-5
 same-length-5 c = search needs
@@ -82,7 +83,7 @@ returns-5 : tie.Need-returns-5
 unfolding readText
 returns-5 c =
     let told = c .before .before .put-refusal4 .ensures in
-    (told .0, told .1 ∙ ap (λ (x : BlocksRead). readText x (c .before .before .before .before .before .before .before .before .args .job .now)) (sym (c .before .before .before .before .enum-told3 .given .1)))
+    reworded (ap (λ (x : BlocksRead). readText x (c .before .before .before .before .before .before .before .before .args .job .now)) (sym (c .before .before .before .before .enum-told3 .given .1))) told
 
 pub read-text-spec : {M : Type 1} → statement M
 read-text-spec =

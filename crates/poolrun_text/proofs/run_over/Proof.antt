@@ -1,13 +1,13 @@
 -- `poolrun_text::run_over` meets its contract. What `run` promises is what the definition prints. Assumes nothing.
 mod Lts
 mod Tie
+use Rattle.poolrun_text.proofs.Putting.{reworded}
 use Rattle.poolrun_text.proofs.Running.{fits-ran, text-over}
 use Rattle.cpool.specs.Ran.{slices}
 use lib.Seq.{length-take-le}
 use lib.ListN.{length, take}
 use native.Mathlib.Omega.{arith}
-use mathlib.Core.Path.{sym, _∙_}
-use borrow.Author.Needs.{needs}
+use mathlib.Core.Path.{sym}
 use Rattle.poolrun_text.proofs.run_over.Statement.{statement}
 use Rattle.poolrun_text.proofs.run_over.Proof.Tie as tie
 
@@ -40,25 +40,25 @@ print-requires c κs =
     (omega (arith, l .class-is, r .kept .1 .1 .1 .1 .1 .1 .0))
 
 same-length : tie.Need-same-length
-same-length c = search needs
+same-length c = c .before .before .print .kept .0
 
 same-length-2 : tie.Need-same-length-2
-same-length-2 c = search needs
+same-length-2 c = c .before .before .before .before .before .before .before .before .before .before .before .before .before .before .before .before .before .before .before .run .kept .1 .0
 
 same-length-3 : tie.Need-same-length-3
-same-length-3 c = search needs
+same-length-3 c = c .before .before .before .before .before .before .before .before .before .before .before .before .before .before .before .before .before .before .before .run .kept .1 .1 .0
 
 same-length-4 : tie.Need-same-length-4
-same-length-4 c = search needs
+same-length-4 c = c .before .before .before .before .before .before .before .before .before .before .before .before .before .before .before .before .before .before .before .run .kept .1 .1 .1 .0
 
 same-length-5 : tie.Need-same-length-5
-same-length-5 c = search needs
+same-length-5 c = c .before .before .before .before .before .before .before .before .before .before .before .before .before .before .before .before .before .before .before .run .kept .1 .1 .1 .1 .0
 
 same-length-6 : tie.Need-same-length-6
-same-length-6 c = search needs
+same-length-6 c = c .before .before .before .before .before .before .before .before .before .before .before .before .before .before .before .before .before .before .before .run .kept .1 .1 .1 .1 .1 .0
 
 same-length-7 : tie.Need-same-length-7
-same-length-7 c = search needs
+same-length-7 c = c .before .before .before .before .before .before .before .before .before .before .before .before .before .before .before .before .before .before .before .run .kept .1 .1 .1 .1 .1 .1 .0
 
 returns : tie.Need-returns
 returns c =
@@ -68,7 +68,7 @@ returns c =
     let before = slices (a .work .now) (a .gaps .now) (a .answers .now) (a .pool .now) (a .bootstraps .now) (a .class-name .now) in
     let after = slices (r .last .1 .0) (r .last .1 .1 .0) (r .last .1 .1 .1 .0) (r .last .1 .1 .1 .1 .0) (r .last .1 .1 .1 .1 .1 .0) (r .last .1 .1 .1 .1 .1 .1 .0) in
     let told = c .before .before .print .ensures in
-    (told .0, told .1 ∙ text-over (take (a .n) (a .job .now)) before after (r .result) (r .ensures) l)
+    reworded (text-over (take (a .n) (a .job .now)) before after (r .result) (r .ensures) l) told
 
 pub run-over-spec : {M : Type 1} → statement M
 run-over-spec =

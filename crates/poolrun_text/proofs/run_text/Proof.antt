@@ -3,9 +3,9 @@ mod Lts
 mod Tie
 use mathlib.Core.Path.{sym}
 use Prim.Native.Nat.{ℕ}
-use borrow.Author.Needs.{needs}
 use lib.ListN.{length-replicate}
 use Rattle.slots.specs.declared.Gap.{Gap}
+use Rattle.poolrun_text.proofs.Running.{lengths-lent}
 use Rattle.poolrun_text.proofs.run_text.Statement.{statement}
 use Rattle.poolrun_text.proofs.run_text.Proof.Tie as tie
 
@@ -31,20 +31,10 @@ slice-aggregate-run-over-6 : tie.Need-slice-aggregate-run-over-6
 slice-aggregate-run-over-6 c = sym (length-replicate {0} {A = ℕ} 65536 0)
 
 run-over-requires : tie.Need-run-over-requires
-run-over-requires c κs = (
-  c .before .before .before .before .before .before .before .before .before .before .pre,
-  record {
-    work-is = length-replicate {0} {A = ℕ} 16384 0;
-    gaps-is = length-replicate {0} {A = Gap} 514 (c .before .before .before .before .before .before .before .no-gap .result);
-    answers-is = length-replicate {0} {A = ℕ} 32768 0;
-    pool-is = length-replicate {0} {A = ℕ} 65536 0;
-    bootstraps-is = length-replicate {0} {A = ℕ} 65536 0;
-    class-is = length-replicate {0} {A = ℕ} 65536 0;
-  },
-)
+run-over-requires c κs = (c .before .before .before .before .before .before .before .before .before .before .pre, lengths-lent (c .before .before .before .before .before .before .before .no-gap .result))
 
 same-length : tie.Need-same-length
-same-length c = search needs
+same-length c = c .before .before .before .before .before .before .before .before .run-over .kept .1 .1 .0
 
 returns : tie.Need-returns
 returns c = c .before .before .before .before .before .before .before .before .run-over .ensures
