@@ -18,12 +18,12 @@ fn main() -> ExitCode {
     let mut input = BufReader::new(io::stdin().lock());
     let mut output = BufWriter::new(io::stdout().lock());
     let mut jobs = 0;
-    let cut = run_stream(&mut input, &mut output, &mut jobs);
-    // What was printed so far is to be seen even if the stream is cut.
-    match cut.and(output.flush().map_err(Cut::Output)) {
+    let ended = run_stream(&mut input, &mut output, &mut jobs);
+    // Lines so far are written also where the stream is cut.
+    let written = output.flush().map_err(Cut::Output);
+    match ended.and(written) {
         Ok(()) => ExitCode::SUCCESS,
         Err(Cut::Input(error)) => {
-            let _ = output.flush();
             eprintln!("poolbatch: cut frame behind {jobs} jobs: {error}");
             ExitCode::from(1)
         }
