@@ -26,6 +26,7 @@ leftovers work gaps outputs =
       work = replicate work 7;
       gaps = replicate gaps (record { first = 7; last = 7 });
       answers = replicate outputs 7;
+      marks = replicate outputs 7;
       pool = replicate outputs 7;
       bootstraps = replicate outputs 7;
       class = replicate outputs 7;
@@ -38,6 +39,7 @@ pub whollyZero :
       work = replicate 1030 0;
       gaps = replicate 9 (record { first = 0; last = 0 });
       answers = replicate 2 7;
+      marks = replicate 2 7;
       pool = replicate 2 7;
       bootstraps = replicate 2 7;
       class = replicate 2 7;
@@ -52,14 +54,14 @@ untouchedWhenShort = refl
 
 -- 12: a class name of no bytes needs no room (case h, Class of raw 9)
 pub noRoomForNothing :
-    returned (λ b. b .visits) (run (record { work = 2048; gaps = 9; answers = 1; pool = 5; bootstraps = 0; class = 0 }) (bytes "0700000950510100006002010000")) ≡ 3
+    returned (λ b. b .visits) (run (record { work = 2048; gaps = 9; answers = 1; marks = 1; pool = 5; bootstraps = 0; class = 0 }) (bytes "0700000950510100006002010000")) ≡ 3
 unfolding opened bytes digit
 noRoomForNothing = refl
 
 -- work of 6 x job bytes + 1,024 words, job bytes / 5 + 2 gaps and the pool's length are enough for an empty pool; with one less of work or
 -- gaps it is refused 2, of the pool 18 at record 60
 unfoldable pub sixBytes : ℕ → ℕ → ℕ → Lent
-sixBytes work gaps pool = record { work = work; gaps = gaps; answers = 0; pool = pool; bootstraps = 0; class = 0 }
+sixBytes work gaps pool = record { work = work; gaps = gaps; answers = 0; marks = 0; pool = pool; bootstraps = 0; class = 0 }
 
 pub shortByOne :
     map (λ lent. refusalOf (run lent (bytes "506002000000"))) (sixBytes 1060 3 2 ∷ sixBytes 1059 3 2 ∷ sixBytes 1060 2 2 ∷ sixBytes 1060 3 1 ∷ [])

@@ -108,12 +108,23 @@ unfoldable pub classText : Option (List ℕ) → List ℕ
 classText none = line (ascii "class none")
 classText (some s) = line (ascii "class " ++ decimal (length s)) ++ line (hex s)
 
+-- an answer's line: its slot and its mark
+unfoldable pub markText : ℕ → List ℕ
+markText zero = ascii " raw"
+markText (suc zero) = ascii " new"
+markText (suc (suc n)) = ascii " old"
+
+unfoldable pub answerLines : List ℕ → List ℕ → List ℕ
+answerLines [] marks = []
+answerLines (a ∷ answers) [] = line (decimal a) ++ answerLines answers []
+answerLines (a ∷ answers) (m ∷ marks) = line (decimal a ++ markText m) ++ answerLines answers marks
+
 -- what the program prints
 unfoldable pub printed : Result Refusal Built → List ℕ
 printed (bad r) = line (ascii "refused " ++ decimal (r .code) ++ 32 ∷ decimal (r .place))
 printed (good b) =
     line (ascii "answers " ++ decimal (length (b .answers)))
-    ++ concat (map (λ a. line (decimal a)) (b .answers))
+    ++ answerLines (b .answers) (b .marks)
     ++ line (ascii "pool " ++ decimal (length (b .pool)))
     ++ line (hex (b .pool))
     ++ line (ascii "bootstraps " ++ decimal (b .bootstrapCount) ++ 32 ∷ decimal (length (b .bootstraps)))
@@ -125,7 +136,7 @@ printed (good b) =
 -- the program lends 65,536 bytes for each output, and work enough
 unfoldable pub poolrunLent : Lent
 poolrunLent =
-    record { work = 6 * 2560 + 1024; gaps = 2560 / 5 + 2; answers = 32768; pool = 65536; bootstraps = 65536; class = 65536 }
+    record { work = 6 * 2560 + 1024; gaps = 2560 / 5 + 2; answers = 32768; marks = 65536; pool = 65536; bootstraps = 65536; class = 65536 }
 
 -- the program: a file of at most 2,560 bytes, else 1
 unfoldable pub poolrun : List ℕ → List ℕ

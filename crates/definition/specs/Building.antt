@@ -40,6 +40,20 @@ allocate nodes ldc k p =
 unfoldable pub slotOf : List Node → Bool → ℕ → Pool → Result ℕ (ℕ × Pool)
 slotOf nodes ldc child p = elim (ltb child firstNode) [ true ↦ good (child, p) | false ↦ allocate nodes ldc (child - firstNode) p ]
 
+-- how a child's slot is come by (document 02, No. 6): it is a raw number, or the node gets a slot now, or has one
+pub data Origin : Type 0 where
+  raw new old : Origin
+
+unfoldable pub originOf : ℕ → Pool → Origin
+originOf child p =
+    elim (ltb child firstNode) [ true ↦ raw | false ↦ elim (lookup (child - firstNode) (p .given)) [ none ↦ new | some s ↦ old ] ]
+
+-- the number that marks it in the outputs
+unfoldable pub markOf : Origin → ℕ
+markOf raw = 0
+markOf new = 1
+markOf old = 2
+
 -- children's slots, left to right
 unfoldable pub slotsOf : List Node → List ℕ → Pool → Result ℕ (List ℕ × Pool)
 slotsOf nodes [] p = good ([], p)

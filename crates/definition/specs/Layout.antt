@@ -12,7 +12,7 @@ use Rattle.definition.specs.Numbering.{constantsOf, bootstrapsOf}
 use Rattle.definition.specs.Definitions.{Held, starts, half, Naming, Defined, defineAll, nothingDefined}
 use Rattle.definition.specs.Resolving.{Goal, tableEntry, goalOf, Mark, firstNode, Resolved, childOf, resolve, resolveAll, linked, nothingResolved}
 use Rattle.definition.specs.Slots.{highestLdc, gapsFrom, startSlots, countFrom}
-use Rattle.definition.specs.Building.{Pool, slotOf, Row, fillHoles, Made, buildAll, nameWanted, nameSlot, Content, contentOf, className}
+use Rattle.definition.specs.Building.{Pool, slotOf, Origin, originOf, Row, fillHoles, Made, buildAll, nameWanted, nameSlot, Content, contentOf, className}
 
 -- raw constants by rising slot, without the second halves
 unfoldable pub starters : List (ℕ × Held) → List (ℕ × ℕ)
@@ -20,11 +20,12 @@ starters [] = []
 starters ((n, starts e) ∷ held) = (n, e) ∷ starters held
 starters ((n, half) ∷ held) = starters held
 
--- what requests work on: the linked table, what is resolved, the slots
+-- what requests work on: the linked table, what is resolved, the slots, and how the answers so far were come by
 pub record Ready : Type 0 where
   pub table : List (Entry ℕ Goal)
   pub resolved : Resolved
   pub pool : Pool
+  pub origins : List Origin
 
 -- the node that a table entry became
 unfoldable pub nodeAt : List Mark → ℕ → ℕ
@@ -48,15 +49,17 @@ endDefinitions top table constants d =
             given = [];
             pending = reverse (map (λ r. (r .0, nodeAt (s .marks) (r .1))) starting);
           };
+      origins = [];
     })
 
 -- a request: resolve, then a slot; 16: an ldc answer above 255
 unfoldable pub answer : Bool → Goal → Ready → Result ℕ (ℕ × Ready)
 answer ldc goal w = do
   s ← resolve (w .table) goal (w .resolved)
-  r ← slotOf (s .nodes) ldc (childOf (s .marks) goal) (w .pool)
+  let child = childOf (s .marks) goal
+  r ← slotOf (s .nodes) ldc child (w .pool)
   _ ← unless (not ldc || leb (r .0) highestLdc) 16
-  good (r .0, record { table = w .table; resolved = s; pool = r .1 })
+  good (r .0, record { table = w .table; resolved = s; pool = r .1; origins = w .origins ++ originOf child (w .pool) ∷ [] })
 
 -- all requests in turn: the answers, and what building starts from
 unfoldable pub answerAll : List Naming → ℕ → ℕ → List Request → Ready → Result Refusal (List ℕ × Ready)
@@ -71,10 +74,11 @@ unfoldable pub classSlotOf : List ℕ → ClassSlot → ℕ
 classSlotOf answers (slot n) = n
 classSlotOf answers (request n) = getD answers n 0
 
--- where everything goes: answers in turn, the pool's count, what each slot from 1 to below the count holds, the bootstrap rows,
+-- where everything goes: answers in turn and how they were come by, the pool's count, what each slot from 1 to below the count holds, the bootstrap rows,
 -- the name's slot, the class name (none, the empty text or a literal), the visits
 pub record Layout : Type 0 where
   pub answers : List ℕ
+  pub origins : List Origin
   pub count : ℕ
   pub contents : List Content
   pub rows : List Row
@@ -82,12 +86,13 @@ pub record Layout : Type 0 where
   pub class : Option (Option ℕ)
   pub visits : ℕ
 
-unfoldable pub layoutOf : ℕ → List ℕ → ℕ → ClassSlot → List Row → ℕ × Made → Layout
-layoutOf top answers visits class rows r =
+unfoldable pub layoutOf : ℕ → List ℕ → List Origin → ℕ → ClassSlot → List Row → ℕ × Made → Layout
+layoutOf top answers origins visits class rows r =
     let owned = r .1 .owned in
     let count = countFrom top (r .1 .pool .slots .gaps) in
     record {
       answers = answers;
+      origins = origins;
       count = count;
       contents = from (contentOf owned) 1 (count - 1);
       rows = rows;
@@ -102,7 +107,7 @@ buildLayout top indexes b answers w = do
   m ← buildAll (w .resolved .nodes) indexes (w .pool)
   let rows = fillHoles (m .rows .written) (m .rows .waiting)
   r ← nameSlot (nameWanted (b .nameByte) (length rows)) (w .resolved .nodes) m
-  good (layoutOf top answers (w .resolved .visits) (b .class) rows r)
+  good (layoutOf top answers (w .origins) (w .resolved .visits) (b .class) rows r)
 
 -- the node of each raw bootstrap, by rising index
 unfoldable pub indexNodes : ℕ → List Mark → List (ℕ × ℕ) → List (ℕ × ℕ)

@@ -11,7 +11,7 @@ use Rattle.definition.specs.Shapes.{shapes, bootstrapShape, bootstrapTag
 use Rattle.definition.specs.Form.{form}
 use Rattle.definition.specs.Numbering.{Literal, literals, literalOf, numbered}
 use Rattle.definition.specs.Slots.{highestSlot, Gap}
-use Rattle.definition.specs.Building.{Row, Content, nothing, emptyText, holds}
+use Rattle.definition.specs.Building.{markOf, Row, Content, nothing, emptyText, holds}
 use Rattle.definition.specs.Layout.{Layout, layout}
 
 -- what a slot shows once literals are bytes again: nothing, or an entry; an unowned slot shows the empty text
@@ -41,6 +41,7 @@ classBytes all (some (some n)) = some (literalOf all n)
 -- everything that is returned
 pub record Built : Type 0 where
   pub answers : List ℕ
+  pub marks : List ℕ
   pub pool : List ℕ
   pub bootstrapCount : ℕ
   pub bootstraps : List ℕ
@@ -53,6 +54,7 @@ unfoldable pub render : List Literal → Layout → Built
 render all l =
     record {
       answers = l .answers;
+      marks = map markOf (l .origins);
       pool = be2 (l .count) ++ concat (map (λ c. slotBytes (shown all c)) (l .contents));
       bootstrapCount = length (l .rows);
       bootstraps = concat (map rowBytes (l .rows));
@@ -77,6 +79,7 @@ pub record Memory : Type 0 where
   pub work : List ℕ
   pub gaps : List Gap
   pub answers : List ℕ
+  pub marks : List ℕ
   pub pool : List ℕ
   pub bootstraps : List ℕ
   pub class : List ℕ
@@ -86,6 +89,7 @@ pub record Lent : Type 0 where
   pub work : ℕ
   pub gaps : ℕ
   pub answers : ℕ
+  pub marks : ℕ
   pub pool : ℕ
   pub bootstraps : ℕ
   pub class : ℕ
@@ -96,6 +100,7 @@ lentOf m =
       work = length (m .work);
       gaps = length (m .gaps);
       answers = length (m .answers);
+      marks = length (m .marks);
       pool = length (m .pool);
       bootstraps = length (m .bootstraps);
       class = length (m .class);
@@ -118,9 +123,10 @@ classOut (some s) = s
 unfoldable pub fits : Built → Lent → Bool
 fits b lent =
     leb (length (b .answers)) (lent .answers)
+    && (leb (length (b .marks)) (lent .marks)
     && (leb (length (b .pool)) (lent .pool)
     && (leb (length (b .bootstraps)) (lent .bootstraps)
-    && leb (length (classOut (b .class))) (lent .class)))
+    && leb (length (classOut (b .class))) (lent .class))))
 
 -- THE DEFINITION, for a job of bytes, numbers below 256: 1, 2, then the form and the records in turn, last 18 at the build record
 unfoldable pub run : Lent → List ℕ → Result Refusal Built
@@ -166,6 +172,7 @@ memoryAfter outcome m =
       work = clearedAfter 0 outcome (m .work);
       gaps = clearedAfter (record { first = 0; last = 0 }) outcome (m .gaps);
       answers = outputAfter (λ b. b .answers) outcome (m .answers);
+      marks = outputAfter (λ b. b .marks) outcome (m .marks);
       pool = outputAfter (λ b. b .pool) outcome (m .pool);
       bootstraps = outputAfter (λ b. b .bootstraps) outcome (m .bootstraps);
       class = outputAfter (λ b. classOut (b .class)) outcome (m .class);

@@ -37,7 +37,7 @@ pub record Stages (top : ℕ) (job : Job ℕ) (l : Layout) : Type 0 where
       buildAll (asked .resolved .nodes) (indexNodes (length (constantsIn job)) (asked .resolved .marks) (defined .indexes)) (asked .pool) ≡ good made
   pub named : ℕ × Made
   pub isNamed : nameSlot (nameWanted (job .build .nameByte) (length (rowsIn made))) (asked .resolved .nodes) made ≡ good named
-  pub isLaid : layoutOf top answers (asked .resolved .visits) (job .build .class) (rowsIn made) named ≡ l
+  pub isLaid : layoutOf top answers (asked .origins) (asked .resolved .visits) (job .build .class) (rowsIn made) named ≡ l
 
 pub stages : (top : ℕ) (job : Job ℕ) (l : Layout) → layout top job ≡ good l → Stages top job l
 unfolding layout buildLayout

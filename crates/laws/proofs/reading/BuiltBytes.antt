@@ -24,4 +24,4 @@ unfolding layoutOf
 built-bytes bytes job l are formed laid =
     let s = stg bytes job l are formed laid in
     subst (λ (x : Layout). IsBytes (render (literals job) x .pool) × IsBytes (render (literals job) x .bootstraps)) (s .isLaid)
-    (layout-bytes (literals job) (layoutOf highestSlot (s .answers) (s .asked .resolved .visits) (numbered job .build .class) (rows bytes job l are formed laid) (s .named)) (contents-laid bytes job l are formed laid))
+    (layout-bytes (literals job) (layoutOf highestSlot (s .answers) (s .asked .origins) (s .asked .resolved .visits) (numbered job .build .class) (rows bytes job l are formed laid) (s .named)) (contents-laid bytes job l are formed laid))

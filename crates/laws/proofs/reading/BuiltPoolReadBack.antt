@@ -305,7 +305,7 @@ module _ (bytes : List ℕ) (job : Job (List ℕ)) (l : Layout) (are : IsBytes b
       (readPool (render (literals job) x .pool) ≡ some (map (shown (literals job)) (x .contents)))
       × (readBootstraps (render (literals job) x .bootstrapCount) (render (literals job) x .bootstraps) ≡ some (map rowShown (x .rows))))
       (stg .isLaid)
-      (reads-layout (literals job) (layoutOf highestSlot (stg .answers) (stg .asked .resolved .visits) (numbered job .build .class) (rows bytes job l are formed laid) (stg .named))
+      (reads-layout (literals job) (layoutOf highestSlot (stg .answers) (stg .asked .origins) (stg .asked .resolved .visits) (numbered job .build .class) (rows bytes job l are formed laid) (stg .named))
       (omega (arith, range, length-from (contentOf owned) 1 (count - 1)))
       (omega (arith, range))
       contents-laid

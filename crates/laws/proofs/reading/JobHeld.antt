@@ -273,7 +273,7 @@ module _ (bytes : List ℕ) (job : Job (List ℕ)) (l : Layout) (are : IsBytes b
       ⊎ ((nameWanted (numbered job .build .nameByte) (length (rows bytes job l are formed laid)) ≡ true) × (lookup (stg bytes job l are formed laid .named .0) own ≡ some attributeText))
 
   -- all of it
-  pub held-by : HeldBy f (job .requests) (job .build) (render (literals job) (layoutOf highestSlot (stg bytes job l are formed laid .answers) (stg bytes job l are formed laid .asked .resolved .visits) (numbered job .build .class) (rows bytes job l are formed laid) (stg bytes job l are formed laid .named)))
+  pub held-by : HeldBy f (job .requests) (job .build) (render (literals job) (layoutOf highestSlot (stg bytes job l are formed laid .answers) (stg bytes job l are formed laid .asked .origins) (stg bytes job l are formed laid .asked .resolved .visits) (numbered job .build .class) (rows bytes job l are formed laid) (stg bytes job l are formed laid .named)))
   unfolding render layoutOf numbered nameWanted goalOf follow
   held-by =
       record {
