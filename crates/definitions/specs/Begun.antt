@@ -30,6 +30,7 @@ readyFrom top s d state =
             given = [];
             pending = reverse (map (λ r. (r .0, nodeAt (state .marks) (r .1))) (starters (d .held)));
           };
+      origins = [];
     }
 
 -- record 50, where the definitions in turn have come to this

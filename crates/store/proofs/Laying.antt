@@ -9,7 +9,7 @@ use Rattle.job.specs.Forms.{countsOf}
 use Rattle.definition.specs.Numbering.{constantsOf, bootstrapsOf}
 use Rattle.store.specs.Store.{size, Laid}
 use Rattle.store.specs.JobIn.{WellFormed, definitionsIn, countsIn, tableOf, entriesIn}
-use Rattle.store.specs.Regions.{placesOf, entriesOf, rawsOf, sizesFor, Work, COUNTS, MARKS, GIVEN, INDEXES, NAME-HEADS, NODE-HEADS, RAW-HEADS, ROW-HEADS, OWNER-HEADS, NAME-LINKS, NODE-LINKS, RAW-LINKS, ROW-LINKS, OWNER-LINKS, RECORDS, OFFSETS, FIRSTS, SIZES, GOALS, CHILDREN, NAME-PLACES, NAME-GOALS, RAW-KEYS, RAW-ENTRIES, ORDER, NODES, STACK, PENDING, INLINE, ANSWERS}
+use Rattle.store.specs.Regions.{placesOf, entriesOf, rawsOf, sizesFor, Work, COUNTS, MARKS, GIVEN, INDEXES, NAME-HEADS, NODE-HEADS, RAW-HEADS, ROW-HEADS, OWNER-HEADS, NAME-LINKS, NODE-LINKS, RAW-LINKS, ROW-LINKS, OWNER-LINKS, RECORDS, OFFSETS, FIRSTS, SIZES, GOALS, CHILDREN, NAME-PLACES, NAME-GOALS, RAW-KEYS, RAW-ENTRIES, ORDER, NODES, STACK, PENDING, INLINE, ANSWERS, ORIGINS}
 
 pub length-places : (a : ℕ) (sizes : List ℕ) → length (placesOf a sizes) ≡ suc (length sizes)
 unfolding placesOf
@@ -68,6 +68,7 @@ pub record Sizes (p : List ℕ) (c : JobCounts) : Type 0 where
   pub pending : size p PENDING ≡ entriesOf c + c .«raw_constants»
   pub inline : size p INLINE ≡ c .bootstraps
   pub answers : size p ANSWERS ≡ c .requests
+  pub origins : size p ORIGINS ≡ c .requests
 
 sized : (c : JobCounts) (p : List ℕ) → p ≡ placesOf 0 (sizesFor c) → (k n : ℕ) → k < 31 → getD (sizesFor c) k 0 ≡ n → size p k ≡ n
 unfolding sizesFor
@@ -108,6 +109,7 @@ work-sizes s p (formed, e) =
       pending = sized c p e PENDING _ (omega arith) refl;
       inline = sized c p e INLINE _ (omega arith) refl;
       answers = sized c p e ANSWERS _ (omega arith) refl;
+      origins = sized c p e ORIGINS _ (omega arith) refl;
     }
 
 pub work-formed : (s p : List ℕ) → Work s p → WellFormed s

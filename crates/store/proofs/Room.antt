@@ -12,7 +12,7 @@ use Rattle.store.proofs.Lengths.{wordsFor}
 use Rattle.store.proofs.Bounds.{standing}
 
 -- where the last region ends
-pub end-is : (c : JobCounts) → getD (placesOf 0 (sizesFor c)) 31 0 ≡ wordsFor c + c .requests + 31
+pub end-is : (c : JobCounts) → getD (placesOf 0 (sizesFor c)) 31 0 ≡ wordsFor c + 2 * c .requests + 31
 unfolding placesOf sizesFor wordsFor
 end-is c = omega arith
 

@@ -98,6 +98,9 @@ INLINE = 28
 abbrev pub ANSWERS : ℕ
 ANSWERS = 29
 
+abbrev pub ORIGINS : ℕ
+ORIGINS = 30
+
 -- counters
 abbrev pub PLACE : ℕ
 PLACE = 0
@@ -214,7 +217,7 @@ sizesFor c =
     ∷ (entriesOf c + c .«raw_constants»)  -- PENDING
     ∷ c .bootstraps  -- INLINE
     ∷ c .requests  -- ANSWERS
-    ∷ 0
+    ∷ c .requests  -- ORIGINS
     ∷ []
 
 -- the regions of a job that counts so much are laid out over the words, and those before NAME-LINKS are zeros

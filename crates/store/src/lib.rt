@@ -88,6 +88,9 @@ pub const INLINE: usize = 28;
 
 pub const ANSWERS: usize = 29;
 
+// How each answer was come by: 0 raw, 1 new, 2 old.
+pub const ORIGINS: usize = 30;
+
 // Counters.
 // The number of the record in turn, and where the next record stands.
 pub const PLACE: usize = 0;
@@ -235,7 +238,7 @@ fn sizes_for(c: JobCounts) -> [usize; 31]
         entries + c.raw_constants,
         c.bootstraps,
         c.requests,
-        0,
+        c.requests,
     ]
 }
 
