@@ -1,5 +1,6 @@
 // Building: children get their numbers, in field order, until the building stack is empty.
 use pool::child_count;
+use pool::code_of;
 use pool::first_child;
 use pool::pop_pending;
 use pool::slot_of;
@@ -76,7 +77,8 @@ fn number_child(job: &[u8], w: &mut [u32], p: &[usize], gaps: &mut [Gap], child:
     if is_bootstrap(w, p, child) {
         return number_bootstrap(job, w, p, gaps, child - ENTRY);
     }
-    slot_of(job, w, p, gaps, child, false)
+    let reply = slot_of(job, w, p, gaps, child, false);
+    code_of(reply)
 }
 
 // Node k's children have their numbers from then on, in field order, 0, or 14 or 17: `childNumbers`.

@@ -16,6 +16,7 @@ use store::NAME_SLOT;
 use store::NODE_COUNT;
 use store::NODES;
 use store::OFFSETS;
+use store::ORIGINS;
 use store::OWNER_HEADS;
 use store::POOL_COUNT;
 use store::RAW_COUNT;
@@ -45,7 +46,7 @@ ghost use Rattle.definition.specs.Numbering.{attributeName};
 ghost use Rattle.definition.specs.Run.{entryBytes, slotBytes, rowBytes, classOut, overwrite};
 ghost use Rattle.raw_const.specs.Entries.{Wrote};
 ghost use Rattle.store.specs.Store.{size, store, On, IsWord, Read};
-ghost use Rattle.store.specs.Regions.{COUNTS, MARKS, GIVEN, INDEXES, OWNER-HEADS, OWNER-LINKS, OFFSETS, FIRSTS, SIZES, CHILDREN, NODES, ANSWERS, NODE-COUNT, Work};
+ghost use Rattle.store.specs.Regions.{COUNTS, MARKS, GIVEN, INDEXES, OWNER-HEADS, OWNER-LINKS, OFFSETS, FIRSTS, SIZES, CHILDREN, NODES, ANSWERS, ORIGINS, NODE-COUNT, Work};
 ghost use Rattle.store.specs.Chains.{Heads};
 ghost use Rattle.store.specs.Words.{ENTRY, HALF, cut, childSlot};
 ghost use Rattle.interner.specs.Nodes.{nodeCount};
@@ -473,6 +474,19 @@ pub fn write_answers(answers: &mut [u16], w: &[u32], p: &[usize])
     let mut i = 0;
     while i < n {
         answers[i] = load(w, p, ANSWERS, i) as u16;
+        i += 1;
+    }
+}
+
+// Writes how each answer was come by: `marks`.
+pub fn write_marks(marks: &mut [u8], w: &[u32], p: &[usize])
+    requires { ⌜ On (now p) (length (now w)) × (size (now p) ORIGINS ≤ length (now marks)) × ((i : ℕ) → i < size (now p) ORIGINS → getD (store (now p) (now w) ORIGINS) i 0 < 256) ⌝ }
+    ensures { λ _. ⌜ now (marks .exit) ≡ overwrite (store (now (p .entry)) (now (w .entry)) ORIGINS) (now (marks .entry)) ⌝ }
+{
+    let n = size_of(p, ORIGINS);
+    let mut i = 0;
+    while i < n {
+        marks[i] = load(w, p, ORIGINS, i) as u8;
         i += 1;
     }
 }

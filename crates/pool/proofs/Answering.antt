@@ -1,6 +1,6 @@
 -- One request against the definition: resolved, given a slot, and kept as an answer, or refused. Assumes nothing.
 use mathlib.Core.Bool.{Bool, false}
-use mathlib.Core.List.{List, [], _∷_, map}
+use mathlib.Core.List.{List, [], _∷_, _++_, map}
 use mathlib.Core.Logic.{_⊎_, inl, inr}
 use mathlib.Core.Path.{_≡_, refl, sym, ap, _∙_, subst}
 use Prim.Native.Nat.{ℕ, _+_, _-_, _≤_, _<_}
@@ -10,7 +10,7 @@ use lib.Seq.{getD-set-same, getD-set-other}
 use Rattle.definition.specs.Basics.{Result, good, bad, _>>=_, every}
 use Rattle.definition.specs.Job.{Request}
 use Rattle.definition.specs.Resolving.{Goal, Resolved, childOf, resolve}
-use Rattle.definition.specs.Building.{Pool, slotOf}
+use Rattle.definition.specs.Building.{Pool, slotOf, Origin, originOf, markOf}
 use Rattle.definition.specs.Layout.{Ready, answer}
 use Rattle.facts.proofs.Lists.{order, found-inside}
 use Rattle.laws.specs.Faithful.{Faithful}
@@ -18,7 +18,7 @@ use Rattle.laws.specs.Gaps.{Apart}
 use Rattle.slots.specs.Gaps.{GapTable}
 use Rattle.store.specs.Store.{Store, size, put, among, Kept}
 use Rattle.store.specs.JobIn.{linkedIn}
-use Rattle.store.specs.Regions.{COUNTS, MARKS, GIVEN, NAME-HEADS, NAME-LINKS, NODE-HEADS, NODE-LINKS, OFFSETS, FIRSTS, SIZES, GOALS, CHILDREN, NAME-PLACES, NAME-GOALS, NODES, STACK, PENDING, ANSWERS, NAME-COUNT, NODE-COUNT, VISITS, GAP-COUNT, ODD, WIDE, PLAIN, PENDING-COUNT, Work}
+use Rattle.store.specs.Regions.{COUNTS, MARKS, GIVEN, NAME-HEADS, NAME-LINKS, NODE-HEADS, NODE-LINKS, OFFSETS, FIRSTS, SIZES, GOALS, CHILDREN, NAME-PLACES, NAME-GOALS, NODES, STACK, PENDING, ANSWERS, ORIGINS, NAME-COUNT, NODE-COUNT, VISITS, GAP-COUNT, ODD, WIDE, PLAIN, PENDING-COUNT, Work}
 use Rattle.store.specs.Small.{Small}
 use Rattle.store.specs.Words.{ENTRY, markWord, goalWord, childSlot}
 use Rattle.store.proofs.Bounds.{small}
@@ -29,8 +29,9 @@ use Rattle.resolver.specs.Resolved.{resolvedIn, Became, Table, AtRest, visitsOw
 use Rattle.resolver.proofs.Meanings.{child-raw, child-entry, done-found}
 use Rattle.resolver.proofs.Going.{told-good, told-bad}
 use Rattle.resolver.proofs.Handing.{resolved-became, resolved-grows}
-use Rattle.pool.specs.Pooled.{gapsIn, PooledIn, LiveIn, NodesThere, moving, Goes, Slotted}
-use Rattle.pool.specs.Replying.{goalFor, LeadsTo, low, KeptAnswer, readyIn, Asking, askedCounters, askedRegions, Replied}
+use Rattle.pool.specs.Pooled.{gapsIn, PooledIn, LiveIn, NodesThere, moving, Goes, codeIn, markIn, Marked, Slotted}
+use Rattle.pool.specs.declared.Reply.{Reply}
+use Rattle.pool.specs.Replying.{goalFor, LeadsTo, low, KeptAnswer, readySoFar, Asking, askedCounters, askedRegions, Replied}
 use Rattle.pool.proofs.Words.{not-among}
 use Rattle.pool.proofs.Giving.{SameGaps, slots-same, gaps-live-same}
 use Rattle.pool.proofs.Children.{nodes-stay, there-stays, count-stays}
@@ -52,7 +53,7 @@ module _ (ldc : Bool) (goal : Goal) (w : Ready) where
       unfolding answer
       answer-high code l = rw (e, f, l)
 
-      answer-met : low ldc x ≡ good tt → answer ldc goal w ≡ good (x, record { table = w .table; resolved = s′; pool = p′ })
+      answer-met : low ldc x ≡ good tt → answer ldc goal w ≡ good (x, record { table = w .table; resolved = s′; pool = p′; origins = w .origins ++ originOf (childOf (s′ .marks) goal) (w .pool) ∷ [] })
       unfolding answer
       answer-met l = rw (e, f, l)
 
@@ -93,8 +94,8 @@ module _
   abbrev h : ℕ
   h = size p NODE-HEADS
 
-  abbrev asked : Pool → Result ℕ (ℕ × Ready)
-  asked pool = answer (q .ldc) (goalFor s q) (readyIn s t pool)
+  abbrev asked : Pool → List Origin → Result ℕ (ℕ × Ready)
+  asked pool so = answer (q .ldc) (goalFor s q) (readySoFar s t pool so)
 
   resolving : (u : Store) (r : ℕ) → Resolves h s t u goal r → resolve (linkedIn s) (goalFor s q) (resolvedIn s t) ≡ told r (resolvedIn s u)
   resolving u r res = rw (← leads .word) (res .is)
@@ -117,11 +118,12 @@ module _
   pub replied-unresolved : (u : Store) (r : ℕ) → Resolves h s t u goal r → 0 < r → Replied s p q i t u g g r
   replied-unresolved u r res z =
       record {
-        met = λ pool b f. absurd (omega arith);
-        refused = λ pool b f. answer-unresolved (q .ldc) (goalFor s q) (readyIn s t pool) r (resolving u r res ∙ told-bad r (resolvedIn s u) z);
+        met = λ pool so b f. absurd (omega arith);
+        refused = λ pool so b f. answer-unresolved (q .ldc) (goalFor s q) (readySoFar s t pool so) r (resolving u r res ∙ told-bad r (resolvedIn s u) z);
         again = λ f. absurd (omega arith);
         visits = λ f. absurd (omega arith);
         others = λ j f. rw (res .kept ANSWERS refl);
+        otherMarks = λ j f. rw (res .kept ORIGINS refl);
         apart = λ top a. rw (gap-count u r res) a;
         long = refl;
         counters = resolved-counters u r res;
@@ -216,6 +218,9 @@ module _
         slot-others : m ANSWERS ≡ t ANSWERS
         slot-others = goes .kept ANSWERS refl ∙ res .kept ANSWERS refl
 
+        slot-marks : m ORIGINS ≡ t ORIGINS
+        slot-marks = goes .kept ORIGINS refl ∙ res .kept ORIGINS refl
+
         -- the definition's words for it
         same-slot :
             (pool : Pool) →
@@ -226,14 +231,15 @@ module _
         pub replied-unslotted : 0 < r → Replied s p q i t m g o r
         replied-unslotted z =
             record {
-              met = λ pool b f. absurd (omega arith);
+              met = λ pool so b f. absurd (omega arith);
               refused =
-                  λ pool b f.
-                  answer-unslotted (q .ldc) (goalFor s q) (readyIn s t pool) (resolvedIn s v) is-resolved r
+                  λ pool so b f.
+                  answer-unslotted (q .ldc) (goalFor s q) (readySoFar s t pool so) (resolvedIn s v) is-resolved r
                   (sym (same-slot pool) ∙ slotted .refused pool (pooled-now pool b) z);
               again = λ f. absurd (omega arith);
               visits = λ f. absurd (omega arith);
               others = λ j f. rw slot-others;
+              otherMarks = λ j f. rw slot-marks;
               apart = slot-apart;
               long = goes .long;
               counters = slot-counters;
@@ -261,13 +267,13 @@ module _
               owed = rw (goes .kept MARKS refl) (a .owed);
             }
 
-        abbrev kept-answer : ℕ → Store
-        kept-answer x = put m ANSWERS i x
+        abbrev kept-answer : ℕ → ℕ → Store
+        kept-answer x n = put (put m ANSWERS i x) ORIGINS i n
 
-        asking-still : (x : ℕ) → Asking s p (kept-answer x) o
-        asking-still x =
+        asking-still : (x n : ℕ) → Asking s p (kept-answer x n) o
+        asking-still x n =
             let a = rests-still in
-            let n = asking .names in
+            let names = asking .names in
             record {
               table =
                   record {
@@ -276,49 +282,63 @@ module _
                   };
               rests = record { nodes = a .nodes; made = a .made; room = a .room; faithful = a .faithful; owed = a .owed };
               names =
-                  rw (slot-kept NAME-PLACES refl, slot-kept NAME-HEADS refl, slot-kept NAME-LINKS refl, slot-counters NAME-COUNT refl) n;
+                  rw (slot-kept NAME-PLACES refl, slot-kept NAME-HEADS refl, slot-kept NAME-LINKS refl, slot-counters NAME-COUNT refl) names;
               goals = rw (slot-kept NAME-GOALS refl) (asking .goals);
               live = goes .live live-now;
             }
 
-        visits-still : (x : ℕ) → visitsOwed s (kept-answer x) ≤ visitsOwed s t + 1
-        visits-still x = rw (goes .kept MARKS refl, goes .counters VISITS refl) (res .visits refl)
+        visits-still : (x n : ℕ) → visitsOwed s (kept-answer x n) ≤ visitsOwed s t + 1
+        visits-still x n = rw (goes .kept MARKS refl, goes .counters VISITS refl) (res .visits refl)
+
+        -- how it was come by
+        abbrev come : Pool → Origin
+        come pool = originOf (childOf (map markWord (v MARKS)) (goalFor s q)) pool
+
+        same-child : child ≡ childOf (map markWord (v MARKS)) (goalFor s q)
+        same-child = rw (is, leads .word)
 
         pub replied-kept :
-            r ≡ 0 → i < length (m ANSWERS) → (u : Store) (r′ : ℕ) → KeptAnswer ldc (childSlot (m GIVEN) child) i m u r′ → Replied s p q i t u g o r′
-        replied-kept z inside u r′ (inl (e, fine, same)) =
+            r ≡ 0 → i < length (m ANSWERS) → i < length (m ORIGINS) → (mark : ℕ) → ((pool : Pool) → PooledIn pool v g → mark ≡ markOf (originOf child pool)) →
+            (u : Store) (r′ : ℕ) → KeptAnswer ldc (childSlot (m GIVEN) child) mark i m u r′ → Replied s p q i t u g o r′
+        replied-kept z inside room mark marked u r′ (inl (e, fine, same)) =
             let x = childSlot (m GIVEN) child in
             rw same
             (record {
               met =
-                  λ pool b f.
+                  λ pool so b f.
                   let (after, y, c) = slotted .met pool (pooled-now pool b) z in (
                     after,
-                    answer-met (q .ldc) (goalFor s q) (readyIn s t pool) (resolvedIn s v) is-resolved x after (sym (same-slot pool) ∙ y) (rw (← told-ldc) fine)
+                    come pool,
+                    answer-met (q .ldc) (goalFor s q) (readySoFar s t pool so) (resolvedIn s v) is-resolved x after (sym (same-slot pool) ∙ y) (rw (← told-ldc) fine)
                         ∙ rw (getD-set-same (m ANSWERS) i x 0 inside, same-resolved),
                     c,
+                    ap (λ (n : ℕ). markOf (originOf n pool)) (sym same-child)
+                        ∙ sym (marked pool (pooled-now pool b))
+                        ∙ sym (getD-set-same (m ORIGINS) i mark 0 room),
                   );
-              refused = λ pool b f. absurd (omega arith);
-              again = λ f. asking-still x;
-              visits = λ f. visits-still x;
+              refused = λ pool so b f. absurd (omega arith);
+              again = λ f. asking-still x mark;
+              visits = λ f. visits-still x mark;
               others = λ j n. getD-set-other (m ANSWERS) i j x 0 n ∙ rw slot-others;
+              otherMarks = λ j n. getD-set-other (m ORIGINS) i j mark 0 n ∙ rw slot-marks;
               apart = slot-apart;
               long = goes .long;
               counters = slot-counters;
-              kept = kept-put askedRegions t m ANSWERS i x refl slot-kept;
+              kept = kept-put askedRegions t (put m ANSWERS i x) ORIGINS i mark refl (kept-put askedRegions t m ANSWERS i x refl slot-kept);
             })
-        replied-kept z inside u r′ (inr (e, high, same)) =
+        replied-kept z inside room mark marked u r′ (inr (e, high, same)) =
             rw (same, e)
             (record {
-              met = λ pool b f. absurd (omega arith);
+              met = λ pool so b f. absurd (omega arith);
               refused =
-                  λ pool b f.
+                  λ pool so b f.
                   let (after, y, c) = slotted .met pool (pooled-now pool b) z in
-                  answer-high (q .ldc) (goalFor s q) (readyIn s t pool) (resolvedIn s v) is-resolved (childSlot (m GIVEN) child) after
+                  answer-high (q .ldc) (goalFor s q) (readySoFar s t pool so) (resolvedIn s v) is-resolved (childSlot (m GIVEN) child) after
                   (sym (same-slot pool) ∙ y) 16 (rw (← told-ldc) high);
               again = λ f. absurd (omega arith);
               visits = λ f. absurd (omega arith);
               others = λ j f. rw slot-others;
+              otherMarks = λ j f. rw slot-marks;
               apart = slot-apart;
               long = goes .long;
               counters = slot-counters;
@@ -328,3 +348,7 @@ module _
 -- as the code has it
 pub at-zero : (h : ℕ) (s : List ℕ) (t u : Store) (goal r : ℕ) → r ≡ 0 → Resolves h s t u goal r → Resolves h s t u goal 0
 at-zero h s t u goal r e res = rw e at res
+
+pub kept-both :
+    (t u v : Store) (i slot mark : ℕ) → u ≡ put t ANSWERS i slot → v ≡ put u ORIGINS i mark → v ≡ put (put t ANSWERS i slot) ORIGINS i mark
+kept-both t u v i slot mark e f = f ∙ ap (λ (x : Store). put x ORIGINS i mark) e

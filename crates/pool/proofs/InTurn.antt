@@ -1,6 +1,6 @@
 -- The requests in turn against the definition. Assumes nothing.
 use mathlib.Core.Bool.{false}
-use mathlib.Core.List.{List, [], _∷_, _++_, map, append-nil, append-assoc}
+use mathlib.Core.List.{List, [], _∷_, _++_, map, map-append, append-nil, append-assoc}
 use mathlib.Core.Option.{some}
 use mathlib.Core.Path.{_≡_, refl, sym, ap, _∙_, subst}
 use Prim.Native.Nat.{ℕ, zero, suc, _+_, _≤_, _<_}
@@ -10,7 +10,7 @@ use lib.ListN.{length, getD, getElem?, take, drop}
 use lib.Seq.{getD-set-same, getD-set-other, take-suc, take-all, drop-length}
 use Rattle.definition.specs.Basics.{Result, good, bad, _>>=_, Refusal, atRecord}
 use Rattle.definition.specs.Job.{Request}
-use Rattle.definition.specs.Building.{Pool}
+use Rattle.definition.specs.Building.{Pool, Origin, raw, new, old, markOf}
 use Rattle.definition.specs.Layout.{Ready, answer, answerAll}
 use Rattle.facts.proofs.Lists.{inside-found, drop-place}
 use Rattle.laws.specs.Faithful.{Faithful}
@@ -21,7 +21,7 @@ use Rattle.definition.specs.Shapes.{constant}
 use Rattle.slots.specs.Gaps.{GapTable}
 use Rattle.store.specs.Store.{Store, size, put, among, Kept, IsWord}
 use Rattle.store.specs.JobIn.{jobIn, countsIn, namingsIn, constantsIn, linkedIn}
-use Rattle.store.specs.Regions.{COUNTS, MARKS, NODES, ANSWERS, PLACE, AT, NAME-COUNT, NODE-COUNT, VISITS, GAP-COUNT, ODD, WIDE, PLAIN, PENDING-COUNT, Work}
+use Rattle.store.specs.Regions.{COUNTS, MARKS, NODES, ANSWERS, ORIGINS, PLACE, AT, NAME-COUNT, NODE-COUNT, VISITS, GAP-COUNT, ODD, WIDE, PLAIN, PENDING-COUNT, Work}
 use Rattle.store.specs.Words.{markWord}
 use Rattle.store.proofs.Bounds.{small}
 use Rattle.store.proofs.Keeping.{kept-put, kept-then}
@@ -31,7 +31,7 @@ use Rattle.interner.specs.Nodes.{nodeIn}
 use Rattle.resolver.specs.Resolved.{resolvedIn, visitsOwed}
 use Rattle.sym_refs.specs.Names.{CitedIn}
 use Rattle.pool.specs.Pooled.{gapsIn, PooledIn, LiveIn}
-use Rattle.pool.specs.Replying.{RequestAt, WhatRequest, goalFor, readyIn, Asking, askedCounters, askedRegions, Replied, placeCount, RequestsAt, answeredIn, RepliedAll}
+use Rattle.pool.specs.Replying.{RequestAt, WhatRequest, goalFor, originWord, readySoFar, readyIn, Asking, askedCounters, askedRegions, Replied, placeCount, RequestsAt, answeredIn, RepliedAll}
 use Rattle.pool.proofs.Words.{not-among}
 use Rattle.pool.proofs.Giving.{SameGaps, slots-same, gaps-live-same}
 
@@ -107,8 +107,8 @@ module _ (s p : List ℕ) (t : Store) (c n : ℕ) (low : c < 2) where
 abbrev requests : List ℕ → List Request
 requests s = jobIn s .requests
 
-abbrev restFrom : List ℕ → Store → ℕ → Pool → Result Refusal (List ℕ × Ready)
-restFrom s u i mid = answerAll (namingsIn s) (constantsIn s) (suc (placeCount u)) (drop i (requests s)) (readyIn s u mid)
+abbrev restFrom : List ℕ → Store → ℕ → Pool → List Origin → Result Refusal (List ℕ × Ready)
+restFrom s u i mid so = answerAll (namingsIn s) (constantsIn s) (suc (placeCount u)) (drop i (requests s)) (readySoFar s u mid so)
 
 abbrev behind : List ℕ → List ℕ × Ready → Result Refusal (List ℕ × Ready)
 behind l r = good (l ++ r .0, r .1)
@@ -120,7 +120,11 @@ pub record Replying (s p : List ℕ) (t u : Store) (g h : GapTable) (at i : ℕ)
       (end : ℕ) → InTurn anyRequest s (getD (t COUNTS) AT 0) (requests s) end → InTurn anyRequest s at (drop i (requests s)) end
   pub rest :
       (pool : Pool) → PooledIn pool t g →
-      (mid : Pool) × (answeredIn s t pool ≡ (restFrom s u i mid >>= behind (take i (u ANSWERS)))) × PooledIn mid u h
+      (mid : Pool)
+      × (so : List Origin)
+      × (answeredIn s t pool ≡ (restFrom s u i mid so >>= behind (take i (u ANSWERS))))
+      × PooledIn mid u h
+      × (map markOf so ≡ take i (u ORIGINS))
   pub asking : Asking s p u h
   pub visits : visitsOwed s u ≤ visitsOwed s t + i
   pub place : placeCount u ≡ placeCount t + i
@@ -139,7 +143,7 @@ replying-begin s p t g at is word asking =
       few = omega arith;
       word = word;
       turn = λ end i. rw is i;
-      rest = λ pool b. (pool, good-again (answeredIn s t pool), b);
+      rest = λ pool b. (pool, [], good-again (answeredIn s t pool), b, refl);
       asking = asking;
       visits = omega arith;
       place = omega arith;
@@ -163,6 +167,17 @@ take-agree (suc i) (x ∷ l) [] h k same = absurd (omega arith)
 take-agree (suc i) (x ∷ l) (y ∷ m) h k same =
     rw (same 0 (omega arith), take-agree i l m (omega arith) (omega arith) (λ j a. same (suc j) (omega arith)))
 
+-- marks tell what they are of
+word-back : (o : Origin) → originWord (markOf o) ≡ o
+unfolding originWord markOf
+word-back raw = refl
+word-back new = refl
+word-back old = refl
+
+words-back : (so : List Origin) → map originWord (map markOf so) ≡ so
+words-back [] = refl
+words-back (o ∷ so) = rw (word-back o, words-back so)
+
 module _ (s p : List ℕ) (t u : Store) (g h : GapTable) (at i : ℕ) (l : Replying s p t u g h at i) where
   abbrev counted : Store
   counted = put u COUNTS PLACE (placeCount u + 1)
@@ -173,9 +188,9 @@ module _ (s p : List ℕ) (t u : Store) (g h : GapTable) (at i : ℕ) (l : Reply
   pub visits-now : visitsOwed s counted ≤ visitsOwed s t + i
   visits-now = rw (placed-visits s p u PLACE (placeCount u + 1) (omega arith)) (l .visits)
 
-  same-ready : (mid : Pool) → readyIn s counted mid ≡ readyIn s u mid
-  same-ready mid =
-      λ j. record { table = linkedIn s; resolved = placed-resolved s p u PLACE (placeCount u + 1) (omega arith) j; pool = mid }
+  same-ready : (mid : Pool) (so : List Origin) → readySoFar s counted mid so ≡ readySoFar s u mid so
+  same-ready mid so =
+      λ j. record { table = linkedIn s; resolved = placed-resolved s p u PLACE (placeCount u + 1) (omega arith) j; pool = mid; origins = so }
 
   pooled-now : (mid : Pool) → PooledIn mid u h → PooledIn mid counted h
   pooled-now mid = λ b. placed-pooled s p u PLACE (placeCount u + 1) (omega arith) mid h b
@@ -251,9 +266,9 @@ module _ (s p : List ℕ) (t u : Store) (g h : GapTable) (at i : ℕ) (l : Reply
             met = λ pool b f. absurd (omega arith);
             refused =
                 λ pool b f.
-                let (mid, e, m) = l .rest pool b in
-                let refused : answer (chosen .0 .ldc) (goalFor s (chosen .0)) (readyIn s u mid) ≡ bad r =
-                rw (same-ready mid) at (rep .refused mid (pooled-now mid m) z) in
+                let (mid, so, e, m, _) = l .rest pool b in
+                let refused : answer (chosen .0 .ldc) (goalFor s (chosen .0)) (readySoFar s u mid so) ≡ bad r =
+                rw (same-ready mid so) at (rep .refused mid so (pooled-now mid m) z) in
                 e ∙ rw (turned mid, answerAll, refused, atRecord, place-is);
             again = λ f. absurd (omega arith);
             at = λ f. absurd (omega arith);
@@ -269,12 +284,25 @@ module _ (s p : List ℕ) (t u : Store) (g h : GapTable) (at i : ℕ) (l : Reply
             kept = kept-on;
           }
 
-      module _ (z : r ≡ 0) (room : i < length (v ANSWERS)) (same-length : length (v ANSWERS) ≡ length (u ANSWERS)) where
+      module _
+          (z : r ≡ 0) (room : i < length (v ANSWERS)) (same-length : length (v ANSWERS) ≡ length (u ANSWERS))
+          (marks-room : i < length (v ORIGINS)) (marks-length : length (v ORIGINS) ≡ length (u ORIGINS)) where
         answers-so-far : take (suc i) (v ANSWERS) ≡ take i (u ANSWERS) ++ (getD (v ANSWERS) i 0 ∷ [])
         answers-so-far =
             take-suc (v ANSWERS) i 0 room
             ∙ ap (λ (x : List ℕ). x ++ (getD (v ANSWERS) i 0 ∷ []))
             (take-agree i (v ANSWERS) (u ANSWERS) (omega arith) (omega arith) (λ j b. rep .others j (λ e. omega arith)))
+
+        marks-so-far : take (suc i) (v ORIGINS) ≡ take i (u ORIGINS) ++ (getD (v ORIGINS) i 0 ∷ [])
+        marks-so-far =
+            take-suc (v ORIGINS) i 0 marks-room
+            ∙ ap (λ (x : List ℕ). x ++ (getD (v ORIGINS) i 0 ∷ []))
+            (take-agree i (v ORIGINS) (u ORIGINS) (omega arith) (omega arith) (λ j b. rep .otherMarks j (λ e. omega arith)))
+
+        marked-so-far :
+            (so : List Origin) (come : Origin) → map markOf so ≡ take i (u ORIGINS) → markOf come ≡ getD (v ORIGINS) i 0 →
+            map markOf (so ++ (come ∷ [])) ≡ take (suc i) (v ORIGINS)
+        marked-so-far so come e f = map-append markOf so (come ∷ []) ∙ rw (e, f) (sym marks-so-far)
 
         pub replying-next :
             (at′ : ℕ) → IsWord at′ →
@@ -288,18 +316,22 @@ module _ (s p : List ℕ) (t u : Store) (g h : GapTable) (at i : ℕ) (l : Reply
               turn = turn;
               rest =
                   λ pool b.
-                  let (mid, e, m) = l .rest pool b in
-                  let (after, found, c) = rep .met mid (pooled-now mid m) z in
-                  let is : answer (chosen .0 .ldc) (goalFor s (chosen .0)) (readyIn s u mid) ≡ good (getD (v ANSWERS) i 0, readyIn s v after) =
-                  rw (same-ready mid) at found in (
+                  let (mid, so, e, m, marks) = l .rest pool b in
+                  let (after, come, found, c, mark) = rep .met mid so (pooled-now mid m) z in
+                  let is :
+                  answer (chosen .0 .ldc) (goalFor s (chosen .0)) (readySoFar s u mid so)
+                  ≡ good (getD (v ANSWERS) i 0, readySoFar s v after (so ++ come ∷ [])) =
+                  rw (same-ready mid so) at found in (
                     after,
+                    so ++ come ∷ [],
                     e
                         ∙ rw (turned mid, answerAll, is, atRecord, add-one i, answers-so-far, place-is)
                         (regroup
-                        (answerAll (namingsIn s) (constantsIn s) (suc (suc (placeCount u))) (drop (suc i) (requests s)) (readyIn s v after))
+                        (answerAll (namingsIn s) (constantsIn s) (suc (suc (placeCount u))) (drop (suc i) (requests s)) (readySoFar s v after (so ++ come ∷ [])))
                         (getD (v ANSWERS) i 0)
                         (take i (u ANSWERS))),
                     c,
+                    rw (add-one i) (marked-so-far so come marks mark),
                   );
               asking = rep .again z;
               visits = omega (arith, rep .visits z, visits-now);
@@ -311,7 +343,7 @@ module _ (s p : List ℕ) (t u : Store) (g h : GapTable) (at i : ℕ) (l : Reply
             }
 
   -- none is left: record 60 is in turn
-  module _ (over : length (requests s) ≤ i) (answers-long : length (u ANSWERS) ≡ length (requests s)) (counts-long : PLACE < length (u COUNTS)) (at-long : AT < length (counted COUNTS)) where
+  module _ (over : length (requests s) ≤ i) (answers-long : length (u ANSWERS) ≡ length (requests s)) (marks-long : length (u ORIGINS) ≡ length (requests s)) (counts-long : PLACE < length (u COUNTS)) (at-long : AT < length (counted COUNTS)) where
     abbrev last : Store
     last = put counted COUNTS AT at
 
@@ -321,15 +353,18 @@ module _ (s p : List ℕ) (t u : Store) (g h : GapTable) (at i : ℕ) (l : Reply
         let all : length (requests s) ≡ i = omega (arith, l .few) in
         let none : drop i (requests s) ≡ [] = rw (← all) (drop-length (requests s)) in
         let whole : take i (u ANSWERS) ≡ u ANSWERS = take-all i (u ANSWERS) (omega arith) in
+        let marks-whole : take i (u ORIGINS) ≡ u ORIGINS = take-all i (u ORIGINS) (omega arith) in
         record {
           met =
               λ pool b f.
-              let (mid, e, m) = l .rest pool b in
-              let ready : readyIn s last mid ≡ readyIn s u mid =
-              (λ j. record { table = linkedIn s; resolved = placed-resolved s p counted AT at (omega arith) j; pool = mid }) ∙ same-ready mid in (
+              let (mid, so, e, m, marks) = l .rest pool b in
+              let told : map originWord (u ORIGINS) ≡ so = ap (map originWord) (sym (marks ∙ marks-whole)) ∙ words-back so in
+              let ready : readyIn s last mid ≡ readySoFar s u mid so =
+              (λ j. record { table = linkedIn s; resolved = placed-resolved s p counted AT at (omega arith) j; pool = mid; origins = told j }) ∙ same-ready mid so in (
                 mid,
                 e ∙ rw (none, answerAll, whole, append-nil, ready),
                 placed-pooled s p counted AT at (omega arith) mid h (pooled-now mid m),
+                ap (map markOf) told ∙ marks ∙ marks-whole,
               );
           refused = λ pool b f. absurd (omega arith);
           again = λ f. placed-asking s p counted AT at (omega arith) h asking-now;
@@ -367,6 +402,7 @@ replied-on s p at i x y v h o r e told q next f c = subst (λ (z : Store). Repli
 
 pub record Counted (s p : List ℕ) : Type 0 where
   pub answers : size p ANSWERS ≡ length (jobIn s .requests)
+  pub origins : size p ORIGINS ≡ length (jobIn s .requests)
   pub counts : size p COUNTS ≡ 20
   pub short : length s ≤ 1048576
 
@@ -375,14 +411,15 @@ unfolding countsIn countsOf
 requests-counted s p work =
     record {
       answers = work-sizes s p work .answers;
+      origins = work-sizes s p work .origins;
       counts = work-sizes s p work .counts;
       short = small s (work-formed s p work) .bytes;
     }
 
 pub ended :
     (s p : List ℕ) (t u : Store) (g h : GapTable) (at i : ℕ) → Replying s p t u g h at i → length (jobIn s .requests) ≤ i →
-    length (u ANSWERS) ≡ length (jobIn s .requests) → length (u COUNTS) ≡ 20 →
+    length (u ANSWERS) ≡ length (jobIn s .requests) → length (u ORIGINS) ≡ length (jobIn s .requests) → length (u COUNTS) ≡ 20 →
     (x y : Store) → x ≡ put u COUNTS PLACE (placeCount u + 1) → length (x COUNTS) ≡ 20 → y ≡ put x COUNTS AT at → RepliedAll s p t y g h 0
-ended s p t u g h at i l over answers counts x y e long f =
+ended s p t u g h at i l over answers marks counts x y e long f =
     rw (f, e)
-    (replying-end s p t u g h at i l over answers (omega arith) (omega (arith, ap (λ (z : Store). length (z COUNTS)) e)))
+    (replying-end s p t u g h at i l over answers marks (omega arith) (omega (arith, ap (λ (z : Store). length (z COUNTS)) e)))

@@ -2,17 +2,19 @@
 use mathlib.Core.Bool.{Bool, true, false}
 use mathlib.Core.List.{List, _∷_}
 use mathlib.Core.Logic.{inl, inr}
-use mathlib.Core.Path.{_≡_, refl, ap, _∙_}
-use Prim.Native.Nat.{ℕ, _+_, _-_, _≤_, _<_}
+use mathlib.Core.Option.{none, some}
+use mathlib.Core.Path.{_≡_, refl, sym, ap, subst, _∙_}
+use Prim.Native.Nat.{ℕ, zero, suc, _+_, _-_, _≤_, _<_}
 use native.Mathlib.Omega.{arith}
+use lib.Dec.{ltb}
 use lib.ListN.{length, getD}
 use borrow.Author.Tests.{lt-ltb, le-ltb}
-use Rattle.definition.specs.Basics.{good}
+use Rattle.definition.specs.Basics.{good, lookup}
 use Rattle.definition.specs.Shapes.{isWide}
 use Rattle.definition.specs.Definitions.{tagAt}
 use Rattle.definition.specs.Resolving.{Node, firstNode}
 use Rattle.definition.specs.Slots.{slotFor}
-use Rattle.definition.specs.Building.{Pool, noSlot, give, allocate, slotOf}
+use Rattle.definition.specs.Building.{Pool, noSlot, give, allocate, slotOf, raw, new, old, originOf, markOf}
 use Rattle.laws.proofs.slots.SlotRequest.{allocate-new, allocate-old}
 use Rattle.slots.specs.Gaps.{GapTable}
 use Rattle.store.specs.Store.{Store, size, IsWord}
@@ -22,7 +24,9 @@ use Rattle.store.specs.Words.{ENTRY, childSlot}
 use Rattle.store.proofs.Bounds.{small}
 use Rattle.store.proofs.Laying.{work-sizes, work-formed, entries-counted}
 use Rattle.interner.specs.Nodes.{nodeCount, nodesIn}
-use Rattle.pool.specs.Pooled.{Has, Lacks, slotsIn, PooledIn, LiveIn, pendingCount, NodesThere, Took, Gave, Slotted}
+use Rattle.pool.specs.Pooled.{Has, Lacks, slotsIn, PooledIn, LiveIn, pendingCount, NodesThere, Took, Gave, codeIn, markIn, keptReply, newReply, Marked, Slotted}
+use Rattle.pool.specs.declared.Reply.{Reply}
+use Rattle.pool.specs.declared.Reply.the-variants as reply
 use Rattle.pool.proofs.Words.{child-raw, child-node, word-none, word-some, zeros-some}
 use Rattle.pool.proofs.Giving.{goes-not, goes-then, goes-took, pooled-took, goes-gave, pooled-gave, gave-slot}
 
@@ -166,3 +170,73 @@ module _
       let n : k < nodeCount t = omega (arith, lacks .0) in
       let m = node-given s p t there in
       slotted-new n (omega arith) (omega (arith, z .counts))
+
+-- HOW A CHILD COMES BY ITS SLOT
+
+origin-raw : (child : ℕ) (pool : Pool) → child < firstNode → originOf child pool ≡ raw
+unfolding originOf
+origin-raw child pool h = rw (lt-ltb child firstNode h, originOf)
+
+origin-old : (child slot : ℕ) (pool : Pool) → firstNode ≤ child → lookup (child - firstNode) (pool .given) ≡ some slot → originOf child pool ≡ old
+unfolding originOf
+origin-old child slot pool h e = rw (le-ltb child firstNode h, e, originOf)
+
+origin-new : (child : ℕ) (pool : Pool) → firstNode ≤ child → lookup (child - firstNode) (pool .given) ≡ none → originOf child pool ≡ new
+unfolding originOf
+origin-new child pool h e = rw (le-ltb child firstNode h, e, originOf)
+
+pub kept-raw : (child : ℕ) → child < ENTRY → keptReply child ≡ reply.Raw
+unfolding keptReply
+kept-raw child h = rw (lt-ltb child ENTRY h, keptReply)
+
+pub kept-old : (child : ℕ) → ENTRY ≤ child → keptReply child ≡ reply.Old
+unfolding keptReply
+kept-old child h = rw (le-ltb child ENTRY h, keptReply)
+
+pub new-given : (code : ℕ) → code ≡ 0 → newReply code ≡ reply.New
+unfolding newReply
+new-given code e = rw e
+
+pub new-refused : (code : ℕ) → 0 < code → newReply code ≡ reply.Refused code
+unfolding newReply
+new-refused zero h = absurd (omega arith)
+new-refused (suc n) h = refl
+
+-- no slot was needed
+module _ (s : List ℕ) (ldc : Bool) (child : ℕ) (t : Store) (g : GapTable) where
+  kept-code : Has (t GIVEN) child → codeIn (keptReply child) ≡ 0
+  unfolding codeIn
+  kept-code (inl h) = ap codeIn (kept-raw child h)
+  kept-code (inr (h, l)) = ap codeIn (kept-old child h)
+
+  kept-mark : Has (t GIVEN) child → Marked child t g (keptReply child)
+  unfolding markIn markOf
+  kept-mark (inl h) pool q z = ap markIn (kept-raw child h) ∙ ap markOf (sym (origin-raw child pool h))
+  kept-mark (inr (h, l)) pool q z =
+      ap markIn (kept-old child h)
+      ∙ ap markOf (sym (origin-old child (getD (t GIVEN) (child - ENTRY) 0) pool h (q .given (child - ENTRY) ∙ word-some _ l)))
+
+  pub kept-told : Has (t GIVEN) child → (r : Reply) → r ≡ keptReply child → Slotted s ldc child t t g g (codeIn r) × Marked child t g r
+  kept-told has r is =
+      rw is (subst (Slotted s ldc child t t g g) (sym (kept-code has)) (slotted-old s ldc child t g has), kept-mark has)
+
+  -- one was given, or there is none
+  new-code : (code : ℕ) → codeIn (newReply code) ≡ code
+  unfolding codeIn newReply
+  new-code zero = refl
+  new-code (suc n) = refl
+
+  new-mark : Lacks (t GIVEN) child → (code : ℕ) → Marked child t g (newReply code)
+  unfolding codeIn markIn markOf newReply
+  new-mark lacks zero pool q z = ap markOf (sym (origin-new child pool (lacks .0) (q .given (child - ENTRY) ∙ word-none _ (lacks .1))))
+  new-mark lacks (suc n) pool q z = absurd (omega arith)
+
+  pub new-told :
+      Lacks (t GIVEN) child → (u : Store) (h : GapTable) (code : ℕ) → Slotted s ldc child t u g h code → (r : Reply) → r ≡ newReply code →
+      Slotted s ldc child t u g h (codeIn r) × Marked child t g r
+  new-told lacks u h code slotted r is =
+      rw is (subst (Slotted s ldc child t u g h) (sym (new-code code)) slotted, new-mark lacks code)
+
+  -- as callers have it
+  pub slotted-code : (u : Store) (h : GapTable) (r : Reply) (code : ℕ) → code ≡ codeIn r → Slotted s ldc child t u g h (codeIn r) → Slotted s ldc child t u g h code
+  slotted-code u h r code e slotted = rw e slotted

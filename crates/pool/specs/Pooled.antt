@@ -10,7 +10,7 @@ use lib.Dec.{ltb}
 use lib.ListN.{length, getD, take}
 use Rattle.definition.specs.Basics.{good, bad, lookup}
 use Rattle.definition.specs.Slots.{highestSlot, Gap, Slots, slotFor}
-use Rattle.definition.specs.Building.{Pool, noSlot, slotOf, slotsOf, kidsOf}
+use Rattle.definition.specs.Building.{Pool, noSlot, slotOf, originOf, markOf, slotsOf, kidsOf}
 use Rattle.laws.specs.Gaps.{Apart}
 use Rattle.slots.specs.declared.Positions.{Positions}
 use Rattle.slots.specs.declared.Found.{Found}
@@ -20,6 +20,8 @@ use Rattle.store.specs.Store.{Store, size, put, among, Kept}
 use Rattle.store.specs.Regions.{COUNTS, GIVEN, NODE-HEADS, PENDING, NODE-COUNT, GAP-COUNT, ODD, WIDE, PLAIN, PENDING-COUNT, Work}
 use Rattle.store.specs.Words.{ENTRY, childSlot}
 use Rattle.interner.specs.Nodes.{EnteredIn, NodesIn, nodesIn}
+use Rattle.pool.specs.declared.Reply.{Reply}
+use Rattle.pool.specs.declared.Reply.the-variants as reply
 
 -- WORDS
 
@@ -136,6 +138,31 @@ pub record Took (wide ldc : Bool) (t u : Store) (g h : GapTable) (r : ℕ) : Typ
 abbrev pub Gave : ℕ → ℕ → Bool → Store → Store → ℕ → Type 0
 Gave k slot ldc t u r =
     ((slot ≡ 0) × (r ≡ noSlot ldc) × (u ≡ t)) ⊎ ((0 < slot) × (r ≡ 0) × (u ≡ withPending k (put t GIVEN k slot)))
+
+-- how a child comes by its slot, as the code replies: the refusal's number, 0 if there is a slot, and the mark
+unfoldable pub codeIn : Reply → ℕ
+codeIn reply.Raw = 0
+codeIn reply.New = 0
+codeIn reply.Old = 0
+codeIn (reply.Refused n) = n
+
+unfoldable pub markIn : Reply → ℕ
+markIn reply.Raw = 0
+markIn reply.New = 1
+markIn reply.Old = 2
+markIn (reply.Refused n) = 0
+
+-- a child that needs no slot; one that was given one, or refused
+unfoldable pub keptReply : ℕ → Reply
+keptReply child = elim (ltb child ENTRY) [ true ↦ reply.Raw | false ↦ reply.Old ]
+
+unfoldable pub newReply : ℕ → Reply
+newReply zero = reply.New
+newReply (suc n) = reply.Refused (suc n)
+
+-- the mark is the definition's, for the pool before
+abbrev pub Marked : ℕ → Store → GapTable → Reply → Type 0
+Marked child t g r = (pool : Pool) → PooledIn pool t g → codeIn r ≡ 0 → markIn r ≡ markOf (originOf child pool)
 
 -- a child has a slot from then on, or r is the refusal's number
 pub record Slotted (s : List ℕ) (ldc : Bool) (child : ℕ) (t u : Store) (g h : GapTable) (r : ℕ) : Type 0 where

@@ -1,24 +1,24 @@
 -- Requests in the regions: what a request works on, and what it leaves. Assumes nothing.
 use mathlib.Core.Bool.{Bool, false, _||_, not}
-use mathlib.Core.List.{List, [], _∷_}
+use mathlib.Core.List.{List, [], _∷_, _++_, map}
 use mathlib.Core.Logic.{_⊎_}
 use mathlib.Core.Option.{some}
 use mathlib.Core.Path.{_≡_}
-use Prim.Native.Nat.{ℕ, suc, _+_, _≤_, _<_}
+use Prim.Native.Nat.{ℕ, zero, suc, _+_, _≤_, _<_}
 use lib.Dec.{leb}
 use lib.ListN.{length, getD, getElem?}
 use Rattle.definition.specs.Basics.{Result, good, bad, Refusal, unless}
 use Rattle.definition.specs.Job.{Request}
 use Rattle.definition.specs.Resolving.{Goal, goalOf}
 use Rattle.definition.specs.Slots.{highestLdc}
-use Rattle.definition.specs.Building.{Pool}
+use Rattle.definition.specs.Building.{Pool, Origin, raw, new, old, markOf}
 use Rattle.definition.specs.Layout.{Ready, answer, answerAll}
 use Rattle.laws.specs.Gaps.{Apart}
 use Rattle.job.specs.Stored.{Found, InTurn, anyRequest}
 use Rattle.slots.specs.Gaps.{GapTable}
 use Rattle.store.specs.Store.{Store, size, put, among, Kept}
 use Rattle.store.specs.JobIn.{jobIn, entriesIn, constantsIn, namingsIn, linkedIn}
-use Rattle.store.specs.Regions.{COUNTS, MARKS, GIVEN, NAME-HEADS, NODE-HEADS, NODE-LINKS, CHILDREN, NAME-GOALS, NODES, STACK, PENDING, ANSWERS, PLACE, AT, NODE-COUNT, VISITS, ODD, WIDE, PLAIN, PENDING-COUNT}
+use Rattle.store.specs.Regions.{COUNTS, MARKS, GIVEN, NAME-HEADS, NODE-HEADS, NODE-LINKS, CHILDREN, NAME-GOALS, NODES, STACK, PENDING, ANSWERS, ORIGINS, PLACE, AT, NODE-COUNT, VISITS, ODD, WIDE, PLAIN, PENDING-COUNT}
 use Rattle.store.specs.Words.{goalWord, IsGoal}
 use Rattle.sym_refs.specs.Names.{CitedIn, Goals}
 use Rattle.sym_refs.specs.Leading.{AllNames}
@@ -46,14 +46,28 @@ pub record LeadsTo (s : List ℕ) (goal : Goal) (r : ℕ) : Type 0 where
 abbrev pub low : Bool → ℕ → Result ℕ (Unit {0})
 low ldc slot = unless (not ldc || leb slot highestLdc) 16
 
--- a slot became answer i, or is too high for ldc
-abbrev pub KeptAnswer : Bool → ℕ → ℕ → Store → Store → ℕ → Type 0
-KeptAnswer ldc slot i t u r = ((r ≡ 0) × (low ldc slot ≡ good tt) × (u ≡ put t ANSWERS i slot)) ⊎ ((r ≡ 16) × (low ldc slot ≡ bad 16) × (u ≡ t))
+-- a slot became answer i with its mark, or is too high for ldc
+abbrev pub KeptAnswer : Bool → ℕ → ℕ → ℕ → Store → Store → ℕ → Type 0
+KeptAnswer ldc slot mark i t u r =
+    ((r ≡ 0) × (low ldc slot ≡ good tt) × (u ≡ put (put t ANSWERS i slot) ORIGINS i mark)) ⊎ ((r ≡ 16) × (low ldc slot ≡ bad 16) × (u ≡ t))
 
 -- WHAT REQUESTS WORK ON
 
+-- how the answers were come by, as their marks tell
+unfoldable pub originWord : ℕ → Origin
+originWord zero = raw
+originWord (suc zero) = new
+originWord (suc (suc n)) = old
+
+abbrev pub originsIn : Store → List Origin
+originsIn t = map originWord (t ORIGINS)
+
+-- with the answers so far come by like this, and with all of them
+abbrev pub readySoFar : List ℕ → Store → Pool → List Origin → Ready
+readySoFar s t pool so = record { table = linkedIn s; resolved = resolvedIn s t; pool = pool; origins = so }
+
 abbrev pub readyIn : List ℕ → Store → Pool → Ready
-readyIn s t pool = record { table = linkedIn s; resolved = resolvedIn s t; pool = pool }
+readyIn s t pool = readySoFar s t pool (originsIn t)
 
 pub record Asking (s p : List ℕ) (t : Store) (g : GapTable) : Type 0 where
   pub table : Table s t
@@ -67,17 +81,22 @@ abbrev pub askedCounters : List ℕ
 askedCounters = NODE-COUNT ∷ VISITS ∷ ODD ∷ WIDE ∷ PLAIN ∷ PENDING-COUNT ∷ []
 
 abbrev pub askedRegions : List ℕ
-askedRegions = COUNTS ∷ MARKS ∷ GIVEN ∷ NODE-HEADS ∷ NODE-LINKS ∷ CHILDREN ∷ NODES ∷ STACK ∷ PENDING ∷ ANSWERS ∷ []
+askedRegions = COUNTS ∷ MARKS ∷ GIVEN ∷ NODE-HEADS ∷ NODE-LINKS ∷ CHILDREN ∷ NODES ∷ STACK ∷ PENDING ∷ ANSWERS ∷ ORIGINS ∷ []
 
 -- a request is answered, as answer i, or r is the refusal's number
 pub record Replied (s p : List ℕ) (q : Request) (i : ℕ) (t u : Store) (g h : GapTable) (r : ℕ) : Type 0 where
   pub met :
-      (pool : Pool) → PooledIn pool t g → r ≡ 0 →
-      (after : Pool) × (answer (q .ldc) (goalFor s q) (readyIn s t pool) ≡ good (getD (u ANSWERS) i 0, readyIn s u after)) × PooledIn after u h
-  pub refused : (pool : Pool) → PooledIn pool t g → 0 < r → answer (q .ldc) (goalFor s q) (readyIn s t pool) ≡ bad r
+      (pool : Pool) (so : List Origin) → PooledIn pool t g → r ≡ 0 →
+      (after : Pool)
+      × (come : Origin)
+      × (answer (q .ldc) (goalFor s q) (readySoFar s t pool so) ≡ good (getD (u ANSWERS) i 0, readySoFar s u after (so ++ come ∷ [])))
+      × PooledIn after u h
+      × (markOf come ≡ getD (u ORIGINS) i 0)
+  pub refused : (pool : Pool) (so : List Origin) → PooledIn pool t g → 0 < r → answer (q .ldc) (goalFor s q) (readySoFar s t pool so) ≡ bad r
   pub again : r ≡ 0 → Asking s p u h
   pub visits : r ≡ 0 → visitsOwed s u ≤ visitsOwed s t + 1
   pub others : (j : ℕ) → (j ≡ i → ⊥) → getD (u ANSWERS) j 0 ≡ getD (t ANSWERS) j 0
+  pub otherMarks : (j : ℕ) → (j ≡ i → ⊥) → getD (u ORIGINS) j 0 ≡ getD (t ORIGINS) j 0
   pub apart : (top : ℕ) → Apart top 1 (gapsIn (t COUNTS) g) → Apart top 1 (gapsIn (u COUNTS) h)
   pub long : length h ≡ length g
   pub counters : (c : ℕ) → among c askedCounters ≡ false → getD (u COUNTS) c 0 ≡ getD (t COUNTS) c 0
@@ -96,13 +115,16 @@ RequestsAt s at =
 
 -- what the definition makes of them, the record before them being in turn
 abbrev pub answeredIn : List ℕ → Store → Pool → Result Refusal (List ℕ × Ready)
-answeredIn s t pool = answerAll (namingsIn s) (constantsIn s) (suc (placeCount t)) (jobIn s .requests) (readyIn s t pool)
+answeredIn s t pool = answerAll (namingsIn s) (constantsIn s) (suc (placeCount t)) (jobIn s .requests) (readySoFar s t pool [])
 
 -- all are answered, or r is the refusal's number and PLACE tells the record: t before, u after
 pub record RepliedAll (s p : List ℕ) (t u : Store) (g h : GapTable) (r : ℕ) : Type 0 where
   pub met :
       (pool : Pool) → PooledIn pool t g → r ≡ 0 →
-      (after : Pool) × (answeredIn s t pool ≡ good (u ANSWERS, readyIn s u after)) × PooledIn after u h
+      (after : Pool)
+      × (answeredIn s t pool ≡ good (u ANSWERS, readyIn s u after))
+      × PooledIn after u h
+      × (map markOf (originsIn u) ≡ u ORIGINS)
   pub refused : (pool : Pool) → PooledIn pool t g → 0 < r → answeredIn s t pool ≡ bad (record { code = r; place = placeCount u })
   pub again : r ≡ 0 → Asking s p u h
   -- record 60 is in turn

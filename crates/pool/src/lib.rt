@@ -18,6 +18,7 @@ use store::HELD_COUNT;
 use store::NODES;
 use store::ODD;
 use store::OFFSETS;
+use store::ORIGINS;
 use store::PENDING;
 use store::PENDING_COUNT;
 use store::PLACE;
@@ -40,17 +41,25 @@ ghost use Rattle.definition.specs.Building.{noSlot};
 ghost use Rattle.job.specs.Stored.{Stands, WhatStands, anyRequest};
 ghost use Rattle.slots.specs.Gaps.{AtMost, Written};
 ghost use Rattle.store.specs.Store.{size, store, put, On, IsWord, Read};
-ghost use Rattle.store.specs.Regions.{COUNTS, GIVEN, NAME-HEADS, NAME-GOALS, RAW-KEYS, RAW-ENTRIES, ORDER, PENDING, ANSWERS, NODES, OFFSETS, FIRSTS, SIZES, AT, HELD-COUNT, PLAIN, PENDING-COUNT, Work};
+ghost use Rattle.store.specs.Regions.{COUNTS, GIVEN, NAME-HEADS, NAME-GOALS, RAW-KEYS, RAW-ENTRIES, ORDER, PENDING, ANSWERS, ORIGINS, NODES, OFFSETS, FIRSTS, SIZES, AT, HELD-COUNT, PLAIN, PENDING-COUNT, Work};
 ghost use Rattle.store.specs.JobIn.{jobIn};
 ghost use Rattle.store.specs.Words.{ENTRY, childSlot};
 ghost use Rattle.interner.specs.Nodes.{nodeCount, nodesIn};
-ghost use Rattle.pool.specs.Pooled.{Has, Lacks, positionsIn, GapsLive, NodesThere, withPositions, pendingCount, withPending, slotFound, LiveIn, KidsThere, Took, Gave, Slotted, SlottedAll, Popped};
+ghost use Rattle.pool.specs.Pooled.{Has, Lacks, positionsIn, GapsLive, NodesThere, withPositions, pendingCount, withPending, slotFound, LiveIn, KidsThere, Took, Gave, keptReply, newReply, codeIn, markIn, Marked, Slotted, SlottedAll, Popped};
 ghost use Rattle.raws.specs.Raws.{heldCount};
 ghost use Rattle.pool.specs.Starting.{orderKeys, rawAt, CanPush, RawPushed, CanPushAll, RawsPushed, SomeStart, PoolStarted};
 ghost use Rattle.sym_refs.specs.Names.{Goals};
 ghost use Rattle.sym_refs.specs.Leading.{AllNames};
 ghost use Rattle.resolver.specs.Resolved.{visitsOwed};
 ghost use Rattle.pool.specs.Replying.{RequestAt, WhatRequest, goalFor, LeadsTo, low, KeptAnswer, Asking, Replied, placeCount, RequestsAt, RepliedAll};
+
+// How a child comes by its slot: it is a raw number, or it gets the slot now, or it was given earlier; or there is none, 14 or 15.
+pub enum Reply {
+    Raw,
+    New,
+    Old,
+    Refused(usize),
+}
 
 // The slot of a child that has one: a raw number is itself.
 pub fn child_slot(w: &[u32], p: &[usize], child: usize) -> usize
@@ -180,7 +189,51 @@ fn give(w: &mut [u32], p: &[usize], k: usize, slot: usize, ldc: bool) -> usize
     0
 }
 
-// A child has a slot from then on, 0; 14 or 15 if there is none.
+// The reply for a child that needs no slot.
+fn kept_slot(child: usize) -> Reply
+    ensures { λ r. ⌜ r ≡ keptReply child ⌝ }
+{
+    if child < ENTRY {
+        return Reply::Raw;
+    }
+    Reply::Old
+}
+
+// The reply where a slot was given, 0, or refused.
+fn new_slot(code: usize) -> Reply
+    ensures { λ r. ⌜ r ≡ newReply code ⌝ }
+{
+    if code == 0 {
+        return Reply::New;
+    }
+    Reply::Refused(code)
+}
+
+// The refusal's number, 0 if there is a slot.
+pub fn code_of(reply: Reply) -> usize
+    ensures { λ r. ⌜ r ≡ codeIn reply ⌝ }
+{
+    match reply {
+        Reply::Raw => 0,
+        Reply::New => 0,
+        Reply::Old => 0,
+        Reply::Refused(code) => code,
+    }
+}
+
+// The number that marks an answer: `markOf`.
+fn mark_of(reply: Reply) -> usize
+    ensures { λ r. ⌜ (r ≡ markIn reply) × IsWord r ⌝ }
+{
+    match reply {
+        Reply::Raw => 0,
+        Reply::New => 1,
+        Reply::Old => 2,
+        Reply::Refused(_) => 0,
+    }
+}
+
+// A child has a slot from then on, and how it came by it; 14 or 15 if there is none.
 pub fn slot_of(
     job: &[u8],
     w: &mut [u32],
@@ -188,17 +241,18 @@ pub fn slot_of(
     gaps: &mut [Gap],
     child: usize,
     ldc: bool,
-) -> usize
+) -> Reply
     requires { ⌜ On (now p) (length (now w)) × NodesThere (now job) (now p) (store (now p) (now w)) × LiveIn (store (now p) (now w)) (now gaps) × (child < ENTRY + nodeCount (store (now p) (now w))) ⌝ }
-    ensures { λ r. ⌜ Slotted (now (job .entry)) ldc child (store (now (p .entry)) (now (w .entry))) (store (now (p .entry)) (now (w .exit))) (now (gaps .entry)) (now (gaps .exit)) r ⌝ }
+    ensures { λ r. ⌜ Slotted (now (job .entry)) ldc child (store (now (p .entry)) (now (w .entry))) (store (now (p .entry)) (now (w .exit))) (now (gaps .entry)) (now (gaps .exit)) (codeIn r) × Marked child (store (now (p .entry)) (now (w .entry))) (now (gaps .entry)) r ⌝ }
 {
     if has_slot(w, p, child) {
-        return 0;
+        return kept_slot(child);
     }
     let k = child - ENTRY;
     let wide = node_is_wide(job, w, p, k);
     let slot = take_slot(w, p, gaps, wide, ldc);
-    give(w, p, k, slot, ldc)
+    let code = give(w, p, k, slot, ldc);
+    new_slot(code)
 }
 
 // Node k's children have slots from then on, left to right, 0, or 14.
@@ -211,7 +265,8 @@ pub fn slots_of(job: &[u8], w: &mut [u32], p: &[usize], gaps: &mut [Gap], k: usi
     let mut i = 0;
     while i < n {
         let child = load(w, p, CHILDREN, first + i);
-        let code = slot_of(job, w, p, gaps, child, false);
+        let reply = slot_of(job, w, p, gaps, child, false);
+        let code = code_of(reply);
         if code != 0 {
             return code;
         }
@@ -309,16 +364,24 @@ fn too_high(ldc: bool, slot: usize) -> bool
     if ldc { 255 < slot } else { false }
 }
 
-// The slot of a child is answer i, 0; 16 if it is an ldc answer above 255.
-fn keep_answer(w: &mut [u32], p: &[usize], i: usize, child: usize, ldc: bool) -> usize
-    requires { ⌜ On (now p) (length (now w)) × (i < size (now p) ANSWERS) × (child < ENTRY + size (now p) GIVEN) ⌝ }
-    ensures { λ r. ⌜ KeptAnswer ldc (childSlot (store (now (p .entry)) (now (w .entry)) GIVEN) child) i (store (now (p .entry)) (now (w .entry))) (store (now (p .entry)) (now (w .exit))) r ⌝ }
+// The slot of a child is answer i, marked with how it was come by, 0; 16 if it is an ldc answer above 255.
+fn keep_answer(
+    w: &mut [u32],
+    p: &[usize],
+    i: usize,
+    child: usize,
+    ldc: bool,
+    mark: usize,
+) -> usize
+    requires { ⌜ On (now p) (length (now w)) × (i < size (now p) ANSWERS) × (i < size (now p) ORIGINS) × (child < ENTRY + size (now p) GIVEN) × IsWord mark ⌝ }
+    ensures { λ r. ⌜ KeptAnswer ldc (childSlot (store (now (p .entry)) (now (w .entry)) GIVEN) child) mark i (store (now (p .entry)) (now (w .entry))) (store (now (p .entry)) (now (w .exit))) r ⌝ }
 {
     let slot = child_slot(w, p, child);
     if too_high(ldc, slot) {
         return 16;
     }
     save(w, p, ANSWERS, i, slot);
+    save(w, p, ORIGINS, i, mark);
     0
 }
 
@@ -334,11 +397,13 @@ fn answer(job: &[u8], w: &mut [u32], p: &[usize], gaps: &mut [Gap], at: usize, i
     }
     let child = resolver::child_of(w, p, goal);
     let ldc = asks_ldc(job, at);
-    let code = slot_of(job, w, p, gaps, child, ldc);
+    let reply = slot_of(job, w, p, gaps, child, ldc);
+    let code = code_of(reply);
     if code != 0 {
         return code;
     }
-    keep_answer(w, p, i, child, ldc)
+    let mark = mark_of(reply);
+    keep_answer(w, p, i, child, ldc, mark)
 }
 
 // The requests in turn, 0, or a refusal's number. Then record 60 is in turn.

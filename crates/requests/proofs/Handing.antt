@@ -1,5 +1,5 @@
 -- What the pool's start hands to the requests: they stand in turn, and the definition's requests start from the same. Assumes nothing.
-use mathlib.Core.List.{List, map}
+use mathlib.Core.List.{List, [], map}
 use mathlib.Core.Path.{_≡_, refl, sym, ap, subst, _∙_}
 use Prim.Native.Nat.{ℕ, suc, _+_}
 use native.Mathlib.Omega.{arith}
@@ -25,7 +25,7 @@ use Rattle.definitions.specs.Defining.{placeCount}
 use Rattle.definitions.specs.Begun.{readyFrom, AtFifty}
 use Rattle.definitions.proofs.Beginning.{counted}
 use Rattle.pool.specs.Starting.{startPool, PoolStarted}
-use Rattle.pool.specs.Replying.{readyIn, Asking, RequestsAt, answeredIn}
+use Rattle.pool.specs.Replying.{readySoFar, Asking, RequestsAt, answeredIn}
 use Rattle.pool.proofs.Meeting.{requests-stand}
 use Rattle.pool.proofs.InTurn.{requests-counted}
 use Rattle.requests.specs.Asked.{requestsIn, askedIn}
@@ -121,7 +121,7 @@ module _ (s p : List ℕ) (top : ℕ) (t u : Store) (d : Defined) (f : AtFifty p
 
   pub replies-are : answeredIn s u firstPool ≡ replies
   replies-are =
-      let ready : readyIn s u firstPool ≡ firstReady = λ j. record { table = linkedIn s; resolved = same-resolved j; pool = firstPool } in
+      let ready : readySoFar s u firstPool [] ≡ firstReady = λ j. record { table = linkedIn s; resolved = same-resolved j; pool = firstPool; origins = [] } in
       rw (started-place, ready)
 
   replies-here : askedIn top s ≡ (replies >>= λ r. good (d, firstReady, r .0, r .1))

@@ -1,6 +1,6 @@
 -- A job up to its last request, from record 50: the words that building starts from, or a refusal. Assumes nothing.
 use mathlib.Core.Bool.{false}
-use mathlib.Core.List.{List, [], _∷_}
+use mathlib.Core.List.{List, [], _∷_, map}
 use mathlib.Core.Option.{some}
 use mathlib.Core.Path.{_≡_, refl, sym, ap, subst, _∙_}
 use Prim.Native.Nat.{ℕ, _+_, _<_}
@@ -9,18 +9,18 @@ use lib.ListN.{getD, drop}
 use Rattle.definition.specs.Basics.{good, _>>=_}
 use Rattle.definition.specs.Job.{readBuild}
 use Rattle.definition.specs.Definitions.{Defined}
-use Rattle.definition.specs.Building.{Pool}
+use Rattle.definition.specs.Building.{Pool, markOf}
 use Rattle.laws.specs.Statements.{IsBytes}
 use Rattle.slots.specs.Gaps.{GapTable}
 use Rattle.store.specs.Store.{Store, among, On}
 use Rattle.store.specs.JobIn.{jobIn, constantsIn}
-use Rattle.store.specs.Regions.{COUNTS, INDEXES, RAW-HEADS, ROW-HEADS, OWNER-HEADS, RAW-LINKS, RAW-KEYS, RAW-ENTRIES, ORDER, PENDING, ANSWERS, PLACE, AT, RAW-COUNT, HELD-COUNT, GAP-COUNT, PENDING-COUNT, ROW-COUNT, WRITTEN-COUNT, INLINE-COUNT, NAME-SLOT, Work}
+use Rattle.store.specs.Regions.{COUNTS, INDEXES, RAW-HEADS, ROW-HEADS, OWNER-HEADS, RAW-LINKS, RAW-KEYS, RAW-ENTRIES, ORDER, PENDING, ANSWERS, ORIGINS, PLACE, AT, RAW-COUNT, HELD-COUNT, GAP-COUNT, PENDING-COUNT, ROW-COUNT, WRITTEN-COUNT, INLINE-COUNT, NAME-SLOT, Work}
 use Rattle.raws.specs.Raws.{rawCount, RawsIn}
 use Rattle.resolver.specs.Resolved.{resolvedIn}
 use Rattle.definitions.specs.Begun.{readyFrom, Begun, AtFifty}
 use Rattle.pool.specs.Pooled.{PooledIn}
 use Rattle.pool.specs.Starting.{CanStart, PoolStarted}
-use Rattle.pool.specs.Replying.{readyIn, askedCounters, askedRegions, RepliedAll}
+use Rattle.pool.specs.Replying.{originsIn, readyIn, askedCounters, askedRegions, RepliedAll}
 use Rattle.requests.specs.Asked.{requestsIn, askedIn, AskedWords, Asked, AskedAll}
 use Rattle.requests.proofs.Settling.{raw-done}
 use Rattle.requests.proofs.Handing.{started-at, started-place, firstPool, replies, replies-are, asked-good, asked-bad}
@@ -60,7 +60,7 @@ module _
 
     module _
         (pool : Pool) (pooled : PooledIn pool v k)
-        (is : replies s p top t u d f g h started ≡ good (v ANSWERS, readyIn s v pool)) where
+        (is : replies s p top t u d f g h started ≡ good (v ANSWERS, readyIn s v pool)) (marks : map markOf (originsIn v) ≡ v ORIGINS) where
       words : AskedWords p top s v k d
       words =
           let a = replied .again refl in
@@ -84,6 +84,7 @@ module _
             place = omega (arith, replied .place refl, started-place s p top t u d f g h started);
             build = build-there;
             small = answers-small s p work bytes top t d f v pool is;
+            marks = marks;
           }
 
       asked-through : Asked p top s v k d (readyFrom top s d (resolvedIn s t)) pool
@@ -108,7 +109,7 @@ module _
         places = (work, on);
         through =
             λ e.
-            let (pool, is, pooled) = replied .met start first e in
-            (d, readyFrom top s d (resolvedIn s t), pool, asked-through (subst (RepliedAll s p u v h k) e replied) pool pooled (sym are ∙ is));
+            let (pool, is, pooled, marks) = replied .met start first e in
+            (d, readyFrom top s d (resolvedIn s t), pool, asked-through (subst (RepliedAll s p u v h k) e replied) pool pooled (sym are ∙ is) marks);
         refused = λ z. asked-bad s p top t u d f g h started _ (sym are ∙ replied .refused start first z);
       }

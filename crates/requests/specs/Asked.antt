@@ -1,5 +1,5 @@
 -- A job up to its last request: what the definition makes of it, and what the words then are. Assumes nothing.
-use mathlib.Core.List.{List, []}
+use mathlib.Core.List.{List, [], map}
 use mathlib.Core.Logic.{_⊎_}
 use mathlib.Core.Option.{some}
 use mathlib.Core.Path.{_≡_}
@@ -8,13 +8,13 @@ use lib.ListN.{length, getD, drop}
 use Rattle.definition.specs.Basics.{Result, good, bad, _>>=_, Refusal}
 use Rattle.definition.specs.Job.{readBuild}
 use Rattle.definition.specs.Definitions.{Defined}
-use Rattle.definition.specs.Building.{Pool}
+use Rattle.definition.specs.Building.{Pool, markOf}
 use Rattle.definition.specs.Layout.{Ready, answerAll, endDefinitions}
 use Rattle.laws.specs.Gaps.{Apart}
 use Rattle.slots.specs.Gaps.{GapTable}
 use Rattle.store.specs.Store.{Store, size, On}
 use Rattle.store.specs.JobIn.{jobIn, definitionsIn, constantsIn, entriesIn, linkedIn}
-use Rattle.store.specs.Regions.{COUNTS, MARKS, INDEXES, NODE-HEADS, ROW-HEADS, OWNER-HEADS, RAW-KEYS, RAW-ENTRIES, ORDER, ANSWERS, AT, ROW-COUNT, WRITTEN-COUNT, INLINE-COUNT, NAME-SLOT, Work}
+use Rattle.store.specs.Regions.{COUNTS, MARKS, INDEXES, NODE-HEADS, ROW-HEADS, OWNER-HEADS, RAW-KEYS, RAW-ENTRIES, ORDER, ANSWERS, ORIGINS, AT, ROW-COUNT, WRITTEN-COUNT, INLINE-COUNT, NAME-SLOT, Work}
 use Rattle.store.specs.Words.{HALF}
 use Rattle.interner.specs.Nodes.{nodeCount}
 use Rattle.raws.specs.Raws.{rawCount, RawsIn, Ordered}
@@ -22,7 +22,7 @@ use Rattle.resolver.specs.Resolved.{Table, AtRest}
 use Rattle.definitions.specs.Defining.{definedIn, placeCount}
 use Rattle.definitions.specs.Begun.{begunIn}
 use Rattle.pool.specs.Pooled.{gapsIn, PooledIn, LiveIn}
-use Rattle.pool.specs.Replying.{readyIn}
+use Rattle.pool.specs.Replying.{originsIn, readyIn}
 use Rattle.pool.specs.Owning.{IsOwner, OnStack}
 
 -- the requests, where record 50 has come to this
@@ -67,6 +67,7 @@ pub record AskedWords (p : List ℕ) (top : ℕ) (s : List ℕ) (u : Store) (h :
   pub place : placeCount u ≡ suc (length (definitionsIn s) + length (jobIn s .requests))
   pub build : readBuild (drop (getD (u COUNTS) AT 0 + 1) s) ≡ some (jobIn s .build, [])
   pub small : (i : ℕ) → i < size p ANSWERS → getD (u ANSWERS) i 0 < 65536
+  pub marks : map markOf (originsIn u) ≡ u ORIGINS
 
 -- all requests are answered, and the words are the definition's answers, resolved state and pool
 pub record Asked (p : List ℕ) (top : ℕ) (s : List ℕ) (u : Store) (h : GapTable) (d : Defined) (ready : Ready) (pool : Pool) : Type 0 where

@@ -9,6 +9,8 @@ use Rattle.rows.proofs.Starting.{row-room}
 use Rattle.store.proofs.Stores.{length-store}
 use Rattle.store.specs.Regions.{NODES, INDEXES}
 use Rattle.store.specs.Store.{store}
+use mathlib.Core.Bool.{false}
+use Rattle.pool.proofs.Slotting.{slotted-code}
 use borrow.Author.Needs.{needs}
 use Rattle.building.proofs.number_child.Statement.{statement}
 use Rattle.building.proofs.number_child.Proof.Tie as tie
@@ -34,6 +36,9 @@ returns c = let a = c .before .before .before .before .before .before .before .b
 slot-of-requires : tie.Need-slot-of-requires
 slot-of-requires c κs = let a = c .before .before .before .before .before .before .before .before .args in let q = c .before .before .before .before .before .before .before .before .pre in let s = a .job .now in let p = a .p .now in (search needs, there-now s p (store p (a .w .now)) (q .1) (q .2 .standing), q .2 .live, q .3)
 
+code-of-requires : tie.Need-code-of-requires
+code-of-requires c κs = tt
+
 same-length-3 : tie.Need-same-length-3
 same-length-3 c = search needs
 
@@ -41,7 +46,7 @@ same-length-4 : tie.Need-same-length-4
 same-length-4 c = search needs
 
 returns-2 : tie.Need-returns-2
-returns-2 c = let a = c .before .before .before .before .before .before .before .before .before .before .before .before .args in let q = c .before .before .before .before .before .before .before .before .before .before .before .before .pre in let s = a .job .now in let p = a .p .now in let b = c .before .before .before .before .before .before .before .is-bootstrap in let x = c .before .before .before .slot-of in child-slotted s p (store p (a .w .now)) (a .gaps .now) (q .1) (q .2) (length-store p (a .w .now) NODES) (a .child) (q .3) (store p (x .last .1 .0)) (x .last .1 .1 .1 .0) (x .result) (b .result) (b .ensures) (c .before .before .before .before .before .before .if1 .left) (x .ensures)
+returns-2 c = let a = c .before .before .before .before .before .before .before .before .before .before .before .before .before .args in let q = c .before .before .before .before .before .before .before .before .before .before .before .before .before .pre in let s = a .job .now in let p = a .p .now in let b = c .before .before .before .before .before .before .before .before .is-bootstrap in let x = c .before .before .before .before .slot-of in let y = c .code-of in child-slotted s p (store p (a .w .now)) (a .gaps .now) (q .1) (q .2) (length-store p (a .w .now) NODES) (a .child) (q .3) (store p (x .last .1 .0)) (x .last .1 .1 .1 .0) (y .result) (b .result) (b .ensures) (c .before .before .before .before .before .before .before .if1 .left) (slotted-code s false (a .child) (store p (a .w .now)) (a .gaps .now) (store p (x .last .1 .0)) (x .last .1 .1 .1 .0) (x .result) (y .result) (y .ensures) (x .ensures .0))
 
 pub number-child-spec : {M : Type 1} → statement M
 number-child-spec =
@@ -54,6 +59,7 @@ number-child-spec =
     same-length-2
     returns
     slot-of-requires
+    code-of-requires
     same-length-3
     same-length-4
     returns-2)

@@ -7,7 +7,7 @@ use Prim.Native.Nat.{_-_}
 use lib.ListN.{length}
 use Rattle.store.proofs.Stores.{length-store}
 use Rattle.store.specs.Store.{store}
-use Rattle.store.specs.Regions.{COUNTS, ANSWERS}
+use Rattle.store.specs.Regions.{COUNTS, ANSWERS, ORIGINS}
 use Rattle.pool.proofs.Asked.{request-inside, refers}
 use Rattle.pool.proofs.InTurn.{Replying, replying-begin, in-turn, turn-next, place-next, answer-asks, replying-refused, replying-next, counted-is, replied-on, requests-counted, ended}
 use borrow.Author.Needs.{needs}
@@ -57,7 +57,7 @@ loop-less : tie.Need-loop-less Inv-loop μ-loop
 loop-less c = omega (arith, c .before .before .before .before .before .before .before .before .before .before .before .before .loop-test .taken)
 
 loop-again : tie.Need-loop-again Inv-loop μ-loop
-loop-again c = let a = c .before .before .before .before .before .before .before .before .before .before .before .before .before .before .before .before .before .before .before .before .args in let q = c .before .before .before .before .before .before .before .before .before .before .before .before .before .before .before .before .before .before .before .before .pre in let s = a .job .now in let p = a .p .now in let t = store p (a .w .now) in let k = requests-counted s p (q .1) in let l = c .before .before .before .before .before .before .before .before .before .before .before .before .before .loop in let u = store p (l .w) in let x = store p (c .before .before .before .before .before .before .before .before .before .before .next-count .last .0) in let e = counted-is u x (c .before .before .before .before .before .before .before .before .before .before .next-count .result) (c .before .before .before .before .before .before .before .before .before .before .next-count .ensures .0) (c .before .before .before .before .before .before .before .before .before .before .next-count .ensures .1) in (search needs, search needs, replying-next s p t u (a .gaps .now) (l .gaps) (l .at) (l .i) (l .inv .2) (omega (arith, c .before .before .before .before .before .before .before .before .before .before .before .before .loop-test .taken, c .before .before .before .before .before .before .before .before .before .before .before .before .before .before .before .before .size-of .ensures, k .answers)) (q .3) (store p (c .before .before .before .before .before .answer .last .1 .0)) (c .before .before .before .before .before .answer .last .1 .1 .1 .0) (c .before .before .before .before .before .answer .result) (replied-on s p (l .at) (l .i) x _ (store p (c .before .before .before .before .before .answer .last .1 .0)) (l .gaps) (c .before .before .before .before .before .answer .last .1 .1 .1 .0) (c .before .before .before .before .before .answer .result) e (c .before .before .before .before .before .answer .ensures)) (omega (arith, k .counts, length-store p (l .w) COUNTS)) (c .before .if1 .left) (omega (arith, c .before .before .before .before .before .before .before .before .before .before .before .before .loop-test .taken, c .before .before .before .before .before .before .before .before .before .before .before .before .before .before .before .before .size-of .ensures, length-store p (c .before .before .before .before .before .answer .last .1 .0) ANSWERS)) (length-store p (c .before .before .before .before .before .answer .last .1 .0) ANSWERS ∙ sym (length-store p (l .w) ANSWERS)) (c .after-reference .result) (place-next s p t u (a .gaps .now) (l .gaps) (l .at) (l .i) (l .inv .2) (omega (arith, c .before .before .before .before .before .before .before .before .before .before .before .before .loop-test .taken, c .before .before .before .before .before .before .before .before .before .before .before .before .before .before .before .before .size-of .ensures, k .answers)) (q .3) (k .short) (c .after-reference .result) (c .after-reference .ensures)) (turn-next s p t u (a .gaps .now) (l .gaps) (l .at) (l .i) (l .inv .2) (omega (arith, c .before .before .before .before .before .before .before .before .before .before .before .before .loop-test .taken, c .before .before .before .before .before .before .before .before .before .before .before .before .before .before .before .before .size-of .ensures, k .answers)) (c .after-reference .result) (c .after-reference .ensures)))
+loop-again c = let a = c .before .before .before .before .before .before .before .before .before .before .before .before .before .before .before .before .before .before .before .before .args in let q = c .before .before .before .before .before .before .before .before .before .before .before .before .before .before .before .before .before .before .before .before .pre in let s = a .job .now in let p = a .p .now in let t = store p (a .w .now) in let k = requests-counted s p (q .1) in let l = c .before .before .before .before .before .before .before .before .before .before .before .before .before .loop in let u = store p (l .w) in let x = store p (c .before .before .before .before .before .before .before .before .before .before .next-count .last .0) in let e = counted-is u x (c .before .before .before .before .before .before .before .before .before .before .next-count .result) (c .before .before .before .before .before .before .before .before .before .before .next-count .ensures .0) (c .before .before .before .before .before .before .before .before .before .before .next-count .ensures .1) in (search needs, search needs, replying-next s p t u (a .gaps .now) (l .gaps) (l .at) (l .i) (l .inv .2) (omega (arith, c .before .before .before .before .before .before .before .before .before .before .before .before .loop-test .taken, c .before .before .before .before .before .before .before .before .before .before .before .before .before .before .before .before .size-of .ensures, k .answers)) (q .3) (store p (c .before .before .before .before .before .answer .last .1 .0)) (c .before .before .before .before .before .answer .last .1 .1 .1 .0) (c .before .before .before .before .before .answer .result) (replied-on s p (l .at) (l .i) x _ (store p (c .before .before .before .before .before .answer .last .1 .0)) (l .gaps) (c .before .before .before .before .before .answer .last .1 .1 .1 .0) (c .before .before .before .before .before .answer .result) e (c .before .before .before .before .before .answer .ensures)) (omega (arith, k .counts, length-store p (l .w) COUNTS)) (c .before .if1 .left) (omega (arith, c .before .before .before .before .before .before .before .before .before .before .before .before .loop-test .taken, c .before .before .before .before .before .before .before .before .before .before .before .before .before .before .before .before .size-of .ensures, length-store p (c .before .before .before .before .before .answer .last .1 .0) ANSWERS)) (length-store p (c .before .before .before .before .before .answer .last .1 .0) ANSWERS ∙ sym (length-store p (l .w) ANSWERS)) (omega (arith, c .before .before .before .before .before .before .before .before .before .before .before .before .loop-test .taken, c .before .before .before .before .before .before .before .before .before .before .before .before .before .before .before .before .size-of .ensures, k .answers, k .origins, length-store p (c .before .before .before .before .before .answer .last .1 .0) ORIGINS)) (length-store p (c .before .before .before .before .before .answer .last .1 .0) ORIGINS ∙ sym (length-store p (l .w) ORIGINS)) (c .after-reference .result) (place-next s p t u (a .gaps .now) (l .gaps) (l .at) (l .i) (l .inv .2) (omega (arith, c .before .before .before .before .before .before .before .before .before .before .before .before .loop-test .taken, c .before .before .before .before .before .before .before .before .before .before .before .before .before .before .before .before .size-of .ensures, k .answers)) (q .3) (k .short) (c .after-reference .result) (c .after-reference .ensures)) (turn-next s p t u (a .gaps .now) (l .gaps) (l .at) (l .i) (l .inv .2) (omega (arith, c .before .before .before .before .before .before .before .before .before .before .before .before .loop-test .taken, c .before .before .before .before .before .before .before .before .before .before .before .before .before .before .before .before .size-of .ensures, k .answers)) (c .after-reference .result) (c .after-reference .ensures)))
 
 next-count-requires-2 : tie.Need-next-count-requires-2 Inv-loop μ-loop
 next-count-requires-2 c κs = let a = c .before .before .before .before .before .before .before .before .before .args in let q = c .before .before .before .before .before .before .before .before .before .pre in let s = a .job .now in let p = a .p .now in let t = store p (a .w .now) in let k = requests-counted s p (q .1) in let l = c .before .before .loop in let u = store p (l .w) in (search needs, omega (arith, k .counts), omega (arith, l .inv .2 .place, l .inv .2 .few, q .5))
@@ -72,7 +72,7 @@ same-length-4 : tie.Need-same-length-4 Inv-loop μ-loop
 same-length-4 c = search needs
 
 returns-2 : tie.Need-returns-2 Inv-loop μ-loop
-returns-2 c = let a = c .before .before .before .before .before .before .before .before .before .before .before .before .before .before .before .before .args in let q = c .before .before .before .before .before .before .before .before .before .before .before .before .before .before .before .before .pre in let s = a .job .now in let p = a .p .now in let t = store p (a .w .now) in let k = requests-counted s p (q .1) in let l = c .before .before .before .before .before .before .before .before .before .loop in let u = store p (l .w) in let x = store p (c .before .before .before .before .before .before .next-count2 .last .0) in let e = counted-is u x (c .before .before .before .before .before .before .next-count2 .result) (c .before .before .before .before .before .before .next-count2 .ensures .0) (c .before .before .before .before .before .before .next-count2 .ensures .1) in ended s p t u (a .gaps .now) (l .gaps) (l .at) (l .i) (l .inv .2) (omega (arith, c .before .before .before .before .before .before .before .before .loop-test .left, c .before .before .before .before .before .before .before .before .before .before .before .before .size-of .ensures, k .answers)) (length-store p (l .w) ANSWERS ∙ k .answers) (length-store p (l .w) COUNTS ∙ k .counts) x _ e (length-store p (c .before .before .before .before .before .before .next-count2 .last .0) COUNTS ∙ k .counts) (c .before .before .save .ensures)
+returns-2 c = let a = c .before .before .before .before .before .before .before .before .before .before .before .before .before .before .before .before .args in let q = c .before .before .before .before .before .before .before .before .before .before .before .before .before .before .before .before .pre in let s = a .job .now in let p = a .p .now in let t = store p (a .w .now) in let k = requests-counted s p (q .1) in let l = c .before .before .before .before .before .before .before .before .before .loop in let u = store p (l .w) in let x = store p (c .before .before .before .before .before .before .next-count2 .last .0) in let e = counted-is u x (c .before .before .before .before .before .before .next-count2 .result) (c .before .before .before .before .before .before .next-count2 .ensures .0) (c .before .before .before .before .before .before .next-count2 .ensures .1) in ended s p t u (a .gaps .now) (l .gaps) (l .at) (l .i) (l .inv .2) (omega (arith, c .before .before .before .before .before .before .before .before .loop-test .left, c .before .before .before .before .before .before .before .before .before .before .before .before .size-of .ensures, k .answers)) (length-store p (l .w) ANSWERS ∙ k .answers) (length-store p (l .w) ORIGINS ∙ k .origins) (length-store p (l .w) COUNTS ∙ k .counts) x _ e (length-store p (c .before .before .before .before .before .before .next-count2 .last .0) COUNTS ∙ k .counts) (c .before .before .save .ensures)
 
 pub answer-all-spec : {M : Type 1} → statement M
 answer-all-spec =

@@ -2,6 +2,7 @@
 mod Lts
 mod Tie
 use native.Mathlib.Omega.{arith}
+use mathlib.Core.Bool.{false}
 use mathlib.Core.Path.{_≡_, refl}
 use Prim.Native.Nat.{_-_}
 use lib.ListN.{length}
@@ -9,6 +10,7 @@ use Rattle.store.proofs.Stores.{length-store}
 use Rattle.store.specs.Store.{store}
 use Rattle.store.specs.Regions.{NODES}
 use Rattle.pool.proofs.Children.{Slotting, slotting-begin, slotting-end, slotting-refused, slotting-next, kids-count, kids-room, child-is, child-asks}
+use Rattle.pool.proofs.Slotting.{slotted-code}
 use Rattle.pool.proofs.Nodal.{node-place, entry-places}
 use borrow.Author.Needs.{needs}
 use Rattle.pool.proofs.slots_of.Statement.{statement}
@@ -38,6 +40,9 @@ load-requires c κs = let a = c .before .before .before .before .before .before 
 slot-of-requires : tie.Need-slot-of-requires Inv-loop μ-loop
 slot-of-requires c κs = let a = c .before .before .before .before .before .before .before .before .before .before .before .before .before .args in let q = c .before .before .before .before .before .before .before .before .before .before .before .before .before .pre in let t = store (a .p .now) (a .w .now) in let l = c .before .before .before .before .before .loop in let r = child-asks (a .job .now) (a .p .now) t (q .1) (a .k) (q .3) (length-store (a .p .now) (a .w .now) NODES) (c .before .before .before .before .before .before .before .before .first-child .result) (c .before .before .before .before .before .before .child-count .result) (c .before .before .before .before .before .before .before .before .first-child .ensures .word) (c .before .before .before .before .before .before .child-count .ensures .word) (q .4) (a .gaps .now) (l .gaps) (store (a .p .now) (l .w)) (l .i) (l .inv .2) (c .before .before .before .before .loop-test .taken) (c .before .before .load .result) (c .before .before .load .ensures .word) (q .2) in (search needs, r .0, r .1, r .2)
 
+code-of-requires : tie.Need-code-of-requires Inv-loop μ-loop
+code-of-requires c κs = tt
+
 same-length : tie.Need-same-length Inv-loop μ-loop
 same-length c = search needs
 
@@ -45,16 +50,16 @@ same-length-2 : tie.Need-same-length-2 Inv-loop μ-loop
 same-length-2 c = search needs
 
 returns : tie.Need-returns Inv-loop μ-loop
-returns c = let a = c .before .before .before .before .before .before .before .before .before .before .before .before .before .before .before .before .before .before .args in let q = c .before .before .before .before .before .before .before .before .before .before .before .before .before .before .before .before .before .before .pre in let t = store (a .p .now) (a .w .now) in let l = c .before .before .before .before .before .before .before .before .before .before .loop in let u = store (a .p .now) (l .w) in let o = length-store (a .p .now) (a .w .now) NODES in let first = c .before .before .before .before .before .before .before .before .before .before .before .before .before .first-child in let n = c .before .before .before .before .before .before .before .before .before .before .before .child-count in slotting-refused (a .job .now) (a .k) t u (a .gaps .now) (l .gaps) (l .i) (l .inv .2) (omega (arith, c .before .before .before .before .before .before .before .before .before .loop-test .taken, kids-count (a .job .now) (a .p .now) t (q .1) (a .k) (q .3) o (first .result) (n .result) (first .ensures .word) (n .ensures .word))) (c .before .before .before .before .before .before .before .load .result) (c .before .before .before .before .slot-of .result) (child-is (a .job .now) (a .p .now) t (q .1) (a .k) (q .3) o (first .result) (n .result) (first .ensures .word) (n .ensures .word) (q .4) (a .gaps .now) (l .gaps) u (l .i) (l .inv .2) (c .before .before .before .before .before .before .before .before .before .loop-test .taken) (c .before .before .before .before .before .before .before .load .result) (c .before .before .before .before .before .before .before .load .ensures .word)) _ _ (c .before .before .before .before .slot-of .ensures) (omega (arith, c .if1 .taken))
+returns c = let a = c .before .before .before .before .before .before .before .before .before .before .before .before .before .before .before .before .before .before .before .args in let q = c .before .before .before .before .before .before .before .before .before .before .before .before .before .before .before .before .before .before .before .pre in let t = store (a .p .now) (a .w .now) in let l = c .before .before .before .before .before .before .before .before .before .before .before .loop in let u = store (a .p .now) (l .w) in let o = length-store (a .p .now) (a .w .now) NODES in let first = c .before .before .before .before .before .before .before .before .before .before .before .before .before .before .first-child in let n = c .before .before .before .before .before .before .before .before .before .before .before .before .child-count in slotting-refused (a .job .now) (a .k) t u (a .gaps .now) (l .gaps) (l .i) (l .inv .2) (omega (arith, c .before .before .before .before .before .before .before .before .before .before .loop-test .taken, kids-count (a .job .now) (a .p .now) t (q .1) (a .k) (q .3) o (first .result) (n .result) (first .ensures .word) (n .ensures .word))) (c .before .before .before .before .before .before .before .before .load .result) (c .before .code-of .result) (child-is (a .job .now) (a .p .now) t (q .1) (a .k) (q .3) o (first .result) (n .result) (first .ensures .word) (n .ensures .word) (q .4) (a .gaps .now) (l .gaps) u (l .i) (l .inv .2) (c .before .before .before .before .before .before .before .before .before .before .loop-test .taken) (c .before .before .before .before .before .before .before .before .load .result) (c .before .before .before .before .before .before .before .before .load .ensures .word)) _ _ (slotted-code (a .job .now) false (c .before .before .before .before .before .before .before .before .load .result) u (l .gaps) _ _ (c .before .before .before .before .before .slot-of .result) (c .before .code-of .result) (c .before .code-of .ensures) (c .before .before .before .before .before .slot-of .ensures .0)) (omega (arith, c .if1 .taken))
 
 add-i : tie.Need-add-i Inv-loop μ-loop
-add-i c = omega (arith, c .before .before .before .before .before .before .before .before .before .loop-test .taken, c .before .before .before .before .before .before .before .before .before .before .before .child-count .ensures .small)
+add-i c = omega (arith, c .before .before .before .before .before .before .before .before .before .before .loop-test .taken, c .before .before .before .before .before .before .before .before .before .before .before .before .child-count .ensures .small)
 
 loop-less : tie.Need-loop-less Inv-loop μ-loop
-loop-less c = omega (arith, c .before .before .before .before .before .before .before .before .before .loop-test .taken)
+loop-less c = omega (arith, c .before .before .before .before .before .before .before .before .before .before .loop-test .taken)
 
 loop-again : tie.Need-loop-again Inv-loop μ-loop
-loop-again c = let a = c .before .before .before .before .before .before .before .before .before .before .before .before .before .before .before .before .before .before .args in let q = c .before .before .before .before .before .before .before .before .before .before .before .before .before .before .before .before .before .before .pre in let t = store (a .p .now) (a .w .now) in let l = c .before .before .before .before .before .before .before .before .before .before .loop in let u = store (a .p .now) (l .w) in let o = length-store (a .p .now) (a .w .now) NODES in let first = c .before .before .before .before .before .before .before .before .before .before .before .before .before .first-child in let n = c .before .before .before .before .before .before .before .before .before .before .before .child-count in (search needs, search needs, slotting-next (a .job .now) (a .k) t u (a .gaps .now) (l .gaps) (l .i) (l .inv .2) (omega (arith, c .before .before .before .before .before .before .before .before .before .loop-test .taken, kids-count (a .job .now) (a .p .now) t (q .1) (a .k) (q .3) o (first .result) (n .result) (first .ensures .word) (n .ensures .word))) (c .before .before .before .before .before .before .before .load .result) (c .before .before .before .before .slot-of .result) (child-is (a .job .now) (a .p .now) t (q .1) (a .k) (q .3) o (first .result) (n .result) (first .ensures .word) (n .ensures .word) (q .4) (a .gaps .now) (l .gaps) u (l .i) (l .inv .2) (c .before .before .before .before .before .before .before .before .before .loop-test .taken) (c .before .before .before .before .before .before .before .load .result) (c .before .before .before .before .before .before .before .load .ensures .word)) _ _ (c .before .before .before .before .slot-of .ensures) (c .if1 .left))
+loop-again c = let a = c .before .before .before .before .before .before .before .before .before .before .before .before .before .before .before .before .before .before .before .args in let q = c .before .before .before .before .before .before .before .before .before .before .before .before .before .before .before .before .before .before .before .pre in let t = store (a .p .now) (a .w .now) in let l = c .before .before .before .before .before .before .before .before .before .before .before .loop in let u = store (a .p .now) (l .w) in let o = length-store (a .p .now) (a .w .now) NODES in let first = c .before .before .before .before .before .before .before .before .before .before .before .before .before .before .first-child in let n = c .before .before .before .before .before .before .before .before .before .before .before .before .child-count in (search needs, search needs, slotting-next (a .job .now) (a .k) t u (a .gaps .now) (l .gaps) (l .i) (l .inv .2) (omega (arith, c .before .before .before .before .before .before .before .before .before .before .loop-test .taken, kids-count (a .job .now) (a .p .now) t (q .1) (a .k) (q .3) o (first .result) (n .result) (first .ensures .word) (n .ensures .word))) (c .before .before .before .before .before .before .before .before .load .result) (c .before .code-of .result) (child-is (a .job .now) (a .p .now) t (q .1) (a .k) (q .3) o (first .result) (n .result) (first .ensures .word) (n .ensures .word) (q .4) (a .gaps .now) (l .gaps) u (l .i) (l .inv .2) (c .before .before .before .before .before .before .before .before .before .before .loop-test .taken) (c .before .before .before .before .before .before .before .before .load .result) (c .before .before .before .before .before .before .before .before .load .ensures .word)) _ _ (slotted-code (a .job .now) false (c .before .before .before .before .before .before .before .before .load .result) u (l .gaps) _ _ (c .before .before .before .before .before .slot-of .result) (c .before .code-of .result) (c .before .code-of .ensures) (c .before .before .before .before .before .slot-of .ensures .0)) (c .if1 .left))
 
 same-length-3 : tie.Need-same-length-3 Inv-loop μ-loop
 same-length-3 c = search needs
@@ -77,6 +82,7 @@ slots-of-spec =
     add-load
     load-requires
     slot-of-requires
+    code-of-requires
     same-length
     same-length-2
     returns
