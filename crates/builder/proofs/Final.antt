@@ -1,5 +1,5 @@
 -- The words when a job is built and named, beside what the definition's stages came to. Assumes nothing.
-use mathlib.Core.List.{List, []}
+use mathlib.Core.List.{List, [], map}
 use mathlib.Core.Option.{some}
 use mathlib.Core.Path.{_≡_}
 use Prim.Native.Nat.{ℕ, suc, _+_, _≤_, _<_}
@@ -8,13 +8,13 @@ use Rattle.definition.specs.Basics.{good, lookup}
 use Rattle.definition.specs.Job.{readBuild}
 use Rattle.definition.specs.Definitions.{Defined}
 use Rattle.definition.specs.Slots.{highestSlot, countFrom}
-use Rattle.definition.specs.Building.{Made, buildAll}
+use Rattle.definition.specs.Building.{markOf, Made, buildAll}
 use Rattle.definition.specs.Layout.{Ready, answerAll, endDefinitions, indexNodes}
 use Rattle.laws.specs.Gaps.{Apart}
 use Rattle.slots.specs.Gaps.{GapTable}
 use Rattle.store.specs.Store.{Store, size}
 use Rattle.store.specs.JobIn.{jobIn, definitionsIn, constantsIn, linkedIn}
-use Rattle.store.specs.Regions.{COUNTS, GIVEN, NODE-HEADS, RAW-KEYS, RAW-ENTRIES, ORDER, ANSWERS, AT}
+use Rattle.store.specs.Regions.{COUNTS, GIVEN, NODE-HEADS, RAW-KEYS, RAW-ENTRIES, ORDER, ANSWERS, ORIGINS, AT}
 use Rattle.interner.specs.Nodes.{nodeCount}
 use Rattle.raws.specs.Raws.{rawCount, RawsIn, Ordered}
 use Rattle.resolver.specs.Resolved.{resolvedIn, Table, AtRest}
@@ -56,3 +56,4 @@ pub record Final (s p : List ℕ) (v : Store) (h : GapTable) (d : Defined) (read
   pub place : placeCount v ≡ suc (length (definitionsIn s) + length (jobIn s .requests))
   pub build : readBuild (drop (getD (v COUNTS) AT 0 + 1) s) ≡ some (jobIn s .build, [])
   pub small : (i : ℕ) → i < size p ANSWERS → getD (v ANSWERS) i 0 < 65536
+  pub marks : map markOf (asked .origins) ≡ v ORIGINS

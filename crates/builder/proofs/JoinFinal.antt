@@ -16,7 +16,7 @@ use Rattle.slots.specs.Gaps.{GapTable}
 use Rattle.store.specs.Store.{Store, size}
 use Rattle.store.specs.Chains.{Heads}
 use Rattle.store.specs.JobIn.{jobIn, constantsIn}
-use Rattle.store.specs.Regions.{COUNTS, GIVEN, NODE-HEADS, OWNER-HEADS, OWNER-LINKS, ANSWERS, AT, RAW-COUNT, NODE-COUNT, Work}
+use Rattle.store.specs.Regions.{COUNTS, GIVEN, NODE-HEADS, OWNER-HEADS, OWNER-LINKS, ANSWERS, ORIGINS, AT, RAW-COUNT, NODE-COUNT, Work}
 use Rattle.store.proofs.Bounds.{formed-job, work-heads}
 use Rattle.store.proofs.Laying.{work-sizes, work-formed, entries-counted}
 use Rattle.interner.specs.Nodes.{nodeCount}
@@ -105,6 +105,7 @@ module _
           place = place-at p highestSlot s t u g h r work long d ready pool asked built v later;
           build = rw (later .counters AT refl) (words .build);
           small = rw (later .kept ANSWERS refl) (words .small);
+          marks = words .marks ∙ sym (later .kept ORIGINS refl);
         }
 
   -- w is behind the owners: the definition's layout, and the words that give what it renders

@@ -32,7 +32,7 @@ at-record place r a f e = ap (λ x. atRecord place x >>= f) e
 -- what the definition lays out, by the name's slot and what is made when it has one
 abbrev pub layoutIn : List ℕ → Store → Ready → Made → Made → Layout
 layoutIn s v asked m after =
-    layoutOf highestSlot (v ANSWERS) (asked .resolved .visits) (jobIn s .build .class) (rowed.tableOf (m .rows)) (nameIn v, after)
+    layoutOf highestSlot (v ANSWERS) (asked .origins) (asked .resolved .visits) (jobIn s .build .class) (rowed.tableOf (m .rows)) (nameIn v, after)
 
 module _ (s p : List ℕ) (v : Store) (h : GapTable) (d : Defined) (ready asked : Ready) (m after : Made) (f : Final s p v h d ready asked m after) where
   -- record 60

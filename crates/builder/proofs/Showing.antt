@@ -15,7 +15,7 @@ use Rattle.definition.specs.Numbering.{Literal, literals, numbered}
 use Rattle.definition.specs.Definitions.{Defined}
 use Rattle.definition.specs.Resolving.{Resolved}
 use Rattle.definition.specs.Slots.{Slots, highestSlot, countFrom}
-use Rattle.definition.specs.Building.{Made, contentOf, behind, nothing, emptyText, holds}
+use Rattle.definition.specs.Building.{Origin, raw, new, old, markOf, Made, contentOf, behind, nothing, emptyText, holds}
 use Rattle.definition.specs.Layout.{Ready, Layout, layoutOf, layout}
 use Rattle.definition.specs.Run.{render, shown, slotBytes}
 use Rattle.facts.proofs.Lists.{clash}
@@ -27,7 +27,7 @@ use Rattle.laws.proofs.reading.PoolContents.{spelled, content-holds, content-be
 use Rattle.slots.specs.Gaps.{GapTable, slotsAt}
 use Rattle.store.specs.Store.{Store, over, Kept}
 use Rattle.store.specs.JobIn.{jobIn, definitionsIn}
-use Rattle.store.specs.Regions.{COUNTS, OWNER-HEADS, OWNER-LINKS, ANSWERS, PLACE, VISITS, NAME-SLOT, Work}
+use Rattle.store.specs.Regions.{COUNTS, OWNER-HEADS, OWNER-LINKS, ANSWERS, ORIGINS, PLACE, VISITS, NAME-SLOT, Work}
 use Rattle.rows.specs.Rowed.{tableOf}
 use Rattle.output.specs.Contents.{OwnersMade, poolCount, poolIn}
 use Rattle.output.specs.Rows.{rowCountIn, rowsIn, constantsFor}
@@ -131,6 +131,18 @@ module _
       kids-short : (e : Entry ℕ ℕ) → Fits (spelled all e) → getD (e .kids) 0 0 < 65536
       kids-short e fits = first-short (e .kids) (fits .isFor .shortKids)
 
+-- marks are bytes
+mark-small : (o : Origin) → markOf o < 256
+unfolding markOf
+mark-small raw = omega arith
+mark-small new = omega arith
+mark-small old = omega arith
+
+marks-small : (so : List Origin) (i : ℕ) → getD (map markOf so) i 0 < 256
+marks-small [] i = omega arith
+marks-small (o ∷ so) zero = mark-small o
+marks-small (o ∷ so) (suc i) = marks-small so i
+
 -- THE WORDS SHOW what the definition renders
 pub rendered :
     (s p : List ℕ) (v u : Store) (h : GapTable) (d : Defined) (ready asked : Ready) (m after : Made) →
@@ -146,7 +158,9 @@ rendered s p v u h d ready asked m after are work f made =
         rowsReady = rows-kept s p v u k (rows-ready s p v h d ready asked m after are work f);
         classAt = class-kept s p v u k (class-here s p v h d ready asked m after are work f);
         small = rw (k ANSWERS refl) (f .small);
+        smallMarks = λ i l. rw (k ORIGINS refl, ← f .marks) (marks-small (asked .origins) i);
         answers = k ANSWERS refl;
+        marks = k ORIGINS refl ∙ sym (f .marks);
         pool = pool-as s p v u k ∙ pool-is s p v h d ready asked m after are work f;
         bootstrapCount = count-kept s p v u k ∙ rows-counted s p v h d ready asked m after are work f;
         bootstraps = rows-as s p v u k ∙ rows-are s p v h d ready asked m after are work f;

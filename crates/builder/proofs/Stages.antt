@@ -148,6 +148,6 @@ module _ (top : ℕ) (s : List ℕ) where
     pub laid-out :
         (m : Made) (r : ℕ × Made) → builtIn ≡ good m →
         nameSlot (nameWanted (jobIn s .build .nameByte) (length (rowsOf (m .rows)))) (asked .resolved .nodes) m ≡ good r →
-        layout top (numbered (jobIn s)) ≡ good (layoutOf top answers (asked .resolved .visits) (jobIn s .build .class) (rowsOf (m .rows)) r)
+        layout top (numbered (jobIn s)) ≡ good (layoutOf top answers (asked .origins) (asked .resolved .visits) (jobIn s .build .class) (rowsOf (m .rows)) r)
     unfolding sixtyIn buildLayout atRecord
     laid-out m r built name = at-sixty ∙ rw (built, name)

@@ -10,7 +10,7 @@ use Rattle.definition.specs.Layout.{Layout, layout}
 use Rattle.definition.specs.Run.{Built, render}
 use Rattle.store.specs.Store.{Store, size, On}
 use Rattle.store.specs.JobIn.{jobIn}
-use Rattle.store.specs.Regions.{COUNTS, ANSWERS, VISITS, Work}
+use Rattle.store.specs.Regions.{COUNTS, ANSWERS, ORIGINS, VISITS, Work}
 use Rattle.definitions.specs.Defining.{placeCount}
 use Rattle.output.specs.Contents.{Finished, nameSlot, poolIn}
 use Rattle.output.specs.Rows.{RowsReady, rowCountIn, rowsIn, constantsFor}
@@ -23,8 +23,10 @@ pub record Rendered (s p : List ℕ) (u : Store) (b : Built) : Type 0 where
   pub rowsReady : RowsReady p u
   pub classAt : ClassAt s p u
   pub small : (i : ℕ) → i < size p ANSWERS → getD (u ANSWERS) i 0 < 65536
+  pub smallMarks : (i : ℕ) → i < size p ORIGINS → getD (u ORIGINS) i 0 < 256
   -- and what they are
   pub answers : u ANSWERS ≡ b .answers
+  pub marks : u ORIGINS ≡ b .marks
   pub pool : poolIn s u ≡ b .pool
   pub bootstrapCount : rowCountIn u ≡ b .bootstrapCount
   pub bootstraps : rowsIn (constantsFor p) u ≡ b .bootstraps
