@@ -16,3 +16,4 @@ pub mod AfterBuilding
 pub mod AfterName
 pub mod BuiltJob
 pub mod JobNodesApart
+pub mod MarksOfAnswers

@@ -45,8 +45,8 @@ ClassesAlike j₁ j₂ (some a₁) none = ⊥
 ClassesAlike j₁ j₂ (some a₁) (some a₂) = OwnLiterals j₁ j₂ 1 a₁ a₂
 
 -- SHAPE: two jobs that are alike but for their literals, not refused for length, work or room, are refused alike, or get one layout, in which
--- each shows its own literals (`render`, which uses them only in the pool's entries and the class name), and the same answers, counts,
--- bootstrap bytes, name and visits; and, if they are bytes, their pools as JVMS reads them and their class names differ only in the literals
+-- each shows its own literals (`render`, which uses them only in the pool's entries and the class name), and the same answers and
+-- marks, counts, bootstrap bytes, name and visits; and, if they are bytes, their pools as JVMS reads them and their class names differ only in the literals
 abbrev pub Shape : Type 0
 Shape =
     (bytes₁ bytes₂ : List ℕ) (j₁ j₂ : Job (List ℕ)) (lent₁ lent₂ : Lent) → form bytes₁ ≡ good j₁ → form bytes₂ ≡ good j₂ → Alike j₁ j₂ →
@@ -54,6 +54,7 @@ Shape =
     enough lent₁ bytes₁ → enough lent₂ bytes₂ →
     ((r : Refusal) × (run lent₁ bytes₁ ≡ bad r) × (run lent₂ bytes₂ ≡ bad r))
     ⊎ ((l : Layout) × (b₁ : Built) × (b₂ : Built) × (run lent₁ bytes₁ ≡ good b₁) × (run lent₂ bytes₂ ≡ good b₂)
-    × (b₁ ≡ render (literals j₁) l) × (b₂ ≡ render (literals j₂) l) × (b₁ .answers ≡ b₂ .answers) × (take 2 (b₁ .pool) ≡ take 2 (b₂ .pool))
+    × (b₁ ≡ render (literals j₁) l) × (b₂ ≡ render (literals j₂) l) × (b₁ .answers ≡ b₂ .answers) × (b₁ .marks ≡ b₂ .marks)
+    × (take 2 (b₁ .pool) ≡ take 2 (b₂ .pool))
     × (b₁ .bootstrapCount ≡ b₂ .bootstrapCount) × (b₁ .bootstraps ≡ b₂ .bootstraps) × (b₁ .name ≡ b₂ .name) × (b₁ .visits ≡ b₂ .visits)
     × (IsBytes bytes₁ → IsBytes bytes₂ → PoolsAlike j₁ j₂ (b₁ .pool) (b₂ .pool) × ClassesAlike j₁ j₂ (b₁ .class) (b₂ .class)))

@@ -106,6 +106,7 @@ shape bytes₁ bytes₂ j₁ j₂ lent₁ lent₂ formed₁ formed₂ alike room
       refl,
       refl,
       refl,
+      refl,
       λ are₁ are₂. read-alike l are₁ are₂ e (sym q ∙ e),
     ))
     (λ r e. inl (r, p₁ ∙ ap shown₁ e, p₂ ∙ ap shown₂ (sym q ∙ e)))
