@@ -141,21 +141,28 @@ module _ (lent : Lent) (bytes : List ℕ) (are : IsBytes bytes) where
           b = render (literals job) l
 
           rows : (x : Bool) → leb (length (b .bootstraps)) (lent .bootstraps) ≡ x → (x && leb (length (classOut (b .class))) (lent .class)) ≡ false → Short lent b
-          rows true q t = inr (inr (inr (leb-false (length (classOut (b .class))) (lent .class) t)))
-          rows false q t = inr (inr (inl (leb-false (length (b .bootstraps)) (lent .bootstraps) q)))
+          rows true q t = inr (inr (inr (inr (leb-false (length (classOut (b .class))) (lent .class) t))))
+          rows false q t = inr (inr (inr (inl (leb-false (length (b .bootstraps)) (lent .bootstraps) q))))
 
           pool :
               (x : Bool) → leb (length (b .pool)) (lent .pool) ≡ x →
               (x && (leb (length (b .bootstraps)) (lent .bootstraps) && leb (length (classOut (b .class))) (lent .class))) ≡ false →
               Short lent b
           pool true q t = rows (leb (length (b .bootstraps)) (lent .bootstraps)) refl t
-          pool false q t = inr (inl (leb-false (length (b .pool)) (lent .pool) q))
+          pool false q t = inr (inr (inl (leb-false (length (b .pool)) (lent .pool) q)))
+
+          marks :
+              (x : Bool) → leb (length (b .marks)) (lent .marks) ≡ x →
+              (x && (leb (length (b .pool)) (lent .pool) && (leb (length (b .bootstraps)) (lent .bootstraps) && leb (length (classOut (b .class))) (lent .class)))) ≡ false →
+              Short lent b
+          marks true q t = pool (leb (length (b .pool)) (lent .pool)) refl t
+          marks false q t = inr (inl (leb-false (length (b .marks)) (lent .marks) q))
 
           answers :
               (x : Bool) → leb (length (b .answers)) (lent .answers) ≡ x →
-              (x && (leb (length (b .pool)) (lent .pool) && (leb (length (b .bootstraps)) (lent .bootstraps) && leb (length (classOut (b .class))) (lent .class)))) ≡ false →
+              (x && (leb (length (b .marks)) (lent .marks) && (leb (length (b .pool)) (lent .pool) && (leb (length (b .bootstraps)) (lent .bootstraps) && leb (length (classOut (b .class))) (lent .class))))) ≡ false →
               Short lent b
-          answers true q t = pool (leb (length (b .pool)) (lent .pool)) refl t
+          answers true q t = marks (leb (length (b .marks)) (lent .marks)) refl t
           answers false q t = inl (leb-false (length (b .answers)) (lent .answers) q)
 
       eighteen : fits (render (literals job) l) lent ≡ false → Z 18 (suc (length (job .definitions) + length (job .requests)))

@@ -75,25 +75,29 @@ long-enough : (lent : Lent) (b : Built) → fits b lent ≡ true → Short lent 
 unfolding fits
 long-enough lent b t short =
     let x₁ = leb (length (b .answers)) (lent .answers) in
-    let x₂ = leb (length (b .pool)) (lent .pool) in
-    let x₃ = leb (length (b .bootstraps)) (lent .bootstraps) in
-    let x₄ = leb (length (classOut (b .class))) (lent .class) in
-    let (t₁, u₁) = both-true x₁ (x₂ && (x₃ && x₄)) t in
-    let (t₂, u₂) = both-true x₂ (x₃ && x₄) u₁ in
-    let (t₃, t₄) = both-true x₃ x₄ u₂ in
-    go t₁ t₂ t₃ t₄ short
+    let x₂ = leb (length (b .marks)) (lent .marks) in
+    let x₃ = leb (length (b .pool)) (lent .pool) in
+    let x₄ = leb (length (b .bootstraps)) (lent .bootstraps) in
+    let x₅ = leb (length (classOut (b .class))) (lent .class) in
+    let (t₁, u₁) = both-true x₁ (x₂ && (x₃ && (x₄ && x₅))) t in
+    let (t₂, u₂) = both-true x₂ (x₃ && (x₄ && x₅)) u₁ in
+    let (t₃, u₃) = both-true x₃ (x₄ && x₅) u₂ in
+    let (t₄, t₅) = both-true x₄ x₅ u₃ in
+    go t₁ t₂ t₃ t₄ t₅ short
   where
     go :
         leb (length (b .answers)) (lent .answers) ≡ true →
+        leb (length (b .marks)) (lent .marks) ≡ true →
         leb (length (b .pool)) (lent .pool) ≡ true →
         leb (length (b .bootstraps)) (lent .bootstraps) ≡ true →
         leb (length (classOut (b .class))) (lent .class) ≡ true →
         Short lent b →
         ⊥
-    go t₁ t₂ t₃ t₄ (inl h) = omega (arith, h, leb-true (length (b .answers)) (lent .answers) t₁)
-    go t₁ t₂ t₃ t₄ (inr (inl h)) = omega (arith, h, leb-true (length (b .pool)) (lent .pool) t₂)
-    go t₁ t₂ t₃ t₄ (inr (inr (inl h))) = omega (arith, h, leb-true (length (b .bootstraps)) (lent .bootstraps) t₃)
-    go t₁ t₂ t₃ t₄ (inr (inr (inr h))) = omega (arith, h, leb-true (length (classOut (b .class))) (lent .class) t₄)
+    go t₁ t₂ t₃ t₄ t₅ (inl h) = omega (arith, h, leb-true (length (b .answers)) (lent .answers) t₁)
+    go t₁ t₂ t₃ t₄ t₅ (inr (inl h)) = omega (arith, h, leb-true (length (b .marks)) (lent .marks) t₂)
+    go t₁ t₂ t₃ t₄ t₅ (inr (inr (inl h))) = omega (arith, h, leb-true (length (b .pool)) (lent .pool) t₃)
+    go t₁ t₂ t₃ t₄ t₅ (inr (inr (inr (inl h)))) = omega (arith, h, leb-true (length (b .bootstraps)) (lent .bootstraps) t₄)
+    go t₁ t₂ t₃ t₄ t₅ (inr (inr (inr (inr h)))) = omega (arith, h, leb-true (length (classOut (b .class))) (lent .class) t₅)
 
 much-lent : (lent : Lent) (n : ℕ) → enough n lent ≡ true → (lent .work < 6 * n + 1024) ⊎ (lent .gaps < n / 5 + 2) → ⊥
 unfolding enough

@@ -486,7 +486,8 @@ pub data SlotCause (job : Job (List ℕ)) : ℕ → ℕ → Type 0 where
 abbrev pub Short : Lent → Built → Type 0
 Short lent b =
     (lent .answers < length (b .answers))
-    ⊎ ((lent .pool < length (b .pool)) ⊎ ((lent .bootstraps < length (b .bootstraps)) ⊎ (lent .class < length (classOut (b .class)))))
+    ⊎ ((lent .marks < length (b .marks))
+    ⊎ ((lent .pool < length (b .pool)) ⊎ ((lent .bootstraps < length (b .bootstraps)) ⊎ (lent .class < length (classOut (b .class))))))
 
 -- the causes: a number, and the record
 pub data CauseOf (lent : Lent) (bytes : List ℕ) : ℕ → ℕ → Type 0 where
