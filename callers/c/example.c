@@ -30,6 +30,7 @@ static const uint8_t case_b_pool[POOL] = {0, 3, 7, 0, 2, 1, 0, 1, 0x41};
 static uint32_t work[WORK];
 static rotblossom_gap gaps[GAPS];
 static uint16_t answers[ANSWERS];
+static uint8_t marks[ANSWERS];
 static uint8_t pool[POOL + 1];
 static uint8_t bootstraps[1];
 static uint8_t class_name[4];
@@ -39,7 +40,7 @@ static uint32_t build(const uint8_t *job, size_t work_length, size_t pool_length
     memset(work, 0xff, sizeof work);
     memset(gaps, 0xff, sizeof gaps);
     memset(pool, 0xaa, sizeof pool);
-    return cpool_run(job, JOB, work, work_length, gaps, GAPS, answers, ANSWERS, pool, pool_length,
+    return cpool_run(job, JOB, work, work_length, gaps, GAPS, answers, ANSWERS, marks, ANSWERS, pool, pool_length,
                      bootstraps, 0, class_name, sizeof class_name, numbers);
 }
 
@@ -52,9 +53,10 @@ static int work_is(uint32_t word) {
 }
 
 static void show(void) {
+    static const char *const mark_names[] = {"raw", "new", "old"};
     size_t i;
     printf("answers");
-    for (i = 0; i < numbers[ROTBLOSSOM_ANSWERS]; i++) printf(" %u", (unsigned)answers[i]);
+    for (i = 0; i < numbers[ROTBLOSSOM_ANSWERS]; i++) printf(" %u %s", (unsigned)answers[i], mark_names[marks[i]]);
     printf(", pool ");
     for (i = 0; i < numbers[ROTBLOSSOM_POOL]; i++) printf("%02x", (unsigned)pool[i]);
     printf(", class %.*s, visits %u\n", (int)numbers[ROTBLOSSOM_CLASS_NAME], (const char *)class_name,
@@ -65,7 +67,7 @@ static void case_b_is_built(const uint8_t *job) {
     assert(build(job, WORK, POOL + 1) == 0);
     show();
     assert(numbers[ROTBLOSSOM_PLACE] == 0);
-    assert(numbers[ROTBLOSSOM_ANSWERS] == 1 && answers[0] == 1);
+    assert(numbers[ROTBLOSSOM_ANSWERS] == 1 && answers[0] == 1 && marks[0] == ROTBLOSSOM_NEW);
     assert(numbers[ROTBLOSSOM_POOL] == POOL && memcmp(pool, case_b_pool, POOL) == 0 && pool[POOL] == 0xaa);
     assert(numbers[ROTBLOSSOM_BOOTSTRAP_COUNT] == 0 && numbers[ROTBLOSSOM_BOOTSTRAPS] == 0);
     assert(numbers[ROTBLOSSOM_NAME_SLOT] == 0);

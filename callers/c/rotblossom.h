@@ -44,7 +44,7 @@ typedef struct rotblossom_gap {
 /* What stands at each place of cpool_run's numbers. After a refusal all but the first are 0. */
 enum rotblossom_number {
     ROTBLOSSOM_PLACE,           /* the refusal's record; 0 if the job is built */
-    ROTBLOSSOM_ANSWERS,         /* how many answers were written */
+    ROTBLOSSOM_ANSWERS,         /* how many answers were written, and as many marks */
     ROTBLOSSOM_POOL,            /* how many bytes of the pool */
     ROTBLOSSOM_BOOTSTRAP_COUNT, /* how many bootstraps there are */
     ROTBLOSSOM_BOOTSTRAPS,      /* how many bytes of them were written */
@@ -53,6 +53,13 @@ enum rotblossom_number {
     ROTBLOSSOM_CLASS_NAME,      /* how many bytes of it were written */
     ROTBLOSSOM_VISITS,          /* the visit count */
     ROTBLOSSOM_NUMBERS
+};
+
+/* How an answer was come by: what stands in marks. */
+enum rotblossom_mark {
+    ROTBLOSSOM_RAW, /* the request leads to a raw number */
+    ROTBLOSSOM_NEW, /* the constant was given its slot for this request */
+    ROTBLOSSOM_OLD  /* an earlier request has the same constant */
 };
 
 /* Builds a job. Returns 0 if it is built, else the refusal's number, and writes all nine numbers.
@@ -64,6 +71,7 @@ uint32_t cpool_run(const uint8_t *job, size_t job_length,
                    uint32_t *work, size_t work_length,
                    rotblossom_gap *gaps, size_t gaps_length,
                    uint16_t *answers, size_t answers_length,
+                   uint8_t *marks, size_t marks_length,
                    uint8_t *pool, size_t pool_length,
                    uint8_t *bootstraps, size_t bootstraps_length,
                    uint8_t *class_name, size_t class_name_length,

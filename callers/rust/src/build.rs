@@ -1,6 +1,6 @@
 //! A job built in memory of our own.
 
-use crate::{Gap, LONGEST_JOB, Lent, Refusal, least_gaps, least_work, run};
+use crate::{Gap, LONGEST_JOB, Lent, Mark, Refusal, least_gaps, least_work, run};
 use std::fmt;
 
 /// 65,534 entries of a text of 65,535 bytes, behind the count.
@@ -24,6 +24,8 @@ const NO_ROOM: u32 = 18;
 pub struct Built {
     /// The slot of each request.
     pub answers: Vec<u16>,
+    /// How each answer was come by.
+    pub marks: Vec<Mark>,
     pub pool: Vec<u8>,
     pub bootstrap_count: usize,
     pub bootstraps: Vec<u8>,
@@ -33,13 +35,13 @@ pub struct Built {
     pub visits: usize,
 }
 
-/// As oracle/'s driver prints it: `built answers N A.. pool LENGTH HEX bootstraps COUNT LENGTH HEX name SLOT class LENGTH HEX visits V`, no
+/// As oracle/'s driver prints it: `built answers N A MARK.. pool LENGTH HEX bootstraps COUNT LENGTH HEX name SLOT class LENGTH HEX visits V`, no
 /// bytes as `-` and no class name as `class none`.
 impl fmt::Display for Built {
     fn fmt(&self, f: &mut fmt::Formatter<'_>) -> fmt::Result {
         write!(f, "built answers {}", self.answers.len())?;
-        for answer in &self.answers {
-            write!(f, " {answer}")?;
+        for (answer, mark) in self.answers.iter().zip(&self.marks) {
+            write!(f, " {answer} {mark}")?;
         }
         write!(f, " pool {}", counted_hex(&self.pool))?;
         let rows = counted_hex(&self.bootstraps);
@@ -76,6 +78,7 @@ fn counted_hex(bytes: &[u8]) -> String {
 /// let job = [1, 0, 1, b'A', 7, 1, 0, 0, 0x50, 0x51, 1, 0, 1, 0x60, 2, 1, 0, 0];
 /// let built = rotblossom::build(&job)?;
 /// assert_eq!(built.answers, [1]);
+/// assert_eq!(built.marks, [rotblossom::Mark::New]);
 /// assert_eq!(built.pool, [0, 3, 7, 0, 2, 1, 0, 1, b'A']);
 /// assert_eq!(built.class_name, Some(b"A".to_vec()));
 /// # Ok::<(), rotblossom::Refusal>(())
@@ -99,6 +102,7 @@ fn bytes_used(job: &[u8]) -> usize {
 fn build_within(job: &[u8], room: usize) -> Result<Built, Refusal> {
     let bytes = bytes_used(job);
     let mut answers = vec![0; bytes / LEAST_REQUEST];
+    let mut marks = vec![0; bytes / LEAST_REQUEST];
     let mut pool = vec![0; room.min(LONGEST_POOL)];
     let mut bootstraps = vec![0; room.min(LONGEST_BOOTSTRAPS)];
     let mut class_name = vec![0; LONGEST_CLASS_NAME];
@@ -106,6 +110,7 @@ fn build_within(job: &[u8], room: usize) -> Result<Built, Refusal> {
         work: &mut vec![0; least_work(bytes)],
         gaps: &mut vec![Gap::default(); least_gaps(bytes)],
         answers: &mut answers,
+        marks: &mut marks,
         pool: &mut pool,
         bootstraps: &mut bootstraps,
         class_name: &mut class_name,
@@ -113,6 +118,11 @@ fn build_within(job: &[u8], room: usize) -> Result<Built, Refusal> {
     let told = run(job, lent)?;
     Ok(Built {
         answers: cut(answers, told.answers),
+        marks: marks[..told.answers]
+            .iter()
+            .copied()
+            .map(Mark::of)
+            .collect(),
         pool: cut(pool, told.pool),
         bootstrap_count: told.bootstrap_count,
         bootstraps: cut(bootstraps, told.bootstraps),

@@ -22,12 +22,47 @@ pub struct Gap {
     pub last: u16,
 }
 
+/// How an answer was come by.
+#[repr(u8)]
+#[derive(Clone, Copy, Debug, PartialEq, Eq)]
+pub enum Mark {
+    /// The request leads to a raw number.
+    Raw = 0,
+    /// The constant was given its slot for this request.
+    New = 1,
+    /// An earlier request has the same constant.
+    Old = 2,
+}
+
+impl Mark {
+    /// The mark of a byte that a run wrote.
+    pub fn of(byte: u8) -> Mark {
+        match byte {
+            0 => Mark::Raw,
+            1 => Mark::New,
+            _ => Mark::Old,
+        }
+    }
+}
+
+impl fmt::Display for Mark {
+    fn fmt(&self, f: &mut fmt::Formatter<'_>) -> fmt::Result {
+        f.write_str(match self {
+            Mark::Raw => "raw",
+            Mark::New => "new",
+            Mark::Old => "old",
+        })
+    }
+}
+
 /// What a run is lent. `work` and `gaps` may hold anything, and are wholly zero after any end but 1 and 2, which leave them
 /// alone. The outputs get a prefix each when the job is built, and are left alone when it is refused.
 pub struct Lent<'a> {
     pub work: &'a mut [u32],
     pub gaps: &'a mut [Gap],
     pub answers: &'a mut [u16],
+    /// How each answer was come by, as `Mark` numbers it.
+    pub marks: &'a mut [u8],
     pub pool: &'a mut [u8],
     pub bootstraps: &'a mut [u8],
     pub class_name: &'a mut [u8],
@@ -61,6 +96,7 @@ impl Error for Refusal {}
 /// How much of each output was written, and the other numbers of a built job.
 #[derive(Clone, Copy, Debug, PartialEq, Eq)]
 pub struct Told {
+    /// Each has its mark.
     pub answers: usize,
     pub pool: usize,
     pub bootstrap_count: usize,

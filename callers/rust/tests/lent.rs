@@ -3,7 +3,7 @@
 mod common;
 
 use common::*;
-use rotblossom::{Gap, Lent, Refusal, Told, least_gaps, least_work};
+use rotblossom::{Gap, Lent, Mark, Refusal, Told, least_gaps, least_work};
 
 const LEFTOVER: Gap = Gap { first: 7, last: 9 };
 const NO_GAP: Gap = Gap { first: 0, last: 0 };
@@ -13,6 +13,7 @@ struct Memory {
     work: Vec<u32>,
     gaps: Vec<Gap>,
     answers: Vec<u16>,
+    marks: Vec<u8>,
     pool: Vec<u8>,
     bootstraps: Vec<u8>,
     class_name: Vec<u8>,
@@ -25,6 +26,7 @@ impl Memory {
             work: vec![0xdead_beef; least_work(job.len())],
             gaps: vec![LEFTOVER; least_gaps(job.len())],
             answers: vec![0xaaaa; 2],
+            marks: vec![0xaa; 2],
             pool: vec![0xaa; 12],
             bootstraps: vec![0xaa; 14],
             class_name: vec![0xaa; 4],
@@ -38,6 +40,7 @@ impl Memory {
                 work: &mut self.work,
                 gaps: &mut self.gaps,
                 answers: &mut self.answers,
+                marks: &mut self.marks,
                 pool: &mut self.pool,
                 bootstraps: &mut self.bootstraps,
                 class_name: &mut self.class_name,
@@ -56,7 +59,7 @@ impl Memory {
 
     fn outputs_are_untouched(&self) -> bool {
         self.answers.iter().all(|answer| *answer == 0xaaaa)
-            && [&self.pool, &self.bootstraps, &self.class_name]
+            && [&self.marks, &self.pool, &self.bootstraps, &self.class_name]
                 .iter()
                 .all(|output| output.iter().all(|byte| *byte == 0xaa))
     }
@@ -88,6 +91,7 @@ fn success_writes_a_prefix_of_each_output() {
     };
     assert_eq!(memory.run(&job), Ok(told));
     assert_eq!(memory.answers, [1, 0xaaaa]);
+    assert_eq!(memory.marks, [Mark::New as u8, 0xaa]);
     assert_eq!(memory.pool, bytes("000307000201000141 aaaaaa"));
     assert_eq!(memory.bootstraps, [0xaa; 14]);
     assert_eq!(memory.class_name, bytes("41 aaaaaa"));
@@ -161,12 +165,13 @@ fn a_job_too_long_is_1_whatever_is_lent() {
     assert!(memory.work_is_untouched() && memory.outputs_are_untouched());
 }
 
-/// Case b needs one answer, nine bytes of pool and one of the class name, case g twelve bytes of bootstraps: with one fewer
+/// Case b needs one answer and its mark, nine bytes of pool and one of the class name, case g twelve bytes of bootstraps: with one fewer
 /// it is 18 at the build record, with just so much it is built.
 #[test]
 fn an_output_one_short_is_18_and_nothing_is_written() {
-    let outputs: [(&str, usize, fn(&mut Memory, usize)); 4] = [
+    let outputs: [(&str, usize, fn(&mut Memory, usize)); 5] = [
         (CASE_B, 1, |memory, n| memory.answers.truncate(n)),
+        (CASE_B, 1, |memory, n| memory.marks.truncate(n)),
         (CASE_B, 9, |memory, n| memory.pool.truncate(n)),
         (CASE_B, 1, |memory, n| memory.class_name.truncate(n)),
         (CASE_G, 12, |memory, n| memory.bootstraps.truncate(n)),

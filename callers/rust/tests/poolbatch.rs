@@ -12,7 +12,7 @@ use std::thread;
 const PROGRAM: &str = env!("CARGO_BIN_EXE_poolbatch");
 
 const CASE_B_LINE: &str =
-    "built answers 1 1 pool 9 000307000201000141 bootstraps 0 0 - name 0 class 1 41 visits 4\n";
+    "built answers 1 1 new pool 9 000307000201000141 bootstraps 0 0 - name 0 class 1 41 visits 4\n";
 
 fn framed(job: &[u8]) -> Vec<u8> {
     let length = u32::try_from(job.len()).expect("a length of four bytes");
@@ -134,7 +134,7 @@ fn the_longest_job_runs_on_a_stack_of_256_kb() {
     command.stdout(Stdio::piped());
     let text = "61".repeat(65_535);
     let lines = format!(
-        "built answers 1 1 pool 65540 000201ffff{text} bootstraps 0 0 - name 0 class none visits 2\n"
+        "built answers 1 1 new pool 65540 000201ffff{text} bootstraps 0 0 - name 0 class none visits 2\n"
     );
     assert_ends(run(command, framed(&job)), 0, &lines, "");
 }

@@ -3,7 +3,7 @@
 mod common;
 
 use common::*;
-use rotblossom::Built;
+use rotblossom::{Built, Mark};
 
 const NO_REQUEST: &str = "50 60 02 00 0000";
 
@@ -91,7 +91,11 @@ fn as_many_answers_as_a_job_can_have() {
     let mut job = bytes("41 00 00 0005 50");
     job.extend(bytes("51 02 00").repeat(30_000));
     job.extend(bytes("60 02 00 0000"));
-    builds(&job, plain(&[5; 30_000], bytes("0001"), 30_000));
+    let expected = Built {
+        marks: vec![Mark::Raw; 30_000],
+        ..plain(&[5; 30_000], bytes("0001"), 30_000)
+    };
+    builds(&job, expected);
 }
 
 /// Case b with a text of 65,535 bytes.

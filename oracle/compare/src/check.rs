@@ -5,7 +5,7 @@ mod tests;
 
 use crate::expected::{End, Expected};
 use crate::memory::{After, Memory, Sizes};
-use rotblossom::{Built, LONGEST_JOB, Lent, Refusal, Told, least_gaps, least_work};
+use rotblossom::{Built, LONGEST_JOB, Lent, Mark, Refusal, Told, least_gaps, least_work};
 
 /// `rotblossom::run`, or a wrong one in the tests.
 pub type Library = fn(&[u8], Lent<'_>) -> Result<Told, Refusal>;
@@ -56,6 +56,7 @@ impl Checker {
             work: least_work(job.len()),
             gaps: least_gaps(job.len()),
             answers: built.answers.len(),
+            marks: built.marks.len(),
             pool: built.pool.len(),
             bootstraps: built.bootstraps.len(),
             class_name: built.class_name.as_ref().map_or(0, Vec::len),
@@ -85,6 +86,7 @@ impl Checker {
             work: memory.more(least.work),
             gaps: memory.more(least.gaps),
             answers: memory.more(least.answers),
+            marks: memory.more(least.marks),
             pool: memory.more(least.pool),
             bootstraps: memory.more(least.bootstraps),
             class_name: memory.more(least.class_name),
@@ -146,6 +148,7 @@ fn for_refused(job: &[u8]) -> Sizes {
         work: least_work(job.len()),
         gaps: least_gaps(job.len()),
         answers: room,
+        marks: room,
         pool: room,
         bootstraps: room,
         class_name: room,
@@ -156,8 +159,9 @@ type SizeOf = fn(&mut Sizes) -> &mut usize;
 
 /// For each output that isn't empty, the sizes with it one short.
 fn one_short(exact: &Sizes) -> Vec<(Sizes, &'static str)> {
-    let outputs: [(SizeOf, _); 4] = [
+    let outputs: [(SizeOf, _); 5] = [
         (|sizes| &mut sizes.answers, "answers one short"),
+        (|sizes| &mut sizes.marks, "marks one short"),
         (|sizes| &mut sizes.pool, "pool one short"),
         (|sizes| &mut sizes.bootstraps, "bootstraps one short"),
         (|sizes| &mut sizes.class_name, "class name one short"),
@@ -184,14 +188,20 @@ fn wrong_places(memory: &Memory, told: &Result<Told, Refusal>, end: &End) -> Vec
         true => (After::Untouched, After::Untouched),
         false => (After::Zero, After::Zero),
     };
-    let (answers, pool, bootstraps, class_name) = match end {
+    let expected_marks = match end {
+        End::Built(built) => mark_bytes(built),
+        End::Refused(_) => vec![],
+    };
+    let (answers, marks, pool, bootstraps, class_name) = match end {
         End::Built(built) => (
             After::Begins(&built.answers[..]),
+            After::Begins(&expected_marks[..]),
             After::Begins(&built.pool[..]),
             After::Begins(&built.bootstraps[..]),
             After::Begins(built.class_name.as_deref().unwrap_or(&[])),
         ),
         End::Refused(_) => (
+            After::Untouched,
             After::Untouched,
             After::Untouched,
             After::Untouched,
@@ -203,12 +213,17 @@ fn wrong_places(memory: &Memory, told: &Result<Told, Refusal>, end: &End) -> Vec
         (memory.work.is(work), "work"),
         (memory.gaps.is(gaps), "gaps"),
         (memory.answers.is(answers), "answers"),
+        (memory.marks.is(marks), "marks"),
         (memory.pool.is(pool), "pool"),
         (memory.bootstraps.is(bootstraps), "bootstraps"),
         (memory.class_name.is(class_name), "class name"),
     ];
     let wrong = places.into_iter().filter(|(good, _)| !good);
     wrong.map(|(_, place)| place).collect()
+}
+
+fn mark_bytes(built: &Built) -> Vec<u8> {
+    built.marks.iter().map(|mark| *mark as u8).collect()
 }
 
 fn numbers_of(built: &Built) -> Told {
@@ -229,6 +244,7 @@ fn shown(memory: &Memory, told: &Result<Told, Refusal>) -> String {
         Err(refusal) => line(&End::Refused(*refusal)),
         Ok(told) => line(&End::Built(Built {
             answers: memory.answers.front(told.answers).to_vec(),
+            marks: marks_in(memory, told.answers),
             pool: memory.pool.front(told.pool).to_vec(),
             bootstrap_count: told.bootstrap_count,
             bootstraps: memory.bootstraps.front(told.bootstraps).to_vec(),
@@ -241,13 +257,19 @@ fn shown(memory: &Memory, told: &Result<Told, Refusal>) -> String {
     }
 }
 
+fn marks_in(memory: &Memory, count: usize) -> Vec<Mark> {
+    let bytes = memory.marks.front(count);
+    bytes.iter().copied().map(Mark::of).collect()
+}
+
 /// An end in one line.
 pub fn line(end: &End) -> String {
     match end {
         End::Refused(Refusal { code, place }) => format!("refused {code} {place}"),
         End::Built(built) => format!(
-            "built answers {:?} pool {} {} bootstraps {} {} {} name {} class {} visits {}",
+            "built answers {:?} {:?} pool {} {} bootstraps {} {} {} name {} class {} visits {}",
             built.answers,
+            built.marks,
             built.pool.len(),
             hex(&built.pool),
             built.bootstrap_count,

@@ -1,9 +1,9 @@
 //! What the Rust says of a job, and so what the library must say.
 
 use driver::end_of_definitions::{AtEndOfDefinitions, faults, first_number};
-use driver::{Outcome, form, run};
+use driver::{Outcome, form, outcome, run};
 use jobs::record::Record;
-use rotblossom::{Built, Refusal};
+use rotblossom::{Built, Mark, Refusal};
 
 /// How a run must end.
 #[derive(Clone)]
@@ -67,6 +67,7 @@ fn built(outcome: Outcome) -> Result<Built, String> {
     match outcome {
         Outcome::Built(built) => Ok(Built {
             answers: built.answers,
+            marks: built.marks.into_iter().map(mark).collect(),
             pool: built.pool,
             bootstrap_count: built.bootstrap_count.into(),
             bootstraps: built.bootstraps,
@@ -75,6 +76,14 @@ fn built(outcome: Outcome) -> Result<Built, String> {
             visits: built.visits as usize,
         }),
         other => Err(other.line()),
+    }
+}
+
+fn mark(mark: outcome::Mark) -> Mark {
+    match mark {
+        outcome::Mark::Raw => Mark::Raw,
+        outcome::Mark::New => Mark::New,
+        outcome::Mark::Old => Mark::Old,
     }
 }
 

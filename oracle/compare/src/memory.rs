@@ -122,6 +122,7 @@ pub struct Sizes {
     pub work: usize,
     pub gaps: usize,
     pub answers: usize,
+    pub marks: usize,
     pub pool: usize,
     pub bootstraps: usize,
     pub class_name: usize,
@@ -132,6 +133,7 @@ pub struct Memory {
     pub work: Buffer<u32>,
     pub gaps: Buffer<Gap>,
     pub answers: Buffer<u16>,
+    pub marks: Buffer<u8>,
     pub pool: Buffer<u8>,
     pub bootstraps: Buffer<u8>,
     pub class_name: Buffer<u8>,
@@ -144,6 +146,7 @@ impl Memory {
             work: Buffer::new(),
             gaps: Buffer::new(),
             answers: Buffer::new(),
+            marks: Buffer::new(),
             pool: Buffer::new(),
             bootstraps: Buffer::new(),
             class_name: Buffer::new(),
@@ -161,6 +164,7 @@ impl Memory {
         self.work.choose(sizes.work, random);
         self.gaps.choose(sizes.gaps, random);
         self.answers.choose(sizes.answers, random);
+        self.marks.choose(sizes.marks, random);
         self.pool.choose(sizes.pool, random);
         self.bootstraps.choose(sizes.bootstraps, random);
         self.class_name.choose(sizes.class_name, random);
@@ -176,6 +180,7 @@ impl Memory {
             work: self.work.lent(),
             gaps: self.gaps.lent(),
             answers: self.answers.lent(),
+            marks: self.marks.lent(),
             pool: self.pool.lent(),
             bootstraps: self.bootstraps.lent(),
             class_name: self.class_name.lent(),
@@ -189,6 +194,7 @@ impl Memory {
 
     pub fn restore_outputs(&mut self) {
         self.answers.restore();
+        self.marks.restore();
         self.pool.restore();
         self.bootstraps.restore();
         self.class_name.restore();

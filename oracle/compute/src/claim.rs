@@ -5,13 +5,14 @@ use driver::form::decode;
 use driver::{Built, Outcome, run_job};
 use jobs::hex::hex;
 use jobs::record::Record;
+use std::fmt::Display;
 
 /// The lengths that a caller lends; document 01, "Lent memory".
 #[derive(Clone, Copy)]
 struct Lent {
     work: usize,
     gaps: usize,
-    outputs: [usize; 4],
+    outputs: [usize; 5],
 }
 
 /// What is lent: plenty, just enough, or one too little of something.
@@ -31,8 +32,8 @@ pub fn lending(index: usize) -> Lending {
         1 | 3 | 5 => Lending::JustEnough,
         7 => Lending::ShortWork,
         9 => Lending::ShortGaps,
-        11 => Lending::ShortOutput(index / 14 % 4),
-        13 => Lending::ShortOutput(1),
+        11 => Lending::ShortOutput(index / 14 % 5),
+        13 => Lending::ShortOutput(2),
         _ => Lending::Plenty,
     }
 }
@@ -55,15 +56,16 @@ pub fn claim(job: &[u8], lending: Lending) -> Claim {
     Claim { text, at_end }
 }
 
-fn needs(outcome: &Outcome) -> [usize; 4] {
+fn needs(outcome: &Outcome) -> [usize; 5] {
     match outcome {
         Outcome::Built(built) => [
             built.answers.len(),
+            built.marks.len(),
             built.pool.len(),
             built.bootstraps.len(),
             built.class_name.as_ref().map_or(0, Vec::len),
         ],
-        _ => [0; 4],
+        _ => [0; 5],
     }
 }
 
@@ -77,7 +79,7 @@ fn lent(job: &[u8], outcome: &Outcome, lending: Lending) -> Lent {
         Lending::Plenty => Lent {
             work: least.work + 5,
             gaps: least.gaps + 5,
-            outputs: [1 << 20; 4],
+            outputs: [1 << 20; 5],
         },
         Lending::JustEnough => least,
         Lending::ShortWork => Lent {
@@ -144,9 +146,10 @@ fn built(built: &Built) -> String {
         .as_ref()
         .map_or("none".into(), |name| format!("some ({})", packed(name)));
     format!(
-        "good (record {{ answers = {}; pool = {}; bootstrapCount = {}; bootstraps = {}; \
+        "good (record {{ answers = {}; marks = {}; pool = {}; bootstrapCount = {}; bootstraps = {}; \
          name = {}; class = {class}; visits = {} }})",
-        numbers(&built.answers),
+        numbers(built.answers.iter()),
+        numbers(built.marks.iter().map(|mark| *mark as u8)),
         packed(&built.pool),
         built.bootstrap_count,
         packed(&built.bootstraps),
@@ -156,16 +159,16 @@ fn built(built: &Built) -> String {
 }
 
 fn lent_text(lent: &Lent) -> String {
-    let [answers, pool, bootstraps, class] = lent.outputs;
+    let [answers, marks, pool, bootstraps, class] = lent.outputs;
     format!(
-        "(record {{ work = {}; gaps = {}; answers = {answers}; pool = {pool}; bootstraps = {bootstraps}; \
+        "(record {{ work = {}; gaps = {}; answers = {answers}; marks = {marks}; pool = {pool}; bootstraps = {bootstraps}; \
          class = {class} }})",
         lent.work, lent.gaps
     )
 }
 
-fn numbers(numbers: &[u16]) -> String {
-    let mut text: String = numbers.iter().map(|n| format!("{n} ∷ ")).collect();
+fn numbers<N: Display>(numbers: impl Iterator<Item = N>) -> String {
+    let mut text: String = numbers.map(|n| format!("{n} ∷ ")).collect();
     text.push_str("[]");
     text
 }

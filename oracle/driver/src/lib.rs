@@ -4,11 +4,12 @@ pub mod bench;
 pub mod end_of_definitions;
 pub mod form;
 pub mod frames;
+mod marks;
 pub mod outcome;
 pub mod run;
 pub mod tally;
 
-pub use outcome::{Built, Outcome};
+pub use outcome::{Built, Mark, Outcome};
 
 /// The form pass, then the module.
 pub fn run_job(job: &[u8]) -> Outcome {

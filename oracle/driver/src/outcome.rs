@@ -19,9 +19,29 @@ pub enum Outcome {
     },
 }
 
+/// How an answer was come by (document 02, No. 6).
+#[derive(Clone, Copy, Debug, PartialEq, Eq)]
+pub enum Mark {
+    Raw,
+    New,
+    Old,
+}
+
+impl Mark {
+    pub fn name(self) -> &'static str {
+        match self {
+            Mark::Raw => "raw",
+            Mark::New => "new",
+            Mark::Old => "old",
+        }
+    }
+}
+
 #[derive(Clone, Debug, PartialEq, Eq)]
 pub struct Built {
     pub answers: Vec<u16>,
+    /// The module doesn't tell them: they are worked out from the records and the answers.
+    pub marks: Vec<Mark>,
     pub pool: Vec<u8>,
     pub bootstrap_count: u16,
     pub bootstraps: Vec<u8>,
@@ -38,7 +58,7 @@ impl Outcome {
             Outcome::Refused { code, place } => format!("refused {code} {place}"),
             Outcome::Built(b) => format!(
                 "built answers {} pool {} bootstraps {} {} name {} class {} visits {}",
-                count_and_numbers(&b.answers),
+                count_and_answers(&b.answers, &b.marks),
                 length_and_hex(&b.pool),
                 b.bootstrap_count,
                 length_and_hex(&b.bootstraps),
@@ -56,10 +76,10 @@ impl Outcome {
     }
 }
 
-fn count_and_numbers(numbers: &[u16]) -> String {
-    let mut text = numbers.len().to_string();
-    for number in numbers {
-        write!(text, " {number}").unwrap();
+fn count_and_answers(answers: &[u16], marks: &[Mark]) -> String {
+    let mut text = answers.len().to_string();
+    for (answer, mark) in answers.iter().zip(marks) {
+        write!(text, " {answer} {}", mark.name()).unwrap();
     }
     text
 }
@@ -92,8 +112,10 @@ mod tests {
     }
 
     fn built(answers: Vec<u16>, bytes: &[u8], class_name: Option<Vec<u8>>) -> Outcome {
+        let marks = [Mark::Raw, Mark::New][..answers.len()].to_vec();
         Outcome::Built(Built {
             answers,
+            marks,
             pool: bytes.to_vec(),
             bootstrap_count: 2,
             bootstraps: bytes.to_vec(),
@@ -106,7 +128,7 @@ mod tests {
     #[test]
     fn a_built_line_shows_every_field() {
         let line = built(vec![3, 65534], &[0, 0xaf], Some(vec![0x41])).line();
-        let expected = "built answers 2 3 65534 pool 2 00af bootstraps 2 2 00af name 7 \
+        let expected = "built answers 2 3 raw 65534 new pool 2 00af bootstraps 2 2 00af name 7 \
                         class 1 41 visits 5";
         assert_eq!(line, expected);
     }

@@ -1,6 +1,7 @@
 //! Drives both copies of the module, the plain and the counted, through a job's records.
 
 use crate::end_of_definitions::faults;
+use crate::marks::marks;
 use crate::outcome::{Built, Outcome};
 use jobs::hex::hex;
 use jobs::record::{ClassSlot, Constant, Record, Reference};
@@ -221,6 +222,8 @@ macro_rules! driver_of {
                 let (bootstraps, class_name) = builder.build(&mut pool, name_needed, class_slot)?;
                 Ok(Built {
                     answers,
+                    // the module doesn't tell
+                    marks: vec![],
                     pool: pool.into_buf(),
                     bootstrap_count: bootstraps.num_bs,
                     bootstraps: bootstraps.buf,
@@ -244,8 +247,8 @@ pub fn run(records: &[Record]) -> Outcome {
     let plan = plain::plan(&named);
     let plain_ending = caught(|| plain::execute(plan));
     let (counted_ending, visits) = counted_run(&named);
-    let outcome = settled(plain_ending, visits);
-    let counted_outcome = settled(counted_ending, visits);
+    let outcome = settled(plain_ending, visits, records);
+    let counted_outcome = settled(counted_ending, visits, records);
     assert!(
         agree(&outcome, &counted_outcome, records),
         "the counted copy differs: {} and {}",
@@ -258,7 +261,7 @@ pub fn run(records: &[Record]) -> Outcome {
 /// The outcome of the counted copy alone: `run` in less time.
 pub fn run_counted(records: &[Record]) -> Outcome {
     let (ending, visits) = counted_run(&with_hex_names(records));
-    settled(ending, visits)
+    settled(ending, visits, records)
 }
 
 fn counted_run(named: &[Record]) -> (Ending<Built>, u64) {
@@ -367,9 +370,13 @@ pub fn caught<T>(execute: impl FnOnce() -> Result<T, Stop>) -> Ending<T> {
     })
 }
 
-fn settled(ending: Ending<Built>, visits: u64) -> Outcome {
+fn settled(ending: Ending<Built>, visits: u64, records: &[Record]) -> Outcome {
     match ending {
-        Ok(Ok(built)) => Outcome::Built(Built { visits, ..built }),
+        Ok(Ok(built)) => Outcome::Built(Built {
+            marks: marks(records, &built.answers),
+            visits,
+            ..built
+        }),
         Ok(Err(stop)) => stopped(stop),
         Err(message) => Outcome::Panicked(message),
     }
@@ -412,9 +419,9 @@ mod tests {
 
     #[test]
     fn a_panic_becomes_its_message() {
-        let fixed = settled(caught(|| panic!("fixed text")), 0);
+        let fixed = settled(caught(|| panic!("fixed text")), 0, &[]);
         assert_eq!(fixed.line(), "panic fixed text");
-        let made = settled(caught(|| panic!("number {}", 7)), 0);
+        let made = settled(caught(|| panic!("number {}", 7)), 0, &[]);
         assert_eq!(made.line(), "panic number 7");
     }
 
@@ -424,7 +431,7 @@ mod tests {
             place: 4,
             message: message.into(),
         };
-        let unknown = settled(Ok(Err(stop("Something else"))), 0);
+        let unknown = settled(Ok(Err(stop("Something else"))), 0, &[]);
         assert_eq!(unknown.line(), "unknown message at 4: Something else");
         // A known text counts only as the whole first line.
         assert_eq!(refusal_number("Invalid constant pool index 7"), None);

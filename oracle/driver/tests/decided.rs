@@ -4,7 +4,7 @@
 mod common;
 
 use common::*;
-use driver::{Built, Outcome};
+use driver::{Built, Mark, Outcome};
 use jobs::record::{Record, Reference};
 
 // Point 1: the first faulty record wins; within a record 3, then 5, then 4; all of 60 counts
@@ -210,7 +210,7 @@ fn point_14_requests_are_counted_from_0() {
     let requests = "50 51 00 0001 52 00 0002";
     assert_eq!(
         line(&format!("{requests} 60 02 01 0001")),
-        "built answers 2 1 2 pool 2 0001 bootstraps 0 0 - name 0 class none visits 2"
+        "built answers 2 1 raw 2 raw pool 2 0001 bootstraps 0 0 - name 0 class none visits 2"
     );
     assert_eq!(line(&format!("{requests} 60 02 01 0002")), "refused 4 3");
 }
@@ -220,7 +220,7 @@ fn point_14_requests_are_counted_from_0() {
 fn point_4_an_empty_name_is_a_name() {
     assert_eq!(
         line("41 00 00 0005 50 51 02 00 60 02 00 0000"),
-        "built answers 1 5 pool 2 0001 bootstraps 0 0 - name 0 class none visits 1"
+        "built answers 1 5 raw pool 2 0001 bootstraps 0 0 - name 0 class none visits 1"
     );
     assert_eq!(line("50 51 02 00 60 02 00 0000"), "refused 12 1");
 }
@@ -232,7 +232,7 @@ fn point_4_names_of_both_kinds_are_apart() {
     let job = format!("{both} 11 02 01 78 02 01 78 50 51 01 0000 60 02 00 0000");
     let pool = "00021100030005";
     let expected =
-        format!("built answers 1 1 pool 7 {pool} bootstraps 0 0 - name 0 class none visits 4");
+        format!("built answers 1 1 new pool 7 {pool} bootstraps 0 0 - name 0 class none visits 4");
     assert_eq!(line(&job), expected);
     // A name of one kind is unknown to the other.
     let job = "42 01 78 00 0003 50 51 02 01 78 60 02 00 0000";
@@ -246,7 +246,7 @@ fn point_4_names_are_any_bytes() {
                50 51 02 01 ff 51 02 02 6666 51 02 01 00 60 02 00 0000";
     assert_eq!(
         line(job),
-        "built answers 3 5 6 7 pool 2 0001 bootstraps 0 0 - name 0 class none visits 3"
+        "built answers 3 5 raw 6 raw 7 raw pool 2 0001 bootstraps 0 0 - name 0 class none visits 3"
     );
 }
 
@@ -256,7 +256,7 @@ fn point_4_names_are_any_bytes() {
 fn point_5_a_raw_reference_asked() {
     assert_eq!(
         line("50 51 00 0007 51 00 0007 60 02 00 0000"),
-        "built answers 2 7 7 pool 2 0001 bootstraps 0 0 - name 0 class none visits 2"
+        "built answers 2 7 raw 7 raw pool 2 0001 bootstraps 0 0 - name 0 class none visits 2"
     );
 }
 
@@ -267,7 +267,7 @@ fn point_5_leaving_looks_up_for_nothing() {
     let job = "01 0001 41 41 01 78 01 0000 07 02 01 78 50 51 01 0001 51 01 0001 60 02 00 0000";
     assert_eq!(
         line(job),
-        "built answers 2 1 1 pool 9 000307000201000141 bootstraps 0 0 - name 0 class none visits 5"
+        "built answers 2 1 new 1 old pool 9 000307000201000141 bootstraps 0 0 - name 0 class none visits 5"
     );
 }
 
@@ -277,7 +277,7 @@ fn point_5_names_cost_nothing() {
     let job = "03 00000001 41 01 78 02 01 79 41 01 79 01 0000 50 51 02 01 78 60 02 00 0000";
     assert_eq!(
         line(job),
-        "built answers 1 1 pool 7 00020300000001 bootstraps 0 0 - name 0 class none visits 2"
+        "built answers 1 1 new pool 7 00020300000001 bootstraps 0 0 - name 0 class none visits 2"
     );
 }
 
@@ -365,6 +365,7 @@ fn point_7_sharing_before_raw_ones_are_written() {
     bootstraps.extend(bytes("0009 0000").repeat(65_534));
     let expected = Outcome::Built(Built {
         answers: vec![1, 2],
+        marks: vec![Mark::New; 2],
         pool: bytes("0003 11 0000 0001 11 0000 0002"),
         bootstrap_count: 65_535,
         bootstraps,
@@ -384,7 +385,7 @@ fn point_7_an_inline_bootstrap_does_not_share_with_a_raw_one() {
     let job = "40 00 0009 0000 44 0000 0000 11 01 0000 00 0001 50 51 01 0000 60 02 00 0000";
     assert_eq!(
         line(job),
-        "built answers 1 1 pool 7 00021100010001 bootstraps 2 8 0009000000090000 \
+        "built answers 1 1 new pool 7 00021100010001 bootstraps 2 8 0009000000090000 \
          name 0 class none visits 7"
     );
 }
@@ -397,7 +398,7 @@ fn point_7_equal_numbers_share() {
                50 51 01 0000 51 01 0001 51 01 0002 60 02 00 0000";
     let pool = "0004 0300000001 1100000007 1100000008".replace(' ', "");
     let expected = format!(
-        "built answers 3 1 2 3 pool 17 {pool} bootstraps 1 4 00010000 name 0 class none visits 14"
+        "built answers 3 1 new 2 new 3 new pool 17 {pool} bootstraps 1 4 00010000 name 0 class none visits 14"
     );
     assert_eq!(line(job), expected);
 }
@@ -409,7 +410,7 @@ fn point_7_equal_numbers_share() {
 fn point_8_a_dynamic_of_a_raw_bootstrap_is_no_bootstrap() {
     assert_eq!(
         line("11 00 0005 00 0001 50 51 01 0000 60 01 00 0000"),
-        "built answers 1 1 pool 7 00021100050001 bootstraps 0 0 - name 0 class none visits 4"
+        "built answers 1 1 new pool 7 00021100050001 bootstraps 0 0 - name 0 class none visits 4"
     );
 }
 
@@ -431,7 +432,7 @@ fn point_8_filled_holes_are_present() {
 #[test]
 fn point_9_the_name_can_be_the_class_name() {
     let expected = format!(
-        "built answers 1 1 pool 24 0003070002010010{NAME} bootstraps 0 0 - name 2 \
+        "built answers 1 1 new pool 24 0003070002010010{NAME} bootstraps 0 0 - name 2 \
          class 16 {NAME} visits 3"
     );
     assert_eq!(line("0700000250510100006000010000"), expected);
@@ -442,7 +443,7 @@ fn point_9_the_name_can_be_the_class_name() {
 fn point_9_the_name_shares_with_an_equal_text() {
     let job = format!("01 0010 {NAME} 50 51 01 0000 60 00 00 0000");
     let expected = format!(
-        "built answers 1 1 pool 21 0002010010{NAME} bootstraps 0 0 - name 1 class none visits 2"
+        "built answers 1 1 new pool 21 0002010010{NAME} bootstraps 0 0 - name 1 class none visits 2"
     );
     assert_eq!(line(&job), expected);
 }
@@ -457,14 +458,14 @@ fn point_10_slot_65535_counts_as_unowned() {
     );
     assert_eq!(
         line("07 00 ffff 50 51 01 0000 60 02 01 0000"),
-        "built answers 1 1 pool 5 000207ffff bootstraps 0 0 - name 0 class 0 - visits 3"
+        "built answers 1 1 new pool 5 000207ffff bootstraps 0 0 - name 0 class 0 - visits 3"
     );
 }
 
 /// A Long raw at 1 and a Class of raw 2 at 3. Neither that Class nor slot 2 itself has a name.
 #[test]
 fn point_10_a_second_half_holds_nothing() {
-    let expected = "built answers 1 3 pool 14 0004050000000000000001070002 bootstraps 0 0 - \
+    let expected = "built answers 1 3 new pool 14 0004050000000000000001070002 bootstraps 0 0 - \
                     name 0 class none visits 5";
     for class in ["01 0000", "00 0003", "00 0002"] {
         let job =
@@ -525,6 +526,7 @@ fn point_13_bootstraps_longer_than_65535_bytes() {
     copy.extend(bytes("0007").repeat(65_535));
     let expected = Outcome::Built(Built {
         answers: vec![],
+        marks: vec![],
         pool: bytes("0001"),
         bootstrap_count: 2,
         bootstraps: copy.repeat(2),

@@ -68,7 +68,7 @@ fn heavy_jobs_meet_the_refusals_of_full_tables() {
     assert!(met.is_superset(&BTreeSet::from([0, 1, 5, 14, 15, 16, 17])));
 }
 
-/// Demand 3 on what the module gives: answers, counts, bootstrap bytes and name slot don't depend on literals.
+/// Demand 3 on what the module gives: answers, marks, counts, bootstrap bytes and name slot don't depend on literals.
 #[test]
 fn layout_depends_on_shape_alone() {
     let mut random = Random::new(3);
@@ -88,8 +88,9 @@ fn shape(records: &[Record]) -> String {
             format!("unresolved at {place}")
         }
         Outcome::Built(b) => format!(
-            "{:?} {:?} {} {:?} {} {} {}",
+            "{:?} {:?} {:?} {} {:?} {} {} {}",
             b.answers,
+            b.marks,
             &b.pool[..2],
             b.bootstrap_count,
             b.bootstraps,

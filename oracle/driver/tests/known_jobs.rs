@@ -31,7 +31,7 @@ fn a_with_the_name_always() {
 fn b_a_class_and_its_text() {
     assert_eq!(
         line("01 0001 41 07 01 0000 50 51 01 0001 60 02 01 0000"),
-        "built answers 1 1 pool 9 000307000201000141 bootstraps 0 0 - name 0 class 1 41 visits 4"
+        "built answers 1 1 new pool 9 000307000201000141 bootstraps 0 0 - name 0 class 1 41 visits 4"
     );
 }
 
@@ -43,8 +43,9 @@ fn c_a_raw_text_is_not_shared() {
     let job = "01 0003 666f6f 43 0005 0000 01 0003 666f6f 07 01 0001 \
                50 51 01 0002 60 02 01 0000";
     let pool = "0007 010003666f6f 010000 010000 010000 010003666f6f 070001".replace(' ', "");
-    let expected =
-        format!("built answers 1 6 pool 26 {pool} bootstraps 0 0 - name 0 class 3 666f6f visits 6");
+    let expected = format!(
+        "built answers 1 6 new pool 26 {pool} bootstraps 0 0 - name 0 class 3 666f6f visits 6"
+    );
     assert_eq!(line(job), expected);
 }
 
@@ -55,8 +56,9 @@ fn d_a_long_then_an_int_around_a_raw_int() {
     let job = "03 00000001 05 0000000000000002 03 00000003 43 0002 0000 \
                50 51 01 0001 51 01 0002 60 02 00 0000";
     let pool = "0005 0300000003 0300000001 050000000000000002".replace(' ', "");
-    let expected =
-        format!("built answers 2 3 1 pool 21 {pool} bootstraps 0 0 - name 0 class none visits 6");
+    let expected = format!(
+        "built answers 2 3 new 1 new pool 21 {pool} bootstraps 0 0 - name 0 class none visits 6"
+    );
     assert_eq!(line(job), expected);
 }
 
@@ -119,7 +121,7 @@ fn g_raw_bootstrap_2_alone() {
 fn h_a_class_of_raw_0_has_no_name() {
     assert_eq!(
         line("07 00 0000 50 51 01 0000 60 02 01 0000"),
-        "built answers 1 1 pool 5 0002070000 bootstraps 0 0 - name 0 class none visits 3"
+        "built answers 1 1 new pool 5 0002070000 bootstraps 0 0 - name 0 class none visits 3"
     );
 }
 
@@ -128,7 +130,7 @@ fn h_a_class_of_raw_0_has_no_name() {
 fn h_a_class_of_raw_9_has_the_empty_name() {
     assert_eq!(
         line("07 00 0009 50 51 01 0000 60 02 01 0000"),
-        "built answers 1 1 pool 5 0002070009 bootstraps 0 0 - name 0 class 0 - visits 3"
+        "built answers 1 1 new pool 5 0002070009 bootstraps 0 0 - name 0 class 0 - visits 3"
     );
 }
 
@@ -137,7 +139,7 @@ fn h_a_class_of_raw_9_has_the_empty_name() {
 fn i_ldc_of_raw_255() {
     assert_eq!(
         line("50 52 00 00ff 60 02 00 0000"),
-        "built answers 1 255 pool 2 0001 bootstraps 0 0 - name 0 class none visits 1"
+        "built answers 1 255 raw pool 2 0001 bootstraps 0 0 - name 0 class none visits 1"
     );
 }
 

@@ -52,7 +52,7 @@ fn one_line_a_job() {
         text(&shown.stdout),
         "built answers 0 pool 2 0001 bootstraps 0 0 - name 0 class none visits 0\n\
          refused 3 0\n\
-         built answers 1 1 pool 9 000307000201000141 bootstraps 0 0 - name 0 class 1 41 visits 4\n"
+         built answers 1 1 new pool 9 000307000201000141 bootstraps 0 0 - name 0 class 1 41 visits 4\n"
     );
 }
 

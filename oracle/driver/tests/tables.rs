@@ -60,7 +60,12 @@ fn printed(outcome: &Outcome) -> String {
     let Outcome::Built(b) = outcome else {
         return format!("{}\n", outcome.line());
     };
-    let answers: String = b.answers.iter().map(|slot| format!("{slot}\n")).collect();
+    let answers: String = b
+        .answers
+        .iter()
+        .zip(&b.marks)
+        .map(|(slot, mark)| format!("{slot} {}\n", mark.name()))
+        .collect();
     let class = b.class_name.as_ref().map_or("none\n".into(), |name| {
         format!("{}\n{}\n", name.len(), hex(name))
     });

@@ -31,6 +31,7 @@ pub struct Memory {
     work: Vec<u32>,
     gaps: Vec<Gap>,
     answers: Vec<u16>,
+    marks: Vec<u8>,
     pool: Vec<u8>,
     bootstraps: Vec<u8>,
     class_name: Vec<u8>,
@@ -43,6 +44,7 @@ impl Memory {
         grow(&mut self.gaps, least_gaps(job.len()));
         if let Ok(built) = rotblossom::build(job) {
             grow(&mut self.answers, built.answers.len());
+            grow(&mut self.marks, built.marks.len());
             grow(&mut self.pool, built.pool.len());
             grow(&mut self.bootstraps, built.bootstraps.len());
             grow(
@@ -63,6 +65,7 @@ impl Memory {
             work: &mut self.work[..least_work(job_bytes)],
             gaps: &mut self.gaps[..least_gaps(job_bytes)],
             answers: &mut self.answers,
+            marks: &mut self.marks,
             pool: &mut self.pool,
             bootstraps: &mut self.bootstraps,
             class_name: &mut self.class_name,

@@ -155,7 +155,7 @@ mod tests {
     fn everywhere_else_it_is_the_rusts_line() {
         assert_eq!(right_line(&[0x50]), "refused 3 1");
         let job = [0x50, 0x51, 0, 0, 9, 0x60, 2, 0, 0, 0];
-        let line = "built answers 1 9 pool 2 0001 bootstraps 0 0 - name 0 class none visits 1";
+        let line = "built answers 1 9 raw pool 2 0001 bootstraps 0 0 - name 0 class none visits 1";
         assert_eq!(right_line(&job), line);
     }
 }

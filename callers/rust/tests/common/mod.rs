@@ -2,7 +2,7 @@
 
 #![allow(dead_code)] // each test file uses a part
 
-use rotblossom::{Built, Refusal};
+use rotblossom::{Built, Mark, Refusal};
 
 /// Case b of document 01: a text "A", a Class of it, and a request for the Class.
 pub const CASE_B: &str = "01 0001 41 07 01 0000 50 51 01 0001 60 02 01 0000";
@@ -27,10 +27,11 @@ pub fn build(job: &str) -> Result<Built, Refusal> {
     rotblossom::build(&bytes(job))
 }
 
-/// A built job with no bootstraps, no name and no class name.
+/// A built job with no bootstraps, no name and no class name, whose answers are all new.
 pub fn plain(answers: &[u16], pool: Vec<u8>, visits: usize) -> Built {
     Built {
         answers: answers.to_vec(),
+        marks: vec![Mark::New; answers.len()],
         pool,
         bootstrap_count: 0,
         bootstraps: vec![],

@@ -43,6 +43,7 @@ fn doctored(
             work: &mut *lent.work,
             gaps: &mut *lent.gaps,
             answers: &mut *lent.answers,
+            marks: &mut *lent.marks,
             pool: &mut *lent.pool,
             bootstraps: &mut *lent.bootstraps,
             class_name: &mut *lent.class_name,
@@ -82,6 +83,14 @@ fn wrong_contents_are_seen() {
         })
     };
     assert_seen(BUILT, answer, "lent exactly enough: wrong are answers;");
+    let mark: Library = |job, lent| {
+        doctored(job, lent, |told, lent| {
+            if told.is_ok() {
+                lent.marks[0] += 1;
+            }
+        })
+    };
+    assert_seen(BUILT, mark, "lent exactly enough: wrong are marks;");
     let pool: Library = |job, lent| {
         doctored(job, lent, |told, lent| {
             if let Ok(told) = told {

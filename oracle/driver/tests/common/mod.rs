@@ -3,7 +3,7 @@
 // Each test file uses only some of these.
 #![allow(dead_code, unused_imports)]
 
-use driver::{Built, Outcome, run_job};
+use driver::{Built, Mark, Outcome, run_job};
 pub use jobs::hex::bytes;
 pub use jobs::make::{ask, ask_ldc, constant, int, long};
 use jobs::record::{ClassSlot, Record, Reference, encode};
@@ -26,9 +26,10 @@ pub fn refused(code: u8, place: usize) -> Outcome {
     Outcome::Refused { code, place }
 }
 
-/// A build of nothing but pool bytes.
+/// A build of nothing but pool bytes, whose answers are all new.
 pub fn built_pool(answers: Vec<u16>, pool: Vec<u8>, visits: u64) -> Outcome {
     Outcome::Built(Built {
+        marks: vec![Mark::New; answers.len()],
         answers,
         pool,
         bootstrap_count: 0,
