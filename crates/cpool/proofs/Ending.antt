@@ -101,6 +101,7 @@ memory-left x m u = λ i. record {
   work = sym (cleared-left 0 (bad x) (m .work) u) i;
   gaps = sym (cleared-left (record { first = 0; last = 0 }) (bad x) (m .gaps) u) i;
   answers = m .answers;
+  marks = m .marks;
   pool = m .pool;
   bootstraps = m .bootstraps;
   class = m .class;
@@ -149,11 +150,11 @@ module _ (s : List ℕ) (m : Slices) where
 
   -- every other ending clears work and gaps
   abbrev before : Outputs
-  before = outputs (m .answers) (m .pool) (m .bootstraps) (m .class)
+  before = outputs (m .answers) (m .marks) (m .pool) (m .bootstraps) (m .class)
 
   memory-cleared :
       (result : Result Refusal Built) (after : Slices) (r : Outcome) → untouched result ≡ false →
-      Gave result before (outputs (after .answers) (after .pool) (after .bootstraps) (after .class)) r →
+      Gave result before (outputs (after .answers) (after .marks) (after .pool) (after .bootstraps) (after .class)) r →
       after .work ≡ replicate (length (m .work)) 0 → after .rows ≡ replicate (length (m .rows)) noGap →
       memoryOf after ≡ memoryAfter result (memoryOf m)
   unfolding memoryOf memoryAfter
@@ -165,6 +166,7 @@ module _ (s : List ℕ) (m : Slices) where
         work = (w ∙ sym (cleared-blank 0 result (m .work) u)) i;
         gaps = gaps i;
         answers = g .answers i;
+        marks = g .marks i;
         pool = g .pool i;
         bootstraps = g .bootstraps i;
         class = g .class i;
@@ -172,7 +174,7 @@ module _ (s : List ℕ) (m : Slices) where
 
   pub ran-on :
       (after : Slices) (r : Outcome) → IsBytes s → length s ≤ longestJob → 6 * length s + 1024 ≤ length (m .work) → length s / 5 + 2 ≤ length (m .rows) →
-      Gave (onward (roomOf before) s) before (outputs (after .answers) (after .pool) (after .bootstraps) (after .class)) r →
+      Gave (onward (roomOf before) s) before (outputs (after .answers) (after .marks) (after .pool) (after .bootstraps) (after .class)) r →
       after .work ≡ replicate (length (m .work)) 0 → after .rows ≡ replicate (length (m .rows)) noGap → Ran s m after r
   unfolding resultOf
   ran-on after r are short words gaps g w h =

@@ -8,8 +8,9 @@ use lib.Dec.{eqb}
 use lib.ListN.{length, take, drop}
 use lib.Seq.{take-append-seam}
 use Rattle.definition.specs.Basics.{Result, good, bad, Refusal}
-use Rattle.definition.specs.Run.{Built, Memory, refusalOf, returned, classOut, overwrite, outputAfter, memoryAfter}
+use Rattle.definition.specs.Run.{Built, Memory, lentOf, refusalOf, returned, classOut, overwrite, outputAfter, memoryAfter}
 use Rattle.facts.proofs.Lists.{true≢false}
+use Rattle.laws.proofs.building.MarksOfAnswers.{marks}
 use Rattle.cpool.specs.declared.Outcome.{Outcome}
 use Rattle.cpool.specs.Ran.{Numbers, told, isBuilt, classGiven, classSize, numbers, isGood, Slices, memoryOf, resultOf, Ran}
 use Rattle.cpool.specs.Promises.{handed}
@@ -29,6 +30,15 @@ module _ (job : List ℕ) (before after : Slices) (r : Outcome) (ran : Ran job b
     pub answers-built : after .answers ≡ overwrite (b .answers) (before .answers)
     unfolding memoryOf memoryAfter outputAfter
     answers-built = ap (λ (m : Memory). m .answers) memory-built
+
+    pub marks-built : after .marks ≡ overwrite (b .marks) (before .marks)
+    unfolding memoryOf memoryAfter outputAfter
+    marks-built = ap (λ (m : Memory). m .marks) memory-built
+
+    -- a mark for each answer
+    pub marks-many : length (b .marks) ≡ length (b .answers)
+    unfolding resultOf
+    marks-many = marks job (lentOf (memoryOf before)) b is
 
     pub pool-built : after .pool ≡ overwrite (b .pool) (before .pool)
     unfolding memoryOf memoryAfter outputAfter
@@ -54,6 +64,7 @@ module _ (job : List ℕ) (before after : Slices) (r : Outcome) (ran : Ran job b
     handed-is =
         let n = numbers-built in
         let a = take-overwrite (b .answers) (before .answers) (after .answers) (told r .answers) answers-built (ap (λ (m : Numbers). m .answers) n) in
+        let l = take-overwrite (b .marks) (before .marks) (after .marks) (told r .answers) marks-built (ap (λ (m : Numbers). m .answers) n ∙ sym marks-many) in
         let p = take-overwrite (b .pool) (before .pool) (after .pool) (told r .pool) pool-built (ap (λ (m : Numbers). m .pool) n) in
         let s = take-overwrite (b .bootstraps) (before .bootstraps) (after .bootstraps) (told r .bootstraps) bootstraps-built (ap (λ (m : Numbers). m .bootstraps) n) in
         let c =
@@ -64,7 +75,7 @@ module _ (job : List ℕ) (before after : Slices) (r : Outcome) (ran : Ran job b
         let k = ap (λ (m : Numbers). m .bootstrapCount) n in
         let m = ap (λ (m : Numbers). m .name) n in
         let v = ap (λ (m : Numbers). m .visits) n in
-        λ i. record { answers = a i; pool = p i; bootstrapCount = k i; bootstraps = s i; name = m i; class = c i; visits = v i }
+        λ i. record { answers = a i; marks = l i; pool = p i; bootstrapCount = k i; bootstraps = s i; name = m i; class = c i; visits = v i }
 
   -- a job that is built is built by the definition, as what was handed
   pub built-result : isBuilt r ≡ true → resultOf job before ≡ good (handed r after)

@@ -31,7 +31,7 @@ use Rattle.cpool.specs.Promises.{handed, PrefixOnly, BuiltRun, RefusedRu
 use Rattle.cpool.proofs.Refusals.{code-high, late-cleared}
 use Rattle.cpool.proofs.Telling.{class-size}
 use Rattle.cpool.proofs.Ending.{cleared-left, cleared-blank}
-use Rattle.cpool.proofs.Handed.{numbers-built, memory-built, answers-built, pool-built, bootstraps-built, class-built, handed-is, built-result, refused-result}
+use Rattle.cpool.proofs.Handed.{numbers-built, memory-built, answers-built, marks-built, marks-many, pool-built, bootstraps-built, class-built, handed-is, built-result, refused-result}
 
 -- WHAT IS LEFT ALONE, by a refusal's number
 
@@ -146,13 +146,14 @@ codeShape job₁ job₂ before₁ after₁ before₂ after₂ r₁ r₂ j₁ j�
       a ∙ h .5,
       b ∙ h .6,
       both (λ x. x .answers) a b (h .7),
-      both (λ x. take 2 (x .pool)) a b (h .8),
-      both (λ x. x .bootstrapCount) a b (h .9),
-      both (λ x. x .bootstraps) a b (h .10),
-      both (λ x. x .name) a b (h .11),
-      both (λ x. x .visits) a b (h .12),
+      both (λ x. x .marks) a b (h .8),
+      both (λ x. take 2 (x .pool)) a b (h .9),
+      both (λ x. x .bootstrapCount) a b (h .10),
+      both (λ x. x .bootstraps) a b (h .11),
+      both (λ x. x .name) a b (h .12),
+      both (λ x. x .visits) a b (h .13),
       λ are₁ are₂.
-          let alike = h .13 are₁ are₂ in (
+          let alike = h .14 are₁ are₂ in (
             subst (λ x. PoolsAlike j₁ j₂ (x .pool) (handed r₂ after₂ .pool)) (sym a) (subst (λ x. PoolsAlike j₁ j₂ (h .1 .pool) (x .pool)) (sym b) (alike .0)),
             subst (λ x. ClassesAlike j₁ j₂ (x .class) (handed r₂ after₂ .class)) (sym a) (subst (λ x. ClassesAlike j₁ j₂ (h .1 .class) (x .class)) (sym b) (alike .1)),
           ),
@@ -181,11 +182,15 @@ module _ (job : List ℕ) (before after : Slices) (r : Outcome) (are : IsBytes j
       let room = both-true _ _ (run-built (lentOf (memoryOf before)) job b is .1) in
       let room₁ = both-true _ _ (room .1) in
       let room₂ = both-true _ _ (room₁ .1) in
+      let room₃ = both-true _ _ (room₂ .1) in
       record {
         answers = prefix-only (told r .answers) (b .answers) (before .answers) (after .answers) (ap (λ (m : Numbers). m .answers) n) (answers-built job before after r ran b is) (room .0);
-        pool = prefix-only (told r .pool) (b .pool) (before .pool) (after .pool) (ap (λ (m : Numbers). m .pool) n) (pool-built job before after r ran b is) (room₁ .0);
-        bootstraps = prefix-only (told r .bootstraps) (b .bootstraps) (before .bootstraps) (after .bootstraps) (ap (λ (m : Numbers). m .bootstraps) n) (bootstraps-built job before after r ran b is) (room₂ .0);
-        class = prefix-only (told r .classBytes) (classOut (b .class)) (before .class) (after .class) (ap (λ (m : Numbers). m .classBytes) n ∙ class-size (b .class)) (class-built job before after r ran b is) (room₂ .1);
+        marks =
+            prefix-only (told r .answers) (b .marks) (before .marks) (after .marks)
+            (ap (λ (m : Numbers). m .answers) n ∙ sym (marks-many job before after r ran b is)) (marks-built job before after r ran b is) (room₁ .0);
+        pool = prefix-only (told r .pool) (b .pool) (before .pool) (after .pool) (ap (λ (m : Numbers). m .pool) n) (pool-built job before after r ran b is) (room₂ .0);
+        bootstraps = prefix-only (told r .bootstraps) (b .bootstraps) (before .bootstraps) (after .bootstraps) (ap (λ (m : Numbers). m .bootstraps) n) (bootstraps-built job before after r ran b is) (room₃ .0);
+        class = prefix-only (told r .classBytes) (classOut (b .class)) (before .class) (after .class) (ap (λ (m : Numbers). m .classBytes) n ∙ class-size (b .class)) (class-built job before after r ran b is) (room₃ .1);
         cleared = (ap (λ (m : Memory). m .work) (memory-built job before after r ran b is), ran .rows ∙ ap (λ x. clearedAfter noGap x (before .rows)) is);
       }
 
@@ -200,6 +205,7 @@ module _ (job : List ℕ) (before after : Slices) (r : Outcome) (are : IsBytes j
         low = omega (arith, n, non-zero (q .code) (fuelLasts job (lentOf (memoryOf before)) q are is));
         high = omega (arith, n, code-high (lentOf (memoryOf before)) job q is);
         answers = ap (λ (m : Memory). m .answers) memory;
+        marks = ap (λ (m : Memory). m .marks) memory;
         pool = ap (λ (m : Memory). m .pool) memory;
         bootstraps = ap (λ (m : Memory). m .bootstraps) memory;
         class = ap (λ (m : Memory). m .class) memory;

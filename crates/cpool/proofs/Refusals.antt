@@ -42,7 +42,7 @@ code-high lent bytes q e = ways (runRefused lent bytes q e)
 
 -- so that of a record fits a word
 just-enough : ℕ → Lent
-just-enough n = record { work = 6 * n + 1024; gaps = n / 5 + 2; answers = 0; pool = 0; bootstraps = 0; class = 0 }
+just-enough n = record { work = 6 * n + 1024; gaps = n / 5 + 2; answers = 0; marks = 0; pool = 0; bootstraps = 0; class = 0 }
 
 is-enough : (n : ℕ) → enough n (just-enough n) ≡ true
 unfolding enough just-enough

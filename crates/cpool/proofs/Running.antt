@@ -47,6 +47,6 @@ module _ (lent : Lent) (s : List ℕ) where
   laid job l e f = rw (e, f)
 
 -- work and gaps are no question any more
-pub onward-room : (m : Slices) (s : List ℕ) → onward (lentOf (memoryOf m)) s ≡ onward (roomOf (outputs (m .answers) (m .pool) (m .bootstraps) (m .class))) s
+pub onward-room : (m : Slices) (s : List ℕ) → onward (lentOf (memoryOf m)) s ≡ onward (roomOf (outputs (m .answers) (m .marks) (m .pool) (m .bootstraps) (m .class))) s
 unfolding onward fitted fits lentOf memoryOf roomOf
 onward-room m s = refl

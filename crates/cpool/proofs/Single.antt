@@ -44,6 +44,7 @@ pub record Same (m m′ : Slices) : Type 0 where
   pub work : m .work ≡ m′ .work
   pub rows : m .rows ≡ m′ .rows
   pub answers : m .answers ≡ m′ .answers
+  pub marks : m .marks ≡ m′ .marks
   pub pool : m .pool ≡ m′ .pool
   pub bootstraps : m .bootstraps ≡ m′ .bootstraps
   pub class : m .class ≡ m′ .class
@@ -55,6 +56,7 @@ same-memory m m′ e rows =
       work = ap (λ x. x .work) e;
       rows = rows;
       answers = ap (λ x. x .answers) e;
+      marks = ap (λ x. x .marks) e;
       pool = ap (λ x. x .pool) e;
       bootstraps = ap (λ x. x .bootstraps) e;
       class = ap (λ x. x .class) e;
@@ -77,10 +79,10 @@ one-telling job before after after′ code code′ numbers numbers′ h h′ = (
   same-memory after after′ (h .memory ∙ sym (h′ .memory)) (h .rows ∙ sym (h′ .rows)),
 )
 
--- THE CONTRACTS, where s .1 .0 is `work`, and then `gaps`, `answers`, `pool`, `bootstraps`, `class_name` and `numbers` follow
+-- THE CONTRACTS, where s .1 .0 is `work`, and then `gaps`, `answers`, `marks`, `pool`, `bootstraps`, `class_name` and `numbers` follow
 
 pub single :
-    (κs : Lfts 7) (a : _) (r r′ : Outcome) (s s′ : _) →
+    (κs : Lfts 8) (a : _) (r r′ : Outcome) (s s′ : _) →
     run.Learnt κs a r s → run.Learnt κs a r′ s′ →
     (r ≡ r′)
     × (now (s .1 .0) ≡ now (s′ .1 .0))
@@ -89,12 +91,13 @@ pub single :
     × (now (s .1 .1 .1 .1 .0) ≡ now (s′ .1 .1 .1 .1 .0))
     × (now (s .1 .1 .1 .1 .1 .0) ≡ now (s′ .1 .1 .1 .1 .1 .0))
     × (now (s .1 .1 .1 .1 .1 .1 .0) ≡ now (s′ .1 .1 .1 .1 .1 .1 .0))
+    × (now (s .1 .1 .1 .1 .1 .1 .1 .0) ≡ now (s′ .1 .1 .1 .1 .1 .1 .1 .0))
 single κs a r r′ s s′ h h′ =
     let one = one-run _ _ _ _ r r′ h h′ in
-    (one .0, one .1 .work, one .1 .rows, one .1 .answers, one .1 .pool, one .1 .bootstraps, one .1 .class)
+    (one .0, one .1 .work, one .1 .rows, one .1 .answers, one .1 .marks, one .1 .pool, one .1 .bootstraps, one .1 .class)
 
 pub single-told :
-    (κs : Lfts 8) (a : _) (r r′ : ℕ) (s s′ : _) →
+    (κs : Lfts 9) (a : _) (r r′ : ℕ) (s s′ : _) →
     cpool-run.Learnt κs a r s → cpool-run.Learnt κs a r′ s′ →
     (r ≡ r′)
     × (now (s .1 .0) ≡ now (s′ .1 .0))
@@ -104,6 +107,7 @@ pub single-told :
     × (now (s .1 .1 .1 .1 .1 .0) ≡ now (s′ .1 .1 .1 .1 .1 .0))
     × (now (s .1 .1 .1 .1 .1 .1 .0) ≡ now (s′ .1 .1 .1 .1 .1 .1 .0))
     × (now (s .1 .1 .1 .1 .1 .1 .1 .0) ≡ now (s′ .1 .1 .1 .1 .1 .1 .1 .0))
+    × (now (s .1 .1 .1 .1 .1 .1 .1 .1 .0) ≡ now (s′ .1 .1 .1 .1 .1 .1 .1 .1 .0))
 single-told κs a r r′ s s′ h h′ =
     let one = one-telling _ _ _ _ r r′ _ _ h h′ in
-    (one .0, one .2 .work, one .2 .rows, one .2 .answers, one .2 .pool, one .2 .bootstraps, one .2 .class, one .1)
+    (one .0, one .2 .work, one .2 .rows, one .2 .answers, one .2 .marks, one .2 .pool, one .2 .bootstraps, one .2 .class, one .1)

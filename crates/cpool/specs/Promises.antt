@@ -32,6 +32,7 @@ unfoldable pub handed : Outcome → Slices → Built
 handed r after =
     record {
       answers = take (told r .answers) (after .answers);
+      marks = take (told r .answers) (after .marks);
       pool = take (told r .pool) (after .pool);
       bootstrapCount = told r .bootstrapCount;
       bootstraps = take (told r .bootstraps) (after .bootstraps);
@@ -56,6 +57,7 @@ Cleared before after =
 -- a job that is built writes a prefix of each output and nothing behind it
 pub record BuiltRun (before after : Slices) (n : Numbers) : Type 0 where
   pub answers : PrefixOnly (n .answers) (before .answers) (after .answers)
+  pub marks : PrefixOnly (n .answers) (before .marks) (after .marks)
   pub pool : PrefixOnly (n .pool) (before .pool) (after .pool)
   pub bootstraps : PrefixOnly (n .bootstraps) (before .bootstraps) (after .bootstraps)
   pub class : PrefixOnly (n .classBytes) (before .class) (after .class)
@@ -66,6 +68,7 @@ pub record RefusedRun (before after : Slices) (n : Numbers) : Type 0 where
   pub low : 1 ≤ n .code
   pub high : n .code ≤ 18
   pub answers : after .answers ≡ before .answers
+  pub marks : after .marks ≡ before .marks
   pub pool : after .pool ≡ before .pool
   pub bootstraps : after .bootstraps ≡ before .bootstraps
   pub class : after .class ≡ before .class
@@ -124,7 +127,7 @@ CodeCause =
     × ((isBuilt r ≡ true) ↔ ((code place : ℕ) → CauseOf (lentOf (memoryOf before)) job code place → ⊥))
 
 -- DEMAND 3: SHAPE. Two jobs alike but for their literals, neither refused for length, work or room, are refused alike, or get one layout,
--- in which each shows its own literals, and the same answers, counts, bootstrap bytes, name and visits; and their pools, slot by slot as
+-- in which each shows its own literals, and the same answers, marks, counts, bootstrap bytes, name and visits; and their pools, slot by slot as
 -- JVMS reads them, and their class names differ only in the literals
 abbrev pub CodeShape : Type 0
 CodeShape =
@@ -136,6 +139,6 @@ CodeShape =
     let b₂ = handed r₂ after₂ in
     ((isBuilt r₁ ≡ false) × (isBuilt r₂ ≡ false) × (told r₁ ≡ told r₂))
     ⊎ ((isBuilt r₁ ≡ true) × (isBuilt r₂ ≡ true) × (l : Layout) × (b₁ ≡ render (literals j₁) l) × (b₂ ≡ render (literals j₂) l)
-    × (b₁ .answers ≡ b₂ .answers) × (take 2 (b₁ .pool) ≡ take 2 (b₂ .pool)) × (b₁ .bootstrapCount ≡ b₂ .bootstrapCount)
+    × (b₁ .answers ≡ b₂ .answers) × (b₁ .marks ≡ b₂ .marks) × (take 2 (b₁ .pool) ≡ take 2 (b₂ .pool)) × (b₁ .bootstrapCount ≡ b₂ .bootstrapCount)
     × (b₁ .bootstraps ≡ b₂ .bootstraps) × (b₁ .name ≡ b₂ .name) × (b₁ .visits ≡ b₂ .visits)
     × (IsBytes job₁ → IsBytes job₂ → PoolsAlike j₁ j₂ (b₁ .pool) (b₂ .pool) × ClassesAlike j₁ j₂ (b₁ .class) (b₂ .class)))

@@ -14,8 +14,8 @@ use Rattle.cpool.specs.declared.ClassLength.the-variants as classLength
 use Rattle.cpool.specs.declared.Outcome.{Outcome}
 use Rattle.cpool.specs.declared.Outcome.the-variants as outcome
 
--- the numbers of document 01 that a run returns: a refusal's number and record; how many answers, and how many bytes of pool,
--- bootstraps and class name, were written; the number of bootstraps; the name's slot; whether there is a class name (1) or none (0);
+-- the numbers of document 01 that a run returns: a refusal's number and record; how many answers, each with its mark, and how many
+-- bytes of pool, bootstraps and class name, were written; the number of bootstraps; the name's slot; whether there is a class name (1) or none (0);
 -- the visits
 pub record Numbers : Type 0 where
   pub code : ℕ
@@ -109,6 +109,7 @@ pub record Slices : Type 0 where
   pub work : List ℕ
   pub rows : GapTable
   pub answers : List ℕ
+  pub marks : List ℕ
   pub pool : List ℕ
   pub bootstraps : List ℕ
   pub class : List ℕ
@@ -120,14 +121,15 @@ memoryOf m =
       work = m .work;
       gaps = map gapOf (m .rows);
       answers = m .answers;
+      marks = m .marks;
       pool = m .pool;
       bootstraps = m .bootstraps;
       class = m .class;
     }
 
-abbrev pub slices : List ℕ → GapTable → List ℕ → List ℕ → List ℕ → List ℕ → Slices
-slices work rows answers pool bootstraps class =
-    record { work = work; rows = rows; answers = answers; pool = pool; bootstraps = bootstraps; class = class }
+abbrev pub slices : List ℕ → GapTable → List ℕ → List ℕ → List ℕ → List ℕ → List ℕ → Slices
+slices work rows answers marks pool bootstraps class =
+    record { work = work; rows = rows; answers = answers; marks = marks; pool = pool; bootstraps = bootstraps; class = class }
 
 -- THE PROMISE
 

@@ -10,15 +10,17 @@ use Rattle.cpool.specs.declared.ClassLength.{ClassLength}
 use Rattle.cpool.specs.declared.Outcome.{Outcome}
 use Rattle.cpool.specs.Ran.{given, bytesOf, told, isBuilt, classGiven, classSize, numbers, isGood}
 
--- the four outputs
+-- the five outputs
 pub record Outputs : Type 0 where
   pub answers : List ℕ
+  pub marks : List ℕ
   pub pool : List ℕ
   pub bootstraps : List ℕ
   pub class : List ℕ
 
-abbrev pub outputs : List ℕ → List ℕ → List ℕ → List ℕ → Outputs
-outputs answers pool bootstraps class = record { answers = answers; pool = pool; bootstraps = bootstraps; class = class }
+abbrev pub outputs : List ℕ → List ℕ → List ℕ → List ℕ → List ℕ → Outputs
+outputs answers marks pool bootstraps class =
+    record { answers = answers; marks = marks; pool = pool; bootstraps = bootstraps; class = class }
 
 -- how much of each is lent; work and gaps are no question any more
 unfoldable pub roomOf : Outputs → Lent
@@ -27,6 +29,7 @@ roomOf o =
       work = 0;
       gaps = 0;
       answers = length (o .answers);
+      marks = length (o .marks);
       pool = length (o .pool);
       bootstraps = length (o .bootstraps);
       class = length (o .class);
@@ -53,6 +56,7 @@ pub record Tells (result : Result Refusal Built) (r : Outcome) : Type 0 where
 pub record Gave (result : Result Refusal Built) (before after : Outputs) (r : Outcome) : Type 0 where
   pub tells : Tells result r
   pub answers : after .answers ≡ outputAfter (λ b. b .answers) result (before .answers)
+  pub marks : after .marks ≡ outputAfter (λ b. b .marks) result (before .marks)
   pub pool : after .pool ≡ outputAfter (λ b. b .pool) result (before .pool)
   pub bootstraps : after .bootstraps ≡ outputAfter (λ b. b .bootstraps) result (before .bootstraps)
   pub class : after .class ≡ outputAfter (λ b. classOut (b .class)) result (before .class)

@@ -37,7 +37,7 @@ pub enum ClassLength {
     Bytes(usize),
 }
 
-// How a run ends: how much of each output was written and the other numbers, or a refusal.
+// How a run ends: how much of each output was written (a mark for each answer) and the other numbers, or a refusal.
 pub enum Outcome {
     Built {
         answers: usize,
@@ -95,6 +95,7 @@ fn built(w: &[u32], p: &[usize], pool: usize, rows: usize, class: ClassName) -> 
 // Every output has room for so much: `fits`.
 fn fits(
     answers: &[u16],
+    marks: &[u8],
     pool: &[u8],
     bootstraps: &[u8],
     class_name: &[u8],
@@ -103,9 +104,12 @@ fn fits(
     rows_size: usize,
     class_size: usize,
 ) -> bool
-    ensures { λ r. ⌜ r ≡ (leb asked (length (now (answers .entry))) && (leb «pool_size» (length (now (pool .entry))) && (leb «rows_size» (length (now (bootstraps .entry))) && leb «class_size» (length (now («class_name» .entry)))))) ⌝ }
+    ensures { λ r. ⌜ r ≡ (leb asked (length (now (answers .entry))) && (leb asked (length (now (marks .entry))) && (leb «pool_size» (length (now (pool .entry))) && (leb «rows_size» (length (now (bootstraps .entry))) && leb «class_size» (length (now («class_name» .entry))))))) ⌝ }
 {
     if answers.len() < asked {
+        return false;
+    }
+    if marks.len() < asked {
         return false;
     }
     if pool.len() < pool_size {
@@ -123,14 +127,15 @@ fn give_out(
     w: &[u32],
     p: &[usize],
     answers: &mut [u16],
+    marks: &mut [u8],
     pool: &mut [u8],
     bootstraps: &mut [u8],
     class_name: &mut [u8],
 ) -> Outcome
     requires { ⌜ On (now p) (length (now w)) × Work (now job) (now p) × ((b : Built) × Rendered (now job) (now p) (store (now p) (now w)) b) ⌝ }
-    ensures { λ r. ⌜ ((b : Built) → Rendered (now (job .entry)) (now (p .entry)) (store (now (p .entry)) (now (w .entry))) b → Gave (fitted (roomOf (outputs (now (answers .entry)) (now (pool .entry)) (now (bootstraps .entry)) (now («class_name» .entry)))) (placeCount (store (now (p .entry)) (now (w .entry)))) b)
-        (outputs (now (answers .entry)) (now (pool .entry)) (now (bootstraps .entry)) (now («class_name» .entry)))
-        (outputs (now (answers .exit)) (now (pool .exit)) (now (bootstraps .exit)) (now («class_name» .exit))) r) ⌝ }
+    ensures { λ r. ⌜ ((b : Built) → Rendered (now (job .entry)) (now (p .entry)) (store (now (p .entry)) (now (w .entry))) b → Gave (fitted (roomOf (outputs (now (answers .entry)) (now (marks .entry)) (now (pool .entry)) (now (bootstraps .entry)) (now («class_name» .entry)))) (placeCount (store (now (p .entry)) (now (w .entry)))) b)
+        (outputs (now (answers .entry)) (now (marks .entry)) (now (pool .entry)) (now (bootstraps .entry)) (now («class_name» .entry)))
+        (outputs (now (answers .exit)) (now (marks .exit)) (now (pool .exit)) (now (bootstraps .exit)) (now («class_name» .exit))) r) ⌝ }
 {
     let asked = size_of(p, ANSWERS);
     let pool_size = output::pool_length(job, w, p);
@@ -139,6 +144,7 @@ fn give_out(
     let class_size = output::class_length(class);
     if !fits(
         answers,
+        marks,
         pool,
         bootstraps,
         class_name,
@@ -150,6 +156,7 @@ fn give_out(
         return refused(w, p, 18);
     }
     output::write_answers(answers, w, p);
+    output::write_marks(marks, w, p);
     output::write_pool(pool, job, w, p);
     output::write_rows(bootstraps, w, p);
     output::write_class(class_name, job, class);
@@ -163,21 +170,22 @@ fn build(
     gaps: &mut [Gap],
     c: JobCounts,
     answers: &mut [u16],
+    marks: &mut [u8],
     pool: &mut [u8],
     bootstraps: &mut [u8],
     class_name: &mut [u8],
 ) -> Outcome
     requires { ⌜ WellFormed (now job) × (c ≡ countsIn (now job)) × (6 * length (now job) + 1024 ≤ length (now w)) × (length (now job) / 5 + 2 ≤ length (now gaps)) ⌝ }
-    ensures { λ r. ⌜ Gave (onward (roomOf (outputs (now (answers .entry)) (now (pool .entry)) (now (bootstraps .entry)) (now («class_name» .entry)))) (now (job .entry)))
-        (outputs (now (answers .entry)) (now (pool .entry)) (now (bootstraps .entry)) (now («class_name» .entry)))
-        (outputs (now (answers .exit)) (now (pool .exit)) (now (bootstraps .exit)) (now («class_name» .exit))) r ⌝ }
+    ensures { λ r. ⌜ Gave (onward (roomOf (outputs (now (answers .entry)) (now (marks .entry)) (now (pool .entry)) (now (bootstraps .entry)) (now («class_name» .entry)))) (now (job .entry)))
+        (outputs (now (answers .entry)) (now (marks .entry)) (now (pool .entry)) (now (bootstraps .entry)) (now («class_name» .entry)))
+        (outputs (now (answers .exit)) (now (marks .exit)) (now (pool .exit)) (now (bootstraps .exit)) (now («class_name» .exit))) r ⌝ }
 {
     let mut p = [0usize; 32];
     let code = builder::lay_out(job, w, &mut p, gaps, c);
     if code != 0 {
         return refused(w, &p, code);
     }
-    give_out(job, w, &p, answers, pool, bootstraps, class_name)
+    give_out(job, w, &p, answers, marks, pool, bootstraps, class_name)
 }
 
 // Form over the whole job, then the records in turn.
@@ -186,17 +194,28 @@ fn run_formed(
     w: &mut [u32],
     gaps: &mut [Gap],
     answers: &mut [u16],
+    marks: &mut [u8],
     pool: &mut [u8],
     bootstraps: &mut [u8],
     class_name: &mut [u8],
 ) -> Outcome
     requires { ⌜ (length (now job) ≤ longestJob) × (6 * length (now job) + 1024 ≤ length (now w)) × (length (now job) / 5 + 2 ≤ length (now gaps)) ⌝ }
-    ensures { λ r. ⌜ Gave (onward (roomOf (outputs (now (answers .entry)) (now (pool .entry)) (now (bootstraps .entry)) (now («class_name» .entry)))) (now (job .entry)))
-        (outputs (now (answers .entry)) (now (pool .entry)) (now (bootstraps .entry)) (now («class_name» .entry)))
-        (outputs (now (answers .exit)) (now (pool .exit)) (now (bootstraps .exit)) (now («class_name» .exit))) r ⌝ }
+    ensures { λ r. ⌜ Gave (onward (roomOf (outputs (now (answers .entry)) (now (marks .entry)) (now (pool .entry)) (now (bootstraps .entry)) (now («class_name» .entry)))) (now (job .entry)))
+        (outputs (now (answers .entry)) (now (marks .entry)) (now (pool .entry)) (now (bootstraps .entry)) (now («class_name» .entry)))
+        (outputs (now (answers .exit)) (now (marks .exit)) (now (pool .exit)) (now (bootstraps .exit)) (now («class_name» .exit))) r ⌝ }
 {
     match job::form(job) {
-        Formed::Counts(c) => build(job, w, gaps, c, answers, pool, bootstraps, class_name),
+        Formed::Counts(c) => build(
+            job,
+            w,
+            gaps,
+            c,
+            answers,
+            marks,
+            pool,
+            bootstraps,
+            class_name,
+        ),
         Formed::Refused { code, place } => Outcome::Refused { code, place },
     }
 }
@@ -207,14 +226,15 @@ pub fn run(
     work: &mut [u32],
     gaps: &mut [Gap],
     answers: &mut [u16],
+    marks: &mut [u8],
     pool: &mut [u8],
     bootstraps: &mut [u8],
     class_name: &mut [u8],
 ) -> Outcome
     ensures { λ r.
         ⌜ Ran (now (job .entry))
-        (slices (now (work .entry)) (now (gaps .entry)) (now (answers .entry)) (now (pool .entry)) (now (bootstraps .entry)) (now («class_name» .entry)))
-        (slices (now (work .exit)) (now (gaps .exit)) (now (answers .exit)) (now (pool .exit)) (now (bootstraps .exit)) (now («class_name» .exit))) r ⌝ }
+        (slices (now (work .entry)) (now (gaps .entry)) (now (answers .entry)) (now (marks .entry)) (now (pool .entry)) (now (bootstraps .entry)) (now («class_name» .entry)))
+        (slices (now (work .exit)) (now (gaps .exit)) (now (answers .exit)) (now (marks .exit)) (now (pool .exit)) (now (bootstraps .exit)) (now («class_name» .exit))) r ⌝ }
 {
     if LONGEST_JOB < job.len() {
         return Outcome::Refused { code: 1, place: 0 };
@@ -225,7 +245,16 @@ pub fn run(
     if gaps.len() < job.len() / 5 + 2 {
         return Outcome::Refused { code: 2, place: 0 };
     }
-    let outcome = run_formed(job, work, gaps, answers, pool, bootstraps, class_name);
+    let outcome = run_formed(
+        job,
+        work,
+        gaps,
+        answers,
+        marks,
+        pool,
+        bootstraps,
+        class_name,
+    );
     writer::clear_words(work);
     slots::clear_gaps(gaps);
     outcome
@@ -287,7 +316,7 @@ fn tell(outcome: Outcome, numbers: &mut [usize; 9]) -> u32
 }
 
 // run for Rust and C: returns the refusal's number, 0 if the job is built, and writes the other numbers: the refusal's record, how many
-// answers and bytes of the pool, the number of bootstraps and how many bytes they take, the name's slot, whether there is a class name
+// answers, each with its mark, and bytes of the pool, the number of bootstraps and how many bytes they take, the name's slot, whether there is a class name
 // (1 or 0), its length, the visits.
 #[no_mangle]
 pub extern "C" fn cpool_run(
@@ -295,6 +324,7 @@ pub extern "C" fn cpool_run(
     work: &mut [u32],
     gaps: &mut [Gap],
     answers: &mut [u16],
+    marks: &mut [u8],
     pool: &mut [u8],
     bootstraps: &mut [u8],
     class_name: &mut [u8],
@@ -302,9 +332,18 @@ pub extern "C" fn cpool_run(
 ) -> u32
     ensures { λ r.
         ⌜ Told (now (job .entry))
-        (slices (now (work .entry)) (now (gaps .entry)) (now (answers .entry)) (now (pool .entry)) (now (bootstraps .entry)) (now («class_name» .entry)))
-        (slices (now (work .exit)) (now (gaps .exit)) (now (answers .exit)) (now (pool .exit)) (now (bootstraps .exit)) (now («class_name» .exit))) r (now (numbers .exit)) ⌝ }
+        (slices (now (work .entry)) (now (gaps .entry)) (now (answers .entry)) (now (marks .entry)) (now (pool .entry)) (now (bootstraps .entry)) (now («class_name» .entry)))
+        (slices (now (work .exit)) (now (gaps .exit)) (now (answers .exit)) (now (marks .exit)) (now (pool .exit)) (now (bootstraps .exit)) (now («class_name» .exit))) r (now (numbers .exit)) ⌝ }
 {
-    let outcome = run(job, work, gaps, answers, pool, bootstraps, class_name);
+    let outcome = run(
+        job,
+        work,
+        gaps,
+        answers,
+        marks,
+        pool,
+        bootstraps,
+        class_name,
+    );
     tell(outcome, numbers)
 }

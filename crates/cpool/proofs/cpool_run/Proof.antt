@@ -31,8 +31,11 @@ same-length-5 c = search needs
 same-length-6 : tie.Need-same-length-6
 same-length-6 c = search needs
 
+same-length-7 : tie.Need-same-length-7
+same-length-7 c = search needs
+
 returns : tie.Need-returns
-returns c = let a = c .before .before .before .before .before .before .before .before .before .before .before .before .before .before .before .before .before .before .before .before .before .before .before .before .before .before .args in let f = c .before .before .before .before .before .before .before .before .before .before .before .before .before .run in told-run (a .job .now) (slices (a .work .now) (a .gaps .now) (a .answers .now) (a .pool .now) (a .bootstraps .now) (a .class-name .now)) (slices (f .last .1 .0) (f .last .1 .1 .0) (f .last .1 .1 .1 .0) (f .last .1 .1 .1 .1 .0) (f .last .1 .1 .1 .1 .1 .0) (f .last .1 .1 .1 .1 .1 .1 .0)) (f .result) _ _ (λ i. c .before .before .before .before .before .before .before .before .before .before .before .before .before .before .before .before .before .before .before .before .before .before .before .before .before .shared-slice-known .given i .fits) (f .ensures) (c .tell .ensures .0) (c .tell .ensures .1)
+returns c = let a = c .before .before .before .before .before .before .before .before .before .before .before .before .before .before .before .before .before .before .before .before .before .before .before .before .before .before .before .before .before .before .args in let f = c .before .before .before .before .before .before .before .before .before .before .before .before .before .before .before .run in told-run (a .job .now) (slices (a .work .now) (a .gaps .now) (a .answers .now) (a .marks .now) (a .pool .now) (a .bootstraps .now) (a .class-name .now)) (slices (f .last .1 .0) (f .last .1 .1 .0) (f .last .1 .1 .1 .0) (f .last .1 .1 .1 .1 .0) (f .last .1 .1 .1 .1 .1 .0) (f .last .1 .1 .1 .1 .1 .1 .0) (f .last .1 .1 .1 .1 .1 .1 .1 .0)) (f .result) _ _ (λ i. c .before .before .before .before .before .before .before .before .before .before .before .before .before .before .before .before .before .before .before .before .before .before .before .before .before .before .before .before .before .shared-slice-known .given i .fits) (f .ensures) (c .tell .ensures .0) (c .tell .ensures .1)
 
 pub cpool-run-spec : {M : Type 1} → statement M
 cpool-run-spec =
@@ -46,4 +49,5 @@ cpool-run-spec =
     same-length-4
     same-length-5
     same-length-6
+    same-length-7
     returns)
