@@ -9,7 +9,7 @@ fn main() {
     // One byte more than a file may have, so that a longer one is seen.
     let mut file = [0u8; 2561];
     let n = io::read_full(STDIN_FILENO, &mut file);
-    let mut out = [0u8; 1114112];
+    let mut out = [0u8; 1245184];
     let k = poolrun_text::text(&file[..n], &mut out);
     if !io::write_all(STDOUT_FILENO, &out[..k]) {
         io::write_all(STDERR_FILENO, b"poolrun: the output can't be written\n");

@@ -18,7 +18,7 @@ fn write_part(s: &[u8], n: usize) -> bool {
     io::write_all(STDOUT_FILENO, &s[..n])
 }
 
-fn print_text(file: &[u8], n: usize, out: &mut [u8; 1114112]) -> bool {
+fn print_text(file: &[u8], n: usize, out: &mut [u8; 1245184]) -> bool {
     if file.len() < n {
         return false;
     }
@@ -27,7 +27,7 @@ fn print_text(file: &[u8], n: usize, out: &mut [u8; 1114112]) -> bool {
 }
 
 // One file, if there is one; whether to go on.
-fn next_file(file: &mut [u8; 4096], out: &mut [u8; 1114112]) -> bool {
+fn next_file(file: &mut [u8; 4096], out: &mut [u8; 1245184]) -> bool {
     let mut head = [0u8; 4];
     if !read_part(&mut head, 4) {
         return false;
@@ -41,7 +41,7 @@ fn next_file(file: &mut [u8; 4096], out: &mut [u8; 1114112]) -> bool {
 
 fn main() {
     let mut file = [0u8; 4096];
-    let mut out = [0u8; 1114112];
+    let mut out = [0u8; 1245184];
     let mut turns = u64::MAX;
     while 0 < turns && next_file(&mut file, &mut out) {
         turns -= 1;

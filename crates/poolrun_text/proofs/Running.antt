@@ -19,7 +19,7 @@ use Rattle.cpool.specs.declared.Outcome.{Outcome}
 use Rattle.cpool.specs.declared.Outcome.the-variants as outcome
 use Rattle.cpool.specs.Ran.{Numbers, told, isBuilt, given, bytesOf, classSize, numbers, Slices, memoryOf, resultOf, Ran}
 use Rattle.cpool.specs.Promises.{handed}
-use Rattle.cpool.proofs.Handed.{numbers-built, answers-built, pool-built, bootstraps-built, class-built, built-result, refused-result}
+use Rattle.cpool.proofs.Handed.{numbers-built, answers-built, marks-built, marks-many, pool-built, bootstraps-built, class-built, built-result, refused-result}
 use Rattle.poolrun_text.specs.Text.{builtText, refusedText, nameOf, textOf, Room, Fits, Lengths}
 use Rattle.poolrun_text.proofs.Texts.{refused-is}
 
@@ -32,7 +32,7 @@ name-is (classLength.Bytes n) class = refl
 -- the text of what stands in the outputs
 pub text-ran :
     (job : List ℕ) (before after : Slices) (r : Outcome) → Ran job before after r →
-    textOf r (after .answers) (after .pool) (after .bootstraps) (after .class) ≡ printed (resultOf job before)
+    textOf r (after .answers) (after .marks) (after .pool) (after .bootstraps) (after .class) ≡ printed (resultOf job before)
 unfolding textOf builtText isBuilt told handed
 text-ran job before after (outcome.Built asked poolSize count rowsSize name size visits) ran =
     let r = outcome.Built asked poolSize count rowsSize name size visits in
@@ -42,6 +42,7 @@ text-ran job before after (outcome.Built asked poolSize count rowsSize name size
     (good
     (record {
       answers = take asked (after .answers);
+      marks = take asked (after .marks);
       pool = take poolSize (after .pool);
       bootstrapCount = count;
       bootstraps = take rowsSize (after .bootstraps);
@@ -65,18 +66,21 @@ class-size none = refl
 class-size (some s) = refl
 
 pub fits-ran :
-    (job : List ℕ) (before after : Slices) (r : Outcome) (out : ℕ) → Ran job before after r → 1114112 ≤ out →
-    length (after .answers) ≤ 32768 → length (after .pool) ≤ 65536 → length (after .bootstraps) ≤ 65536 → length (after .class) ≤ 65536 →
-    Fits r out (length (after .answers)) (length (after .pool)) (length (after .bootstraps)) (length (after .class))
+    (job : List ℕ) (before after : Slices) (r : Outcome) (out : ℕ) → Ran job before after r → 1245184 ≤ out →
+    length (after .answers) ≤ 32768 → length (after .marks) ≤ 65536 → length (after .pool) ≤ 65536 → length (after .bootstraps) ≤ 65536 → length (after .class) ≤ 65536 →
+    Fits r out (length (after .answers)) (length (after .marks)) (length (after .pool)) (length (after .bootstraps)) (length (after .class))
 unfolding Fits isBuilt told numbers returned
-fits-ran job before after (outcome.Refused code place) out ran room a p s c = omega (arith, room)
-fits-ran job before after (outcome.Built asked poolSize count rowsSize name size visits) out ran room a p s c =
+fits-ran job before after (outcome.Refused code place) out ran room a l p s c = omega (arith, room)
+fits-ran job before after (outcome.Built asked poolSize count rowsSize name size visits) out ran room a l p s c =
     let r = outcome.Built asked poolSize count rowsSize name size visits in
     let b = handed r after in
     let is : resultOf job before ≡ good b = built-result job before after r ran refl in
     let n : told r ≡ numbers (good b) = numbers-built job before after r ran b is in
     let asked-in : asked ≤ length (after .answers) =
     inside (b .answers) (before .answers) (after .answers) asked (answers-built job before after r ran b is) (ap (λ (m : Numbers). m .answers) n) in
+    let marks-in : asked ≤ length (after .marks) =
+    inside (b .marks) (before .marks) (after .marks) asked (marks-built job before after r ran b is)
+    (ap (λ (m : Numbers). m .answers) n ∙ sym (marks-many job before after r ran b is)) in
     let pool-in : poolSize ≤ length (after .pool) =
     inside (b .pool) (before .pool) (after .pool) poolSize (pool-built job before after r ran b is) (ap (λ (m : Numbers). m .pool) n) in
     let rows-in : rowsSize ≤ length (after .bootstraps) =
@@ -89,15 +93,16 @@ fits-ran job before after (outcome.Built asked poolSize count rowsSize name size
     (bytesOf size)
     (class-built job before after r ran b is)
     (ap (λ (m : Numbers). m .classBytes) n ∙ class-size (b .class)) in
-    (asked-in, pool-in, rows-in, record { out-room = omega (arith, room, asked-in, pool-in, rows-in, class-in, a, p, s, c); class-room = class-in })
+    (asked-in, marks-in, pool-in, rows-in, record { marks-are = refl; out-room = omega (arith, room, asked-in, pool-in, rows-in, class-in, a, p, s, c); class-room = class-in })
 
 -- the room of what is cut out of the outputs
 pub room-cut :
-    {out asked poolSize rowsSize size class : ℕ} (answers pool bootstraps : List ℕ) → asked ≤ length answers → poolSize ≤ length pool →
-    rowsSize ≤ length bootstraps → Room out asked poolSize rowsSize size class →
-    Room out (length (take asked answers)) (length (take poolSize pool)) (length (take rowsSize bootstraps)) size class
-room-cut {out} {asked} {poolSize} {rowsSize} {size} {class} answers pool bootstraps a p s room =
+    {out asked poolSize rowsSize size class : ℕ} (answers marks pool bootstraps : List ℕ) → asked ≤ length answers → asked ≤ length marks → poolSize ≤ length pool →
+    rowsSize ≤ length bootstraps → Room out asked asked poolSize rowsSize size class →
+    Room out (length (take asked answers)) (length (take asked marks)) (length (take poolSize pool)) (length (take rowsSize bootstraps)) size class
+room-cut {out} {asked} {poolSize} {rowsSize} {size} {class} answers marks pool bootstraps a l p s room =
     record {
+      marks-are = length-take-le asked marks l ∙ sym (length-take-le asked answers a);
       out-room =
           omega
           (arith, room .out-room, length-take-le asked answers a, length-take-le poolSize pool p, length-take-le rowsSize bootstraps s);
@@ -118,12 +123,14 @@ pub lengths-lent :
     (length (replicate {0} {A = ℕ} 65536 0))
     (length (replicate {0} {A = ℕ} 65536 0))
     (length (replicate {0} {A = ℕ} 65536 0))
+    (length (replicate {0} {A = ℕ} 65536 0))
 lengths-lent gap =
     let long : length (replicate {0} {A = ℕ} 65536 0) ≡ 65536 = length-replicate {0} {A = ℕ} 65536 0 in
     record {
       work-is = length-replicate {0} {A = ℕ} 16384 0;
       gaps-is = length-replicate {0} {A = Gap} 514 gap;
       answers-is = length-replicate {0} {A = ℕ} 32768 0;
+      marks-is = long;
       pool-is = long;
       bootstraps-is = long;
       class-is = long;
@@ -136,6 +143,7 @@ pub lent-is :
     (length (before .work))
     (length (before .rows))
     (length (before .answers))
+    (length (before .marks))
     (length (before .pool))
     (length (before .bootstraps))
     (length (before .class)) →
@@ -148,6 +156,7 @@ lent-is before l =
       work = l .work-is i;
       gaps = g i;
       answers = l .answers-is i;
+      marks = l .marks-is i;
       pool = l .pool-is i;
       bootstraps = l .bootstraps-is i;
       class = l .class-is i;
@@ -159,9 +168,10 @@ pub text-over :
     (length (before .work))
     (length (before .rows))
     (length (before .answers))
+    (length (before .marks))
     (length (before .pool))
     (length (before .bootstraps))
     (length (before .class)) →
-    textOf r (after .answers) (after .pool) (after .bootstraps) (after .class) ≡ printed (run poolrunLent job)
+    textOf r (after .answers) (after .marks) (after .pool) (after .bootstraps) (after .class) ≡ printed (run poolrunLent job)
 unfolding resultOf
 text-over job before after r ran l = text-ran job before after r ran ∙ ap (λ (lent : Lent). printed (run lent job)) (lent-is before l)

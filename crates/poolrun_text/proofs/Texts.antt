@@ -1,16 +1,17 @@
 -- The parts of what is printed make up the whole. Assumes nothing.
-use mathlib.Core.List.{List, [], _∷_, _++_, map, append-assoc}
+use mathlib.Core.List.{List, [], _∷_, _++_, append-nil, append-assoc}
 use mathlib.Core.Option.{Option, none, some}
 use mathlib.Core.Path.{_≡_, refl, sym, ap, _∙_}
-use Prim.Native.Nat.{ℕ, _+_, _/_, _%_, _<_, _≤_}
+use Prim.Native.Nat.{ℕ, zero, suc, _+_, _/_, _%_, _<_, _≤_}
 use native.Mathlib.Numerals.{add-one}
+use native.Mathlib.Omega.{arith}
 use lib.ListN.{length, take, getD}
 use lib.Seq.{take-all}
-use Rattle.definition.specs.Basics.{good, bad, concat}
+use Rattle.definition.specs.Basics.{good, bad}
 use Rattle.definition.specs.Ascii.{ascii, decimal, hex, hexDigit}
-use Rattle.definition.specs.Blocks.{line, classText, printed}
+use Rattle.definition.specs.Blocks.{line, classText, markText, answerLines, printed}
 use Rattle.poolrun_text.proofs.Putting.{parts-more}
-use Rattle.poolrun_text.specs.Text.{twoDigits, answerLines, askedText, poolText, bootstrapsText, lastText, refusedText, builtText}
+use Rattle.poolrun_text.specs.Text.{twoDigits, askedText, poolText, bootstrapsText, lastText, refusedText, builtText}
 
 -- a word before a line; a word, a number and a space before a line
 pub labelled : (w n : List ℕ) → w ++ line n ≡ line (w ++ n)
@@ -31,12 +32,38 @@ pub hex-all : (s : List ℕ) (i : ℕ) → length s ≤ i → hex (take i s) ≡
 hex-all s i high = ap hex (take-all i s high)
 
 pub lines-more :
-    (l : List ℕ) (i : ℕ) → i < length l → answerLines (take i l) ++ line (decimal (getD l i 0)) ≡ answerLines (take (i + 1) l)
+    (l m : List ℕ) (i : ℕ) → i < length l → length m ≡ length l →
+    answerLines (take i l) (take i m) ++ line (decimal (getD l i 0) ++ markText (getD m i 0)) ≡ answerLines (take (i + 1) l) (take (i + 1) m)
 unfolding answerLines
-lines-more l i h = sym (ap (λ k. answerLines (take k l)) (add-one i) ∙ parts-more (λ a. line (decimal a)) l i h)
+lines-more l m i h same = go l m i h same ∙ ap (λ k. answerLines (take k l) (take k m)) (sym (add-one i))
+  where
+    go :
+        (l m : List ℕ) (i : ℕ) → i < length l → length m ≡ length l →
+        answerLines (take i l) (take i m) ++ line (decimal (getD l i 0) ++ markText (getD m i 0)) ≡ answerLines (take (suc i) l) (take (suc i) m)
+    go [] m i h same = absurd (omega arith)
+    go (a ∷ l) [] i h same = absurd (omega arith)
+    go (a ∷ l) (k ∷ m) zero h same = sym (append-nil (line (decimal a ++ markText k)))
+    go (a ∷ l) (k ∷ m) (suc i) h same =
+        append-assoc (line (decimal a ++ markText k)) (answerLines (take i l) (take i m)) _
+        ∙ ap (λ rest. line (decimal a ++ markText k) ++ rest) (go l m i (omega arith) (omega arith))
 
-pub lines-all : (l : List ℕ) (i : ℕ) → length l ≤ i → answerLines (take i l) ≡ answerLines l
-lines-all l i high = ap answerLines (take-all i l high)
+pub lines-all : (l m : List ℕ) (i : ℕ) → length l ≤ i → length m ≤ i → answerLines (take i l) (take i m) ≡ answerLines l m
+lines-all l m i high low = rw (take-all i l high, take-all i m low)
+
+-- the words that tell how an answer was come by
+pub mark-raw : (m : ℕ) → m ≡ 0 → 32 ∷ 114 ∷ 97 ∷ 119 ∷ [] ≡ markText m
+unfolding markText ascii
+mark-raw m e = rw e
+
+pub mark-new : (m : ℕ) → m ≡ 1 → 32 ∷ 110 ∷ 101 ∷ 119 ∷ [] ≡ markText m
+unfolding markText ascii
+mark-new m e = rw e
+
+pub mark-old : (m : ℕ) → 2 ≤ m → 32 ∷ 111 ∷ 108 ∷ 100 ∷ [] ≡ markText m
+unfolding markText ascii
+mark-old zero h = absurd (omega arith)
+mark-old (suc zero) h = absurd (omega arith)
+mark-old (suc (suc n)) h = refl
 
 pub refused-is : (code place : ℕ) → refusedText code place ≡ printed (bad (record { code = code; place = place }))
 unfolding refusedText printed
@@ -50,14 +77,14 @@ joins a b c d e f g h i =
     ∙ ap (λ l. l ++ i) (sym (append-assoc (a ++ b ++ c ++ d ++ e ++ f) g h))
 
 pub built-is :
-    (answers pool : List ℕ) (count : ℕ) (bootstraps : List ℕ) (name : ℕ) (class : Option (List ℕ)) (visits : ℕ) →
-    askedText answers ++ poolText pool ++ bootstrapsText count bootstraps ++ lastText name class visits
-    ≡ builtText answers pool count bootstraps name class visits
-unfolding askedText answerLines poolText bootstrapsText lastText builtText printed
-built-is answers pool count bootstraps name class visits =
+    (answers marks pool : List ℕ) (count : ℕ) (bootstraps : List ℕ) (name : ℕ) (class : Option (List ℕ)) (visits : ℕ) →
+    askedText answers marks ++ poolText pool ++ bootstrapsText count bootstraps ++ lastText name class visits
+    ≡ builtText answers marks pool count bootstraps name class visits
+unfolding askedText poolText bootstrapsText lastText builtText printed
+built-is answers marks pool count bootstraps name class visits =
     joins
     (line (ascii "answers " ++ decimal (length answers)))
-    (concat (map (λ a. line (decimal a)) answers))
+    (answerLines answers marks)
     (line (ascii "pool " ++ decimal (length pool)))
     (line (hex pool))
     (line (ascii "bootstraps " ++ decimal count ++ 32 ∷ decimal (length bootstraps)))

@@ -7,7 +7,7 @@ use Prim.Native.Nat.{ℕ, _+_, _*_, _/_, _%_, _≤_}
 use lib.ListN.{length, take, drop}
 use Rattle.definition.specs.Basics.{Result, good, bad, Refusal, concat}
 use Rattle.definition.specs.Ascii.{ascii, decimal, hex, hexDigit}
-use Rattle.definition.specs.Blocks.{line, classText, printed, poolrunLent}
+use Rattle.definition.specs.Blocks.{line, classText, answerLines, printed, poolrunLent}
 use Rattle.definition.specs.Run.{Built, run}
 use Rattle.blocks.specs.declared.BlocksRead.{BlocksRead}
 use Rattle.blocks.specs.declared.BlocksRead.the-variants as blocksRead
@@ -29,11 +29,8 @@ twoDigits b = hexDigit (b / 16 % 16) ∷ hexDigit (b % 16) ∷ []
 
 -- THE PARTS OF `printed`, in their order
 
-unfoldable pub answerLines : List ℕ → List ℕ
-answerLines answers = concat (map (λ a. line (decimal a)) answers)
-
-unfoldable pub askedText : List ℕ → List ℕ
-askedText answers = line (ascii "answers " ++ decimal (length answers)) ++ answerLines answers
+unfoldable pub askedText : List ℕ → List ℕ → List ℕ
+askedText answers marks = line (ascii "answers " ++ decimal (length answers)) ++ answerLines answers marks
 
 unfoldable pub poolText : List ℕ → List ℕ
 poolText pool = line (ascii "pool " ++ decimal (length pool)) ++ line (hex pool)
@@ -47,12 +44,13 @@ lastText name class visits = line (ascii "name " ++ decimal name) ++ classText c
 unfoldable pub refusedText : ℕ → ℕ → List ℕ
 refusedText code place = line (ascii "refused " ++ decimal code ++ 32 ∷ decimal place)
 
-unfoldable pub builtText : List ℕ → List ℕ → ℕ → List ℕ → ℕ → Option (List ℕ) → ℕ → List ℕ
-builtText answers pool count bootstraps name class visits =
+unfoldable pub builtText : List ℕ → List ℕ → List ℕ → ℕ → List ℕ → ℕ → Option (List ℕ) → ℕ → List ℕ
+builtText answers marks pool count bootstraps name class visits =
     printed
     (good
     (record {
       answers = answers;
+      marks = marks;
       pool = pool;
       bootstrapCount = count;
       bootstraps = bootstraps;
@@ -69,27 +67,29 @@ nameOf classLength.None bytes = none
 nameOf (classLength.Bytes n) bytes = some (take n bytes)
 
 -- what is printed of an outcome and the outputs afterwards
-unfoldable pub textOf : Outcome → List ℕ → List ℕ → List ℕ → List ℕ → List ℕ
-textOf (outcome.Built asked poolSize count rowsSize name size visits) answers pool bootstraps class =
-    builtText (take asked answers) (take poolSize pool) count (take rowsSize bootstraps) name (nameOf size class) visits
-textOf (outcome.Refused code place) answers pool bootstraps class = refusedText code place
+unfoldable pub textOf : Outcome → List ℕ → List ℕ → List ℕ → List ℕ → List ℕ → List ℕ
+textOf (outcome.Built asked poolSize count rowsSize name size visits) answers marks pool bootstraps class =
+    builtText (take asked answers) (take asked marks) (take poolSize pool) count (take rowsSize bootstraps) name (nameOf size class) visits
+textOf (outcome.Refused code place) answers marks pool bootstraps class = refusedText code place
 
 -- an output has room for the text of what is built
-pub record Room (out answers pool bootstraps size class : ℕ) : Type 0 where
-  pub out-room : 21 * answers + 2 * pool + 2 * bootstraps + 2 * size + 192 ≤ out
+pub record Room (out answers marks pool bootstraps size class : ℕ) : Type 0 where
+  pub marks-are : marks ≡ answers
+  pub out-room : 25 * answers + 2 * pool + 2 * bootstraps + 2 * size + 192 ≤ out
   pub class-room : size ≤ class
 
 -- each part of what is built lies inside its output, and the text has room
-unfoldable pub Fits : Outcome → ℕ → ℕ → ℕ → ℕ → ℕ → Type 0
-Fits (outcome.Built asked poolSize count rowsSize name size visits) out answers pool bootstraps class =
-    (asked ≤ answers) × (poolSize ≤ pool) × (rowsSize ≤ bootstraps) × Room out asked poolSize rowsSize (bytesOf size) class
-Fits (outcome.Refused code place) out answers pool bootstraps class = 50 ≤ out
+unfoldable pub Fits : Outcome → ℕ → ℕ → ℕ → ℕ → ℕ → ℕ → Type 0
+Fits (outcome.Built asked poolSize count rowsSize name size visits) out answers marks pool bootstraps class =
+    (asked ≤ answers) × (asked ≤ marks) × (poolSize ≤ pool) × (rowsSize ≤ bootstraps) × Room out asked asked poolSize rowsSize (bytesOf size) class
+Fits (outcome.Refused code place) out answers marks pool bootstraps class = 50 ≤ out
 
 -- what is lent is as long as `poolrunLent` says
-pub record Lengths (work gaps answers pool bootstraps class : ℕ) : Type 0 where
+pub record Lengths (work gaps answers marks pool bootstraps class : ℕ) : Type 0 where
   pub work-is : work ≡ 16384
   pub gaps-is : gaps ≡ 514
   pub answers-is : answers ≡ 32768
+  pub marks-is : marks ≡ 65536
   pub pool-is : pool ≡ 65536
   pub bootstraps-is : bootstraps ≡ 65536
   pub class-is : class ≡ 65536

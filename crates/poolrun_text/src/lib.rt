@@ -11,10 +11,10 @@ ghost use Prim.Native.Nat.{_+_, _*_, _<_, _≤_};
 ghost use lib.ListN.{length, take, drop};
 ghost use Rattle.io.specs.Counts.{Counts};
 ghost use Rattle.definition.specs.Ascii.{decimal, hex, hexDigit};
-ghost use Rattle.definition.specs.Blocks.{line, classText, printed, poolrunLent, poolrun};
+ghost use Rattle.definition.specs.Blocks.{line, classText, markText, answerLines, printed, poolrunLent, poolrun};
 ghost use Rattle.definition.specs.Run.{run};
 ghost use Rattle.cpool.specs.Ran.{bytesOf};
-ghost use Rattle.poolrun_text.specs.Text.{Behind, twoDigits, answerLines, askedText, poolText, bootstrapsText, nameOf, lastText};
+ghost use Rattle.poolrun_text.specs.Text.{Behind, twoDigits, askedText, poolText, bootstrapsText, nameOf, lastText};
 ghost use Rattle.poolrun_text.specs.Text.{refusedText, builtText, Room, Fits, textOf, Lengths, ReadInto, readText};
 
 // The longest file that is read.
@@ -139,28 +139,54 @@ fn wide(answer: u16) -> usize
     answer as usize
 }
 
+// Puts how an answer was come by.
+fn put_mark(out: &mut [u8], at: usize, mark: u8) -> usize
+    requires { ⌜ at + 4 ≤ length (now out) ⌝ }
+    ensures { λ r. ⌜ r ≡ at + 4 ⌝ }
+    ensures { λ r. ⌜ Behind (now (out .entry)) (now (out .exit)) at r (markText mark) ⌝ }
+{
+    if mark == 0 {
+        return put_word(out, at, b" raw");
+    }
+    if mark == 1 {
+        return put_word(out, at, b" new");
+    }
+    put_word(out, at, b" old")
+}
+
+// Puts a line of an answer and its mark.
+fn put_answer(out: &mut [u8], at: usize, answer: usize, mark: u8) -> usize
+    requires { ⌜ at + 25 ≤ length (now out) ⌝ }
+    ensures { λ r. ⌜ r ≤ at + 25 ⌝ }
+    ensures { λ r. ⌜ Behind (now (out .entry)) (now (out .exit)) at r (line (decimal answer ++ markText mark)) ⌝ }
+{
+    let word = put_decimal(out, at, answer);
+    let end = put_mark(out, word, mark);
+    put(out, end, b'\n')
+}
+
 // Puts a line for each answer.
-fn put_answers(out: &mut [u8], at: usize, answers: &[u16]) -> usize
-    requires { ⌜ at + 21 * length (now answers) ≤ length (now out) ⌝ }
-    ensures { λ r. ⌜ r ≤ at + 21 * length (now (answers .entry)) ⌝ }
-    ensures { λ r. ⌜ Behind (now (out .entry)) (now (out .exit)) at r (answerLines (now (answers .entry))) ⌝ }
+fn put_answers(out: &mut [u8], at: usize, answers: &[u16], marks: &[u8]) -> usize
+    requires { ⌜ (at + 25 * length (now answers) ≤ length (now out)) × (length (now marks) ≡ length (now answers)) ⌝ }
+    ensures { λ r. ⌜ r ≤ at + 25 * length (now (answers .entry)) ⌝ }
+    ensures { λ r. ⌜ Behind (now (out .entry)) (now (out .exit)) at r (answerLines (now (answers .entry)) (now (marks .entry))) ⌝ }
 {
     let mut end = at;
     let mut i = 0;
     while i < answers.len() {
-        end = put_line(out, end, wide(answers[i]));
+        end = put_answer(out, end, wide(answers[i]), marks[i]);
         i += 1;
     }
     end
 }
 
-fn put_asked(out: &mut [u8], at: usize, answers: &[u16]) -> usize
-    requires { ⌜ at + 21 * length (now answers) + 29 ≤ length (now out) ⌝ }
-    ensures { λ r. ⌜ r ≤ at + 21 * length (now (answers .entry)) + 29 ⌝ }
-    ensures { λ r. ⌜ Behind (now (out .entry)) (now (out .exit)) at r (askedText (now (answers .entry))) ⌝ }
+fn put_asked(out: &mut [u8], at: usize, answers: &[u16], marks: &[u8]) -> usize
+    requires { ⌜ (at + 25 * length (now answers) + 29 ≤ length (now out)) × (length (now marks) ≡ length (now answers)) ⌝ }
+    ensures { λ r. ⌜ r ≤ at + 25 * length (now (answers .entry)) + 29 ⌝ }
+    ensures { λ r. ⌜ Behind (now (out .entry)) (now (out .exit)) at r (askedText (now (answers .entry)) (now (marks .entry))) ⌝ }
 {
     let lines = put_one(out, at, b"answers ", answers.len());
-    put_answers(out, lines, answers)
+    put_answers(out, lines, answers, marks)
 }
 
 fn put_pool(out: &mut [u8], at: usize, pool: &[u8]) -> usize
@@ -239,6 +265,7 @@ fn put_refusal(out: &mut [u8], code: usize, place: usize) -> usize
 fn put_built(
     out: &mut [u8],
     answers: &[u16],
+    marks: &[u8],
     pool: &[u8],
     count: usize,
     bootstraps: &[u8],
@@ -247,10 +274,10 @@ fn put_built(
     class_name: &[u8],
     visits: usize,
 ) -> usize
-    requires { ⌜ Room (length (now out)) (length (now answers)) (length (now pool)) (length (now bootstraps)) (bytesOf size) (length (now «class_name»)) ⌝ }
-    ensures { λ r. ⌜ Behind (now (out .entry)) (now (out .exit)) 0 r (builtText (now (answers .entry)) (now (pool .entry)) count (now (bootstraps .entry)) name (nameOf size (now («class_name» .entry))) visits) ⌝ }
+    requires { ⌜ Room (length (now out)) (length (now answers)) (length (now marks)) (length (now pool)) (length (now bootstraps)) (bytesOf size) (length (now «class_name»)) ⌝ }
+    ensures { λ r. ⌜ Behind (now (out .entry)) (now (out .exit)) 0 r (builtText (now (answers .entry)) (now (marks .entry)) (now (pool .entry)) count (now (bootstraps .entry)) name (nameOf size (now («class_name» .entry))) visits) ⌝ }
 {
-    let first = put_asked(out, 0, answers);
+    let first = put_asked(out, 0, answers, marks);
     let second = put_pool(out, first, pool);
     let third = put_bootstraps(out, second, count, bootstraps);
     put_last(out, third, name, size, class_name, visits)
@@ -261,12 +288,13 @@ fn print(
     out: &mut [u8],
     outcome: Outcome,
     answers: &[u16],
+    marks: &[u8],
     pool: &[u8],
     bootstraps: &[u8],
     class_name: &[u8],
 ) -> usize
-    requires { ⌜ Fits outcome (length (now out)) (length (now answers)) (length (now pool)) (length (now bootstraps)) (length (now «class_name»)) ⌝ }
-    ensures { λ r. ⌜ Behind (now (out .entry)) (now (out .exit)) 0 r (textOf outcome (now (answers .entry)) (now (pool .entry)) (now (bootstraps .entry)) (now («class_name» .entry))) ⌝ }
+    requires { ⌜ Fits outcome (length (now out)) (length (now answers)) (length (now marks)) (length (now pool)) (length (now bootstraps)) (length (now «class_name»)) ⌝ }
+    ensures { λ r. ⌜ Behind (now (out .entry)) (now (out .exit)) 0 r (textOf outcome (now (answers .entry)) (now (marks .entry)) (now (pool .entry)) (now (bootstraps .entry)) (now («class_name» .entry))) ⌝ }
 {
     match outcome {
         Outcome::Built {
@@ -280,6 +308,7 @@ fn print(
         } => put_built(
             out,
             &answers[..asked],
+            &marks[..asked],
             &pool[..pool_size],
             bootstrap_count,
             &bootstraps[..rows_size],
@@ -300,27 +329,38 @@ fn run_over(
     work: &mut [u32],
     gaps: &mut [Gap],
     answers: &mut [u16],
+    marks: &mut [u8],
     pool: &mut [u8],
     bootstraps: &mut [u8],
     class_name: &mut [u8],
 ) -> usize
-    requires { ⌜ (n ≤ length (now job)) × (1114112 ≤ length (now out)) ⌝ }
-    requires { ⌜ Lengths (length (now work)) (length (now gaps)) (length (now answers)) (length (now pool)) (length (now bootstraps)) (length (now «class_name»)) ⌝ }
+    requires { ⌜ (n ≤ length (now job)) × (1245184 ≤ length (now out)) ⌝ }
+    requires { ⌜ Lengths (length (now work)) (length (now gaps)) (length (now answers)) (length (now marks)) (length (now pool)) (length (now bootstraps)) (length (now «class_name»)) ⌝ }
     ensures { λ r. ⌜ Behind (now (out .entry)) (now (out .exit)) 0 r (printed (run poolrunLent (take n (now (job .entry))))) ⌝ }
 {
-    let outcome = cpool::run(&job[..n], work, gaps, answers, pool, bootstraps, class_name);
-    print(out, outcome, answers, pool, bootstraps, class_name)
+    let outcome = cpool::run(
+        &job[..n],
+        work,
+        gaps,
+        answers,
+        marks,
+        pool,
+        bootstraps,
+        class_name,
+    );
+    print(out, outcome, answers, marks, pool, bootstraps, class_name)
 }
 
 // Runs a job over memory of its own.
 fn run_text(job: &[u8], n: usize, out: &mut [u8]) -> usize
-    requires { ⌜ (n ≤ length (now job)) × (1114112 ≤ length (now out)) ⌝ }
+    requires { ⌜ (n ≤ length (now job)) × (1245184 ≤ length (now out)) ⌝ }
     ensures { λ r. ⌜ Behind (now (out .entry)) (now (out .exit)) 0 r (printed (run poolrunLent (take n (now (job .entry))))) ⌝ }
 {
     let mut work = [0u32; 16384];
     let gap = slots::no_gap();
     let mut gaps = [gap; 514];
     let mut answers = [0u16; 32768];
+    let mut marks = [0u8; 65536];
     let mut pool = [0u8; 65536];
     let mut bootstraps = [0u8; 65536];
     let mut class_name = [0u8; 65536];
@@ -331,6 +371,7 @@ fn run_text(job: &[u8], n: usize, out: &mut [u8]) -> usize
         &mut work,
         &mut gaps,
         &mut answers,
+        &mut marks,
         &mut pool,
         &mut bootstraps,
         &mut class_name,
@@ -340,7 +381,7 @@ fn run_text(job: &[u8], n: usize, out: &mut [u8]) -> usize
 // Runs the job that stands in the first bytes of `job`, or puts why a file wasn't read.
 fn read_text(read: BlocksRead, job: &[u8], out: &mut [u8]) -> usize
     requires { ⌜ ReadInto read (length (now job)) ⌝ }
-    requires { ⌜ 1114112 ≤ length (now out) ⌝ }
+    requires { ⌜ 1245184 ≤ length (now out) ⌝ }
     ensures { λ r. ⌜ Behind (now (out .entry)) (now (out .exit)) 0 r (readText read (now (job .entry))) ⌝ }
 {
     match read {
@@ -354,7 +395,7 @@ fn read_text(read: BlocksRead, job: &[u8], out: &mut [u8]) -> usize
 
 // Reads a file that isn't too long, and runs its job.
 fn file_text(file: &[u8], out: &mut [u8]) -> usize
-    requires { ⌜ (length (now file) ≤ 2560) × (1114112 ≤ length (now out)) ⌝ }
+    requires { ⌜ (length (now file) ≤ 2560) × (1245184 ≤ length (now out)) ⌝ }
     ensures { λ r. ⌜ Behind (now (out .entry)) (now (out .exit)) 0 r (poolrun (now (file .entry))) ⌝ }
 {
     let mut job = [0u8; 2560];
@@ -363,7 +404,7 @@ fn file_text(file: &[u8], out: &mut [u8]) -> usize
 }
 
 // What `poolrun` prints for a file: the first bytes of out, as many as are returned. The bytes behind them stay as they were.
-pub fn text(file: &[u8], out: &mut [u8; 1114112]) -> usize
+pub fn text(file: &[u8], out: &mut [u8; 1245184]) -> usize
     ensures { λ r. ⌜ Counts r (now (out .exit)) ⌝ }
     ensures { λ r. ⌜ r ≡ length (poolrun (now (file .entry))) ⌝ }
     ensures { λ r. ⌜ take r (now (out .exit)) ≡ poolrun (now (file .entry)) ⌝ }

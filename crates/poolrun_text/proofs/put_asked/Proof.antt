@@ -15,7 +15,7 @@ put-one-requires : tie.Need-put-one-requires
 put-one-requires c κs = omega arith
 
 put-answers-requires : tie.Need-put-answers-requires
-put-answers-requires c κs = omega arith
+put-answers-requires c κs = (omega arith, search needs)
 
 same-length : tie.Need-same-length
 same-length c = search needs

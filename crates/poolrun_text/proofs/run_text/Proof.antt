@@ -30,14 +30,17 @@ slice-aggregate-run-over-5 c = sym (length-replicate {0} {A = ℕ} 65536 0)
 slice-aggregate-run-over-6 : tie.Need-slice-aggregate-run-over-6
 slice-aggregate-run-over-6 c = sym (length-replicate {0} {A = ℕ} 65536 0)
 
+slice-aggregate-run-over-7 : tie.Need-slice-aggregate-run-over-7
+slice-aggregate-run-over-7 c = sym (length-replicate {0} {A = ℕ} 65536 0)
+
 run-over-requires : tie.Need-run-over-requires
-run-over-requires c κs = (c .before .before .before .before .before .before .before .before .before .before .pre, lengths-lent (c .before .before .before .before .before .before .before .no-gap .result))
+run-over-requires c κs = (c .before .before .before .before .before .before .before .before .before .before .before .pre, lengths-lent (c .before .before .before .before .before .before .before .before .no-gap .result))
 
 same-length : tie.Need-same-length
-same-length c = c .before .before .before .before .before .before .before .before .run-over .kept .1 .1 .0
+same-length c = c .before .before .before .before .before .before .before .before .before .run-over .kept .1 .1 .0
 
 returns : tie.Need-returns
-returns c = c .before .before .before .before .before .before .before .before .run-over .ensures
+returns c = c .before .before .before .before .before .before .before .before .before .run-over .ensures
 
 pub run-text-spec : {M : Type 1} → statement M
-run-text-spec = tie.close (tie.spec no-gap-requires slice-aggregate-run-over slice-aggregate-run-over-2 slice-aggregate-run-over-3 slice-aggregate-run-over-4 slice-aggregate-run-over-5 slice-aggregate-run-over-6 run-over-requires same-length returns)
+run-text-spec = tie.close (tie.spec no-gap-requires slice-aggregate-run-over slice-aggregate-run-over-2 slice-aggregate-run-over-3 slice-aggregate-run-over-4 slice-aggregate-run-over-5 slice-aggregate-run-over-6 slice-aggregate-run-over-7 run-over-requires same-length returns)

@@ -36,6 +36,9 @@ Need-slice-aggregate-run-over-5 = Lts.Need-slice-aggregate-run-over-5 (Reads·0.
 abbrev pub Need-slice-aggregate-run-over-6 : Type 0
 Need-slice-aggregate-run-over-6 = Lts.Need-slice-aggregate-run-over-6 (Reads·0.Asked, Reads·0.Learnt, Reads·1.Asked, Reads·1.Learnt) Reads.Pre Reads.Post
 
+abbrev pub Need-slice-aggregate-run-over-7 : Type 0
+Need-slice-aggregate-run-over-7 = Lts.Need-slice-aggregate-run-over-7 (Reads·0.Asked, Reads·0.Learnt, Reads·1.Asked, Reads·1.Learnt) Reads.Pre Reads.Post
+
 abbrev pub Need-run-over-requires : Type 0
 Need-run-over-requires = Lts.Need-run-over-requires (Reads·0.Asked, Reads·0.Learnt, Reads·1.Asked, Reads·1.Learnt) Reads.Pre Reads.Post
 
@@ -46,8 +49,8 @@ abbrev pub Need-returns : Type 0
 Need-returns = Lts.Need-returns (Reads·0.Asked, Reads·0.Learnt, Reads·1.Asked, Reads·1.Learnt) Reads.Pre Reads.Post
 
 module _ {M : Type 1} where
-  pub spec : Need-no-gap-requires → Need-slice-aggregate-run-over → Need-slice-aggregate-run-over-2 → Need-slice-aggregate-run-over-3 → Need-slice-aggregate-run-over-4 → Need-slice-aggregate-run-over-5 → Need-slice-aggregate-run-over-6 → Need-run-over-requires → Need-same-length → Need-returns → Lts.Closed (Reads·0.Asked, Reads·0.Learnt, Reads·1.Asked, Reads·1.Learnt) Reads.Pre Reads.Post M
-  spec = λ n0 n1 n2 n3 n4 n5 n6 n7 n8 n9. Lts.spec (Reads·0.Asked, Reads·0.Learnt, Reads·1.Asked, Reads·1.Learnt) Reads.Pre Reads.Post n0 n1 n2 n3 n4 n5 n6 n7 n8 n9
+  pub spec : Need-no-gap-requires → Need-slice-aggregate-run-over → Need-slice-aggregate-run-over-2 → Need-slice-aggregate-run-over-3 → Need-slice-aggregate-run-over-4 → Need-slice-aggregate-run-over-5 → Need-slice-aggregate-run-over-6 → Need-slice-aggregate-run-over-7 → Need-run-over-requires → Need-same-length → Need-returns → Lts.Closed (Reads·0.Asked, Reads·0.Learnt, Reads·1.Asked, Reads·1.Learnt) Reads.Pre Reads.Post M
+  spec = λ n0 n1 n2 n3 n4 n5 n6 n7 n8 n9 n10. Lts.spec (Reads·0.Asked, Reads·0.Learnt, Reads·1.Asked, Reads·1.Learnt) Reads.Pre Reads.Post n0 n1 n2 n3 n4 n5 n6 n7 n8 n9 n10
 
   pub close : Lts.Closed (Reads·0.Asked, Reads·0.Learnt, Reads·1.Asked, Reads·1.Learnt) Reads.Pre Reads.Post M → Statement.statement M
   unfolding Code.routine Running.tablesOf
