@@ -1,4 +1,4 @@
-// A job's line, as the driver of oracle/ prints it: `refused CODE PLACE`, or `built answers N A.. pool LENGTH HEX bootstraps COUNT LENGTH
+// A job's line, as the driver of oracle/ prints it: `refused CODE PLACE`, or `built answers N A MARK.. pool LENGTH HEX bootstraps COUNT LENGTH
 // HEX name SLOT class LENGTH HEX visits V`. Text waits in a buffer, `at` bytes of it, and is written once the buffer is full.
 use super::least;
 use cpool::ClassLength;
@@ -76,12 +76,35 @@ fn wide(answer: u16) -> usize {
     answer as usize
 }
 
-fn put_answers(text: &mut [u8; 16384], start: usize, answers: &[u16], n: usize) -> usize {
+// How an answer was come by.
+fn put_mark(text: &mut [u8; 16384], start: usize, mark: u8) -> usize {
+    if mark == 0 {
+        return put_word(text, start, b" raw");
+    }
+    if mark == 1 {
+        return put_word(text, start, b" new");
+    }
+    put_word(text, start, b" old")
+}
+
+// An answer's mark; there is one for each.
+fn mark_at(marks: &[u8], i: usize) -> u8 {
+    if i < marks.len() { marks[i] } else { 0 }
+}
+
+fn put_answers(
+    text: &mut [u8; 16384],
+    start: usize,
+    answers: &[u16],
+    marks: &[u8],
+    n: usize,
+) -> usize {
     let mut at = put_number(text, start, n);
     let end = least(n, answers.len());
     let mut i = 0;
     while i < end {
-        at = put_number(text, at, wide(answers[i]));
+        let mark = put_number(text, at, wide(answers[i]));
+        at = put_mark(text, mark, mark_at(marks, i));
         i += 1;
     }
     at
@@ -97,12 +120,13 @@ fn put_class(text: &mut [u8; 16384], start: usize, size: ClassLength, class_name
 fn put_front(
     text: &mut [u8; 16384],
     answers: &[u16],
+    marks: &[u8],
     asked: usize,
     pool: &[u8],
     pool_size: usize,
 ) -> usize {
     let word = put_word(text, 0, b"built answers");
-    let given = put_answers(text, word, answers, asked);
+    let given = put_answers(text, word, answers, marks, asked);
     let next = put_word(text, given, b" pool");
     put_bytes(text, next, pool, pool_size)
 }
@@ -153,6 +177,7 @@ fn print_refusal(code: usize, place: usize) -> bool {
 pub(crate) fn print_outcome(
     outcome: Outcome,
     answers: &[u16],
+    marks: &[u8],
     pool: &[u8],
     bootstraps: &[u8],
     class_name: &[u8],
@@ -168,7 +193,7 @@ pub(crate) fn print_outcome(
             visits,
         } => {
             let mut text = [0u8; 16384];
-            let front = put_front(&mut text, answers, asked, pool, pool_size);
+            let front = put_front(&mut text, answers, marks, asked, pool, pool_size);
             let rows = put_rows(&mut text, front, bootstrap_count, bootstraps, rows_size);
             let at = put_last(&mut text, rows, name, size, class_name, visits);
             end_line(&mut text, at)

@@ -29,6 +29,7 @@ fn run_within(
     work: &mut [u32],
     gaps: &mut [Gap],
     answers: &mut [u16],
+    marks: &mut [u8],
     pool: &mut [u8],
     bootstraps: &mut [u8],
     class_name: &mut [u8],
@@ -40,6 +41,7 @@ fn run_within(
         &mut work[..words],
         &mut gaps[..most],
         answers,
+        marks,
         pool,
         bootstraps,
         class_name,
@@ -54,12 +56,14 @@ fn run_lent(
     work: &mut [u32],
     gaps: &mut [Gap],
     answers: &mut [u16],
+    marks: &mut [u8],
     pool: &mut [u8],
     bootstraps: &mut [u8],
     class_name: &mut [u8],
 ) -> Outcome {
     let size = least(n, job.len());
     let asked = least(lent.answers, answers.len());
+    let marked = least(lent.answers, marks.len());
     let pool_size = least(lent.pool, pool.len());
     let rows_size = least(lent.bootstraps, bootstraps.len());
     let name_size = least(lent.class_name, class_name.len());
@@ -70,6 +74,7 @@ fn run_lent(
         work,
         gaps,
         &mut answers[..asked],
+        &mut marks[..marked],
         &mut pool[..pool_size],
         &mut bootstraps[..rows_size],
         &mut class_name[..name_size],
@@ -82,6 +87,7 @@ fn next_job(
     work: &mut [u32; 6292480],
     gaps: &mut [Gap],
     answers: &mut [u16; 349526],
+    marks: &mut [u8; 349526],
     pool: &mut [u8; 8388608],
     bootstraps: &mut [u8; 8388608],
     class_name: &mut [u8; 65536],
@@ -99,11 +105,12 @@ fn next_job(
         work,
         gaps,
         answers,
+        marks,
         pool,
         bootstraps,
         class_name,
     );
-    line::print_outcome(outcome, answers, pool, bootstraps, class_name)
+    line::print_outcome(outcome, answers, marks, pool, bootstraps, class_name)
 }
 
 fn run_all(
@@ -111,12 +118,24 @@ fn run_all(
     work: &mut [u32; 6292480],
     gaps: &mut [Gap],
     answers: &mut [u16; 349526],
+    marks: &mut [u8; 349526],
     pool: &mut [u8; 8388608],
     bootstraps: &mut [u8; 8388608],
     class_name: &mut [u8; 65536],
 ) {
     let mut turns = u64::MAX;
-    while 0 < turns && next_job(job, work, gaps, answers, pool, bootstraps, class_name) {
+    while 0 < turns
+        && next_job(
+            job,
+            work,
+            gaps,
+            answers,
+            marks,
+            pool,
+            bootstraps,
+            class_name,
+        )
+    {
         turns -= 1;
     }
 }
@@ -126,13 +145,23 @@ fn run_over_gaps(
     job: &mut [u8; 1114112],
     work: &mut [u32; 6292480],
     answers: &mut [u16; 349526],
+    marks: &mut [u8; 349526],
     pool: &mut [u8; 8388608],
     bootstraps: &mut [u8; 8388608],
     class_name: &mut [u8; 65536],
 ) {
     let gap = slots::no_gap();
     let mut gaps = [gap; 209717];
-    run_all(job, work, &mut gaps, answers, pool, bootstraps, class_name);
+    run_all(
+        job,
+        work,
+        &mut gaps,
+        answers,
+        marks,
+        pool,
+        bootstraps,
+        class_name,
+    );
 }
 
 fn main() {
@@ -143,6 +172,7 @@ fn main() {
     let mut job = [0u8; 1114112];
     let mut work = [0u32; 6292480];
     let mut answers = [0u16; 349526];
+    let mut marks = [0u8; 349526];
     let mut pool = [0u8; 8388608];
     let mut bootstraps = [0u8; 8388608];
     let mut class_name = [0u8; 65536];
@@ -150,6 +180,7 @@ fn main() {
         &mut job,
         &mut work,
         &mut answers,
+        &mut marks,
         &mut pool,
         &mut bootstraps,
         &mut class_name,

@@ -8,10 +8,10 @@ use Rattle.replay.proofs.run_all.Statement.{statement}
 use Rattle.replay.proofs.run_all.Proof.Tie as tie
 
 abbrev Inv-loop : tie.InvT-loop
-Inv-loop job₀ work₀ gaps₀ answers₀ pool₀ bootstraps₀ class-name₀ turns₀ job work gaps answers pool bootstraps class-name turns = length gaps ≡ length gaps₀
+Inv-loop job₀ work₀ gaps₀ answers₀ marks₀ pool₀ bootstraps₀ class-name₀ turns₀ job work gaps answers marks pool bootstraps class-name turns = length gaps ≡ length gaps₀
 
 abbrev μ-loop : tie.MeasureT-loop
-μ-loop job₀ work₀ gaps₀ answers₀ pool₀ bootstraps₀ class-name₀ turns₀ job work gaps answers pool bootstraps class-name turns = turns
+μ-loop job₀ work₀ gaps₀ answers₀ marks₀ pool₀ bootstraps₀ class-name₀ turns₀ job work gaps answers marks pool bootstraps class-name turns = turns
 
 loop-holds : tie.Need-loop-holds Inv-loop μ-loop
 loop-holds c = search needs

@@ -22,32 +22,41 @@ least-requires-4 c κs = tt
 least-requires-5 : tie.Need-least-requires-5
 least-requires-5 c κs = tt
 
+least-requires-6 : tie.Need-least-requires-6
+least-requires-6 c κs = tt
+
 slice-aggregate-run-within : tie.Need-slice-aggregate-run-within
-slice-aggregate-run-within c = sym (length-take-le _ _ (c .before .before .before .before .before .least .ensures))
+slice-aggregate-run-within c = sym (length-take-le _ _ (c .before .before .before .before .before .before .least .ensures))
 
 slice-relend-prefix-run-within : tie.Need-slice-relend-prefix-run-within
 slice-relend-prefix-run-within c = search needs
 
 slice-aggregate-run-within-2 : tie.Need-slice-aggregate-run-within-2
-slice-aggregate-run-within-2 c = sym (length-take-le _ _ (c .before .before .before .before .before .before .before .least2 .ensures))
+slice-aggregate-run-within-2 c = sym (length-take-le _ _ (c .before .before .before .before .before .before .before .before .least2 .ensures))
 
 slice-relend-prefix-run-within-2 : tie.Need-slice-relend-prefix-run-within-2
 slice-relend-prefix-run-within-2 c = search needs
 
 slice-aggregate-run-within-3 : tie.Need-slice-aggregate-run-within-3
-slice-aggregate-run-within-3 c = sym (length-take-le _ _ (c .before .before .before .before .before .before .before .least3 .ensures))
+slice-aggregate-run-within-3 c = sym (length-take-le _ _ (c .before .before .before .before .before .before .before .before .least3 .ensures))
 
 slice-relend-prefix-run-within-3 : tie.Need-slice-relend-prefix-run-within-3
 slice-relend-prefix-run-within-3 c = search needs
 
 slice-aggregate-run-within-4 : tie.Need-slice-aggregate-run-within-4
-slice-aggregate-run-within-4 c = sym (length-take-le _ _ (c .before .before .before .before .before .before .before .least4 .ensures))
+slice-aggregate-run-within-4 c = sym (length-take-le _ _ (c .before .before .before .before .before .before .before .before .least4 .ensures))
 
 slice-relend-prefix-run-within-4 : tie.Need-slice-relend-prefix-run-within-4
 slice-relend-prefix-run-within-4 c = search needs
 
 slice-aggregate-run-within-5 : tie.Need-slice-aggregate-run-within-5
-slice-aggregate-run-within-5 c = sym (length-take-le _ _ (c .before .before .before .before .before .before .before .least5 .ensures))
+slice-aggregate-run-within-5 c = sym (length-take-le _ _ (c .before .before .before .before .before .before .before .before .least5 .ensures))
+
+slice-relend-prefix-run-within-5 : tie.Need-slice-relend-prefix-run-within-5
+slice-relend-prefix-run-within-5 c = search needs
+
+slice-aggregate-run-within-6 : tie.Need-slice-aggregate-run-within-6
+slice-aggregate-run-within-6 c = sym (length-take-le _ _ (c .before .before .before .before .before .before .before .before .least6 .ensures))
 
 run-within-requires : tie.Need-run-within-requires
 run-within-requires c κs = tt
@@ -70,6 +79,9 @@ same-length-5 c = search needs
 same-length-6 : tie.Need-same-length-6
 same-length-6 c = search needs
 
+same-length-7 : tie.Need-same-length-7
+same-length-7 c = search needs
+
 returns : tie.Need-returns
 returns c = tt
 
@@ -82,6 +94,7 @@ run-lent-spec =
     least-requires-3
     least-requires-4
     least-requires-5
+    least-requires-6
     slice-aggregate-run-within
     slice-relend-prefix-run-within
     slice-aggregate-run-within-2
@@ -91,6 +104,8 @@ run-lent-spec =
     slice-aggregate-run-within-4
     slice-relend-prefix-run-within-4
     slice-aggregate-run-within-5
+    slice-relend-prefix-run-within-5
+    slice-aggregate-run-within-6
     run-within-requires
     same-length
     same-length-2
@@ -98,4 +113,5 @@ run-lent-spec =
     same-length-4
     same-length-5
     same-length-6
+    same-length-7
     returns)

@@ -46,6 +46,9 @@ same-length-5 c = search needs
 same-length-6 : tie.Need-same-length-6
 same-length-6 c = search needs
 
+same-length-7 : tie.Need-same-length-7
+same-length-7 c = search needs
+
 returns : tie.Need-returns
 returns c = tt
 
@@ -66,4 +69,5 @@ run-within-spec =
     same-length-4
     same-length-5
     same-length-6
+    same-length-7
     returns)

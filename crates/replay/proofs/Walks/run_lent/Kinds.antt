@@ -20,8 +20,8 @@ use mathlib.Core.Path as Path'
 use mir.Syntax
 use Rattle.slots.proofs.Walks.Gap_
 
-abbrev pub ps : List.List (Kinds.PK 7)
-ps = List._∷_ (ShrSlice.pShrS (Referent.rtF (Referent.fInt Syntax.w8)) 0 tt) (List._∷_ (Kinds.pNum Syntax.w64) (List._∷_ (Value.pVal record { ty = Declared'.row Lent.the-type; one = Path'.refl; val = Laws'3.val Lent.the-type Laws'.the-laws; tells = Laws'3.tells Lent.the-type Laws'.the-laws; still = Laws'3.still Lent.the-type Laws'.the-copy Exit.yes; row = Rows.whole (Declared'.row Lent.the-type); rd = λ x. x; mk = λ x. x } λ M 𝓤 H A W. record { copies = Laws'3.copy Lent.the-type Laws'.the-copy 𝓤 H A W; lawful = Laws'3.lawful Lent.the-type Laws'.the-laws 𝓤 H A W; makes = Laws'3.makes Lent.the-type Laws'.the-plain 𝓤 H A; in-mem = Local.mem-whole 𝓤 H A W (Declared'.row Lent.the-type); of-mem = Local.whole-mem 𝓤 H A W (Declared'.row Lent.the-type) }) (List._∷_ (MutSlice.pMutS (Referent.rtF (Referent.fInt Syntax.w32)) 1 tt) (List._∷_ (MutSlice.pMutS Gap_.row 2 tt) (List._∷_ (MutSlice.pMutS (Referent.rtF (Referent.fInt Syntax.w16)) 3 tt) (List._∷_ (MutSlice.pMutS (Referent.rtF (Referent.fInt Syntax.w8)) 4 tt) (List._∷_ (MutSlice.pMutS (Referent.rtF (Referent.fInt Syntax.w8)) 5 tt) (List._∷_ (MutSlice.pMutS (Referent.rtF (Referent.fInt Syntax.w8)) 6 tt) List.[]))))))))
+abbrev pub ps : List.List (Kinds.PK 8)
+ps = List._∷_ (ShrSlice.pShrS (Referent.rtF (Referent.fInt Syntax.w8)) 0 tt) (List._∷_ (Kinds.pNum Syntax.w64) (List._∷_ (Value.pVal record { ty = Declared'.row Lent.the-type; one = Path'.refl; val = Laws'3.val Lent.the-type Laws'.the-laws; tells = Laws'3.tells Lent.the-type Laws'.the-laws; still = Laws'3.still Lent.the-type Laws'.the-copy Exit.yes; row = Rows.whole (Declared'.row Lent.the-type); rd = λ x. x; mk = λ x. x } λ M 𝓤 H A W. record { copies = Laws'3.copy Lent.the-type Laws'.the-copy 𝓤 H A W; lawful = Laws'3.lawful Lent.the-type Laws'.the-laws 𝓤 H A W; makes = Laws'3.makes Lent.the-type Laws'.the-plain 𝓤 H A; in-mem = Local.mem-whole 𝓤 H A W (Declared'.row Lent.the-type); of-mem = Local.whole-mem 𝓤 H A W (Declared'.row Lent.the-type) }) (List._∷_ (MutSlice.pMutS (Referent.rtF (Referent.fInt Syntax.w32)) 1 tt) (List._∷_ (MutSlice.pMutS Gap_.row 2 tt) (List._∷_ (MutSlice.pMutS (Referent.rtF (Referent.fInt Syntax.w16)) 3 tt) (List._∷_ (MutSlice.pMutS (Referent.rtF (Referent.fInt Syntax.w8)) 4 tt) (List._∷_ (MutSlice.pMutS (Referent.rtF (Referent.fInt Syntax.w8)) 5 tt) (List._∷_ (MutSlice.pMutS (Referent.rtF (Referent.fInt Syntax.w8)) 6 tt) (List._∷_ (MutSlice.pMutS (Referent.rtF (Referent.fInt Syntax.w8)) 7 tt) List.[])))))))))
 
-abbrev pub r : Kinds.RK 7
+abbrev pub r : Kinds.RK 8
 r = Value.rVal record { ty = Declared.row Outcome.the-type; one = Path'.refl; val = Laws''.val Outcome.the-type Laws.the-laws; tells = Laws''.tells Outcome.the-type Laws.the-laws; still = Laws''.still Outcome.the-type Laws.the-copy Exit.yes; row = Rows.whole (Declared.row Outcome.the-type); rd = λ x. x; mk = λ x. x } λ M 𝓤 H A W. record { copies = Laws''.copy Outcome.the-type Laws.the-copy 𝓤 H A W; lawful = Laws''.lawful Outcome.the-type Laws.the-laws 𝓤 H A W tt; makes = Laws''.makes Outcome.the-type Laws.the-plain 𝓤 H A; in-mem = Local.mem-whole 𝓤 H A W (Declared.row Outcome.the-type); of-mem = Local.whole-mem 𝓤 H A W (Declared.row Outcome.the-type) }

@@ -5,10 +5,10 @@ use Rattle.replay.proofs.line.put_answers.Statement.{statement}
 use Rattle.replay.proofs.line.put_answers.Tie as tie
 
 abbrev Inv-loop : tie.InvT-loop
-Inv-loop text₀ start answers n at₀ end i₀ text at i = i ≤ end
+Inv-loop text₀ start answers marks n at₀ end i₀ text at i = i ≤ end
 
 abbrev μ-loop : tie.MeasureT-loop
-μ-loop text₀ start answers n at₀ end i₀ text at i = end - i
+μ-loop text₀ start answers marks n at₀ end i₀ text at i = end - i
 
 put-number-requires : tie.Need-put-number-requires Inv-loop μ-loop
 put-number-requires c κs = search needs
@@ -30,6 +30,12 @@ wide-requires c κs = search needs
 
 put-number-requires-2 : tie.Need-put-number-requires-2 Inv-loop μ-loop
 put-number-requires-2 c κs = search needs
+
+mark-at-requires : tie.Need-mark-at-requires Inv-loop μ-loop
+mark-at-requires c κs = search needs
+
+put-mark-requires : tie.Need-put-mark-requires Inv-loop μ-loop
+put-mark-requires c κs = search needs
 
 add-i : tie.Need-add-i Inv-loop μ-loop
 add-i c = search needs
@@ -56,6 +62,8 @@ put-answers-spec =
     shared-slice-read-wide
     wide-requires
     put-number-requires-2
+    mark-at-requires
+    put-mark-requires
     add-i
     loop-less
     loop-again
