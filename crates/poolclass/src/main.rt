@@ -42,7 +42,7 @@ fn tell_refusal(code: u32, place: usize) {
     say(b"\n");
 }
 
-// Runs a job over gaps of the stack; its class name isn't used.
+// Runs a job over gaps of the stack; its marks and its class name aren't used.
 fn run_job(
     job: &[u8],
     work: &mut [u32],
@@ -52,12 +52,14 @@ fn run_job(
 ) -> Outcome {
     let gap = slots::no_gap();
     let mut gaps = [gap; 13109];
+    let mut marks = [0u8; 21846];
     let mut class_name = io::large_buffer();
     cpool::run(
         job,
         work,
         &mut gaps,
         answers,
+        &mut marks,
         pool,
         bootstraps,
         &mut class_name,

@@ -2,6 +2,7 @@
 mod Lts
 mod Tie
 use mathlib.Core.Path.{sym}
+use Prim.Native.Nat.{ℕ}
 use lib.ListN.{length-replicate}
 use Rattle.slots.specs.declared.Gap.{Gap}
 use borrow.Author.Needs.{needs}
@@ -18,7 +19,10 @@ slice-aggregate-run : tie.Need-slice-aggregate-run
 slice-aggregate-run c = sym (length-replicate {0} {A = Gap} 13109 (c .before .before .before .no-gap .result))
 
 slice-aggregate-run-2 : tie.Need-slice-aggregate-run-2
-slice-aggregate-run-2 c = c .before .before .before .before .before .before .large-buffer .ensures
+slice-aggregate-run-2 c = sym (length-replicate {0} {A = ℕ} 21846 0)
+
+slice-aggregate-run-3 : tie.Need-slice-aggregate-run-3
+slice-aggregate-run-3 c = c .before .before .before .before .before .before .before .large-buffer .ensures
 
 run-requires : tie.Need-run-requires
 run-requires c κs = tt
@@ -39,4 +43,4 @@ returns : tie.Need-returns
 returns c = tt
 
 pub run-job-spec : {M : Type 1} → statement M
-run-job-spec = tie.close (tie.spec no-gap-requires large-buffer-requires slice-aggregate-run slice-aggregate-run-2 run-requires same-length same-length-2 same-length-3 same-length-4 returns)
+run-job-spec = tie.close (tie.spec no-gap-requires large-buffer-requires slice-aggregate-run slice-aggregate-run-2 slice-aggregate-run-3 run-requires same-length same-length-2 same-length-3 same-length-4 returns)

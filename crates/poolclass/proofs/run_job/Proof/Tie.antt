@@ -30,6 +30,9 @@ Need-slice-aggregate-run = Lts.Need-slice-aggregate-run (Reads·0.Asked, Reads·
 abbrev pub Need-slice-aggregate-run-2 : Type 0
 Need-slice-aggregate-run-2 = Lts.Need-slice-aggregate-run-2 (Reads·0.Asked, Reads·0.Learnt, Reads·1.Asked, Reads·1.Learnt, Reads·2.Asked, Reads·2.Learnt) Reads.Pre Reads.Post
 
+abbrev pub Need-slice-aggregate-run-3 : Type 0
+Need-slice-aggregate-run-3 = Lts.Need-slice-aggregate-run-3 (Reads·0.Asked, Reads·0.Learnt, Reads·1.Asked, Reads·1.Learnt, Reads·2.Asked, Reads·2.Learnt) Reads.Pre Reads.Post
+
 abbrev pub Need-run-requires : Type 0
 Need-run-requires = Lts.Need-run-requires (Reads·0.Asked, Reads·0.Learnt, Reads·1.Asked, Reads·1.Learnt, Reads·2.Asked, Reads·2.Learnt) Reads.Pre Reads.Post
 
@@ -49,8 +52,8 @@ abbrev pub Need-returns : Type 0
 Need-returns = Lts.Need-returns (Reads·0.Asked, Reads·0.Learnt, Reads·1.Asked, Reads·1.Learnt, Reads·2.Asked, Reads·2.Learnt) Reads.Pre Reads.Post
 
 module _ {M : Type 1} where
-  pub spec : Need-no-gap-requires → Need-large-buffer-requires → Need-slice-aggregate-run → Need-slice-aggregate-run-2 → Need-run-requires → Need-same-length → Need-same-length-2 → Need-same-length-3 → Need-same-length-4 → Need-returns → Lts.Closed (Reads·0.Asked, Reads·0.Learnt, Reads·1.Asked, Reads·1.Learnt, Reads·2.Asked, Reads·2.Learnt) Reads.Pre Reads.Post M
-  spec = λ n0 n1 n2 n3 n4 n5 n6 n7 n8 n9. Lts.spec (Reads·0.Asked, Reads·0.Learnt, Reads·1.Asked, Reads·1.Learnt, Reads·2.Asked, Reads·2.Learnt) Reads.Pre Reads.Post n0 n1 n2 n3 n4 n5 n6 n7 n8 n9
+  pub spec : Need-no-gap-requires → Need-large-buffer-requires → Need-slice-aggregate-run → Need-slice-aggregate-run-2 → Need-slice-aggregate-run-3 → Need-run-requires → Need-same-length → Need-same-length-2 → Need-same-length-3 → Need-same-length-4 → Need-returns → Lts.Closed (Reads·0.Asked, Reads·0.Learnt, Reads·1.Asked, Reads·1.Learnt, Reads·2.Asked, Reads·2.Learnt) Reads.Pre Reads.Post M
+  spec = λ n0 n1 n2 n3 n4 n5 n6 n7 n8 n9 n10. Lts.spec (Reads·0.Asked, Reads·0.Learnt, Reads·1.Asked, Reads·1.Learnt, Reads·2.Asked, Reads·2.Learnt) Reads.Pre Reads.Post n0 n1 n2 n3 n4 n5 n6 n7 n8 n9 n10
 
   pub close : Lts.Closed (Reads·0.Asked, Reads·0.Learnt, Reads·1.Asked, Reads·1.Learnt, Reads·2.Asked, Reads·2.Learnt) Reads.Pre Reads.Post M → Statement.statement M
   unfolding Code.routine Running.tablesOf
