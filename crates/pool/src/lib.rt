@@ -365,14 +365,7 @@ fn too_high(ldc: bool, slot: usize) -> bool
 }
 
 // The slot of a child is answer i, marked with how it was come by, 0; 16 if it is an ldc answer above 255.
-fn keep_answer(
-    w: &mut [u32],
-    p: &[usize],
-    i: usize,
-    child: usize,
-    ldc: bool,
-    mark: usize,
-) -> usize
+fn keep_answer(w: &mut [u32], p: &[usize], i: usize, child: usize, ldc: bool, mark: usize) -> usize
     requires { ⌜ On (now p) (length (now w)) × (i < size (now p) ANSWERS) × (i < size (now p) ORIGINS) × (child < ENTRY + size (now p) GIVEN) × IsWord mark ⌝ }
     ensures { λ r. ⌜ KeptAnswer ldc (childSlot (store (now (p .entry)) (now (w .entry)) GIVEN) child) mark i (store (now (p .entry)) (now (w .entry))) (store (now (p .entry)) (now (w .exit))) r ⌝ }
 {
