@@ -31,7 +31,8 @@ use Rattle.laws.proofs.definitions.DefinedAsPlaced.{DefinedFacts, wideAt, defin
 use Rattle.laws.proofs.resolving.FaithfulToEntries.{nothing-faithful, resolve-faithful}
 use Rattle.laws.proofs.resolving.JobGoals.{jobNames, jobConstants, jobTable}
 use Rattle.laws.proofs.resolving.JobTableGood.{placed-good, numbered-cited, definitions-low, requests-low}
-use Rattle.laws.proofs.resolving.ResolvedNodes.{ConstantGoal, child-done, GoodTable}
+use Rattle.laws.proofs.resolving.ResolvedNodes.{ConstantGoal, child-done, settled-entry, GoodTable}
+use Rattle.laws.proofs.resolving.SameConstants.{goes-leads}
 use Rattle.laws.proofs.building.LayoutStages.{constantsIn, tableIn, rowsIn}
 use Rattle.laws.proofs.building.AfterRecord50.{rawGoals}
 use Rattle.laws.proofs.building.BeforeRequests.{formed-table, begun-names}
@@ -48,7 +49,7 @@ use Rattle.causes.proofs.CauseForm.{snoc-length}
 use Rattle.causes.proofs.CauseNoSlot.{pool-lacks}
 use Rattle.causes.proofs.CausedReached.{resolvingRefuted}
 use Rattle.causes.proofs.UsedIndexes.{used-raw}
-use Rattle.causes.proofs.SlotsSoFar.{settled-entry, goes-leads, Kept, kept, all-reaches, Onward, onward, asked-lacks, GetsPair, asked-above, building-occurs, name-occurs}
+use Rattle.causes.proofs.SlotsSoFar.{Kept, kept, all-reaches, Onward, onward, asked-lacks, GetsPair, asked-above, building-occurs, name-occurs}
 
 module _ (bytes : List ℕ) (job : Job (List ℕ)) (are : IsBytes bytes) (formed : form bytes ≡ good job) where
   abbrev names : List Naming
@@ -191,7 +192,7 @@ module _ (bytes : List ℕ) (job : Job (List ℕ)) (are : IsBytes bytes) (formed
 
         asks : (ldc : Bool) → q .ldc ≡ ldc → (g : Goal) → goal ≡ g → AsksFor job (length answers) ldc g
         asks ldc is g same =
-            (q, is-request, is, goes-leads bytes job are formed (s .marks) (q .what) g (on .1 ∙ same) (subst (Settled (s .marks)) same (on .2)), is-resolved)
+            (q, is-request, is, goes-leads job (s .marks) (q .what) g (on .1 ∙ same) (subst (Settled (s .marks)) same (on .2)), is-resolved)
 
         -- a request that leads to a constant, which became node n
         module _ (e n : ℕ) (is : goal ≡ tableEntry e) (mark : getElem? (s .marks) e ≡ some (done n)) where

@@ -7,25 +7,24 @@ use mathlib.Core.Option.{Option, none, some}
 use mathlib.Core.Path.{_≡_, refl, sym, ap, subst, _∙_}
 use Prim.Native.Nat.{ℕ, zero, suc, _+_, _-_, _≤_, _<_}
 use native.Mathlib.Omega.{arith}
-use lib.Dec.{leb, ltb}
+use lib.Dec.{leb}
 use lib.ListN.{length, drop, getElem?}
-use borrow.Author.Tests.{ltb-false}
 use Rattle.definition.specs.Basics.{good, bad, unless, lookup}
 use Rattle.definition.specs.Shapes.{Entry, isWide}
 use Rattle.definition.specs.Job.{Reference, Request, Job}
 use Rattle.definition.specs.Form.{form}
 use Rattle.definition.specs.Numbering.{constantsOf, bootstrapsOf, numbered}
 use Rattle.definition.specs.Definitions.{Naming, Defined, tagAt, defineAll, nothingDefined}
-use Rattle.definition.specs.Resolving.{Goal, rawNumber, tableEntry, refusal, goalOf, Node, firstNode, Mark, done, Resolved, childOf, intern, resolve, resolveAll, nothingResolved}
+use Rattle.definition.specs.Resolving.{Goal, tableEntry, goalOf, firstNode, done, Resolved, childOf, intern, resolve, resolveAll, nothingResolved}
 use Rattle.definition.specs.Slots.{highestSlot, highestLdc, slotFor}
 use Rattle.definition.specs.Building.{Pool, noSlot, allocate, slotOf, Made, buildAll, attributeText}
 use Rattle.definition.specs.Layout.{Ready, endDefinitions, answer}
 use Rattle.facts.specs.Lists.{Among}
 use Rattle.facts.proofs.Lists.{clash, none≢some, some-inj, order, found-append, found-seam, append-at, among-nil, drop-place}
-use Rattle.facts.proofs.Tables.{some-key, some-row, lookup-at}
+use Rattle.facts.proofs.Tables.{lookup-at}
 use Rattle.facts.proofs.Each.{each-at}
 use Rattle.facts.proofs.Outcomes.{whenGood}
-use Rattle.facts.proofs.Results.{good-inj, good-then, decided}
+use Rattle.facts.proofs.Results.{good-inj, good-then}
 use Rattle.laws.specs.Faithful.{InTable, Settled, Faithful}
 use Rattle.laws.specs.LeadsStatement.{Leads, NamedOnce}
 use Rattle.laws.specs.Statements.{IsBytes, entryAt, Occurs, afterRequest, moreResolved, stackTaken, freeSlots}
@@ -33,16 +32,16 @@ use Rattle.causes.specs.CauseStatement.{Wide, TakesSlot, sameName, Behin
 use Rattle.laws.proofs.resolving.FaithfulToEntries.{Grows, resolve-faithful}
 use Rattle.laws.proofs.resolving.Interning.{interned}
 use Rattle.laws.proofs.resolving.JobGoals.{jobNames, jobConstants, jobTable, bootstrap-tag}
-use Rattle.laws.proofs.resolving.LeadsAsFollowed.{leads-followed, settled-leads}
+use Rattle.laws.proofs.resolving.LeadsAsFollowed.{leads-followed}
 use Rattle.laws.proofs.resolving.NodesAndChildren as NodesAndChildren
 use Rattle.laws.proofs.resolving.NodesAndChildren.{tag-found, KidsIn}
 use Rattle.laws.proofs.resolving.NodesApart.{Tidy, nothing-tidy, resolve-tidy, resolveAll-tidy}
-use Rattle.laws.proofs.resolving.ResolvedNodes.{ConstantGoal, child-done, GoodTable, kids-in}
-use Rattle.laws.proofs.resolving.SameConstants.{goal-numbered, Became, became, same-child, child-same}
+use Rattle.laws.proofs.resolving.ResolvedNodes.{ConstantGoal, child-done, settled-entry, GoodTable, kids-in}
+use Rattle.laws.proofs.resolving.SameConstants.{goal-numbered, goes-leads, Became, became, same-child, child-same}
 use Rattle.laws.proofs.slots.PoolsThatOccur.{ended}
 use Rattle.laws.proofs.slots.SlotRequest.{Met, old, new, met, allocate-old}
 use Rattle.laws.proofs.building.AfterRecord50.{rawGoals}
-use Rattle.laws.proofs.building.AfterRequests.{Going, Answered, Further, answer-going, answered-further}
+use Rattle.laws.proofs.building.AfterRequests.{Going, Answered, Further, answer-going, answer-given, answered-further}
 use Rattle.laws.proofs.building.BeforeRequests.{formed-table, begun-names, same-table, begunRaws, begun, begun-asks}
 use Rattle.laws.proofs.building.ChildNumbers.{SlotFor}
 use Rattle.laws.proofs.building.LayoutStages.{constantsIn, tableIn}
@@ -62,60 +61,6 @@ drop-all (x ∷ l) = drop-all l
 takes-same : {wide wide′ : Type 0} {a t : ℕ} → (wide → wide′) → TakesSlot wide a t → TakesSlot wide′ a t
 takes-same to (inl is) = inl is
 takes-same to (inr (w, is)) = inr (to w, is)
-
--- ---- an answer gives out at most one slot, to the node that was asked for
-
-allocate-given :
-    (nodes : List Node) (ldc : Bool) (n : ℕ) (p : Pool) (r : ℕ × Pool) (k a : ℕ) →
-    allocate nodes ldc n p ≡ good r →
-    Among (k, a) (r .1 .given) →
-    Among (k, a) (p .given) ⊎ ((n ≡ k) × (r .0 ≡ a))
-allocate-given nodes ldc n p r k a e h = go (met nodes ldc n (r .0) p (r .1) e)
-  where
-    row : Among (k, a) ((n, r .0) ∷ p .given) → Among (k, a) (p .given) ⊎ ((n ≡ k) × (r .0 ≡ a))
-    row (zero, at) = inr (some-key (n, r .0) (k, a) at, some-row (n, r .0) (k, a) at)
-    row (suc i, at) = inl (i, at)
-
-    go : Met nodes ldc n p (r .0) (r .1) → Among (k, a) (p .given) ⊎ ((n ≡ k) × (r .0 ≡ a))
-    go (old _ same) = inl (subst (λ (q : Pool). Among (k, a) (q .given)) same h)
-    go (new slots _ _ same) = row (subst (λ (q : Pool). Among (k, a) (q .given)) same h)
-
-answer-given :
-    (ldc : Bool) (goal : Goal) (w : Ready) (r : ℕ × Ready) (k a : ℕ) →
-    answer ldc goal w ≡ good r →
-    Among (k, a) (r .1 .pool .given) →
-    Among (k, a) (w .pool .given) ⊎ ((childOf (r .1 .resolved .marks) goal ≡ firstNode + k) × (r .0 ≡ a))
-unfolding answer slotOf
-answer-given ldc goal w r k a e h =
-    good-then (resolve (w .table) goal (w .resolved)) _ r e λ s _ e₁.
-    good-then (slotOf (s .nodes) ldc (childOf (s .marks) goal) (w .pool)) _ r e₁ λ x slotted e₂.
-    good-then (unless (not ldc || leb (x .0) highestLdc) 16) _ r e₂ λ _ _ e₃.
-    subst (λ (y : ℕ × Ready). Among (k, a) (y .1 .pool .given) → Among (k, a) (w .pool .given) ⊎ ((childOf (y .1 .resolved .marks) goal ≡ firstNode + k) × (y .0 ≡ a))) (good-inj e₃)
-    (λ h.
-    decided (ltb (childOf (s .marks) goal) firstNode) _ _ (good x) slotted
-    (λ _ f. inl (subst (λ (z : ℕ × Pool). Among (k, a) (z .1 .given)) (sym (good-inj f)) h))
-    (λ t f. ways s (ltb-false (childOf (s .marks) goal) firstNode t) (allocate-given (s .nodes) ldc (childOf (s .marks) goal - firstNode) (w .pool) x k a f h)))
-    h
-  where
-    ways :
-        (s : Resolved) {x : ℕ} →
-        firstNode ≤ childOf (s .marks) goal →
-        Among (k, a) (w .pool .given) ⊎ ((childOf (s .marks) goal - firstNode ≡ k) × (x ≡ a)) →
-        Among (k, a) (w .pool .given) ⊎ ((childOf (s .marks) goal ≡ firstNode + k) × (x ≡ a))
-    ways s high (inl a) = inl a
-    ways s high (inr (n, is)) = inr (omega (arith, n, high), is)
-
--- a goal that became a node is an entry
-pub settled-entry :
-    (table : List (Entry ℕ Goal)) (marks : List Mark) (goal : Goal) →
-    ConstantGoal table goal →
-    Settled marks goal →
-    firstNode ≤ childOf marks goal →
-    (e : ℕ) × (k : ℕ) × (goal ≡ tableEntry e) × (getElem? marks e ≡ some (done k)) × (childOf marks goal ≡ firstNode + k)
-unfolding childOf
-settled-entry table marks (rawNumber n) c h high = absurd (omega (arith, c, high))
-settled-entry table marks (tableEntry e) c h high = (e, h .0, refl, h .1, child-done marks e (h .0) (h .1))
-settled-entry table marks (refusal code) c h high = absurd h
 
 module _ (bytes : List ℕ) (job : Job (List ℕ)) (are : IsBytes bytes) (formed : form bytes ≡ good job) where
   abbrev names : List Naming
@@ -148,11 +93,6 @@ module _ (bytes : List ℕ) (job : Job (List ℕ)) (are : IsBytes bytes) (formed
 
   pub leads-goes : (d : Defined) → IsDefined d → (r : Reference) (goal : Goal) → Leads (job .definitions) r goal → goes r ≡ goal
   leads-goes d defined r goal leads = goal-numbered job r ∙ leads-followed (job .definitions) (defined-once d defined) r goal leads
-
-  pub goes-leads : (marks : List Mark) (r : Reference) (goal : Goal) → goes r ≡ goal → Settled marks goal → Leads (job .definitions) r goal
-  goes-leads marks r goal is h =
-      let to = sym (goal-numbered job r) ∙ is in
-      subst (Leads (job .definitions) r) to (settled-leads (job .definitions) marks r (subst (Settled marks) (sym to) h))
 
   -- ---- what is kept from record 50 on
 
@@ -338,7 +278,7 @@ module _ (bytes : List ℕ) (job : Job (List ℕ)) (are : IsBytes bytes) (formed
     node-got : (n a : ℕ) → Among (n, a) given-now → (e : ℕ) × (getElem? (s .marks) e ≡ some (done n)) × Got job answers e a
     node-got n a h =
         let (i, q, e, at, has, is, mark) = k .given n a h in
-        (e, on .grows .marksKept e n mark, (i, q, at, goes-leads (w .resolved .marks) (q .what) (tableEntry e) is (n, mark), has))
+        (e, on .grows .marksKept e n mark, (i, q, at, goes-leads job (w .resolved .marks) (q .what) (tableEntry e) is (n, mark), has))
 
     slot-had : (e n a : ℕ) → getElem? (s .marks) e ≡ some (done n) → HasSlot job answers e a → lookup n given-now ≡ some a
     slot-had e n a mark (f, got, same) =

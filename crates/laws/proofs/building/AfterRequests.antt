@@ -1,10 +1,10 @@
 -- What requests keep, and what each answer is: the slot of what its reference became. Assumes nothing.
 use mathlib.Core.Bool.{Bool, true, _||_, not}
 use mathlib.Core.List.{List, [], _∷_, _++_}
-use mathlib.Core.Logic.{inl, inr}
+use mathlib.Core.Logic.{_⊎_, inl, inr}
 use mathlib.Core.Option.{some}
 use mathlib.Core.Path.{_≡_, refl, sym, ap, subst, _∙_}
-use Prim.Native.Nat.{ℕ, zero, suc, _-_, _≤_, _<_}
+use Prim.Native.Nat.{ℕ, zero, suc, _+_, _-_, _≤_, _<_}
 use native.Mathlib.Omega.{arith}
 use lib.Dec.{leb, ltb}
 use lib.ListN.{length, getElem?, length-append}
@@ -13,11 +13,13 @@ use Rattle.definition.specs.Basics.{good, atRecord, unless}
 use Rattle.definition.specs.Shapes.{Entry}
 use Rattle.definition.specs.Job.{Request}
 use Rattle.definition.specs.Definitions.{Held, Naming}
-use Rattle.definition.specs.Resolving.{Goal, goalOf, Node, firstNode, childOf, resolve}
+use Rattle.definition.specs.Resolving.{Goal, goalOf, Node, firstNode, Resolved, childOf, resolve}
 use Rattle.definition.specs.Slots.{highestLdc}
 use Rattle.definition.specs.Building.{Pool, allocate, slotOf}
 use Rattle.definition.specs.Layout.{Ready, answer, answerAll}
+use Rattle.facts.specs.Lists.{Among}
 use Rattle.facts.proofs.Lists.{clash, none≢some, some-inj}
+use Rattle.facts.proofs.Tables.{some-key, some-row}
 use Rattle.facts.proofs.Each.{Each, each-weaker}
 use Rattle.facts.proofs.Results.{good-inj, good-then, atRecord-good, unless-good, decided}
 use Rattle.laws.specs.Statements.{Occurs, afterRequest, moreResolved}
@@ -130,6 +132,48 @@ module _ (table : List (Entry ℕ Goal)) (cited : Cited table) (top : ℕ) (held
         record { settled = now .1; slot = p .1 },
         record { grows = now .2; kept = p .2 },
       )
+
+-- a slot that is given out after one request for a node was before, or it is the node's
+row-before :
+    (nodes : List Node) (ldc : Bool) (n : ℕ) (p : Pool) (r : ℕ × Pool) (k a : ℕ) →
+    allocate nodes ldc n p ≡ good r →
+    Among (k, a) (r .1 .given) →
+    Among (k, a) (p .given) ⊎ ((n ≡ k) × (r .0 ≡ a))
+row-before nodes ldc n p r k a e h = go (met nodes ldc n (r .0) p (r .1) e)
+  where
+    row : Among (k, a) ((n, r .0) ∷ p .given) → Among (k, a) (p .given) ⊎ ((n ≡ k) × (r .0 ≡ a))
+    row (zero, at) = inr (some-key (n, r .0) (k, a) at, some-row (n, r .0) (k, a) at)
+    row (suc i, at) = inl (i, at)
+
+    go : Met nodes ldc n p (r .0) (r .1) → Among (k, a) (p .given) ⊎ ((n ≡ k) × (r .0 ≡ a))
+    go (old _ same) = inl (subst (λ (q : Pool). Among (k, a) (q .given)) same h)
+    go (new slots _ _ same) = row (subst (λ (q : Pool). Among (k, a) (q .given)) same h)
+
+-- so an answer gives out at most one slot, to the node that was asked for
+pub answer-given :
+    (ldc : Bool) (goal : Goal) (w : Ready) (r : ℕ × Ready) (k a : ℕ) →
+    answer ldc goal w ≡ good r →
+    Among (k, a) (r .1 .pool .given) →
+    Among (k, a) (w .pool .given) ⊎ ((childOf (r .1 .resolved .marks) goal ≡ firstNode + k) × (r .0 ≡ a))
+unfolding answer slotOf
+answer-given ldc goal w r k a e h =
+    good-then (resolve (w .table) goal (w .resolved)) _ r e λ s _ e₁.
+    good-then (slotOf (s .nodes) ldc (childOf (s .marks) goal) (w .pool)) _ r e₁ λ x slotted e₂.
+    good-then (unless (not ldc || leb (x .0) highestLdc) 16) _ r e₂ λ _ _ e₃.
+    subst (λ (y : ℕ × Ready). Among (k, a) (y .1 .pool .given) → Among (k, a) (w .pool .given) ⊎ ((childOf (y .1 .resolved .marks) goal ≡ firstNode + k) × (y .0 ≡ a))) (good-inj e₃)
+    (λ h.
+    decided (ltb (childOf (s .marks) goal) firstNode) _ _ (good x) slotted
+    (λ _ f. inl (subst (λ (z : ℕ × Pool). Among (k, a) (z .1 .given)) (sym (good-inj f)) h))
+    (λ t f. ways s (ltb-false (childOf (s .marks) goal) firstNode t) (row-before (s .nodes) ldc (childOf (s .marks) goal - firstNode) (w .pool) x k a f h)))
+    h
+  where
+    ways :
+        (s : Resolved) {x : ℕ} →
+        firstNode ≤ childOf (s .marks) goal →
+        Among (k, a) (w .pool .given) ⊎ ((childOf (s .marks) goal - firstNode ≡ k) × (x ≡ a)) →
+        Among (k, a) (w .pool .given) ⊎ ((childOf (s .marks) goal ≡ firstNode + k) × (x ≡ a))
+    ways s high (inl a) = inl a
+    ways s high (inr (n, is)) = inr (omega (arith, n, high), is)
 
 -- so an answer stays right
 pub answered-further : (goal : Goal) (a : ℕ) (w w′ : Ready) → Further w w′ → Answered goal a w → Answered goal a w′

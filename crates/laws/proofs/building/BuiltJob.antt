@@ -56,10 +56,19 @@ module _ (bytes : List ℕ) (job : Job (List ℕ)) (l : Layout) (are : IsBytes b
   abbrev pub raws : List (ℕ × ℕ)
   raws = rawsOf (st .defined .held) (st .ready .resolved .marks)
 
-  started :
+  -- what record 50 left
+  pub started :
       Going table highestSlot (st .defined .held) raws (st .ready)
       × ((g : Goal) → Among g (rawGoals (jobConstants (numbered job)) (st .defined)) → Settled (st .ready .resolved .marks) g)
   started = begun bytes job are formed (st .defined) (st .isDefined) (st .ready) (st .isReady)
+
+  -- the requests, by the job's own names
+  pub is-asked : answerAll (jobNames (numbered job)) (jobConstants (numbered job)) (suc (length (numbered job .definitions))) (numbered job .requests) (st .ready) ≡ good (st .answers, st .asked)
+  is-asked =
+      subst
+      (λ names. answerAll names (jobConstants (numbered job)) (suc (length (numbered job .definitions))) (numbered job .requests) (st .ready) ≡ good (st .answers, st .asked))
+      (facts .allNames)
+      (st .isAsked)
 
   pub asked :
       Going table highestSlot (st .defined .held) raws (st .asked)
@@ -74,10 +83,7 @@ module _ (bytes : List ℕ) (job : Job (List ℕ)) (l : Layout) (are : IsBytes b
       (st .ready)
       (st .answers, st .asked)
       (begun-asks bytes job are formed (st .defined) (st .isDefined) (st .ready) (st .isReady))
-      (subst
-      (λ names. answerAll names (jobConstants (numbered job)) (suc (length (numbered job .definitions))) (numbered job .requests) (st .ready) ≡ good (st .answers, st .asked))
-      (facts .allNames)
-      (st .isAsked))
+      is-asked
       (started .0)
 
   -- raw definitions stay settled

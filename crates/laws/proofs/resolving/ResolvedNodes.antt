@@ -27,6 +27,24 @@ pub child-done : (marks : List Mark) (e k : ℕ) → getElem? marks e ≡ some (
 unfolding childOf markChild
 child-done marks e k h = rw (found-read marks e (done k) (done 0) h)
 
+-- a settled goal that became a node is an entry
+pub settled-entry :
+    (table : List (Entry ℕ Goal)) (marks : List Mark) (goal : Goal) →
+    ConstantGoal table goal →
+    Settled marks goal →
+    firstNode ≤ childOf marks goal →
+    (e : ℕ) × (k : ℕ) × (goal ≡ tableEntry e) × (getElem? marks e ≡ some (done k)) × (childOf marks goal ≡ firstNode + k)
+unfolding childOf
+settled-entry table marks (rawNumber n) c h high = absurd (omega (arith, c, high))
+settled-entry table marks (tableEntry e) c h high = (e, h .0, refl, h .1, child-done marks e (h .0) (h .1))
+settled-entry table marks (refusal code) c h high = absurd h
+
+-- and one that became none is a raw number
+pub settled-number : (marks : List Mark) (goal : Goal) → Settled marks goal → childOf marks goal < firstNode → (n : ℕ) × (goal ≡ rawNumber n)
+settled-number marks (rawNumber n) h low = (n, refl)
+settled-number marks (tableEntry e) h low = absurd (omega (arith, low, child-done marks e (h .0) (h .1)))
+settled-number marks (refusal code) h low = absurd h
+
 -- what a settled goal became is a node of the list, and a constant if the goal leads to one
 pub settled-child :
     (table : List (Entry ℕ Goal)) (s : Resolved) (goal : Goal) →

@@ -34,6 +34,16 @@ goal-numbered job r =
     ap (λ names. goalOf names (jobConstants (numbered job)) r) (namings-numbered job)
     ∙ ap (λ n. goalOf (namings (job .definitions)) n r) (count-numbered job constant)
 
+-- a reference leads where it leads once literals are numbered, if that is settled
+pub goes-leads :
+    (job : Job (List ℕ)) (marks : List Mark) (r : Reference) (goal : Goal) →
+    goalOf (jobNames (numbered job)) (jobConstants (numbered job)) r ≡ goal →
+    Settled marks goal →
+    Leads (job .definitions) r goal
+goes-leads job marks r goal is h =
+    let to = sym (goal-numbered job r) ∙ is in
+    subst (Leads (job .definitions) r) to (settled-leads (job .definitions) marks r (subst (Settled marks) (sym to) h))
+
 -- images of two lists that are equal place by place
 images-equal :
     (F : Reference → ℕ) (rs ts : List Reference) →
