@@ -18,5 +18,6 @@ pub mod JobHeld
 pub mod Holds
 pub mod GivenNumbers
 pub mod Shared
+pub mod Marks
 pub mod LiteralsShown
 pub mod Shape

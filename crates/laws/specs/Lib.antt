@@ -3,6 +3,7 @@ pub mod LeadsStatement
 pub mod Statements
 pub mod ShapeStatement
 pub mod SharedStatement
+pub mod MarksStatement
 pub mod ReaderStatements
 pub mod Faithful
 pub mod Counted

@@ -273,10 +273,6 @@ Holds =
     × (read-bootstrap-methods (b .bootstrapCount) (b .bootstraps) ≡ some methods)
     × HeldBy (record { definitions = job .definitions; pool = map asShown pool; bootstraps = map asRow methods }) (job .requests) (job .build) b
 
--- MARKS: a built job has a mark for each answer
-abbrev pub Marks : Type 0
-Marks = (bytes : List ℕ) (lent : Lent) (b : Built) → run lent bytes ≡ good b → length (b .marks) ≡ length (b .answers)
-
 -- BLOCKS READ: reading accepts exactly what writing produces. A file of bytes is read as a job exactly if the job has room and writing it,
 -- with room for the file, gives that file
 abbrev pub BlocksRead : Type 0
