@@ -10,7 +10,7 @@ use lib.Seq.{take-append-seam}
 use Rattle.definition.specs.Basics.{Result, good, bad, Refusal}
 use Rattle.definition.specs.Run.{Built, Memory, lentOf, refusalOf, returned, classOut, overwrite, outputAfter, memoryAfter}
 use Rattle.facts.proofs.Lists.{true≢false}
-use Rattle.laws.proofs.building.MarksOfAnswers.{marks}
+use Rattle.laws.proofs.building.MarksOfAnswers.{as-many-marks}
 use Rattle.cpool.specs.declared.Outcome.{Outcome}
 use Rattle.cpool.specs.Ran.{Numbers, told, isBuilt, classGiven, classSize, numbers, isGood, Slices, memoryOf, resultOf, Ran}
 use Rattle.cpool.specs.Promises.{handed}
@@ -38,7 +38,7 @@ module _ (job : List ℕ) (before after : Slices) (r : Outcome) (ran : Ran job b
     -- a mark for each answer
     pub marks-many : length (b .marks) ≡ length (b .answers)
     unfolding resultOf
-    marks-many = marks job (lentOf (memoryOf before)) b is
+    marks-many = as-many-marks job (lentOf (memoryOf before)) b is
 
     pub pool-built : after .pool ≡ overwrite (b .pool) (before .pool)
     unfolding memoryOf memoryAfter outputAfter
