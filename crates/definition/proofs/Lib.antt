@@ -1,4 +1,5 @@
 pub mod Starred
 pub mod SecondTable
+pub mod Readings
 pub mod Decided
 pub mod BlockFiles

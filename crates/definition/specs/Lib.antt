@@ -16,3 +16,4 @@ pub mod Jvms
 pub mod Opened
 pub mod Starred
 pub mod SecondTable
+pub mod Readings

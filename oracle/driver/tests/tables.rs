@@ -27,6 +27,14 @@ fn the_starred_table_has_the_drivers_texts() {
     hold(&rows);
 }
 
+/// The decided points of document 02, No. 6.
+#[test]
+fn the_readings_have_the_drivers_texts() {
+    let rows = rows("Readings.antt");
+    assert_eq!(rows.len(), 6);
+    hold(&rows);
+}
+
 fn hold(rows: &[Row]) {
     for (job, text) in rows {
         let outcome = run_job(&bytes(job));
