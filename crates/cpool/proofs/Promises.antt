@@ -20,6 +20,7 @@ use Rattle.laws.proofs.reading.Shape.{shape}
 use Rattle.laws.proofs.reading.Holds.{heldSlots}
 use Rattle.laws.proofs.reading.Reads.{reads}
 use Rattle.laws.proofs.reading.Shared.{shared}
+use Rattle.laws.proofs.reading.Marks.{marks}
 use Rattle.causes.proofs.Cause.{cause}
 use Rattle.causes.proofs.CausedRuns.{noCause}
 use Rattle.laws.specs.ShapeStatement.{PoolsAlike, ClassesAlike}
@@ -27,7 +28,7 @@ use Rattle.laws.proofs.runs.FuelLasts.{fuelLasts}
 use Rattle.slots.specs.Gaps.{noGap}
 use Rattle.cpool.specs.declared.Outcome.{Outcome}
 use Rattle.cpool.specs.Ran.{Numbers, told, isBuilt, numbers, isGood, Slices, memoryOf, resultOf, Ran}
-use Rattle.cpool.specs.Promises.{handed, PrefixOnly, BuiltRun, RefusedRun, EveryJob, CodeReads, CodeHolds, CodeShared, CodeCause, CodeShape}
+use Rattle.cpool.specs.Promises.{handed, PrefixOnly, BuiltRun, RefusedRun, EveryJob, CodeReads, CodeHolds, CodeShared, CodeMarks, CodeCause, CodeShape}
 use Rattle.cpool.proofs.Refusals.{code-high, late-cleared}
 use Rattle.cpool.proofs.Telling.{class-size}
 use Rattle.cpool.proofs.Ending.{cleared-left, cleared-blank}
@@ -107,6 +108,15 @@ codeShared job before after r are ran built =
     let formed = run-built (lentOf (memoryOf before)) job (handed r after) is .0 in
     let law = shared job (formed .0) (lentOf (memoryOf before)) (handed r after) are (formed .1) is in
     (formed .0, law .0, law .1, formed .1, law .2, law .3, law .4)
+
+-- MARKS
+
+pub codeMarks : CodeMarks
+unfolding resultOf
+codeMarks job before after r are ran built =
+    let is = built-result job before after r ran built in
+    let formed = run-built (lentOf (memoryOf before)) job (handed r after) is .0 in
+    (formed .0, formed .1, marks job (formed .0) (lentOf (memoryOf before)) (handed r after) are (formed .1) is)
 
 -- CAUSE
 

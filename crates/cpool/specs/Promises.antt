@@ -22,6 +22,7 @@ use Rattle.laws.specs.AsEntries.{asShown, asRow}
 use Rattle.laws.specs.Statements.{IsBytes, Alike, HeldBy}
 use Rattle.laws.specs.ShapeStatement.{PoolsAlike, ClassesAlike}
 use Rattle.laws.specs.SharedStatement.{SharedBy}
+use Rattle.laws.specs.MarksStatement.{MarkedBy}
 use Rattle.causes.specs.CauseStatement.{CauseOf}
 use Rattle.slots.specs.Gaps.{noGap}
 use Rattle.cpool.specs.declared.Outcome.{Outcome}
@@ -118,6 +119,13 @@ CodeShared =
     (record { definitions = records .definitions; pool = map asShown pool; bootstraps = map asRow methods })
     (records .requests)
     (handed r after .answers)
+
+-- MARKS. Of the marks that stand there, one for each request, a mark is raw exactly if the request leads to a raw number, and new or old by
+-- whether an earlier request leads to the same constant
+abbrev pub CodeMarks : Type 0
+CodeMarks =
+    (job : List ℕ) (before after : Slices) (r : Outcome) → IsBytes job → Ran job before after r → isBuilt r ≡ true →
+    (records : Job (List ℕ)) × (form job ≡ good records) × MarkedBy (records .definitions) (records .requests) (handed r after .marks)
 
 -- CAUSE. A refusal has the cause of its number at its record, and a job is built exactly if there is no cause of a refusal
 abbrev pub CodeCause : Type 0
