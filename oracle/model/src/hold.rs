@@ -3,6 +3,7 @@
 use driver::expected::expected;
 use driver::tally::grouped;
 use driver::{Outcome, outcome};
+use jobs::heavy::{Heavy, LIST};
 use jobs::hex::hex;
 use jobs::stream::{endless, heavy_jobs};
 use model::{Built, Mark, Refusal};
@@ -13,16 +14,25 @@ const DIFFERENCES_SHOWN: u64 = 5;
 
 pub type Jobs = Box<dyn Iterator<Item = Vec<u8>>>;
 
-/// The jobs of `heavy` or `KIND SEED COUNT`, a pair counted as two.
+/// The jobs of `heavy`, of `heavy NAME..` or of `KIND SEED COUNT`, a pair counted as two.
 pub fn jobs(part: &[&str]) -> Option<Jobs> {
     match part {
         ["heavy"] => Some(Box::new(heavy_jobs())),
+        ["heavy", names @ ..] => {
+            let makers: Option<Vec<Heavy>> = names.iter().map(|name| heavy(name)).collect();
+            Some(Box::new(makers?.into_iter().map(|make| make())))
+        }
         [kind, seed, count] => {
             let count = count.parse().ok()?;
             Some(Box::new(endless(kind, seed.parse().ok()?)?.take(count)))
         }
         _ => None,
     }
+}
+
+fn heavy(name: &str) -> Option<Heavy> {
+    let named = LIST.iter().find(|(known, _)| *known == name);
+    named.map(|(_, make)| *make)
 }
 
 /// Prints the first differences and a line of counts; the error says that there were some.

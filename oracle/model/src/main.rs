@@ -1,6 +1,6 @@
 //! Framed jobs on standard input, one line a job on standard output, as `driver` shows them.
 //!
-//! `model hold KIND SEED COUNT` and `model hold heavy` hold the model to Krakatau's module instead.
+//! `model hold KIND SEED COUNT` and `model hold heavy [NAME..]` hold the model to Krakatau's module instead.
 
 mod hold;
 
@@ -9,7 +9,7 @@ use std::error::Error;
 use std::io::{self, BufReader, BufWriter, Write};
 use std::process::ExitCode;
 
-const USAGE: &str = "usage: model | model hold heavy | model hold KIND SEED COUNT
+const USAGE: &str = "usage: model | model hold heavy [NAME..] | model hold KIND SEED COUNT
        KIND is small, damaged, pairs, orders or ldcfull";
 
 fn main() -> ExitCode {
