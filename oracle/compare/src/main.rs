@@ -162,6 +162,16 @@ fn tell(part: &Part, tally: &Tally, start: Instant) {
 mod tests {
     use super::*;
 
+    /// Among them are those that need more memory than a stack has: all 65,535 bootstrap indexes used (17), the longest job.
+    #[test]
+    fn every_heavy_job_ends_as_in_the_module() {
+        let part = Part::of(&["heavy"]).unwrap();
+        let threads = thread::available_parallelism().map_or(1, usize::from);
+        let tally = compare(&part, threads, Instant::now());
+        assert_eq!(tally.differences, Vec::<String>::new());
+        assert_eq!((tally.jobs, tally.different), (87, 0));
+    }
+
     /// Case a of document 01: the model builds it, and another end is a difference.
     #[test]
     fn a_model_that_differs_is_told() {
