@@ -2,8 +2,8 @@
 //!
 //! `make GENERATE DRIVER FOLDER`, where the first two are oracle/'s programs. Jobs come from the generators with fixed seeds, and
 //! a few are made here. Lines come from the driver, but for refusals 2 and 18, which the Rust doesn't have: there document 01
-//! says what the line is. A job is left out if its line is long, or if it is refused with 12 or 13 at record 50 and has
-//! several raw definitions, where the Rust's number can change from run to run.
+//! says what the line is. A job is left out if its line is long, if it is long itself but not too long for any memory, or if it is
+//! refused with 12 or 13 at record 50 and has several raw definitions, where the Rust's number can change from run to run.
 
 use std::error::Error;
 use std::fs;
@@ -32,7 +32,11 @@ const PACKED: usize = 4_000;
 const AGAIN: usize = 12;
 
 const LONGEST_JOB: usize = 1_048_576;
+
+/// The longest job that the program has room to unpack, and the longest that it has work for.
 const ROOM: usize = 1_114_112;
+const LONGEST_RUN: usize = 200_000;
+
 const NO_PLACE: usize = 0xffff;
 
 fn main() -> Result<(), Trouble> {
@@ -51,7 +55,7 @@ fn main() -> Result<(), Trouble> {
         HEAVY_LINE,
         78,
     );
-    store.add(answered(driver, own_jobs())?, LINE, 3);
+    store.add(answered(driver, own_jobs())?, LINE, 4);
     store.add_lent()?;
     store.tell();
     fs::write(format!("{folder}/stdin"), &store.jobs)?;
@@ -59,11 +63,13 @@ fn main() -> Result<(), Trouble> {
     Ok(())
 }
 
-/// Jobs that are too long, of other lengths than the heavy ones.
+/// Jobs that are too long, of other lengths than the heavy ones, and one with an empty text too many.
 fn own_jobs() -> Vec<Vec<u8>> {
-    let mut built = vec![3, 0, 0, 0, 1, 0x50, 0x60, 2, 0, 0, 0];
+    const END: [u8; 6] = [0x50, 0x60, 2, 0, 0, 0];
+    let mut built = [&[3, 0, 0, 0, 1], &END[..]].concat();
     built.resize(LONGEST_JOB + 2, 0);
-    vec![vec![0; ROOM], vec![0x50; LONGEST_JOB + 1], built]
+    let full = [[1, 0, 0].repeat(65_537), END.to_vec()].concat();
+    vec![vec![0; ROOM], vec![0x50; LONGEST_JOB + 1], built, full]
 }
 
 /// A job with what the driver says of it and of its form.
@@ -121,6 +127,12 @@ impl Answered {
         Ok(counts[0] + 1 + counts[7])
     }
 
+    /// Whether the program has room to run it, or to see that it is too long.
+    fn has_room(&self) -> bool {
+        let n = self.job.len();
+        n <= LONGEST_RUN || (LONGEST_JOB < n && n <= ROOM)
+    }
+
     /// All memory that the job needs and no more: work, gaps, answers, pool, bootstraps, class name. A job that is too long or
     /// refused needs no outputs, one that is too long needs nothing.
     fn needs(&self) -> [usize; 6] {
@@ -159,7 +171,10 @@ impl Store {
         let mut stored = 0;
         for answered in jobs {
             let bytes = packed(&answered.job, answered.needs());
-            let fits = stored < most && answered.line.len() <= longest_line && !answered.varies();
+            let fits = stored < most
+                && answered.line.len() <= longest_line
+                && answered.has_room()
+                && !answered.varies();
             let Some(bytes) = bytes.filter(|b| fits && b.len() <= PACKED) else {
                 self.left_out += 1;
                 continue;

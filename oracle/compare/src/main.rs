@@ -1,4 +1,4 @@
-//! Holds the proved library to Krakatau's module: the same jobs through both, in one process.
+//! Holds the proved library and the model to Krakatau's module: the same jobs through all three, in one process.
 //!
 //! `compare` takes the whole, `compare KIND SEED COUNT`, `compare heavy` or `compare short` a part; `--threads N` comes first.
 
@@ -10,7 +10,7 @@ mod tally;
 
 use check::{Checker, hex, line};
 use driver::tally::grouped;
-use expected::expected;
+use expected::{End, expected, model_end};
 use parts::{Jobs, Part};
 use std::process::ExitCode;
 use std::sync::Mutex;
@@ -119,7 +119,7 @@ fn work(part: &Part, shared: &Shared, seed: u64, start: Instant) {
 }
 
 /// A job that is chosen runs through both copies of the module, and is lent too little work and gaps as well. The error tells
-/// both outcomes.
+/// what was expected, and what the model or the library gave.
 fn compare_job(
     checker: &mut Checker,
     job: &[u8],
@@ -129,11 +129,23 @@ fn compare_job(
     tally.jobs += 1;
     let expected = expected(job, is_chosen).map_err(|text| format!("the Rust: {text}"))?;
     tally.add_end(&expected);
-    let mut checked = checker.check(job, &expected);
+    let mut checked = hold_model(job, &expected.end);
+    if checked.is_ok() {
+        checked = checker.check(job, &expected);
+    }
     if checked.is_ok() && is_chosen {
         checked = checker.check_short_memory(job);
     }
     checked.map_err(|text| format!("expected: {}\n  {text}", line(&expected.end)))
+}
+
+/// The error tells the model's end, where it is another.
+fn hold_model(job: &[u8], end: &End) -> Result<(), String> {
+    let of_model = model_end(job);
+    match of_model == *end {
+        true => Ok(()),
+        false => Err(format!("model: {}", line(&of_model))),
+    }
 }
 
 fn tell(part: &Part, tally: &Tally, start: Instant) {
@@ -144,4 +156,33 @@ fn tell(part: &Part, tally: &Tally, start: Instant) {
         tally.different,
         start.elapsed().as_secs()
     );
+}
+
+#[cfg(test)]
+mod tests {
+    use super::*;
+
+    /// Among them are those that need more memory than a stack has: all 65,535 bootstrap indexes used (17), the longest job.
+    #[test]
+    fn every_heavy_job_ends_as_in_the_module() {
+        let part = Part::of(&["heavy"]).unwrap();
+        let threads = thread::available_parallelism().map_or(1, usize::from);
+        let tally = compare(&part, threads, Instant::now());
+        assert_eq!(tally.differences, Vec::<String>::new());
+        assert_eq!((tally.jobs, tally.different), (87, 0));
+    }
+
+    /// Case a of document 01: the model builds it, and another end is a difference.
+    #[test]
+    fn a_model_that_differs_is_told() {
+        let job = jobs::hex::bytes("50 60 02 00 0000");
+        let mut end = expected(&job, false).unwrap().end;
+        assert_eq!(hold_model(&job, &end), Ok(()));
+        let End::Built(built) = &mut end else {
+            panic!("case a is built");
+        };
+        built.visits += 1;
+        let told = hold_model(&job, &end).unwrap_err();
+        assert!(told.starts_with("model: built"), "{told}");
+    }
 }

@@ -1,7 +1,6 @@
 //! The parts of the comparison: which jobs, by which seed, and how many.
 
-use jobs::random::Random;
-use jobs::stream::{heavy_jobs, seeded};
+use jobs::stream::{endless, heavy_jobs};
 
 /// Jobs in a row, made as they are asked for.
 pub type Jobs = Box<dyn Iterator<Item = Vec<u8>> + Send>;
@@ -55,12 +54,7 @@ impl Part {
         match (&self.kind[..], self.drawn) {
             ("heavy", None) => Some(Box::new(heavy_jobs())),
             ("short", None) => Some(Box::new(short_strings())),
-            (kind, Some((seed, count))) => {
-                let step = seeded(kind)?;
-                let mut random = Random::new(seed);
-                let steps = std::iter::repeat_with(move || step(&mut random));
-                Some(Box::new(steps.flatten().take(count)))
-            }
+            (kind, Some((seed, count))) => Some(Box::new(endless(kind, seed)?.take(count))),
             _ => None,
         }
     }

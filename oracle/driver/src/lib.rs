@@ -2,6 +2,7 @@
 
 pub mod bench;
 pub mod end_of_definitions;
+pub mod expected;
 pub mod form;
 pub mod frames;
 mod marks;

@@ -4,6 +4,7 @@ use crate::random::Random;
 use crate::record::encode;
 use crate::{damaged, heavy, pairs, small};
 use std::io::{self, ErrorKind, Read, Write};
+use std::iter;
 
 /// One step of a seeded kind: a job, or two that belong together.
 pub type Step = fn(&mut Random) -> Vec<Vec<u8>>;
@@ -17,6 +18,13 @@ pub fn seeded(kind: &str) -> Option<Step> {
         "orders" => |random| both(pairs::order_pair(random)),
         _ => return None,
     })
+}
+
+/// The jobs of `generate KIND SEED`, without end.
+pub fn endless(kind: &str, seed: u64) -> Option<impl Iterator<Item = Vec<u8>> + Send + use<>> {
+    let step = seeded(kind)?;
+    let mut random = Random::new(seed);
+    Some(iter::repeat_with(move || step(&mut random)).flatten())
 }
 
 fn both((first, second): pairs::Pair) -> Vec<Vec<u8>> {

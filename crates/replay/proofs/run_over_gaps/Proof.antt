@@ -11,7 +11,7 @@ no-gap-requires : tie.Need-no-gap-requires
 no-gap-requires c κs = tt
 
 slice-aggregate-run-all : tie.Need-slice-aggregate-run-all
-slice-aggregate-run-all c = sym (length-replicate {0} {A = Gap} 209717 (c .before .before .before .no-gap .result))
+slice-aggregate-run-all c = sym (length-replicate {0} {A = Gap} 40002 (c .before .before .before .no-gap .result))
 
 run-all-requires : tie.Need-run-all-requires
 run-all-requires c κs = tt

@@ -1,0 +1,98 @@
+//! Holds the model to Krakatau's module.
+
+use driver::expected::expected;
+use driver::tally::grouped;
+use driver::{Outcome, outcome};
+use jobs::heavy::{Heavy, LIST};
+use jobs::hex::hex;
+use jobs::stream::{endless, heavy_jobs};
+use model::{Built, Mark, Refusal};
+use std::error::Error;
+use std::time::Instant;
+
+const DIFFERENCES_SHOWN: u64 = 5;
+
+pub type Jobs = Box<dyn Iterator<Item = Vec<u8>>>;
+
+/// The jobs of `heavy`, of `heavy NAME..` or of `KIND SEED COUNT`, a pair counted as two.
+pub fn jobs(part: &[&str]) -> Option<Jobs> {
+    match part {
+        ["heavy"] => Some(Box::new(heavy_jobs())),
+        ["heavy", names @ ..] => {
+            let makers: Option<Vec<Heavy>> = names.iter().map(|name| heavy(name)).collect();
+            Some(Box::new(makers?.into_iter().map(|make| make())))
+        }
+        [kind, seed, count] => {
+            let count = count.parse().ok()?;
+            Some(Box::new(endless(kind, seed.parse().ok()?)?.take(count)))
+        }
+        _ => None,
+    }
+}
+
+fn heavy(name: &str) -> Option<Heavy> {
+    let named = LIST.iter().find(|(known, _)| *known == name);
+    named.map(|(_, make)| *make)
+}
+
+/// Prints the first differences and a line of counts; the error says that there were some.
+pub fn hold(part: &str, jobs: Jobs) -> Result<(), Box<dyn Error>> {
+    let start = Instant::now();
+    let (mut all, mut built, mut different) = (0, 0, 0);
+    for job in jobs {
+        all += 1;
+        let ours = model::run(&job);
+        built += u64::from(matches!(ours, model::Outcome::Built(_)));
+        let theirs = expected(&job, false).and_then(|expected| as_ours(expected.outcome));
+        if theirs.as_ref() != Ok(&ours) {
+            different += 1;
+            if different <= DIFFERENCES_SHOWN {
+                println!(
+                    "{}\n  model: {ours}\n  module: {}",
+                    hex(&job),
+                    shown(theirs)
+                );
+            }
+        }
+    }
+    println!(
+        "{part}: {} jobs, {} built, {} different, {} s",
+        grouped(all),
+        grouped(built),
+        grouped(different),
+        start.elapsed().as_secs()
+    );
+    match different {
+        0 => Ok(()),
+        _ => Err("the model and the module differ".into()),
+    }
+}
+
+fn shown(theirs: Result<model::Outcome, String>) -> String {
+    theirs.map_or_else(|text| text, |outcome| outcome.to_string())
+}
+
+/// The module's outcome as the model has it. A panic or an unknown message is an error.
+fn as_ours(outcome: Outcome) -> Result<model::Outcome, String> {
+    match outcome {
+        Outcome::Refused { code, place } => Ok(model::Outcome::Refused(Refusal { code, place })),
+        Outcome::Built(built) => Ok(model::Outcome::Built(Built {
+            answers: built.answers.into_iter().zip(marks(built.marks)).collect(),
+            pool: built.pool,
+            bootstrap_count: built.bootstrap_count.into(),
+            bootstraps: built.bootstraps,
+            name_slot: built.name_slot,
+            class_name: built.class_name,
+            visits: built.visits,
+        })),
+        other => Err(other.line()),
+    }
+}
+
+fn marks(marks: Vec<outcome::Mark>) -> impl Iterator<Item = Mark> {
+    marks.into_iter().map(|mark| match mark {
+        outcome::Mark::Raw => Mark::Raw,
+        outcome::Mark::New => Mark::New,
+        outcome::Mark::Old => Mark::Old,
+    })
+}
