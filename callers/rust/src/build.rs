@@ -1,7 +1,10 @@
 //! A job built in memory of our own.
 
 use crate::{Gap, LONGEST_JOB, Lent, Mark, Refusal, least_gaps, least_work, run};
+use std::collections::TryReserveError;
+use std::error::Error;
 use std::fmt;
+use std::hint::black_box;
 
 /// 65,534 entries of a text of 65,535 bytes, behind the count.
 const LONGEST_POOL: usize = 2 + 65_534 * 65_538;
@@ -43,35 +46,77 @@ impl fmt::Display for Built {
         for (answer, mark) in self.answers.iter().zip(&self.marks) {
             write!(f, " {answer} {mark}")?;
         }
-        write!(f, " pool {}", counted_hex(&self.pool))?;
-        let rows = counted_hex(&self.bootstraps);
+        write!(f, " pool {}", CountedHex(&self.pool))?;
+        let rows = CountedHex(&self.bootstraps);
         write!(f, " bootstraps {} {rows}", self.bootstrap_count)?;
         write!(f, " name {} class ", self.name_slot)?;
         match &self.class_name {
-            Some(name) => f.write_str(&counted_hex(name))?,
+            Some(name) => CountedHex(name).fmt(f)?,
             None => f.write_str("none")?,
         }
         write!(f, " visits {}", self.visits)
     }
 }
 
-/// How many bytes there are, and their hex digits.
-fn counted_hex(bytes: &[u8]) -> String {
-    const DIGITS: &[u8; 16] = b"0123456789abcdef";
-    let mut text = format!("{} ", bytes.len());
-    if bytes.is_empty() {
-        text.push('-');
+/// How many bytes there are, and their hex digits; in parts, since there can be gigabytes.
+struct CountedHex<'a>(&'a [u8]);
+
+impl fmt::Display for CountedHex<'_> {
+    fn fmt(&self, f: &mut fmt::Formatter<'_>) -> fmt::Result {
+        const DIGITS: &[u8; 16] = b"0123456789abcdef";
+        write!(f, "{} ", self.0.len())?;
+        if self.0.is_empty() {
+            return f.write_str("-");
+        }
+        let mut digits = String::new();
+        for part in self.0.chunks(4_096) {
+            digits.clear();
+            for byte in part {
+                digits.push(char::from(DIGITS[usize::from(byte >> 4)]));
+                digits.push(char::from(DIGITS[usize::from(byte & 15)]));
+            }
+            f.write_str(&digits)?;
+        }
+        Ok(())
     }
-    for byte in bytes {
-        text.push(char::from(DIGITS[usize::from(byte >> 4)]));
-        text.push(char::from(DIGITS[usize::from(byte & 15)]));
+}
+
+/// Why `try_build` gives no build.
+#[derive(Clone, Debug, PartialEq, Eq)]
+pub enum Unbuilt {
+    Refused(Refusal),
+    /// Memory that the job takes can't be had.
+    NoMemory(TryReserveError),
+}
+
+impl fmt::Display for Unbuilt {
+    fn fmt(&self, f: &mut fmt::Formatter<'_>) -> fmt::Result {
+        match self {
+            Unbuilt::Refused(refusal) => refusal.fmt(f),
+            Unbuilt::NoMemory(error) => error.fmt(f),
+        }
     }
-    text
+}
+
+impl Error for Unbuilt {}
+
+impl From<Refusal> for Unbuilt {
+    fn from(refusal: Refusal) -> Unbuilt {
+        Unbuilt::Refused(refusal)
+    }
+}
+
+impl From<TryReserveError> for Unbuilt {
+    fn from(error: TryReserveError) -> Unbuilt {
+        Unbuilt::NoMemory(error)
+    }
 }
 
 /// Builds a job. 2 and 18, which tell of too little memory, are never the answer: what is lent grows until the outputs fit.
-/// (A job of a megabyte can have a pool of 4 GB, or 8 GB of bootstraps; memory that the machine doesn't have ends the
-/// program, as with any vector.)
+///
+/// # Panics
+///
+/// Where the memory can't be had: a job of a megabyte can have a pool of 4 GB, or 8 GB of bootstraps. `try_build` tells it.
 ///
 /// ```
 /// // A text "A", a Class of it, and a request for the Class, whose name is asked for too.
@@ -84,10 +129,24 @@ fn counted_hex(bytes: &[u8]) -> String {
 /// # Ok::<(), rotblossom::Refusal>(())
 /// ```
 pub fn build(job: &[u8]) -> Result<Built, Refusal> {
+    match try_build(job) {
+        Ok(built) => Ok(built),
+        Err(Unbuilt::Refused(refusal)) => Err(refusal),
+        Err(Unbuilt::NoMemory(error)) => panic!("no memory to build a job: {error}"),
+    }
+}
+
+/// As `build`, for a caller that goes on where the memory can't be had. (A system that promises more memory than it has may
+/// end the program all the same.)
+pub fn try_build(job: &[u8]) -> Result<Built, Unbuilt> {
     let mut room = FIRST_ROOM + bytes_used(job);
     loop {
         match build_within(job, room) {
-            Err(Refusal { code: NO_ROOM, .. }) if room < LONGEST_BOOTSTRAPS => room *= 8,
+            Err(Unbuilt::Refused(refusal))
+                if refusal.code == NO_ROOM && room < LONGEST_BOOTSTRAPS =>
+            {
+                room *= 8;
+            }
             ended => return ended,
         }
     }
@@ -99,16 +158,16 @@ fn bytes_used(job: &[u8]) -> usize {
 }
 
 /// Builds a job with so much room for the pool and for the bootstraps, and enough of the rest.
-fn build_within(job: &[u8], room: usize) -> Result<Built, Refusal> {
+fn build_within(job: &[u8], room: usize) -> Result<Built, Unbuilt> {
     let bytes = bytes_used(job);
-    let mut answers = vec![0; bytes / LEAST_REQUEST];
-    let mut marks = vec![0; bytes / LEAST_REQUEST];
-    let mut pool = vec![0; room.min(LONGEST_POOL)];
-    let mut bootstraps = vec![0; room.min(LONGEST_BOOTSTRAPS)];
-    let mut class_name = vec![0; LONGEST_CLASS_NAME];
+    let mut answers = zeros(bytes / LEAST_REQUEST)?;
+    let mut marks = zeros(bytes / LEAST_REQUEST)?;
+    let mut pool = zeros(room.min(LONGEST_POOL))?;
+    let mut bootstraps = zeros(room.min(LONGEST_BOOTSTRAPS))?;
+    let mut class_name = zeros(LONGEST_CLASS_NAME)?;
     let lent = Lent {
-        work: &mut vec![0; least_work(bytes)],
-        gaps: &mut vec![Gap::default(); least_gaps(bytes)],
+        work: &mut zeros(least_work(bytes))?,
+        gaps: &mut zeros::<Gap>(least_gaps(bytes))?,
         answers: &mut answers,
         marks: &mut marks,
         pool: &mut pool,
@@ -118,11 +177,7 @@ fn build_within(job: &[u8], room: usize) -> Result<Built, Refusal> {
     let told = run(job, lent)?;
     Ok(Built {
         answers: cut(answers, told.answers),
-        marks: marks[..told.answers]
-            .iter()
-            .copied()
-            .map(Mark::of)
-            .collect(),
+        marks: marks_of(&marks[..told.answers])?,
         pool: cut(pool, told.pool),
         bootstrap_count: told.bootstrap_count,
         bootstraps: cut(bootstraps, told.bootstraps),
@@ -130,6 +185,22 @@ fn build_within(job: &[u8], room: usize) -> Result<Built, Refusal> {
         class_name: told.class_name.map(|length| cut(class_name, length)),
         visits: told.visits,
     })
+}
+
+/// Memory that the system gives only where it is written. std has no such vector that tells of too little: so as much is
+/// asked for first, and given back. The optimiser may leave out memory that nobody sees.
+fn zeros<T: Clone + Default>(length: usize) -> Result<Vec<T>, TryReserveError> {
+    let mut asked = Vec::<T>::new();
+    asked.try_reserve_exact(length)?;
+    drop(black_box(asked));
+    Ok(vec![T::default(); length])
+}
+
+fn marks_of(bytes: &[u8]) -> Result<Vec<Mark>, TryReserveError> {
+    let mut marks = Vec::new();
+    marks.try_reserve_exact(bytes.len())?;
+    marks.extend(bytes.iter().copied().map(Mark::of));
+    Ok(marks)
 }
 
 /// What was written of an output, with no memory behind it.

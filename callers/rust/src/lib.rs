@@ -1,12 +1,13 @@
-//! The constant-pool builder for Rust, over its proved static libraries: `build` takes a job and lends the memory itself, `run`
-//! takes what the caller lends; `read_blocks` and `write_blocks` are the block file.
+//! The constant-pool builder for Rust, over its proved static libraries: `build` takes a job and lends the memory itself
+//! (`try_build` tells where it can't be had), `run` takes what the caller lends; `read_blocks` and `write_blocks` are the block
+//! file.
 
 mod blocks;
 mod build;
 mod library;
 
 pub use blocks::{read_blocks, read_blocks_into, write_blocks, write_blocks_into};
-pub use build::{Built, build};
+pub use build::{Built, Unbuilt, build, try_build};
 
 use std::error::Error;
 use std::fmt;

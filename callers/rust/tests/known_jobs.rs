@@ -4,7 +4,7 @@
 mod common;
 
 use common::*;
-use rotblossom::Built;
+use rotblossom::{Built, Mark};
 
 const ATTRIBUTE: &[u8] = b"BootstrapMethods";
 
@@ -109,7 +109,11 @@ fn h_a_class_of_a_raw_slot() {
 #[test]
 fn i_ldc_of_a_raw_slot() {
     let of_255 = build("50 52 00 00ff 60 02 00 0000");
-    assert_eq!(of_255, Ok(plain(&[255], bytes("0001"), 1)));
+    let expected = Built {
+        marks: vec![Mark::Raw],
+        ..plain(&[255], bytes("0001"), 1)
+    };
+    assert_eq!(of_255, Ok(expected));
     assert_eq!(build("50 52 00 0100 60 02 00 0000"), Err(refusal(16, 1)));
 }
 

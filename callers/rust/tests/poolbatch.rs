@@ -40,6 +40,14 @@ fn poolbatch(stream: Vec<u8>) -> Output {
     run(command, stream)
 }
 
+/// Runs the program as the shell starts it by words that end in `exec "$0"`, and redirections.
+fn by_shell(words: &str, stream: Vec<u8>) -> Output {
+    let mut command = Command::new("sh");
+    command.args(["-c", words, PROGRAM]);
+    command.stdout(Stdio::piped());
+    run(command, stream)
+}
+
 #[track_caller]
 fn assert_ends(output: Output, status: i32, lines: &str, message: &str) {
     let text = |bytes| String::from_utf8(bytes).expect("text");
@@ -129,14 +137,12 @@ fn the_longest_job_runs_on_a_stack_of_256_kb() {
     job.extend(long_text(65_493, b'z'));
     job.extend(bytes("50 51 01 0000 60 02 00 0000"));
     assert_eq!(job.len(), LONGEST_JOB);
-    let mut command = Command::new("sh");
-    command.args(["-c", "ulimit -s 256 && exec \"$0\"", PROGRAM]);
-    command.stdout(Stdio::piped());
+    let output = by_shell("ulimit -s 256 && exec \"$0\"", framed(&job));
     let text = "61".repeat(65_535);
     let lines = format!(
         "built answers 1 1 new pool 65540 000201ffff{text} bootstraps 0 0 - name 0 class none visits 2\n"
     );
-    assert_ends(run(command, framed(&job)), 0, &lines, "");
+    assert_ends(output, 0, &lines, "");
 }
 
 /// Cut inside the second frame's length, inside its job, and inside one that is skipped.
@@ -157,5 +163,38 @@ fn an_output_that_cannot_be_written_has_a_status_and_a_message() {
     let mut command = Command::new(PROGRAM);
     command.stdout(full.expect("a device that is full"));
     let output = run(command, framed(&bytes(CASE_B)));
-    assert_ends(output, 2, "", "poolbatch: output failed behind 1 jobs");
+    assert_ends(output, 2, "", "poolbatch: output failed behind 0 jobs");
+}
+
+/// Closed, open for reading only, and open for both, which can't be told from closed; then one that takes everything.
+#[test]
+fn an_output_that_is_closed_cannot_be_written() {
+    for output in [">&-", "1< /dev/null", "1<> /dev/null"] {
+        let output = by_shell(&format!("exec \"$0\" {output}"), framed(&bytes(CASE_B)));
+        assert_ends(output, 2, "", "poolbatch: output failed behind 0 jobs");
+    }
+    let output = by_shell("exec \"$0\" > /dev/null", framed(&bytes(CASE_B)));
+    assert_ends(output, 0, "", "");
+}
+
+/// Closed, open for writing only, a directory, and open for both; then an empty one.
+#[test]
+fn an_input_that_is_closed_cannot_be_read() {
+    for input in ["<&-", "0> /dev/null", "< /", "<> /dev/null"] {
+        let output = by_shell(&format!("exec \"$0\" {input}"), vec![]);
+        assert_ends(output, 1, "", "poolbatch: cut frame behind 0 jobs");
+    }
+    assert_ends(by_shell("exec \"$0\" < /dev/null", vec![]), 0, "", "");
+}
+
+/// A text at 4,000 slots is a pool of 262 MB; the job behind it isn't run.
+#[test]
+fn a_job_whose_memory_cannot_be_had_has_a_status_and_a_message() {
+    let mut job = long_text(65_535, b'x');
+    job.extend(raw_definitions(0x43, 1..=4_000));
+    job.extend(bytes("50 60 02 00 0000"));
+    let first = framed(&bytes(CASE_B));
+    let stream = [&first[..], &framed(&job), &first].concat();
+    let output = by_shell("ulimit -v 200000 && exec \"$0\"", stream);
+    assert_ends(output, 3, CASE_B_LINE, "poolbatch: no memory behind 1 jobs");
 }

@@ -3,7 +3,7 @@
 mod common;
 
 use common::*;
-use rotblossom::LONGEST_JOB;
+use rotblossom::{LONGEST_JOB, Unbuilt, try_build};
 
 /// A byte too many is 1 whatever the job holds; one fewer is read, and kind 0 is unknown.
 #[test]
@@ -68,4 +68,12 @@ fn a_name_defined_twice_is_11() {
 fn a_refusal_reads_as_poolrun_prints_it() {
     let refused = build("07 01 0000").unwrap_err();
     assert_eq!(refused.to_string(), "refused 4 0");
+}
+
+/// Where memory can be had, `try_build` gives what `build` gives.
+#[test]
+fn try_build_builds_and_refuses_as_build_does() {
+    let job = bytes(CASE_B);
+    assert_eq!(try_build(&job).ok(), rotblossom::build(&job).ok());
+    assert_eq!(try_build(&job[1..]), Err(Unbuilt::Refused(refusal(3, 0))));
 }

@@ -10,7 +10,7 @@ use lib.ListN.{length, take, drop}
 use lib.Seq.{drop-at, length-take-le}
 use borrow.Author.Tests.{eq-eqb}
 use Rattle.facts.proofs.Lists.{order, true≢false}
-use Rattle.frames.specs.Stream.{noMore, cut, PartRead, BlockRead}
+use Rattle.frames.specs.Stream.{noMore, cut, tooLong, PartRead, BlockRead}
 
 -- there are fewer bytes than are to be read
 pub too-few : (s : List ℕ) (n : ℕ) → length s < n → PartRead s n s false
@@ -41,3 +41,7 @@ all-block s t n all low part came =
 -- a block is cut
 pub cut-block : (s t : List ℕ) → BlockRead s t cut
 cut-block s t = record { whole = λ h. absurd (omega arith); ended = λ e. absurd (omega arith); most = omega arith }
+
+-- a block that is skipped, whole or cut
+pub late-block : (s t : List ℕ) (r : ℕ) → cut ≤ r → r < tooLong → BlockRead s t r
+late-block s t r low high = record { whole = λ h. absurd (omega arith); ended = λ e. absurd (omega arith); most = omega arith }

@@ -14,6 +14,10 @@ noMore = 4294967296
 abbrev pub cut : ℕ
 cut = 4294967297
 
+-- what it is where the block is longer than its room and was skipped
+abbrev pub tooLong : ℕ
+tooLong = 4294967298
+
 -- how a frame ends, by whether its line was written: the stream goes on (0), or the output failed (3)
 abbrev pub afterLine : Bool → ℕ
 afterLine written = elim written [ true ↦ 0 | false ↦ 3 ]

@@ -1,6 +1,6 @@
 // Frames of bytes on standard input and lines on standard output, for programs that answer frame by frame. A number's most significant
-// byte comes first. The language has no exit status: the last line on standard error stands in for it. A read that fails counts as the
-// input's end.
+// byte comes first. The language has no exit status: the last line on standard error stands in for it. A read that fails brings no bytes,
+// as at the input's end; `tell` finds out which it was.
 use libc::STDERR_FILENO;
 use libc::STDIN_FILENO;
 use libc::STDOUT_FILENO;
@@ -11,12 +11,15 @@ ghost use Prim.Native.Nat.{_≤_, _<_};
 ghost use lib.ListN.{length};
 ghost use Rattle.definition.specs.Ascii.{ascii, decimal, hex};
 ghost use Rattle.frames.specs.Line.{put, putNumber};
-ghost use Rattle.frames.specs.Stream.{cut, afterLine, withoutBlock, PartRead, BlockRead};
+ghost use Rattle.frames.specs.Stream.{noMore, cut, tooLong, afterLine, withoutBlock, PartRead, BlockRead};
 
 // What a block's length is where the stream ends, and where it ends inside the block or the block is longer than its room.
 pub const NO_MORE: usize = 4294967296;
 
 pub const CUT: usize = 4294967297;
+
+// What it is where the block is longer than its room and was skipped.
+pub const TOO_LONG: usize = 4294967298;
 
 // How a frame ends.
 pub const GO_ON: u8 = 0;
@@ -26,6 +29,9 @@ pub const STREAM_ENDS: u8 = 1;
 pub const FRAME_CUT: u8 = 2;
 
 pub const WRITE_FAILED: u8 = 3;
+
+// What a stream's end turns out to be where the input can't be read.
+const READ_FAILED: u8 = 4;
 
 pub fn after(written: bool) -> u8
     ensures { λ r. ⌜ r ≡ afterLine written ⌝ }
@@ -68,6 +74,30 @@ fn next_length() -> usize
     writer::get_u32(&head, 0) as usize
 }
 
+// Reads a block's n bytes; its length.
+fn read_block(s: &mut [u8], n: usize) -> usize
+    requires { ⌜ n < noMore ⌝ }
+    ensures { λ r. ⌜ BlockRead (now (s .entry)) (now (s .exit)) r ⌝ }
+{
+    if read_part(s, n) { n } else { CUT }
+}
+
+// Reads n bytes in parts through s and keeps none of them; the length that stands for such a block.
+fn skip(s: &mut [u8], n: usize) -> usize
+    requires { ⌜ 0 < length (now s) ⌝ }
+    ensures { λ r. ⌜ (cut ≤ r) × (r ≤ tooLong) ⌝ }
+{
+    let room = s.len();
+    let mut left = n;
+    while room < left {
+        if !read_part(s, room) {
+            return CUT;
+        }
+        left -= room;
+    }
+    if read_part(s, left) { TOO_LONG } else { CUT }
+}
+
 // Reads a length of four bytes, and so many bytes into the beginning of s; the length.
 pub fn next_block(s: &mut [u8]) -> usize
     ensures { λ r. ⌜ BlockRead (now (s .entry)) (now (s .exit)) r ⌝ }
@@ -76,16 +106,49 @@ pub fn next_block(s: &mut [u8]) -> usize
     if NO_MORE <= n {
         return n;
     }
-    if read_part(s, n) { n } else { CUT }
+    read_block(s, n)
+}
+
+// As next_block, but a block that is longer than s is skipped, so that the stream goes on behind it.
+pub fn next_or_skipped(s: &mut [u8]) -> usize
+    requires { ⌜ 0 < length (now s) ⌝ }
+    ensures { λ r. ⌜ r ≤ tooLong ⌝ }
+    ensures { λ r. ⌜ (r < tooLong → BlockRead (now (s .entry)) (now (s .exit)) r) ⌝ }
+{
+    let n = next_length();
+    if NO_MORE <= n {
+        return n;
+    }
+    if s.len() < n {
+        return skip(s, n);
+    }
+    read_block(s, n)
+}
+
+// How a stream came to its end. Where a read failed the next one does too, and behind the end none brings a byte.
+fn ending(how: u8) -> u8 {
+    if how != STREAM_ENDS && how != FRAME_CUT {
+        return how;
+    }
+    let mut byte = [0u8; 1];
+    let got = libc::read(STDIN_FILENO, &mut byte);
+    if got < 0 || how == STREAM_ENDS && got != 0 {
+        READ_FAILED
+    } else {
+        how
+    }
 }
 
 // Says how the stream ends.
 pub fn tell(program: &[u8], how: u8, frames: u64) {
+    let end = ending(how);
     io::write_all(STDERR_FILENO, program);
-    if how == STREAM_ENDS {
+    if end == STREAM_ENDS {
         io::write_all(STDERR_FILENO, b": whole stream, ");
-    } else if how == FRAME_CUT {
+    } else if end == FRAME_CUT {
         io::write_all(STDERR_FILENO, b": cut or too long behind ");
+    } else if end == READ_FAILED {
+        io::write_all(STDERR_FILENO, b": read failed behind ");
     } else {
         io::write_all(STDERR_FILENO, b": output failed behind ");
     }

@@ -1,14 +1,16 @@
 //! The frames that the program `poollist` reads, and what it must print for one: the lines or a refusal, and an empty line.
 
-use crate::listing;
+use crate::listing::{self, Refused};
 use jobs::stream::read_frame;
 use std::io::{self, Read, Write};
 
 /// A part of a frame is written as a job is.
 pub use jobs::stream::frame as write_part;
 
-/// The room that `poollist` lends for a text.
-pub const ROOM: usize = 1 << 20;
+/// The room that `poollist` has for a pool, for its bootstrap methods, and for a text.
+pub const POOL_ROOM: usize = 1 << 20;
+pub const BOOTSTRAPS_ROOM: usize = 1 << 17;
+pub const ROOM: usize = 1 << 22;
 
 /// A pool, the count of bootstrap methods and their bytes, with their lengths before them.
 #[derive(Clone, Debug, PartialEq, Eq)]
@@ -38,10 +40,18 @@ impl Frame {
     }
 
     pub fn answer(&self) -> Vec<u8> {
-        let listed = listing::list(ROOM, &self.pool, self.count, &self.bootstraps);
+        let listed = self.list();
         let mut answer = listed.unwrap_or_else(|code| format!("refused {}\n", code as u8).into());
         answer.push(b'\n');
         answer
+    }
+
+    /// What has no room isn't read, whatever it is.
+    fn list(&self) -> Result<Vec<u8>, Refused> {
+        if self.pool.len() > POOL_ROOM || self.bootstraps.len() > BOOTSTRAPS_ROOM {
+            return Err(Refused::TooLong);
+        }
+        listing::list(ROOM, &self.pool, self.count, &self.bootstraps)
     }
 }
 

@@ -1,7 +1,7 @@
 //! Seeded pools with bootstrap methods: right ones, of which the references lead anywhere, and damaged ones.
 
 use crate::constant::{Bootstrap, Constant, TAGS, bootstraps_of, pool_of};
-use crate::frame::{Frame, ROOM};
+use crate::frame::{BOOTSTRAPS_ROOM, Frame, POOL_ROOM, ROOM};
 use crate::listing::list;
 use jobs::random::Random;
 
@@ -302,8 +302,10 @@ fn exploding(random: &mut Random) -> Frame {
 
 /// A listing of just the room, or a byte shorter or longer: a text again and again, and one that fills it up.
 fn about_the_room(random: &mut Random) -> Frame {
-    let mut constants = vec![Constant::One(8, 17); 16];
-    constants.push(Constant::Text(vec![b'x'; 61_000]));
+    let repeated = 61_000;
+    let strings = (ROOM / repeated - 1) as u16;
+    let mut constants = vec![Constant::One(8, strings + 1); strings.into()];
+    constants.push(Constant::Text(vec![b'x'; repeated]));
     let unfilled = [&constants[..], &[Constant::Text(Vec::new())]].concat();
     let listed = list(ROOM, &pool_of(&unfilled), 0, &[]).expect("it leaves room");
     let wanted = ROOM - 1 + random.below(3);
@@ -373,9 +375,9 @@ pub fn short() -> impl Iterator<Item = Made> {
     });
     let as_bootstraps = (0..3).flat_map(|count| {
         strings().map(move |bootstraps| Frame {
-            pool: b"\0\x02\x01\0\x01A".to_vec(),
             count,
             bootstraps,
+            ..text_frame()
         })
     });
     let as_tag = (0..=255)
@@ -391,6 +393,68 @@ pub fn short() -> impl Iterator<Item = Made> {
         .map(|frame| made("short pool", frame))
         .chain(as_bootstraps.map(|frame| made("short bootstraps", frame)))
         .chain(pools.map(|frame| made("short entry", frame)))
+}
+
+/// Pools and bootstrap methods that end about their room, and that are far longer, each right in form or not; behind each stands one that
+/// is listed, so that it is seen that the stream goes on.
+pub fn too_long() -> impl Iterator<Item = Made> {
+    let pools = about(POOL_ROOM).flat_map(|length| {
+        [vec![0; length], long_pool(length)].map(|pool| Frame {
+            pool,
+            ..text_frame()
+        })
+    });
+    let bootstraps = about(BOOTSTRAPS_ROOM).flat_map(|length| {
+        [0, 1].map(|count| Frame {
+            count,
+            bootstraps: long_method(length),
+            ..text_frame()
+        })
+    });
+    let both = Frame {
+        pool: vec![0; 2 * POOL_ROOM],
+        bootstraps: vec![0; 2 * BOOTSTRAPS_ROOM],
+        ..text_frame()
+    };
+    let frames = pools.chain(bootstraps).chain([both]);
+    frames.flat_map(|frame| [made("long", frame), made("behind it", text_frame())])
+}
+
+/// A byte less than the room, just it, and more: some of them fill it several times.
+fn about(room: usize) -> impl Iterator<Item = usize> {
+    let longer = [2 * room, 2 * room + 1, 3 * room - 1];
+    (room - 1..=room + 1).chain(longer)
+}
+
+/// Texts that come to a pool of so many bytes.
+fn long_pool(length: usize) -> Vec<u8> {
+    let mut left = length - 2;
+    let mut constants = Vec::new();
+    while left > 0 {
+        // what is left behind a text is none or has room for another
+        let entry = if left > 60_000 { 50_000 } else { left };
+        constants.push(Constant::Text(vec![b't'; entry - 3]));
+        left -= entry;
+    }
+    pool_of(&constants)
+}
+
+/// A bootstrap method of so many bytes, if they are an even number and its arguments fit their count.
+fn long_method(length: usize) -> Vec<u8> {
+    let arguments = ((length - 4) / 2) as u16;
+    let mut method = vec![0, 1];
+    method.extend(arguments.to_be_bytes());
+    method.resize(length, 0);
+    method
+}
+
+/// A pool of one text.
+fn text_frame() -> Frame {
+    Frame {
+        pool: b"\0\x02\x01\0\x01A".to_vec(),
+        count: 0,
+        bootstraps: vec![],
+    }
 }
 
 fn strings() -> impl Iterator<Item = Vec<u8>> {

@@ -1,6 +1,6 @@
 //! `pools list` reads frames and prints their listings, as `poollist` does; `pools frames WHAT` writes frames; `pools compare WHAT --
 //! PROGRAM..` holds a program to the listings that are right; `pools cut FILE..` writes the frames of class files.
-//! WHAT is `short`, or `damaged SEED COUNT`.
+//! WHAT is `short`, `long`, or `damaged SEED COUNT`.
 
 use jobs::random::Random;
 use pools::class_file::cut_out;
@@ -15,7 +15,7 @@ use std::process::ExitCode;
 
 const USAGE: &str =
     "usage: pools list | pools cut FILE.. | pools frames WHAT | pools compare WHAT -- PROGRAM..
-WHAT: short | damaged SEED COUNT";
+WHAT: short | long | damaged SEED COUNT";
 
 fn main() -> ExitCode {
     run_main("pools", run)
@@ -39,6 +39,7 @@ fn run(arguments: &[String]) -> Result<bool, Box<dyn Error>> {
 #[derive(Clone, Copy)]
 enum What {
     Short,
+    Long,
     Damaged { seed: u64, count: usize },
 }
 
@@ -46,6 +47,7 @@ impl What {
     fn named(words: &[String]) -> Result<Self, Box<dyn Error>> {
         match words {
             [short] if short == "short" => Ok(What::Short),
+            [long] if long == "long" => Ok(What::Long),
             [damaged, seed, count] if damaged == "damaged" => Ok(What::Damaged {
                 seed: seed.parse()?,
                 count: count.parse()?,
@@ -57,6 +59,7 @@ impl What {
     fn frames(self) -> Box<dyn Iterator<Item = Made>> {
         match self {
             What::Short => Box::new(made::short()),
+            What::Long => Box::new(made::too_long()),
             What::Damaged { seed, count } => {
                 let mut random = Random::new(seed);
                 Box::new((0..count).map(move |_| made::next(&mut random)))
@@ -96,6 +99,7 @@ fn compare(what: What, program: &[String]) -> Result<bool, Box<dyn Error>> {
     let tally = hold(program, Ends::EmptyLine, || what.frames().map(sent))?;
     Ok(tally.report(match what {
         What::Short => "short",
+        What::Long => "long",
         What::Damaged { .. } => "damaged",
     }))
 }

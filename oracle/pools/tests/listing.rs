@@ -2,7 +2,7 @@
 
 use jobs::random::Random;
 use pools::constant::{Bootstrap, Constant, Pool, bootstraps_of, pool_of, read_bootstraps};
-use pools::frame::{Frame, ROOM};
+use pools::frame::{BOOTSTRAPS_ROOM, Frame, POOL_ROOM, ROOM};
 use pools::listing::{Refused, list};
 use pools::made;
 
@@ -80,6 +80,20 @@ fn eight_levels_down_stands_the_number() {
     let eight = "Class ".repeat(8);
     assert_eq!(text.lines().next().unwrap(), format!("1 {eight}[1]"));
     assert_eq!(text.lines().nth(9).unwrap(), format!("10 {eight}[2]"));
+}
+
+/// A number that leads nowhere is bare, and in brackets where nothing is opened any more.
+#[test]
+fn what_leads_nowhere_is_bracketed_eight_levels_down() {
+    let mut constants: Vec<_> = (1..8).map(|n: u16| Constant::One(7, n + 1)).collect();
+    constants.push(Constant::One(7, 99));
+    let text = listed(&constants, &[]);
+    let mut lines = text.lines();
+    assert_eq!(
+        lines.next().unwrap(),
+        format!("1 {}[99]", "Class ".repeat(8))
+    );
+    assert_eq!(lines.next().unwrap(), format!("2 {}99", "Class ".repeat(7)));
 }
 
 #[test]
@@ -180,6 +194,26 @@ fn made_pools_are_what_they_say() {
     assert_eq!(tags.len(), 17);
     assert_eq!(lengths.into_iter().collect::<Vec<_>>(), [-1, 0, 1]);
     assert!(outcomes.iter().all(|n| *n > 0), "{outcomes:?}");
+}
+
+/// A byte more than the room is 18, whatever the bytes are.
+#[test]
+fn what_has_no_room_is_18() {
+    let mut outcomes = [0; 3];
+    for made in made::too_long() {
+        let Frame {
+            pool, bootstraps, ..
+        } = &made.frame;
+        let longer = pool.len() > POOL_ROOM || bootstraps.len() > BOOTSTRAPS_ROOM;
+        let answer = made.frame.answer();
+        assert_eq!(longer, answer == b"refused 18\n\n", "{}", made.how);
+        outcomes[match &answer[..] {
+            b"refused 18\n\n" => 0,
+            b"refused 21\n\n" => 1,
+            _ => 2,
+        }] += 1;
+    }
+    assert_eq!(outcomes, [17, 5, 28]);
 }
 
 #[test]
