@@ -96,3 +96,39 @@ fn marks(marks: Vec<outcome::Mark>) -> impl Iterator<Item = Mark> {
         outcome::Mark::Old => Mark::Old,
     })
 }
+
+#[cfg(test)]
+mod tests {
+    use super::*;
+
+    /// Case b of document 01, as the module has it and with one thing changed.
+    #[test]
+    fn one_thing_changed_is_a_difference() {
+        let job = jobs::hex::bytes("01 0001 41 07 01 0000 50 51 01 0001 60 02 01 0000");
+        let Outcome::Built(built) = driver::run_job(&job) else {
+            panic!("case b is built");
+        };
+        let ours = Ok(model::run(&job));
+        assert_eq!(as_ours(Outcome::Built(built.clone())), ours);
+        let changes: [fn(&mut driver::Built); 8] = [
+            |built| built.answers[0] += 1,
+            |built| built.marks[0] = outcome::Mark::Old,
+            |built| built.pool[8] += 1,
+            |built| built.bootstrap_count += 1,
+            |built| built.bootstraps.push(0),
+            |built| built.name_slot += 1,
+            |built| built.class_name = None,
+            |built| built.visits += 1,
+        ];
+        for change in changes {
+            let mut changed = built.clone();
+            change(&mut changed);
+            assert_ne!(as_ours(Outcome::Built(changed)), ours);
+        }
+    }
+
+    #[test]
+    fn a_panic_is_an_error() {
+        assert!(as_ours(Outcome::Panicked("told".into())).is_err());
+    }
+}

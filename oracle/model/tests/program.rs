@@ -6,7 +6,7 @@ use jobs::stream::frame;
 use std::io::Write;
 use std::process::{Command, Output, Stdio};
 
-/// The module takes a minute for it.
+/// The driver takes a minute for it, the module 0.2 seconds.
 const SLOW: &str = "alias_chain_40000_asked_everywhere";
 
 fn model(arguments: &[&str], input: &[u8]) -> Output {
