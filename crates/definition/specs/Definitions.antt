@@ -7,7 +7,7 @@ use lib.Dec.{eqb, leb, ltb}
 use lib.ListN.{getElem?}
 use Rattle.definition.specs.Basics.{Result, good, bad, _>>=_, Refusal, atRecord, unless, same, lookup, insert}
 use Rattle.definition.specs.Shapes.{Kind, constant, bootstrap, Entry, isWide}
-use Rattle.definition.specs.Job.{Reference, Definition, define, named, placed}
+use Rattle.definition.specs.Job.{Reference, Definition, define, named, placed, setting}
 
 -- how a raw slot is held: a constant starts there, the one with this entry number, or it is the second half of a wide one
 pub data Held : Type 0 where
@@ -89,6 +89,7 @@ defineOne top constants (placed constant n e) d = do
 defineOne top constants (placed bootstrap index e) d = do
   indexes ← placeBootstrap index e (d .indexes)
   good (record { held = d .held; indexes = indexes; names = d .names })
+defineOne top constants (setting s) d = good d
 
 -- all definitions in turn
 unfoldable pub defineAll : {R : Type 0} → ℕ → List (Entry ℕ R) → ℕ → List (Definition ℕ) → Defined → Result Refusal Defined
