@@ -6,7 +6,7 @@ use Prim.Native.Nat.{ℕ, zero, suc}
 use lib.Dec.{eqb, ltb}
 use lib.ListN.{length}
 use Rattle.definition.specs.Basics.{Result, good, bad, _>>=_, Refusal, atRecord, unless, every, lookup}
-use Rattle.definition.specs.Settings.{highest, isSlot}
+use Rattle.definition.specs.Settings.{Setting, version, highest, isSlot}
 use Rattle.definition.specs.Shapes.{Kind, constant, bootstrap, bootstrapTag}
 use Rattle.definition.specs.Job.{Reference, raw, entry, name, Definition, define, named, placed, setting, Request, ClassSlot, slot, request, Build, Job, readDefinition, asks, readRequest, readBuild}
 
@@ -14,14 +14,15 @@ use Rattle.definition.specs.Job.{Reference, raw, entry, name, Definition
 abbrev pub tableSize : ℕ
 tableSize = 65536
 
--- the entries so far, constants and bootstraps apart, and the records
+-- the entries so far, constants and bootstraps apart, the records, and those that are a 47
 pub record Counts : Type 0 where
   pub constants : ℕ
   pub bootstraps : ℕ
   pub records : ℕ
+  pub versions : ℕ
 
 abbrev pub nothingYet : Counts
-nothingYet = record { constants = 0; bootstraps = 0; records = 0 }
+nothingYet = record { constants = 0; bootstraps = 0; records = 0; versions = 0 }
 
 unfoldable pub countOf : Kind → Counts → ℕ
 countOf constant n = n .constants
@@ -32,28 +33,34 @@ unfoldable pub kindOf : ℕ → Kind
 kindOf tag = elim (eqb tag bootstrapTag) [ true ↦ bootstrap | false ↦ constant ]
 
 unfoldable pub oneMore : Kind → Counts → Counts
-oneMore constant n = record { constants = suc (n .constants); bootstraps = n .bootstraps; records = n .records }
-oneMore bootstrap n = record { constants = n .constants; bootstraps = suc (n .bootstraps); records = n .records }
+oneMore constant n = record { constants = suc (n .constants); bootstraps = n .bootstraps; records = n .records; versions = n .versions }
+oneMore bootstrap n = record { constants = n .constants; bootstraps = suc (n .bootstraps); records = n .records; versions = n .versions }
+
+unfoldable pub oneSetting : Setting → Counts → Counts
+oneSetting (version v) n =
+    record { constants = n .constants; bootstraps = n .bootstraps; records = n .records; versions = suc (n .versions) }
+oneSetting (highest top) n = n
 
 unfoldable pub oneRecord : Counts → Counts
-oneRecord n = record { constants = n .constants; bootstraps = n .bootstraps; records = suc (n .records) }
+oneRecord n = record { constants = n .constants; bootstraps = n .bootstraps; records = suc (n .records); versions = n .versions }
 
 unfoldable pub counted : Definition (List ℕ) → Counts → Counts
 counted (define e) n = oneRecord (oneMore (kindOf (e .tag)) n)
 counted (named kind s r) n = oneRecord n
 counted (placed kind at number) n = oneRecord n
-counted (setting s) n = oneRecord n
+counted (setting s) n = oneRecord (oneSetting s n)
 
 -- 3: an unknown kind or one out of place, a cut record, or a byte that isn't one of its forms
 unfoldable pub whole : {A : Type 0} → Option A → Result ℕ A
 whole none = bad 3
 whole (some a) = good a
 
--- a setting in its place, else 3: 49 is the first record; then 26: its number is a slot
+-- a setting in its place, else 3: 47 comes once, 49 is the first record; then 26: the number of 49 is a slot
 unfoldable pub mayStand : Counts → Definition (List ℕ) → Result ℕ (Unit {0})
 mayStand n (define e) = good tt
 mayStand n (named kind s r) = good tt
 mayStand n (placed kind at number) = good tt
+mayStand n (setting (version v)) = unless (eqb (n .versions) 0) 3
 mayStand n (setting (highest top)) = do
   _ ← unless (eqb (n .records) 0) 3
   unless (isSlot top) 26
