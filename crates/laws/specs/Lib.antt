@@ -1,5 +1,6 @@
 pub mod AsEntries
 pub mod LeadsStatement
+pub mod OrderStatement
 pub mod Statements
 pub mod ShapeStatement
 pub mod SharedStatement

@@ -12,7 +12,7 @@ use Rattle.definition.specs.Basics.{good, atRecord, unless, lookup}
 use Rattle.definition.specs.Bytes.{one, two}
 use Rattle.definition.specs.Shapes.{constant}
 use Rattle.definition.specs.Job.{Definition, Request, ClassSlot, Build, Job, reference, readDefinition, asks, readRequest, classForm, nameForm, readBuild, slot, request}
-use Rattle.definition.specs.Form.{Counts, counted, whole, hasRoom, cites, citesEarlier, citesRequest, formDefinition, Definitions, formDefinitions, formRequest, nothingBehind, formBuild, Requests, formRequests, form}
+use Rattle.definition.specs.Form.{Counts, counted, whole, mayStand, hasRoom, cites, citesEarlier, citesRequest, formDefinition, Definitions, formDefinitions, formRequest, nothingBehind, formBuild, Requests, formRequests, form}
 use Rattle.facts.proofs.Each.{Each}
 use Rattle.facts.proofs.Results.{bad≢good, good-then, atRecord-good, unless-good, whole-good, decided}
 use Rattle.laws.specs.Statements.{IsBytes}
@@ -43,6 +43,7 @@ pub formed-definition :
 unfolding formDefinition
 formed-definition n first bytes r b e =
     good-then (whole (readDefinition first bytes)) _ r e λ x wholly e₁.
+    good-then (mayStand n (x .0)) _ r e₁ λ _ _ e₁.
     good-then (unless (hasRoom n (x .0)) 5) _ r e₁ λ _ _ e₂.
     good-then (unless (citesEarlier n (x .0)) 4) _ r e₂ λ v earlier e₃.
     let same : x ≡ r = cc in
