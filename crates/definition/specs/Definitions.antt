@@ -6,7 +6,7 @@ use Prim.Native.Nat.{ℕ, suc}
 use lib.Dec.{eqb, leb, ltb}
 use lib.ListN.{getElem?}
 use Rattle.definition.specs.Basics.{Result, good, bad, _>>=_, Refusal, atRecord, unless, same, lookup, insert}
-use Rattle.definition.specs.Settings.{Setting, version, highest, newest}
+use Rattle.definition.specs.Settings.{Setting, version, texts, highest, newest}
 use Rattle.definition.specs.Shapes.{Kind, constant, bootstrap, Entry, isWide}
 use Rattle.definition.specs.Job.{Reference, Definition, define, named, placed, setting}
 
@@ -82,6 +82,7 @@ placeBootstrap index e indexes = do
 -- 47 sets the version
 unfoldable pub withSetting : Setting → Defined → Defined
 withSetting (version v) d = record { held = d .held; indexes = d .indexes; names = d .names; version = v }
+withSetting texts d = d
 withSetting (highest n) d = d
 
 -- one definition in turn, where the job's constants are `constants`; 11: the name is defined for its kind

@@ -5,7 +5,7 @@ use mathlib.Core.Option.{Option, none, some}
 use Prim.Native.Nat.{ℕ, zero, suc}
 use Rattle.definition.specs.Basics.{lookup}
 use Rattle.definition.specs.Bytes.{Parser, return, fail, _>>=_, one, two, many}
-use Rattle.definition.specs.Settings.{Setting, version, highest}
+use Rattle.definition.specs.Settings.{Setting, version, texts, highest}
 use Rattle.definition.specs.Shapes.{Kind, constant, bootstrap, Field, shapes, bootstrapShape, bootstrapTag, Entry, readEntry}
 
 -- a reference: a raw slot, an entry's number, or a name
@@ -22,7 +22,7 @@ pub data Definition (L : Type 0) : Type 0 where
   named : Kind → List ℕ → Reference → Definition L
   -- 43, 44: raw constant, raw bootstrap; slot or index, then the entry's number
   placed : Kind → ℕ → ℕ → Definition L
-  -- 47, 49: a rule for the whole job
+  -- 47 to 49: a rule for the whole job
   setting : Setting → Definition L
 
 -- 51, 52: asks for a slot, for an ldc slot
@@ -73,14 +73,15 @@ reference kind = do
 pub data Body : Type 0 where
   ofEntry : List Field → Body
   ofName ofRaw : Kind → Body
-  -- a setting's number
+  -- a setting's number, or nothing
   ofNumber : (ℕ → Setting) → Body
+  ofNothing : Setting → Body
 
--- the first bytes of definitions: the tags, then 40 to 44, 47 and 49
+-- the first bytes of definitions: the tags, then 40 to 44 and 47 to 49
 unfoldable pub bodies : List (ℕ × Body)
 bodies =
     map (λ s. (s .0, ofEntry (s .1))) shapes
-    ++ ((bootstrapTag, ofEntry bootstrapShape) ∷ (0x41, ofName constant) ∷ (0x42, ofName bootstrap) ∷ (0x43, ofRaw constant) ∷ (0x44, ofRaw bootstrap) ∷ (0x47, ofNumber version) ∷ (0x49, ofNumber highest) ∷ [])
+    ++ ((bootstrapTag, ofEntry bootstrapShape) ∷ (0x41, ofName constant) ∷ (0x42, ofName bootstrap) ∷ (0x43, ofRaw constant) ∷ (0x44, ofRaw bootstrap) ∷ (0x47, ofNumber version) ∷ (0x48, ofNothing texts) ∷ (0x49, ofNumber highest) ∷ [])
 
 -- a definition behind its first byte; none: an unknown kind, or one out of place
 unfoldable pub readBody : ℕ → Option Body → Parser (Definition (List ℕ))
@@ -99,6 +100,7 @@ readBody first (some (ofRaw kind)) = do
 readBody first (some (ofNumber rule)) = do
   n ← two
   return (setting (rule n))
+readBody first (some (ofNothing rule)) = return (setting rule)
 
 unfoldable pub readDefinition : ℕ → Parser (Definition (List ℕ))
 readDefinition first = readBody first (lookup first bodies)

@@ -3,6 +3,7 @@ pub mod Ascii
 pub mod Bytes
 pub mod Shapes
 pub mod Settings
+pub mod Texts
 pub mod Job
 pub mod Form
 pub mod Numbering

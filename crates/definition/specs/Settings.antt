@@ -1,4 +1,4 @@
--- Records that set a rule for the whole job (document 02, No. 5 and 10), and what a job without them has. Assumes nothing.
+-- Records that set a rule for the whole job (document 02, No. 5, 8 and 10), and what a job without them has. Assumes nothing.
 use mathlib.Core.Bool.{Bool, true, _&&_}
 use mathlib.Core.List.{List, [], _∷_}
 use mathlib.Core.Option.{none, some}
@@ -10,6 +10,8 @@ use Rattle.definition.specs.Slots.{highestSlot}
 pub data Setting : Type 0 where
   -- 47: the major version of the receiver's class files
   version : ℕ → Setting
+  -- 48: every text is one as JVMS has it
+  texts : Setting
   -- 49: the highest slot that the receiver takes
   highest : ℕ → Setting
 
@@ -21,6 +23,7 @@ isSlot n = leb 1 n && leb n highestSlot
 unfoldable pub highestOf : List Setting → ℕ
 highestOf [] = highestSlot
 highestOf (version v ∷ settings) = highestOf settings
+highestOf (texts ∷ settings) = highestOf settings
 highestOf (highest n ∷ settings) = n
 
 -- JVMS table 4.4-B: the first version that has a kind of constant, where it isn't the first of all
