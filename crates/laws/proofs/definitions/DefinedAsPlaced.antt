@@ -9,7 +9,7 @@ use Prim.Native.Nat.{ℕ, zero, suc, _+_}
 use native.Mathlib.Omega.{arith}
 use lib.ListN.{getElem?}
 use Rattle.definition.specs.Basics.{good, unless, insert}
-use Rattle.definition.specs.Settings.{version, highest}
+use Rattle.definition.specs.Settings.{version, texts, highest}
 use Rattle.definition.specs.Shapes.{Kind, isWide, Entry, constant, bootstrap}
 use Rattle.definition.specs.Job.{Definition, define, named, placed, setting, Job}
 use Rattle.definition.specs.Numbering.{Literal, literals, numberedDefinition, numbered}
@@ -280,6 +280,14 @@ module _ {R : Type 0} (top : ℕ) (constants : List (Entry ℕ R)) where
         allNames = f .allNames ∙ sym (append-nil (namingsOf ds)) ∙ sym (namings-snoc ds (setting (highest n)));
         allHeld = held-other (wideAt constants) ds (setting (highest n)) (d .held) (λ _ _ p. clash (cc)) (f .allHeld);
         allIndexes = index-other ds (setting (highest n)) (d .indexes) (λ _ _ p. clash (cc)) (f .allIndexes);
+      })
+  one-defined ds (setting texts) d d′ f q =
+      let same : d ≡ d′ = cc in
+      rw (← same)
+      (record {
+        allNames = f .allNames ∙ sym (append-nil (namingsOf ds)) ∙ sym (namings-snoc ds (setting texts));
+        allHeld = held-other (wideAt constants) ds (setting texts) (d .held) (λ _ _ p. clash (cc)) (f .allHeld);
+        allIndexes = index-other ds (setting texts) (d .indexes) (λ _ _ p. clash (cc)) (f .allIndexes);
       })
 
   -- the definitions of a job, all in turn

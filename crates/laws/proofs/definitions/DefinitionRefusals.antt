@@ -8,7 +8,7 @@ use native.Mathlib.Omega.{arith}
 use lib.Dec.{ltb}
 use lib.ListN.{length}
 use Rattle.definition.specs.Basics.{same, lookup, insert}
-use Rattle.definition.specs.Settings.{version, highest}
+use Rattle.definition.specs.Settings.{version, texts, highest}
 use Rattle.definition.specs.Shapes.{Entry, constant, bootstrap}
 use Rattle.definition.specs.Job.{Definition, define, named, placed, setting}
 use Rattle.definition.specs.Definitions.{withSetting, Held, starts, half, Defined, startFree, hold, placeConstant, placeBootstrap, defineOne, defineAll}
@@ -113,6 +113,7 @@ defineOne-ends z H top constants (placed bootstrap index e) d low names =
 defineOne-ends z H top constants (setting (version v)) d low names =
     well {a = record { held = d .held; indexes = d .indexes; names = d .names; version = v }} (record { more = omega arith; names = names })
 defineOne-ends z H top constants (setting (highest n)) d low names = well {a = d} (record { more = omega arith; names = names })
+defineOne-ends z H top constants (setting texts) d low names = well {a = d} (record { more = omega arith; names = names })
 
 pub defineAll-ends :
     {Z : ℕ → Type 0} → Early Z → (H : Type 0) {R : Type 0} (top : ℕ) (constants : List (Entry ℕ R)) (place : ℕ) (l : List (Definition ℕ)) (d : Defined) →

@@ -8,7 +8,7 @@ use native.Mathlib.Omega.{arith}
 use lib.Dec.{eqb, leb, ltb}
 use borrow.Author.Tests.{eqb-false, ltb-true, leb-true, not-true}
 use Rattle.definition.specs.Basics.{Result, good, atRecord, lookup, insert, _>>=_}
-use Rattle.definition.specs.Settings.{version, highest}
+use Rattle.definition.specs.Settings.{version, texts, highest}
 use Rattle.definition.specs.Shapes.{isWide, Entry, constant, bootstrap}
 use Rattle.definition.specs.Job.{Definition, define, named, placed, setting}
 use Rattle.definition.specs.Definitions.{withSetting, Held, starts, half, Defined, nameTarget, isNone, tagAt, startFree, lastSlot, hold, placeConstant, placeBootstrap, defineOne, defineAll, nothingDefined}
@@ -124,6 +124,7 @@ one-rises top constants (placed bootstrap n e) d d′ h r =
     rw (← good-inj g) (r .0, bootstrap-rises n e (d .indexes) indexes q (r .1))
 one-rises top constants (setting (version v)) d d′ h r = rw (← good-inj h) r
 one-rises top constants (setting (highest n)) d d′ h r = rw (← good-inj h) r
+one-rises top constants (setting texts) d d′ h r = rw (← good-inj h) r
 
 -- what is kept by each definition in turn holds when all are through
 pub defined-all :

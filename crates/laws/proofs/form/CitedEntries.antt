@@ -11,10 +11,10 @@ use lib.Dec.{eqb}
 use lib.ListN.{length, getElem?}
 use borrow.Author.Tests.{ltb-true}
 use Rattle.definition.specs.Basics.{same, every, only}
-use Rattle.definition.specs.Settings.{version, highest}
+use Rattle.definition.specs.Settings.{version, texts, highest}
 use Rattle.definition.specs.Shapes.{Kind, Field, text, bits, byte, to, toMany, shapes, bootstrapShape, Entry, constant, bootstrap}
 use Rattle.definition.specs.Job.{Reference, raw, entry, name, Definition, define, named, placed, setting, Request, Job}
-use Rattle.definition.specs.Form.{oneSetting, oneRecord, Counts, countOf, kindOf, oneMore, counted, cites, citesEarlier}
+use Rattle.definition.specs.Form.{oneSetting, oneRecord, withBroken, Counts, countOf, kindOf, oneMore, counted, cites, citesEarlier}
 use Rattle.definition.specs.Numbering.{entries, isBootstrap, constantsOf, bootstrapsOf}
 use Rattle.definition.specs.Definitions.{sameKind}
 use Rattle.facts.specs.Lists.{Among}
@@ -159,7 +159,7 @@ count-same bootstrap x ds e = ap (λ l. length (only isBootstrap l)) e
 count-one :
     (kind : Kind) (x : Definition (List ℕ)) (ds : List (Definition (List ℕ))) (n : Counts) →
     countOf kind (counted x n) + countIn kind ds ≡ countOf kind n + countIn kind (x ∷ ds)
-unfolding counted oneRecord oneMore oneSetting countOf countIn entries
+unfolding counted oneRecord withBroken oneMore oneSetting countOf countIn entries
 count-one constant (define e) ds n = ways (isBootstrap e) refl
   where
     ways :
@@ -181,8 +181,10 @@ count-one bootstrap (named k s r) ds n = ap (λ m. countOf bootstrap n + m) (cou
 count-one constant (placed k at m) ds n = ap (λ m. countOf constant n + m) (count-same constant (placed k at m) ds refl)
 count-one bootstrap (placed k at m) ds n = ap (λ m. countOf bootstrap n + m) (count-same bootstrap (placed k at m) ds refl)
 count-one constant (setting (version v)) ds n = ap (λ m. countOf constant n + m) (count-same constant (setting (version v)) ds refl)
+count-one constant (setting texts) ds n = ap (λ m. countOf constant n + m) (count-same constant (setting texts) ds refl)
 count-one constant (setting (highest top)) ds n = ap (λ m. countOf constant n + m) (count-same constant (setting (highest top)) ds refl)
 count-one bootstrap (setting (version v)) ds n = ap (λ m. countOf bootstrap n + m) (count-same bootstrap (setting (version v)) ds refl)
+count-one bootstrap (setting texts) ds n = ap (λ m. countOf bootstrap n + m) (count-same bootstrap (setting texts) ds refl)
 count-one bootstrap (setting (highest top)) ds n = ap (λ m. countOf bootstrap n + m) (count-same bootstrap (setting (highest top)) ds refl)
 
 count-nil : (kind : Kind) → countIn {L = List ℕ} kind [] ≡ 0

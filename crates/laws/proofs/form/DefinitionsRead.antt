@@ -9,7 +9,7 @@ use lib.ListN.{length, getElem?}
 use Rattle.definition.specs.Basics.{good, atRecord, unless}
 use Rattle.definition.specs.Shapes.{Entry}
 use Rattle.definition.specs.Job.{Reference, Definition, define, named, placed, setting, Job, readDefinition}
-use Rattle.definition.specs.Form.{Counts, nothingYet, counted, whole, mayStand, hasRoom, citesEarlier, formDefinition, Definitions, formDefinitions, formRequests, form}
+use Rattle.definition.specs.Form.{Counts, nothingYet, counted, whole, mayStand, hasRoom, textsHeld, citesEarlier, formDefinition, Definitions, formDefinitions, formRequests, form}
 use Rattle.definition.specs.Numbering.{entries}
 use Rattle.facts.specs.Lists.{Among}
 use Rattle.facts.proofs.Lists.{clash, all-cons, among-later}
@@ -65,6 +65,7 @@ pub formed-step :
 unfolding formDefinitions
 formed-step fuel n place first bytes d s e =
     good-then (atRecord place (formDefinition n first bytes)) _ d (rw (s, formDefinitions) at e) λ r p q.
+    good-then (textsHeld (counted (r .0) n)) _ d q λ _ _ q.
     good-then (formDefinitions fuel (counted (r .0) n) (suc place) (r .1)) _ d q λ d′ t u.
     (r, d′, atRecord-good place (formDefinition n first bytes) r p, t, cc)
 

@@ -16,7 +16,7 @@ use Rattle.laws.proofs.form.RefusalNumbers.{nonZero, early-nonZero, lat
 use Rattle.laws.proofs.form.ParsersYield.{Byte, each-byte}
 use Rattle.laws.proofs.form.FormedJobs.{formed-definition, formed-request, form-formed}
 use Rattle.laws.proofs.form.RawNumbersLow.{JobLow, formed-low}
-use Rattle.laws.proofs.form.FormRefusals.{formDefinition-ends, formRequest-ends, formBuild-ends}
+use Rattle.laws.proofs.form.FormRefusals.{textsHeld-ends, formDefinition-ends, formRequest-ends, formBuild-ends}
 
 -- a byte string of at most n
 abbrev Within : ℕ → List ℕ → Type 0
@@ -48,6 +48,7 @@ formDefinitions-ends (suc fuel) c place (first ∷ bytes) w = go (eqb first 0x50
         (next _
         (known (atRecord place (formDefinition c first bytes)) (atRecord-ends place (formDefinition-ends early-nonZero late-nonZero c first bytes))
         (λ r g. formed-definition c first bytes r (w .1 .1) (atRecord-good place (formDefinition c first bytes) r g))) λ r h.
+        next _ (textsHeld-ends late-nonZero (counted (r .0) c)) λ _ _.
         next _ (ih (counted (r .0) c) (suc place) (r .1) (omega (arith, w .0, h .2), h .1)) λ d k. well (roomier fuel (suc fuel) (d .rest) (omega arith) k))
 
 formRequests-ends :

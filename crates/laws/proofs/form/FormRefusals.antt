@@ -7,9 +7,9 @@ use Prim.Native.Nat.{ℕ, zero, suc}
 use lib.Dec.{eqb}
 use lib.ListN.{length}
 use Rattle.definition.specs.Basics.{lookup}
-use Rattle.definition.specs.Settings.{version, highest}
+use Rattle.definition.specs.Settings.{version, texts, highest}
 use Rattle.definition.specs.Job.{Definition, define, named, placed, setting, readDefinition, asks, readRequest, readBuild}
-use Rattle.definition.specs.Form.{Counts, counted, whole, mayStand, formDefinition, formDefinitions, formRequest, formBuild, formRequests, form}
+use Rattle.definition.specs.Form.{Counts, counted, whole, mayStand, textsHeld, formDefinition, formDefinitions, formRequest, formBuild, formRequests, form}
 use Rattle.facts.proofs.Outcomes.{Ends, well, refused, next, Anything, atRecord-ends, unless-ends}
 use Rattle.laws.proofs.form.RefusalNumbers.{Early, Late}
 
@@ -26,7 +26,17 @@ mayStand-ends z late n (define e) = well tt
 mayStand-ends z late n (named kind s r) = well tt
 mayStand-ends z late n (placed kind at number) = well tt
 mayStand-ends z late n (setting (version v)) = unless-ends _ 3 (z 3 tt tt)
+mayStand-ends z late n (setting texts) = unless-ends _ 3 (z 3 tt tt)
 mayStand-ends z late n (setting (highest top)) = next _ (unless-ends _ 3 (z 3 tt tt)) λ _ _. unless-ends _ 26 (late 26 tt)
+
+-- 25
+pub textsHeld-ends : {Z : ℕ → Type 0} → Late Z → (n : Counts) → Ends (λ e. Z (e .code)) Anything (textsHeld n)
+unfolding textsHeld
+textsHeld-ends {Z} late n = go (n .broken) refl
+  where
+    go : (o : Option ℕ) → n .broken ≡ o → Ends (λ e. Z (e .code)) Anything (textsHeld n)
+    go none e = rw (e, textsHeld) (well tt)
+    go (some place) e = rw (e, textsHeld) (atRecord-ends place (unless-ends _ 25 (late 25 tt)))
 
 -- 3, 26, 5 or 4
 pub formDefinition-ends : {Z : ℕ → Type 0} → Early Z → Late Z → (c : Counts) (first : ℕ) (bytes : List ℕ) → Ends Z Anything (formDefinition c first bytes)
@@ -72,6 +82,7 @@ module _ {Z : ℕ → Type 0} (z : Early Z) (late : Late Z) (empty : Z 0) where
           rw
           (e, formDefinitions)
           (next _ (atRecord-ends place (formDefinition-ends z late c first bytes)) λ r _.
+          next _ (textsHeld-ends late (counted (r .0) c)) λ _ _.
           next _ (ih (counted (r .0) c) (suc place) (r .1)) λ d _. well tt)
 
   formRequests-early :

@@ -9,7 +9,7 @@ use lib.ListN.{length}
 use borrow.Author.Tests.{leb-true}
 use Rattle.definition.specs.Basics.{good, unless}
 use Rattle.definition.specs.Slots.{highestSlot}
-use Rattle.definition.specs.Settings.{Setting, version, highest, isSlot, highestOf}
+use Rattle.definition.specs.Settings.{Setting, version, texts, highest, isSlot, highestOf}
 use Rattle.definition.specs.Job.{Definition, define, named, placed, setting, Job, readDefinition}
 use Rattle.definition.specs.Form.{Counts, counted, whole, mayStand, hasRoom, citesEarlier, formDefinition, Definitions, formDefinitions, form}
 use Rattle.definition.specs.Numbering.{Literal, settings, topOf, literals, numberedDefinition, numbered}
@@ -31,6 +31,7 @@ low-more n (define e) u ds h l = l
 low-more n (named kind s r) u ds h l = l
 low-more n (placed kind at number) u ds h l = l
 low-more n (setting (version v)) u ds h l = l
+low-more n (setting texts) u ds h l = l
 low-more n (setting (highest top)) u ds h l =
     good-then (unless (eqb (n .records) 0) 3) _ u h λ _ _ g. slot-low top (unless-good (isSlot top) 26 u g)
 
