@@ -35,7 +35,8 @@ low-more n (setting texts) u ds h l = l
 low-more n (setting (highest top)) u ds h l =
     good-then (unless (eqb (n .records) 0) 3) _ u h λ _ _ g. slot-low top (unless-good (isSlot top) 26 u g)
 
-definition-stands :
+-- a definition that is formed may stand where it stands
+pub definition-stands :
     (n : Counts) (first : ℕ) (bytes : List ℕ) (r : Definition (List ℕ) × List ℕ) → formDefinition n first bytes ≡ good r → (u : Unit {0}) × (mayStand n (r .0) ≡ good u)
 unfolding formDefinition
 definition-stands n first bytes r e =
