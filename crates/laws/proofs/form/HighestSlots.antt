@@ -75,7 +75,7 @@ top-low bytes job e =
     let h = formed-definitions bytes job e in
     rw (h .2) (definitions-low (length bytes) noEntries 0 bytes (h .0) (h .1))
 
-settings-numbered : (all : List Literal) (ds : List (Definition (List ℕ))) → settings (map (numberedDefinition all) ds) ≡ settings ds
+pub settings-numbered : (all : List Literal) (ds : List (Definition (List ℕ))) → settings (map (numberedDefinition all) ds) ≡ settings ds
 unfolding settings numberedDefinition
 settings-numbered all [] = refl
 settings-numbered all (define e ∷ ds) = settings-numbered all ds
