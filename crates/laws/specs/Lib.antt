@@ -9,3 +9,4 @@ pub mod ReaderStatements
 pub mod Faithful
 pub mod Counted
 pub mod Gaps
+pub mod TextStatements
