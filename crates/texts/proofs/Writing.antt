@@ -1,15 +1,15 @@
 -- The two walks over units, which measure their text and write it, and the two ends of writing one. Assumes nothing.
-use mathlib.Core.List.{List, [], _∷_, _++_}
+use mathlib.Core.List.{List, [], _∷_}
 use mathlib.Core.Logic.{_⊎_, inl, inr}
 use mathlib.Core.Path.{_≡_, refl, sym, ap, _∙_}
-use Prim.Native.Nat.{ℕ, zero, suc, _+_, _-_, _/_, _%_, _<_, _≤_}
+use Prim.Native.Nat.{ℕ, suc, _+_, _<_, _≤_}
 use native.Mathlib.Numerals.{add-one}
 use native.Mathlib.Omega.{arith}
 use borrow.Author.Tests.{le-leb, lt-leb}
 use lib.Dec.{leb}
 use lib.ListN.{length, getD, set, take, drop, length-append}
 use lib.Seq.{paste, drop-cons, drop-length, take-length, sets-eq}
-use Rattle.definition.specs.Basics.{Result, good, bad, Refusal}
+use Rattle.definition.specs.Basics.{good, bad}
 use Rattle.definition.specs.Run.{overwrite}
 use Rattle.definition.specs.Texts.{unitBytes, textOf, writeText}
 use Rattle.facts.proofs.Copies.{overwrite-more}

@@ -2,17 +2,15 @@
 use mathlib.Core.Bool.{true, false}
 use mathlib.Core.List.{List, [], _∷_}
 use mathlib.Core.Option.{Option, none, some}
-use mathlib.Core.Path.{_≡_, refl, sym, ap, subst, _∙_}
-use Prim.Native.Nat.{ℕ, zero, suc, _≤_, _<_}
-use native.Mathlib.Nat.{not-suc-le-zero}
+use mathlib.Core.Path.{_≡_, refl, sym, ap, _∙_}
+use Prim.Native.Nat.{ℕ, zero, suc, _<_}
 use native.Mathlib.Omega.{arith}
 use borrow.Author.Tests.{le-leb}
 use lib.Dec.{leb}
-use lib.ListN.{length, getD}
+use lib.ListN.{length}
 use Rattle.definition.specs.Basics.{Result, good, bad, Refusal, atRecord, unless, _>>=_}
-use Rattle.definition.specs.Texts.{unit, unitsOf, isText, textOf, readText, writeText}
+use Rattle.definition.specs.Texts.{unitsOf, isText, textOf, readText, writeText}
 use Rattle.facts.proofs.Each.{Each}
-use Rattle.facts.proofs.Lists.{none≢some, some-inj}
 use Rattle.facts.proofs.Results.{good-inj, bad≢good, passes, passed}
 use Rattle.laws.specs.TextStatements.{IsUnits, UnitsBack, WrittenTexts, ReadTexts}
 use Rattle.laws.proofs.texts.UnitsRead.{units-small}

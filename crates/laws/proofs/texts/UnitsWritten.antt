@@ -2,9 +2,9 @@
 use mathlib.Core.Bool.{Bool, true, false}
 use mathlib.Core.List.{List, [], _∷_, _++_, append-assoc, append-nil}
 use mathlib.Core.Logic.{_⊎_, inl, inr}
-use mathlib.Core.Option.{none, some}
+use mathlib.Core.Option.{some}
 use mathlib.Core.Path.{_≡_, refl, sym, ap, _∙_}
-use Prim.Native.Nat.{ℕ, zero, suc, _+_, _*_, _-_, _/_, _%_, _<_, _≤_}
+use Prim.Native.Nat.{ℕ, _+_, _*_, _-_, _/_, _%_, _<_, _≤_}
 use native.Mathlib.Numerals.{add-one}
 use native.Mathlib.Omega.{arith}
 use borrow.Author.Tests.{le-leb, lt-leb}
@@ -12,7 +12,7 @@ use lib.Dec.{leb}
 use lib.ListN.{length, getD, take, drop, length-append, take-append-drop}
 use lib.Seq.{take-suc}
 use Rattle.definition.specs.Basics.{concat}
-use Rattle.definition.specs.Texts.{between, unit, unitsOf, isText, unitBytes, textOf}
+use Rattle.definition.specs.Texts.{between, unit, unitsOf, unitBytes, textOf}
 use Rattle.facts.proofs.Each.{Each}
 use Rattle.facts.proofs.Lists.{order, equal}
 use Rattle.laws.proofs.texts.UnitsRead.{between-in, between-below, between-above, lead-one, lead-two, lead-three, trail-more, trail-done, unit-led, units-end, units-next}
