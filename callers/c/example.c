@@ -1,5 +1,5 @@
 /* Builds case b of document 01, from a block file: a text "A", a Class of it, and a request for the Class. Then the same with a pool
- * a byte too short, and with work a word too short. */
+ * a byte too short, and with work a word too short. Last, a text of three units. */
 #undef NDEBUG
 #include <assert.h>
 #include <stdio.h>
@@ -88,6 +88,25 @@ static void too_little_is_refused(const uint8_t *job) {
     printf("18 and 2 refused\n");
 }
 
+static void texts_come_back(void) {
+    static const uint16_t units[3] = {0x41, 0, 0xd83d};
+    static const uint8_t text[6] = {0x41, 0xc0, 0x80, 0xed, 0xa0, 0xbd};
+    static const uint8_t zero[1] = {0};
+    uint8_t written[ROTBLOSSOM_MOST_TEXT_BYTES(3)];
+    uint16_t read[ROTBLOSSOM_MOST_UNITS(6)];
+    size_t size;
+
+    assert(texts_write(units, 3, written, sizeof written, &size) == 0);
+    assert(size == sizeof text && memcmp(written, text, sizeof text) == 0);
+    assert(texts_read(text, sizeof text, read, 6, &size) == 0);
+    assert(size == 3 && memcmp(read, units, sizeof units) == 0);
+
+    /* A zero byte is no text, and two units too few are no room. */
+    assert(texts_read(zero, 1, read, 6, &size) == 25 && size == 0);
+    assert(texts_read(text, sizeof text, read, 1, &size) == 18 && size == 0);
+    printf("a text of %u bytes and back\n", (unsigned)sizeof text);
+}
+
 int main(void) {
     static uint8_t file[FILE_BYTES];
     static uint8_t job[JOB];
@@ -100,5 +119,6 @@ int main(void) {
 
     case_b_is_built(job);
     too_little_is_refused(job);
+    texts_come_back();
     return 0;
 }

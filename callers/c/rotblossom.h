@@ -1,7 +1,8 @@
-/* The constant-pool builder and its block file, for C and C++.
+/* The constant-pool builder, its block file, and texts with their units, for C and C++.
  *
- * Link target/staticlib/libcpool.a for cpool_run and target/staticlib/libblocks.a for the block functions; `tools/library cpool blocks`
- * proves and writes them, for x86-64 or for the machine that it runs on. Document 01 is the page of rules: what a job is, and what each refusal number means.
+ * Link target/staticlib/libcpool.a for cpool_run, target/staticlib/libblocks.a for the block functions and target/staticlib/libtexts.a
+ * for the text functions; `tools/library cpool blocks texts` proves and writes them, for x86-64 or for the machine that it runs on.
+ * Documents 01 and 02 are the pages of rules: what a job is, and what each refusal number means.
  *
  * What a caller owes, to every function here:
  * - each pointer points to as many elements as the length behind it says, aligned as its type, and isn't NULL, also where that
@@ -92,6 +93,22 @@ uint32_t blocks_read(const uint8_t *file, size_t file_length,
 uint32_t blocks_write(const uint8_t *job, size_t job_length,
                       uint8_t *file, size_t file_length,
                       size_t *place, size_t *size);
+
+/* No text has more units, and no row of units a longer text. */
+#define ROTBLOSSOM_MOST_UNITS(text_bytes) (text_bytes)
+#define ROTBLOSSOM_MOST_TEXT_BYTES(units) (3 * (units))
+
+/* Reads the sixteen-bit units of a text as JVMS 4.4.7 has it. Returns 0, or 25 (no text) or 18 (no room for the units). size gets how many
+ * units there are, or 0. They are a prefix of what is lent for them, and nothing behind it is written; a refusal writes none of it. */
+uint32_t texts_read(const uint8_t *text, size_t text_length,
+                    uint16_t *units, size_t units_length,
+                    size_t *size);
+
+/* Writes any row of units as a text, in the same way: each in the form that JVMS 4.4.7 lays down for it. Returns 0 or 18 (no room for
+ * the text). What is written passes, and reading it gives the units back. */
+uint32_t texts_write(const uint16_t *units, size_t units_length,
+                     uint8_t *text, size_t text_length,
+                     size_t *size);
 
 #ifdef __cplusplus
 }

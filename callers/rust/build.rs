@@ -1,4 +1,4 @@
-//! Links the proved libraries. `tools/library cpool blocks` writes them; ROTBLOSSOM_LIBRARY names another folder.
+//! Links the proved libraries. `tools/library cpool blocks texts` writes them; ROTBLOSSOM_LIBRARY names another folder.
 
 use std::env;
 use std::path::Path;
@@ -8,7 +8,7 @@ fn main() {
     let folder = env::var("ROTBLOSSOM_LIBRARY").unwrap_or(beside);
     println!("cargo:rerun-if-env-changed=ROTBLOSSOM_LIBRARY");
     println!("cargo:rustc-link-search=native={folder}");
-    for name in ["cpool", "blocks"] {
+    for name in ["cpool", "blocks", "texts"] {
         let archive = format!("{folder}/lib{name}.a");
         println!("cargo:rerun-if-changed={archive}");
         assert!(

@@ -1,13 +1,16 @@
 //! The constant-pool builder for Rust, over its proved static libraries: `build` takes a job and lends the memory itself
 //! (`try_build` tells where it can't be had), `run` takes what the caller lends; `read_blocks` and `write_blocks` are the block
-//! file.
+//! file, `units_of` and `text_of` texts and
+//! their units.
 
 mod blocks;
 mod build;
 mod library;
+mod texts;
 
 pub use blocks::{read_blocks, read_blocks_into, write_blocks, write_blocks_into};
 pub use build::{Built, Unbuilt, build, try_build};
+pub use texts::{text_of, text_of_into, units_of, units_of_into};
 
 use std::error::Error;
 use std::fmt;
@@ -79,7 +82,7 @@ pub fn least_gaps(job_bytes: usize) -> usize {
     job_bytes / 5 + 2
 }
 
-/// Why there is no result: document 01's number, and the record; for a block file's 19 the block.
+/// Why there is no result: the number of document 01 or 02, and the record; for a block file's 19 the block, for a text 0.
 #[derive(Clone, Copy, Debug, PartialEq, Eq)]
 pub struct Refusal {
     pub code: u32,

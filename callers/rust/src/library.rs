@@ -40,6 +40,22 @@ unsafe extern "C" {
         place: *mut usize,
         size: *mut usize,
     ) -> u32;
+
+    fn texts_read(
+        text: *const u8,
+        text_length: usize,
+        units: *mut u16,
+        units_length: usize,
+        size: *mut usize,
+    ) -> u32;
+
+    fn texts_write(
+        units: *const u16,
+        units_length: usize,
+        text: *mut u8,
+        text_length: usize,
+        size: *mut usize,
+    ) -> u32;
 }
 
 /// Calls `cpool_run`, and puts its nine numbers in their places.
@@ -121,5 +137,38 @@ fn convert(function: BlockFunction, given: &[u8], out: &mut [u8]) -> Result<usiz
     match code {
         0 => Ok(size),
         code => Err(Refusal { code, place }),
+    }
+}
+
+pub fn read_text(text: &[u8], units: &mut [u16]) -> Result<usize, Refusal> {
+    convert_text(texts_read, text, units)
+}
+
+pub fn write_text(units: &[u16], text: &mut [u8]) -> Result<usize, Refusal> {
+    convert_text(texts_write, units, text)
+}
+
+type TextFunction<A, B> = unsafe extern "C" fn(*const A, usize, *mut B, usize, *mut usize) -> u32;
+
+fn convert_text<A, B>(
+    function: TextFunction<A, B>,
+    given: &[A],
+    out: &mut [B],
+) -> Result<usize, Refusal> {
+    let mut size = 0;
+    // SAFETY: both slices and the number live through the call and no two overlap; the proved function keeps to the
+    // slices' lengths.
+    let code = unsafe {
+        function(
+            given.as_ptr(),
+            given.len(),
+            out.as_mut_ptr(),
+            out.len(),
+            &mut size,
+        )
+    };
+    match code {
+        0 => Ok(size),
+        code => Err(Refusal { code, place: 0 }),
     }
 }

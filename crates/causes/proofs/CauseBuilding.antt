@@ -11,6 +11,7 @@ use lib.ListN.{length, getElem?}
 use borrow.Author.Tests.{eqb-true, eqb-false, ltb-true, ltb-false}
 use Rattle.definition.specs.Basics.{good, bad}
 use Rattle.definition.specs.Shapes.{bootstrapTag}
+use Rattle.definition.specs.Settings.{known}
 use Rattle.definition.specs.Definitions.{tagAt}
 use Rattle.definition.specs.Resolving.{Node, firstNode}
 use Rattle.definition.specs.Building.{Pool, allocate, slotOf, slotsOf, Row, Rows, rowIndex, Made, kidsOf, nodeNumber, childNumber, childNumbers, finish, withPending, drain, rawRows, buildAll}
@@ -22,6 +23,7 @@ use Rattle.causes.specs.CauseStatement.{NextChild, NextRaw, Stack, noneT
 use Rattle.laws.proofs.resolving.NodesAndChildren.{kids-found}
 use Rattle.laws.proofs.runs.StepsOfRuns.{PoolIn, atStart, afterChild, afterTaken, RowOf, RowsIn, rawOnes, afterInline}
 use Rattle.laws.proofs.runs.StepsOfBuilding.{slotOf-by}
+use Rattle.causes.proofs.CauseSteps.{unless-cause}
 
 -- a child's slot: a raw number is itself, a node's is the one allocated
 pub slotOf-good :
@@ -129,7 +131,13 @@ module _
     RowsIn nodes indexes start (n .rows) →
     RowOf nodes start row →
     rowIndex row (n .rows) ≡ bad code →
-    Z code) where
+    Z code)
+    (newer :
+    (slot owner : ℕ) (pending : List (ℕ × ℕ)) (m : Made) →
+    Stack nodes indexes start ((slot, owner) ∷ pending) m →
+    PoolIn nodes start (m .pool) →
+    known (m .pool .version) (tagAt nodes owner) ≡ false →
+    Z 24) where
   abbrev P : Pool → Type 0
   P = PoolIn nodes start
 
@@ -209,6 +217,7 @@ module _
       (m : Made)
       (parent : Node)
       (st : Stack nodes indexes start ((slot, owner) ∷ pending) m)
+      (knows : known (m .pool .version) (tagAt nodes owner) ≡ true)
       (at : getElem? nodes owner ≡ some parent) where
     module _
         (before after numbers : List ℕ)
@@ -239,6 +248,7 @@ module _
             pool = p;
             rows = rows;
             isStack = st;
+            isKnown = knows;
             isParent = at;
             isKids = seam (parent .kids) before after c is high;
             isPool = e;
@@ -305,14 +315,15 @@ module _
       (slot owner : ℕ) (pending : List (ℕ × ℕ)) (m : Made) (found : Option Node) →
       getElem? nodes owner ≡ found →
       Stack nodes indexes start ((slot, owner) ∷ pending) m →
+      known (m .pool .version) (tagAt nodes owner) ≡ true →
       P (m .pool) →
       R (m .rows) →
       Ends Z (λ m′. P (m′ .pool) × R (m′ .rows)) (finish nodes slot (withPending pending m) found)
   unfolding finish withPending childNumbers
-  finish-cause slot owner pending m none at st o q = well {a = withPending pending m} (afterTaken pending (m .pool) o, q)
-  finish-cause slot owner pending m (some parent) at st o q =
+  finish-cause slot owner pending m none at st knows o q = well {a = withPending pending m} (afterTaken pending (m .pool) o, q)
+  finish-cause slot owner pending m (some parent) at st knows o q =
       next _
-      (numbers-walk slot owner pending m parent st at [] (parent .kids) [] (withPending pending m .pool) (m .rows) refl refl (afterTaken pending (m .pool) o) q) λ r h.
+      (numbers-walk slot owner pending m parent st knows at [] (parent .kids) [] (withPending pending m .pool) (m .rows) refl refl (afterTaken pending (m .pool) o) q) λ r h.
       well h
 
   drain-cause :
@@ -326,9 +337,10 @@ module _
   drain-cause zero (top ∷ pending) m st o q = refused empty
   drain-cause (suc fuel) [] m st o q = well tt
   drain-cause (suc fuel) (top ∷ pending) m st o q =
+      next _ (unless-cause (known (m .pool .version) (tagAt nodes (top .1))) 24 (newer (top .0) (top .1) pending m st o)) λ _ knows.
       next _
-      (known-good (finish nodes (top .0) (withPending pending m) (getElem? nodes (top .1))) (finish-cause (top .0) (top .1) pending m (getElem? nodes (top .1)) refl st o q)) λ m′ k.
-      drain-cause fuel (m′ .pool .pending) m′ (oneTaken (top .0) (top .1) pending m m′ st (k .1)) (k .0 .0) (k .0 .1)
+      (known-good (finish nodes (top .0) (withPending pending m) (getElem? nodes (top .1))) (finish-cause (top .0) (top .1) pending m (getElem? nodes (top .1)) refl st knows o q)) λ m′ k.
+      drain-cause fuel (m′ .pool .pending) m′ (oneTaken (top .0) (top .1) pending m m′ st knows (k .1)) (k .0 .0) (k .0 .1)
 
   -- CAUSE in building
   pub causeInBuilding : Ends Z (λ m. Unit {0}) (buildAll nodes indexes start)

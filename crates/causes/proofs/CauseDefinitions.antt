@@ -4,18 +4,19 @@ use mathlib.Core.List.{List, [], _∷_, _++_, append-assoc}
 use mathlib.Core.Logic.{_⊎_, inl, inr}
 use mathlib.Core.Option.{Option, none, some}
 use mathlib.Core.Path.{_≡_, refl, sym, ap, subst, _∙_}
-use Prim.Native.Nat.{ℕ, zero, suc, _-_, _<_}
+use Prim.Native.Nat.{ℕ, suc, _≤_, _<_}
 use native.Mathlib.Omega.{arith}
 use lib.Dec.{eqb, leb, ltb}
 use lib.ListN.{length, getElem?, length-append}
 use borrow.Author.Tests.{eqb-true, leb-false, ltb-false}
 use Rattle.definition.specs.Basics.{good, atRecord, unless, lookup, insert}
 use Rattle.definition.specs.Shapes.{Kind, constant, bootstrap, Entry, isWide, withLiteral}
-use Rattle.definition.specs.Job.{Reference, Definition, define, named, placed, Job}
-use Rattle.definition.specs.Numbering.{constantsOf, literals, numberedEntry, numberedDefinition, numbered}
-use Rattle.definition.specs.Definitions.{Held, starts, half, Defined, nameTarget, isNone, tagAt, startFree, lastSlot, hold, placeConstant, placeBootstrap, defineOne, defineAll, nothingDefined}
+use Rattle.definition.specs.Job.{Reference, Definition, define, named, placed, setting, Job}
+use Rattle.definition.specs.Numbering.{topOf, constantsOf, literals, numberedEntry, numberedDefinition, numbered}
+use Rattle.definition.specs.Settings.{Setting, version, texts, highest}
+use Rattle.definition.specs.Definitions.{Held, starts, half, Defined, nameTarget, isNone, tagAt, startFree, lastSlot, hold, placeConstant, placeBootstrap, withSetting, defineOne, defineAll, nothingDefined}
 use Rattle.facts.specs.Lists.{Among}
-use Rattle.facts.proofs.Lists.{clash, none≢some, found-inside, found-append, found-seam, place-front, among-nil, among-left, among-right, map-at, map-some}
+use Rattle.facts.proofs.Lists.{clash, order, none≢some, found-inside, found-append, found-seam, place-front, among-nil, among-left, among-right, map-at, map-some}
 use Rattle.facts.proofs.Tables.{lookup-at, among-lookup, insert-among}
 use Rattle.facts.proofs.Each.{each-at}
 use Rattle.facts.proofs.Results.{good-then, atRecord-good}
@@ -67,6 +68,13 @@ halves-hold wide ds b n e held w h s a = go b w a
 halves-more : (wide : ℕ → Bool) (ds more : List (Definition ℕ)) (held : List (ℕ × Held)) → Halves wide ds held → Halves wide (ds ++ more) held
 halves-more wide ds more held h s a = let g = h s a in (g .0, g .1, g .2, among-left (placed constant (g .0) (g .1)) ds more (g .3), g .4)
 
+-- a setting holds no slot
+held-kept : (s : Setting) (d : Defined) → withSetting s d .held ≡ d .held
+unfolding withSetting
+held-kept (version v) d = refl
+held-kept texts d = refl
+held-kept (highest t) d = refl
+
 halves-one :
     (top : ℕ) (constants : List (Entry ℕ Reference)) (ds : List (Definition ℕ)) (x : Definition ℕ) (d d′ : Defined) →
     Halves (wideAt constants) ds (d .held) →
@@ -78,20 +86,24 @@ halves-one top constants ds (define e) d d′ h q =
     rw (← same) (halves-more (wideAt constants) ds _ (d .held) h)
 halves-one top constants ds (named kind s r) d d′ h q =
     good-then (unless (isNone (nameTarget kind s (d .names))) 11) _ d′ q λ _ _ q₁.
-    let now : Defined = record { held = d .held; indexes = d .indexes; names = d .names ++ record { kind = kind; label = s; target = r } ∷ [] } in
+    let now : Defined = record { held = d .held; indexes = d .indexes; names = d .names ++ record { kind = kind; label = s; target = r } ∷ []; version = d .version } in
     let same : now ≡ d′ = cc in
     rw (← same) (halves-more (wideAt constants) ds _ (d .held) h)
 halves-one top constants ds (placed constant n e) d d′ h q =
     good-then (placeConstant top (wideAt constants e) n e (d .held)) _ d′ q λ held p q₁.
-    let now : Defined = record { held = held; indexes = d .indexes; names = d .names } in
+    let now : Defined = record { held = held; indexes = d .indexes; names = d .names; version = d .version } in
     let same : now ≡ d′ = cc in
     let g = placed-constant top (wideAt constants e) n e (d .held) held p in
     rw (← same, ← g .now) (halves-hold (wideAt constants) ds (wideAt constants e) n e (d .held) refl h)
 halves-one top constants ds (placed bootstrap n e) d d′ h q =
     good-then (placeBootstrap n e (d .indexes)) _ d′ q λ indexes p q₁.
-    let now : Defined = record { held = d .held; indexes = indexes; names = d .names } in
+    let now : Defined = record { held = d .held; indexes = indexes; names = d .names; version = d .version } in
     let same : now ≡ d′ = cc in
     rw (← same) (halves-more (wideAt constants) ds _ (d .held) h)
+halves-one top constants ds (setting s) d d′ h q =
+    let same : withSetting s d ≡ d′ = cc in
+    subst (λ held. Halves (wideAt constants) (ds ++ setting s ∷ []) held) (sym (held-kept s d) ∙ ap (λ (d : Defined). d .held) same)
+    (halves-more (wideAt constants) ds (setting s ∷ []) (d .held) h)
 
 halves :
     (top : ℕ) (constants : List (Entry ℕ Reference)) (ds : List (Definition ℕ)) (d : Defined) →
@@ -146,6 +158,7 @@ module _ (job : Job (List ℕ)) where
       go : (x : Definition (List ℕ)) → At job i x → numberedDefinition (literals job) x ≡ placed kind n e → At job i (placed kind n e)
       go (define y) at q = clash (cc)
       go (named k s r) at q = clash (cc)
+      go (setting v) at q = clash (cc)
       go (placed k a m) at q =
           let q₁ : k ≡ kind = cc in
           let q₂ : a ≡ n = cc in
@@ -164,6 +177,7 @@ module _ (job : Job (List ℕ)) where
           let q₃ : u ≡ r = cc in
           cc
       go (placed k a m) at q = clash (cc)
+      go (setting v) at q = clash (cc)
 
   pub placed-forth : (i : ℕ) (kind : Kind) (n e : ℕ) → At job i (placed kind n e) → getElem? all i ≡ some (placed kind n e)
   unfolding numbered numberedDefinition
@@ -207,12 +221,12 @@ module _ (job : Job (List ℕ)) where
       (before tail : List (Definition ℕ))
       (split : before ++ tail ≡ all)
       (d : Defined)
-      (done : defineAll 65534 constants 0 before nothingDefined ≡ good d) where
+      (done : defineAll (topOf job) constants 0 before nothingDefined ≡ good d) where
     abbrev place : ℕ
     place = length before
 
     facts : DefinedFacts (wideAt constants) before d
-    facts = defined-facts 65534 constants before d done
+    facts = defined-facts (topOf job) constants before d done
 
     earlier : (y : Definition ℕ) → Among y before → (i : ℕ) × (i < place) × (getElem? all i ≡ some y)
     earlier y a =
@@ -227,7 +241,7 @@ module _ (job : Job (List ℕ)) where
         let e = earlier (placed constant s k) (facts .allHeld .startPlaced s k a) in
         (e .0, s, k, e .1, placed-back (e .0) constant s k (e .2), inl refl)
     taken-of s half a =
-        let h = halves 65534 constants before d done s a in
+        let h = halves (topOf job) constants before d done s a in
         let e = earlier (placed constant (h .0) (h .1)) (h .3) in
         (e .0, h .0, h .1, e .1, placed-back (e .0) constant (h .0) (h .1) (e .2), inr (wide-back (h .1) (h .4), h .2))
 
@@ -252,20 +266,20 @@ module _ (job : Job (List ℕ)) where
     Z code = DefinitionCause job code place
 
     module _ (n e : ℕ) (at : At job place (placed constant n e)) (low : n < 65536) where
-      six : (not (eqb n 0) && leb (lastSlot (wideAt constants e) n) 65534) ≡ false → Z 6
+      six : (not (eqb n 0) && leb (lastSlot (wideAt constants e) n) (topOf job)) ≡ false → Z 6
       unfolding lastSlot
       six t = outside place n e at (go (eqb n 0) refl (wideAt constants e) refl t)
         where
-          last : wideAt constants e ≡ true → 65534 < suc n → (m : ℕ) → m ≡ 65535 - n → (n ≡ 0) ⊎ ((n ≡ 65535) ⊎ ((n ≡ 65534) × Wide job e))
-          last w l zero q = inr (inl (omega (arith, q, l, low)))
-          last w l (suc m) q = inr (inr (omega (arith, q, l, low), wide-back e w))
+          last : wideAt constants e ≡ true → topOf job < suc n → (topOf job < n) ⊎ (n ≤ topOf job) → (n ≡ 0) ⊎ ((topOf job < n) ⊎ ((n ≡ topOf job) × Wide job e))
+          last w l (inl above) = inr (inl above)
+          last w l (inr at-most) = inr (inr (omega (arith, l, at-most), wide-back e w))
 
           go :
-              (c : Bool) → eqb n 0 ≡ c → (b : Bool) → wideAt constants e ≡ b → (not c && leb (lastSlot b n) 65534) ≡ false →
-              (n ≡ 0) ⊎ ((n ≡ 65535) ⊎ ((n ≡ 65534) × Wide job e))
+              (c : Bool) → eqb n 0 ≡ c → (b : Bool) → wideAt constants e ≡ b → (not c && leb (lastSlot b n) (topOf job)) ≡ false →
+              (n ≡ 0) ⊎ ((topOf job < n) ⊎ ((n ≡ topOf job) × Wide job e))
           go true q b w t = inl (eqb-true n 0 q)
-          go false q true w t = last w (leb-false (suc n) 65534 t) (65535 - n) refl
-          go false q false w t = let h = leb-false n 65534 t in inr (inl (omega arith))
+          go false q true w t = last w (leb-false (suc n) (topOf job) t) (order (topOf job) n)
+          go false q false w t = inr (inl (leb-false n (topOf job) t))
 
       seven : (not (wideAt constants e) || isNone (lookup (suc n) (d .held))) ≡ false → Z 7
       unfolding isNone
@@ -283,14 +297,14 @@ module _ (job : Job (List ℕ)) where
           let a = earlier (placed constant n k) (facts .allHeld .startPlaced n k (lookup-at n (starts k) (d .held) q)) in
           refused (sameSlot place n e (a .0) k at free (a .1) (placed-back (a .0) constant n k (a .2)))
       start-cause free (some half) q =
-          let h = halves 65534 constants before d done n (lookup-at n half (d .held) q) in
+          let h = halves (topOf job) constants before d done n (lookup-at n half (d .held) q) in
           let a = earlier (placed constant (h .0) (h .1)) (h .3) in
           refused (onSecond place n e (a .0) (h .0) (h .1) at free (a .1) (placed-back (a .0) constant (h .0) (h .1) (a .2)) (wide-back (h .1) (h .4)) (h .2))
 
-      constant-cause : Ends Z (λ _. Unit {0}) (placeConstant 65534 (wideAt constants e) n e (d .held))
+      constant-cause : Ends Z (λ _. Unit {0}) (placeConstant (topOf job) (wideAt constants e) n e (d .held))
       unfolding placeConstant
       constant-cause =
-          next _ (unless-cause (not (eqb n 0) && leb (lastSlot (wideAt constants e) n) 65534) 6 six) λ _ _.
+          next _ (unless-cause (not (eqb n 0) && leb (lastSlot (wideAt constants e) n) (topOf job)) 6 six) λ _ _.
           next _ (unless-cause (not (wideAt constants e) || isNone (lookup (suc n) (d .held))) 7 seven) λ _ free.
           next _ (start-cause (second-free n e free) (lookup n (d .held)) refl) λ _ _. well tt
 
@@ -330,11 +344,12 @@ module _ (job : Job (List ℕ)) where
     one-cause :
         (before rest : List (Definition ℕ)) (x : Definition ℕ) (d : Defined) →
         before ++ x ∷ rest ≡ all →
-        defineAll 65534 constants 0 before nothingDefined ≡ good d →
+        defineAll (topOf job) constants 0 before nothingDefined ≡ good d →
         getElem? all (length before) ≡ some x →
-        Ends (λ code. DefinitionCause job code (length before)) (λ _. Unit {0}) (defineOne 65534 constants x d)
+        Ends (λ code. DefinitionCause job code (length before)) (λ _. Unit {0}) (defineOne (topOf job) constants x d)
     unfolding defineOne
     one-cause before rest (define e) d split done here = well tt
+    one-cause before rest (setting s) d split done here = well tt
     one-cause before rest (named kind s r) d split done here =
         next _
         (unless-cause (isNone (nameTarget kind s (d .names))) 11
@@ -350,19 +365,19 @@ module _ (job : Job (List ℕ)) where
     all-cause :
         (before tail : List (Definition ℕ)) (d : Defined) →
         before ++ tail ≡ all →
-        defineAll 65534 constants 0 before nothingDefined ≡ good d →
-        Ends (λ e. DefinitionCause job (e .code) (e .place)) (λ _. Unit {0}) (defineAll 65534 constants (length before) tail d)
+        defineAll (topOf job) constants 0 before nothingDefined ≡ good d →
+        Ends (λ e. DefinitionCause job (e .code) (e .place)) (λ _. Unit {0}) (defineAll (topOf job) constants (length before) tail d)
     unfolding defineAll
     all-cause before [] d split done = well tt
     all-cause before (x ∷ rest) d split done =
         let here : getElem? all (length before) ≡ some x = subst (λ l. getElem? l (length before) ≡ some x) split (found-seam before x rest) in
-        next _ (at-place (DefinitionCause job) (length before) (known-good (defineOne 65534 constants x d) (one-cause before rest x d split done here))) λ d′ k.
+        next _ (at-place (DefinitionCause job) (length before) (known-good (defineOne (topOf job) constants x d) (one-cause before rest x d split done here))) λ d′ k.
         let longer : length (before ++ x ∷ []) ≡ suc (length before) = length-append before (x ∷ []) ∙ omega arith in
-        subst (λ p. Ends (λ e. DefinitionCause job (e .code) (e .place)) (λ _. Unit {0}) (defineAll 65534 constants p rest d′)) longer
-        (all-cause (before ++ x ∷ []) rest d′ (append-assoc before (x ∷ []) rest ∙ split) (define-more 65534 constants 0 before x nothingDefined d d′ done (k .1)))
+        subst (λ p. Ends (λ e. DefinitionCause job (e .code) (e .place)) (λ _. Unit {0}) (defineAll (topOf job) constants p rest d′)) longer
+        (all-cause (before ++ x ∷ []) rest d′ (append-assoc before (x ∷ []) rest ∙ split) (define-more (topOf job) constants 0 before x nothingDefined d d′ done (k .1)))
 
     -- CAUSE of 6 to 11: what the definitions in turn are refused for
     pub causeOfDefinitions :
-        Ends (λ e. DefinitionCause job (e .code) (e .place)) (λ _. Unit {0}) (defineAll 65534 constants 0 all nothingDefined)
+        Ends (λ e. DefinitionCause job (e .code) (e .place)) (λ _. Unit {0}) (defineAll (topOf job) constants 0 all nothingDefined)
     unfolding defineAll
     causeOfDefinitions = all-cause [] all nothingDefined refl refl

@@ -1,33 +1,50 @@
--- The cause of 3, 4 and 5: the records before stand, and the one in turn can't. Assumes nothing.
+-- The cause of 3, 4, 5, 25 and 26: the records before stand, and the one in turn can't, or a text among them with it. Assumes nothing.
 use mathlib.Core.Bool.{Bool, true, false, _&&_, not}
 use mathlib.Core.List.{List, [], _∷_, _++_, append-assoc, append-nil}
-use mathlib.Core.Logic.{_⊎_, inl, inr, _≢_}
+use mathlib.Core.Logic.{_⊎_, inl, inr, ⊎-elim, _≢_}
 use mathlib.Core.Option.{Option, none, some}
 use mathlib.Core.Path.{_≡_, refl, sym, ap, subst, _∙_}
 use Prim.Native.Nat.{ℕ, zero, suc, _+_, _≤_, _<_}
 use native.Mathlib.Omega.{arith}
-use lib.Dec.{eqb}
+use lib.Dec.{eqb, leb}
 use lib.ListN.{length, length-append}
-use borrow.Author.Tests.{eqb-true, eqb-false, ltb-true, ltb-false}
+use borrow.Author.Tests.{eqb-true, eqb-false, ltb-true, ltb-false, eq-eqb, leb-true, leb-false, not-true}
 use Rattle.definition.specs.Basics.{Refusal, every, only, lookup}
 use Rattle.definition.specs.Bytes.{Parser, andThen}
 use Rattle.definition.specs.Shapes.{Kind, constant, bootstrap, bootstrapTag, Entry}
-use Rattle.definition.specs.Job.{Reference, raw, entry, name, Definition, define, named, placed, Request, ClassSlot, slot, request, Build, Job}
+use Rattle.definition.specs.Job.{Reference, raw, entry, name, Definition, define, named, placed, setting, Request, ClassSlot, slot, request, Build, Job}
 use Rattle.definition.specs.Job.{Body, bodies, readBody, readDefinition, asks, reference, readRequest, readBuild}
-use Rattle.definition.specs.Form.{Counts, countOf, kindOf, oneMore, counted, hasRoom, cites, citesEarlier, citesRequest, formDefinition, Definitions, formDefinitions, formRequest, nothingBehind, formBuild, Requests, formRequests, form}
+use Rattle.definition.specs.Settings.{Setting, version, texts, highest, isSlot}
+use Rattle.definition.specs.Texts.{isText}
+use Rattle.definition.specs.Form.{Counts, countOf, kindOf, oneMore, firstBroken, withBroken, oneRecord, oneSetting, counted, mayStand, textsHeld, hasRoom, cites, citesEarlier, citesRequest, formDefinition, Definitions, formDefinitions, formRequest, nothingBehind, formBuild, Requests, formRequests, form}
 use Rattle.definition.specs.Numbering.{entries, isBootstrap, constantsOf, bootstrapsOf}
 use Rattle.facts.specs.Lists.{Among}
-use Rattle.facts.proofs.Lists.{clash, none≢some, true≢false, among-later, every-at, only-here, only-later, only-more}
+use Rattle.facts.proofs.Lists.{clash, none≢some, true≢false, both-true, found-inside, found-append, found-seam, place-front, among-nil, among-snoc, among-left, among-right, among-later, every-at, only-here, only-later, only-more}
 use Rattle.facts.proofs.Each.{Each}
-use Rattle.facts.proofs.Outcomes.{Ends, well, refused, next}
+use Rattle.facts.proofs.Outcomes.{Ends, well, refused, next, weaker}
 use Rattle.laws.specs.Statements.{IsBytes}
 use Rattle.laws.specs.Counted.{countIn}
 use Rattle.causes.specs.CauseStatement as CauseStatement
-use Rattle.causes.specs.CauseStatement.{CitesEntry, HasPlace, Stand, noneYet, StandAsked, noneAsked, oneAsked, FormCause, unreadDefinition, tableFull, noEntry, unreadRequest, noEntryAsked, unreadBuild, noRequestCited, bytesBehind, RecordsStand, onlyDefinitions, upToRequests, upToBuild}
+use Rattle.causes.specs.CauseStatement.{CitesEntry, InPlace, NoText, FirstNoText, TextsHeld, HasPlace, Stand, noneYet, misplaced, noHighest, noText, StandAsked, noneAsked, oneAsked, FormCause, unreadDefinition, tableFull, noEntry, unreadRequest, noEntryAsked, unreadBuild, noRequestCited, bytesBehind, RecordsStand, onlyDefinitions, upToRequests, upToBuild}
 use Rattle.laws.proofs.form.ParsersYield.{Byte, each-byte, Yields, yields-fail, yields-return, yields-bind}
 use Rattle.laws.proofs.form.FormedEntries.{OfKind, yields-reference, yields-definition}
 use Rattle.laws.proofs.form.DefinitionsRead.{noEntries}
 use Rattle.causes.proofs.CauseSteps.{unless-cause, whole-cause, at-place}
+
+pub snoc-length : {A : Type 0} (l : List A) (x : A) → length (l ++ x ∷ []) ≡ suc (length l)
+snoc-length l x = length-append l (x ∷ []) ∙ omega arith
+
+pub empty : {A : Type 0} (l : List A) → length l ≡ 0 → l ≡ []
+empty [] e = refl
+empty (x ∷ l) e = clash (omega arith)
+
+-- a number that is no slot
+outside : (top : ℕ) → (leb 1 top && leb top 65534) ≡ false → (top ≡ 0) ⊎ (65534 < top)
+outside top t = go (leb 1 top) refl
+  where
+    go : (b : Bool) → leb 1 top ≡ b → (top ≡ 0) ⊎ (65534 < top)
+    go true e = inr (leb-false top 65534 (sym (ap (λ b. b && leb top 65534) e) ∙ t))
+    go false e = let low = leb-false 1 top e in inl (omega arith)
 
 -- ---- counts are those of the definitions before
 
@@ -42,6 +59,7 @@ entries-snoc [] x = refl
 entries-snoc (define e ∷ ds) x = ap (λ l. e ∷ l) (entries-snoc ds x)
 entries-snoc (named k s r ∷ ds) x = entries-snoc ds x
 entries-snoc (placed k a m ∷ ds) x = entries-snoc ds x
+entries-snoc (setting s ∷ ds) x = entries-snoc ds x
 
 count-snoc-entry :
     (kind : Kind) (ds : List (Definition (List ℕ))) (e : Entry (List ℕ) Reference) →
@@ -85,16 +103,188 @@ counted-entry n e kind = go (eqb (e .tag) bootstrapTag) refl kind
     go false t constant = rw (kind-false (e .tag) t, alone e .0, only-here (λ e. not (isBootstrap e)) e [] (ap not t)) (omega arith)
     go false t bootstrap = rw (kind-false (e .tag) t, alone e .1, only-later isBootstrap e [] t) (omega arith)
 
+same-counts : (n : Counts) (s : Setting) (kind : Kind) → countOf kind (counted (setting s) n) ≡ countOf kind n
+unfolding counted oneRecord oneSetting countOf
+same-counts n (version v) constant = refl
+same-counts n (version v) bootstrap = refl
+same-counts n texts constant = refl
+same-counts n texts bootstrap = refl
+same-counts n (highest t) constant = refl
+same-counts n (highest t) bootstrap = refl
+
+-- what else is counted leaves the entries' counts
+same-record : (n : Counts) (kind : Kind) → countOf kind (oneRecord n) ≡ countOf kind n
+unfolding oneRecord countOf
+same-record n constant = refl
+same-record n bootstrap = refl
+
+same-broken : (o : Option ℕ) (n : Counts) (kind : Kind) → countOf kind (oneRecord (withBroken o n)) ≡ countOf kind n
+unfolding oneRecord withBroken countOf
+same-broken o n constant = refl
+same-broken o n bootstrap = refl
+
 pub counted-snoc : (n : Counts) (ds : List (Definition (List ℕ))) (x : Definition (List ℕ)) → Counted n ds → Counted (counted x n) (ds ++ x ∷ [])
 unfolding counted entries
-counted-snoc n ds (define e) h kind = omega (arith, h kind, counted-entry n e kind, count-snoc-entry kind ds e)
-counted-snoc n ds (named k s r) h kind = h kind ∙ count-same kind ds (ds ++ named k s r ∷ []) (sym (entries-snoc ds (named k s r) ∙ append-nil (entries ds)))
-counted-snoc n ds (placed k a m) h kind = h kind ∙ count-same kind ds (ds ++ placed k a m ∷ []) (sym (entries-snoc ds (placed k a m) ∙ append-nil (entries ds)))
+counted-snoc n ds (define e) h kind = omega (arith, h kind, same-broken (firstBroken (n .records) e (n .broken)) (oneMore (kindOf (e .tag)) n) kind, counted-entry n e kind, count-snoc-entry kind ds e)
+counted-snoc n ds (named k s r) h kind = same-record n kind ∙ h kind ∙ count-same kind ds (ds ++ named k s r ∷ []) (sym (entries-snoc ds (named k s r) ∙ append-nil (entries ds)))
+counted-snoc n ds (placed k a m) h kind = same-record n kind ∙ h kind ∙ count-same kind ds (ds ++ placed k a m ∷ []) (sym (entries-snoc ds (placed k a m) ∙ append-nil (entries ds)))
+counted-snoc n ds (setting (version v)) h kind = same-counts n (version v) kind ∙ h kind ∙ count-same kind ds (ds ++ setting (version v) ∷ []) (sym (entries-snoc ds (setting (version v)) ∙ append-nil (entries ds)))
+counted-snoc n ds (setting texts) h kind = same-counts n texts kind ∙ h kind ∙ count-same kind ds (ds ++ setting texts ∷ []) (sym (entries-snoc ds (setting texts) ∙ append-nil (entries ds)))
+counted-snoc n ds (setting (highest t)) h kind = same-counts n (highest t) kind ∙ h kind ∙ count-same kind ds (ds ++ setting (highest t) ∷ []) (sym (entries-snoc ds (setting (highest t)) ∙ append-nil (entries ds)))
 
 pub nothing-counted : Counted noEntries []
 unfolding countOf countIn constantsOf bootstrapsOf entries only
 nothing-counted constant = refl
 nothing-counted bootstrap = refl
+
+-- ---- the settings and the first text that isn't one are those of the definitions before
+
+-- so many definitions are so
+pub record Seen (P : Definition (List ℕ) → Type 0) (c : ℕ) (ds : List (Definition (List ℕ))) : Type 0 where
+  pub unseen : c ≡ 0 → (x : Definition (List ℕ)) → Among x ds → P x → ⊥
+  pub seen : (c ≡ 0 → ⊥) → (x : Definition (List ℕ)) × Among x ds × P x
+
+module _ (P : Definition (List ℕ) → Type 0) (c : ℕ) (ds : List (Definition (List ℕ))) (x : Definition (List ℕ)) (h : Seen P c ds) where
+  seen-same : (P x → ⊥) → Seen P c (ds ++ x ∷ [])
+  seen-same isnt =
+      record {
+        unseen = λ e y a p. ⊎-elim (λ q. isnt (subst P (sym q) p)) (λ b. h .unseen e y b p) (among-snoc y x ds a);
+        seen = λ n. let s = h .seen n in (s .0, among-left (s .0) ds (x ∷ []) (s .1), s .2);
+      }
+
+  seen-more : P x → Seen P (suc c) (ds ++ x ∷ [])
+  seen-more p = record { unseen = λ e. clash (omega arith); seen = λ _. (x, among-right x ds (x ∷ []) (0, refl), p) }
+
+abbrev pub IsVersion : Definition (List ℕ) → Type 0
+IsVersion x = (w : ℕ) × (x ≡ setting (version w))
+
+abbrev pub IsTexts : Definition (List ℕ) → Type 0
+IsTexts x = x ≡ setting texts
+
+abbrev pub BrokenAt : Option ℕ → List (Definition (List ℕ)) → Type 0
+BrokenAt none ds = (x : Definition (List ℕ)) → Among x ds → NoText x → ⊥
+BrokenAt (some q) ds = FirstNoText ds q
+
+pub record Noted (n : Counts) (ds : List (Definition (List ℕ))) : Type 0 where
+  pub records-are : n .records ≡ length ds
+  pub versions-are : Seen IsVersion (n .versions) ds
+  pub texts-are : Seen IsTexts (n .texts) ds
+  pub broken-is : BrokenAt (n .broken) ds
+
+pub nothing-noted : Noted noEntries []
+nothing-noted =
+    record {
+      records-are = refl;
+      versions-are = record { unseen = λ _ x a. among-nil x a; seen = λ n. absurd (n refl) };
+      texts-are = record { unseen = λ _ x a. among-nil x a; seen = λ n. absurd (n refl) };
+      broken-is = λ x a. among-nil x a;
+    }
+
+module _ (ds : List (Definition (List ℕ))) (x : Definition (List ℕ)) where
+  -- a definition more leaves the first
+  broken-later : (q : ℕ) → FirstNoText ds q → FirstNoText (ds ++ x ∷ []) q
+  broken-later q h =
+      let inside = found-inside ds q (h .text) (h .there) in
+      record {
+        text = h .text;
+        there = found-append ds (x ∷ []) q (h .text) (h .there);
+        is = h .is;
+        first = λ i y less e. h .first i y less (sym (place-front ds (x ∷ []) i (omega arith)) ∙ e);
+      }
+
+  -- a definition more that is no such text
+  broken-same : (o : Option ℕ) → BrokenAt o ds → (NoText x → ⊥) → BrokenAt o (ds ++ x ∷ [])
+  broken-same none h isnt = λ y a t. ⊎-elim (λ q. isnt (subst NoText (sym q) t)) (λ b. h y b t) (among-snoc y x ds a)
+  broken-same (some q) h isnt = broken-later q h
+
+  -- one more that is the first
+  broken-first : BrokenAt none ds → NoText x → FirstNoText (ds ++ x ∷ []) (length ds)
+  broken-first h t =
+      record {
+        text = x;
+        there = found-seam ds x [];
+        is = t;
+        first = λ i y less e. h y (i, sym (place-front ds (x ∷ []) i less) ∙ e);
+      }
+
+-- an entry more
+broken-entry :
+    (ds : List (Definition (List ℕ))) (e : Entry (List ℕ) Reference) (place : ℕ) (o : Option ℕ) → place ≡ length ds → BrokenAt o ds →
+    BrokenAt (firstBroken place e o) (ds ++ define e ∷ [])
+unfolding firstBroken
+broken-entry ds e place (some q) at h = broken-later ds (define e) q h
+broken-entry ds e place none at h = go (eqb (e .tag) 1 && not (isText (e .literal))) refl
+  where
+    go : (b : Bool) → (eqb (e .tag) 1 && not (isText (e .literal))) ≡ b → BrokenAt (firstBroken place e none) (ds ++ define e ∷ [])
+    go true t =
+        let both = both-true (eqb (e .tag) 1) (not (isText (e .literal))) t in
+        rw (t, firstBroken)
+        (subst (FirstNoText (ds ++ define e ∷ [])) (sym at)
+        (broken-first ds (define e) h (e, refl, eqb-true (e .tag) 1 (both .0), not-true (isText (e .literal)) (both .1))))
+    go false t =
+        rw (t, firstBroken)
+        (broken-same ds (define e) none h
+        (λ (e′, q, tag, isnt).
+        let same : e ≡ e′ = cc in
+        true≢false
+        (sym (rw (same, eq-eqb (e′ .tag) 1 tag, isnt)) ∙ t)))
+
+one-more-rest :
+    (k : Kind) (n : Counts) →
+    (oneMore k n .records ≡ n .records) × (oneMore k n .versions ≡ n .versions) × (oneMore k n .texts ≡ n .texts)
+unfolding oneMore
+one-more-rest constant n = (refl, refl, refl)
+one-more-rest bootstrap n = (refl, refl, refl)
+
+plain-both :
+    (n : Counts) (ds : List (Definition (List ℕ))) (x : Definition (List ℕ)) → Noted n ds → (NoText x → ⊥) →
+    (suc (n .records) ≡ length (ds ++ x ∷ [])) × BrokenAt (n .broken) (ds ++ x ∷ [])
+plain-both n ds x h isnt = (ap suc (h .records-are) ∙ sym (snoc-length ds x), broken-same ds x (n .broken) (h .broken-is) isnt)
+
+-- a definition that is neither an entry nor a 47 or 48
+noted-plain :
+    (n : Counts) (ds : List (Definition (List ℕ))) (x : Definition (List ℕ)) → Noted n ds → (IsVersion x → ⊥) → (IsTexts x → ⊥) → (NoText x → ⊥) →
+    Noted (oneRecord n) (ds ++ x ∷ [])
+unfolding oneRecord
+noted-plain n ds x h v t isnt =
+    let both = plain-both n ds x h isnt in
+    record {
+      records-are = both .0;
+      versions-are = seen-same IsVersion (n .versions) ds x (h .versions-are) v;
+      texts-are = seen-same IsTexts (n .texts) ds x (h .texts-are) t;
+      broken-is = both .1;
+    }
+
+pub noted-snoc : (n : Counts) (ds : List (Definition (List ℕ))) (x : Definition (List ℕ)) → Noted n ds → Noted (counted x n) (ds ++ x ∷ [])
+unfolding counted oneRecord withBroken oneSetting
+noted-snoc n ds (define e) h =
+    let rest = one-more-rest (kindOf (e .tag)) n in
+    record {
+      records-are = ap suc (rest .0 ∙ h .records-are) ∙ sym (snoc-length ds (define e));
+      versions-are = subst (λ c. Seen IsVersion c (ds ++ define e ∷ [])) (sym (rest .1)) (seen-same IsVersion (n .versions) ds (define e) (h .versions-are) (λ (w, q). clash (cc)));
+      texts-are = subst (λ c. Seen IsTexts c (ds ++ define e ∷ [])) (sym (rest .2)) (seen-same IsTexts (n .texts) ds (define e) (h .texts-are) (λ q. clash (cc)));
+      broken-is = broken-entry ds e (n .records) (n .broken) (h .records-are) (h .broken-is);
+    }
+noted-snoc n ds (named k s r) h = noted-plain n ds (named k s r) h (λ (w, q). clash (cc)) (λ q. clash (cc)) (λ (e, q, _, _). clash (cc))
+noted-snoc n ds (placed k a m) h = noted-plain n ds (placed k a m) h (λ (w, q). clash (cc)) (λ q. clash (cc)) (λ (e, q, _, _). clash (cc))
+noted-snoc n ds (setting (version v)) h =
+    let plain = plain-both n ds (setting (version v)) h (λ (e, q, _, _). clash (cc)) in
+    record {
+      records-are = plain .0;
+      versions-are = seen-more IsVersion (n .versions) ds (setting (version v)) (h .versions-are) (v, refl);
+      texts-are = seen-same IsTexts (n .texts) ds (setting (version v)) (h .texts-are) (λ q. clash (cc));
+      broken-is = plain .1;
+    }
+noted-snoc n ds (setting texts) h =
+    let plain = plain-both n ds (setting texts) h (λ (e, q, _, _). clash (cc)) in
+    record {
+      records-are = plain .0;
+      versions-are = seen-same IsVersion (n .versions) ds (setting texts) (h .versions-are) (λ (w, q). clash (cc));
+      texts-are = seen-more IsTexts (n .texts) ds (setting texts) (h .texts-are) refl;
+      broken-is = plain .1;
+    }
+noted-snoc n ds (setting (highest t)) h =
+    noted-plain n ds (setting (highest t)) h (λ (w, q). clash (cc)) (λ q. clash (cc)) (λ (e, q, _, _). clash (cc))
 
 -- a request that can't be read has a reference that can't be
 andThen-none : {A B : Type 0} (o : Option (A × List ℕ)) (f : A → Parser B) → ((a : A) (rest : List ℕ) → f a rest ≡ none → ⊥) → andThen o f ≡ none → o ≡ none
@@ -107,13 +297,10 @@ request-unread ldc left e = andThen-none (reference constant left) _ (λ r rest 
 
 -- ---- records that stand take a byte each
 
-pub snoc-length : {A : Type 0} (l : List A) (x : A) → length (l ++ x ∷ []) ≡ suc (length l)
-snoc-length l x = length-append l (x ∷ []) ∙ omega arith
-
 module _ (bytes : List ℕ) (are : Each Byte bytes) where
   pub stand-length : {ds : List (Definition (List ℕ))} {left : List ℕ} → Stand bytes ds left → (length ds + length left ≤ length bytes) × Each Byte left
   stand-length noneYet = (omega arith, are)
-  stand-length (CauseStatement.oneMore ds first left x rest st ne read place cited) =
+  stand-length (CauseStatement.oneMore ds first left x rest st ne read stands place cited held) =
       let h = stand-length st in
       let g = yields-definition first left (h .1 .1) x rest read in
       (omega (arith, snoc-length ds x, h .0, g .fewer), g .bytes)
@@ -171,6 +358,7 @@ module _ (bytes : List ℕ) (are : Each Byte bytes) where
       (n : Counts)
       (ds : List (Definition (List ℕ)))
       (count : Counted n ds)
+      (noted : Noted n ds)
       (first : ℕ)
       (left : List ℕ)
       (st : Stand bytes ds (first ∷ left))
@@ -194,6 +382,40 @@ module _ (bytes : List ℕ) (are : Each Byte bytes) where
         tableFull ds first left e rest st ne read (omega (arith, ltb-false (countOf (kindOf (e .tag)) n) 65536 t, count (kindOf (e .tag))))
     five (named k s r) rest read t = true≢false t
     five (placed k a m) rest read t = true≢false t
+    five (setting s) rest read t = true≢false t
+
+    -- a setting where it can stand, or 3; then 26
+    stands-cause : (x : Definition (List ℕ)) (rest : List ℕ) → readDefinition first left ≡ some (x, rest) → Ends Z (λ _. InPlace ds x) (mayStand n x)
+    unfolding mayStand isSlot
+    stands-cause (define e) rest read = well tt
+    stands-cause (named k s r) rest read = well tt
+    stands-cause (placed k a m) rest read = well tt
+    stands-cause (setting (version v)) rest read =
+        weaker (λ _ z. z)
+        (λ _ t (w, a). noted .versions-are .unseen (eqb-true (n .versions) 0 t) (setting (version w)) a (w, refl))
+        (unless-cause (eqb (n .versions) 0) 3
+        (λ t.
+        let (x, a, (w, q)) = noted .versions-are .seen (eqb-false (n .versions) 0 t) in
+        misplaced ds first left (version v) rest st ne read (w, subst (λ y. Among y ds) q a)))
+    stands-cause (setting texts) rest read =
+        weaker (λ _ z. z)
+        (λ _ t a. noted .texts-are .unseen (eqb-true (n .texts) 0 t) (setting texts) a refl)
+        (unless-cause (eqb (n .texts) 0) 3
+        (λ t.
+        let (x, a, q) = noted .texts-are .seen (eqb-false (n .texts) 0 t) in
+        misplaced ds first left texts rest st ne read (subst (λ y. Among y ds) q a)))
+    stands-cause (setting (highest top)) rest read =
+        next _
+        (unless-cause (eqb (n .records) 0) 3
+        (λ t. misplaced ds first left (highest top) rest st ne read (λ q. eqb-false (n .records) 0 t (noted .records-are ∙ ap length q)))) λ _ t.
+        let none-yet : ds ≡ [] = empty ds (sym (noted .records-are) ∙ eqb-true (n .records) 0 t) in
+        weaker (λ _ z. z)
+        (λ _ t.
+        let both = both-true (leb 1 top) (leb top 65534) t in
+        (none-yet, leb-true 1 top (both .0), leb-true top 65534 (both .1)))
+        (unless-cause (leb 1 top && leb top 65534) 26 (λ t.
+        subst (λ ds. FormCause bytes 26 (length ds)) (sym none-yet)
+        (noHighest first left top rest (subst (λ ds. Stand bytes ds (first ∷ left)) none-yet st) ne read (outside top t))))
 
     has-place : (x : Definition (List ℕ)) → hasRoom n x ≡ true → HasPlace ds x
     unfolding hasRoom
@@ -203,31 +425,73 @@ module _ (bytes : List ℕ) (are : Each Byte bytes) where
         (omega (arith, ltb-true (countOf (kindOf (e .tag)) n) 65536 t, count (kindOf (e .tag))))
     has-place (named k s r) t e′ q = clash (cc)
     has-place (placed k a m) t e′ q = clash (cc)
+    has-place (setting s) t e′ q = clash (cc)
 
-    four : (x : Definition (List ℕ)) (rest : List ℕ) → readDefinition first left ≡ some (x, rest) → HasPlace ds x → citesEarlier n x ≡ false → Z 4
+    four : (x : Definition (List ℕ)) (rest : List ℕ) → readDefinition first left ≡ some (x, rest) → InPlace ds x → HasPlace ds x → citesEarlier n x ≡ false → Z 4
     unfolding citesEarlier
-    four (define e) rest read place t =
+    four (define e) rest read stands place t =
         let h = some-uncited n ds count (e .kids) t in
-        noEntry ds first left (define e) rest (h .0) (h .1) st ne read place (h .2) (h .3)
-    four (named k s r) rest read place t =
+        noEntry ds first left (define e) rest (h .0) (h .1) st ne read stands place (h .2) (h .3)
+    four (named k s r) rest read stands place t =
         let h = uncited n ds count r t in
-        noEntry ds first left (named k s r) rest (h .0) (h .1) st ne read place (h .2) (h .3)
-    four (placed k a m) rest read place t =
-        noEntry ds first left (placed k a m) rest k m st ne read place (refl, refl) (omega (arith, ltb-false m (countOf k n) t, count k))
+        noEntry ds first left (named k s r) rest (h .0) (h .1) st ne read stands place (h .2) (h .3)
+    four (placed k a m) rest read stands place t =
+        noEntry ds first left (placed k a m) rest k m st ne read stands place (refl, refl) (omega (arith, ltb-false m (countOf k n) t, count k))
+    four (setting s) rest read stands place t = true≢false t
 
     pub all-cited : (x : Definition (List ℕ)) → citesEarlier n x ≡ true → (kind : Kind) (m : ℕ) → CitesEntry x kind m → m < countIn kind ds
     unfolding citesEarlier
     all-cited (define e) t kind m c = cited-there n ds count (entry kind m) kind m (every-at (cites n) (e .kids) t (c .0) (entry kind m) (c .1)) refl
     all-cited (named k s r) t kind m c = cited-there n ds count r kind m t c
+    all-cited (setting s) t kind m c = absurd c
     all-cited (placed k a j) t kind m c = subst (λ kind. m < countIn kind ds) (c .0) (omega (arith, ltb-true j (countOf k n) t, count k, c .1))
 
-    definition-cause : Ends Z (λ r. Stand bytes (ds ++ r .0 ∷ []) (r .1)) (formDefinition n first left)
+    -- what was read and judged, but for the texts
+    record Judged (r : Definition (List ℕ) × List ℕ) : Type 0 where
+      reads : readDefinition first left ≡ some r
+      stands : InPlace ds (r .0)
+      place : HasPlace ds (r .0)
+      cited : (kind : Kind) (m : ℕ) → CitesEntry (r .0) kind m → m < countIn kind ds
+
+    definition-cause : Ends Z Judged (formDefinition n first left)
     unfolding formDefinition
     definition-cause =
         next _ (whole-cause (readDefinition first left) three) λ r read.
+        next _ (stands-cause (r .0) (r .1) read) λ _ stands.
         next _ (unless-cause (hasRoom n (r .0)) 5 (five (r .0) (r .1) read)) λ _ room.
-        next _ (unless-cause (citesEarlier n (r .0)) 4 (four (r .0) (r .1) read (has-place (r .0) room))) λ _ cited.
-        well {a = r} (CauseStatement.oneMore ds first left (r .0) (r .1) st ne read (has-place (r .0) room) (all-cited (r .0) cited))
+        next _ (unless-cause (citesEarlier n (r .0)) 4 (four (r .0) (r .1) read stands (has-place (r .0) room))) λ _ cited.
+        well {a = r} (record { reads = read; stands = stands; place = has-place (r .0) room; cited = all-cited (r .0) cited })
+
+    -- the texts are held, or 25 at the first that isn't one
+    texts-cause :
+        (r : Definition (List ℕ) × List ℕ) → Judged r →
+        Ends (λ (e : Refusal). FormCause bytes (e .code) (e .place)) (λ _. Stand bytes (ds ++ r .0 ∷ []) (r .1)) (textsHeld (counted (r .0) n))
+    unfolding textsHeld
+    texts-cause r j = go (counted (r .0) n .broken) refl (noted′ .broken-is)
+      where
+        noted′ : Noted (counted (r .0) n) (ds ++ r .0 ∷ [])
+        noted′ = noted-snoc n ds (r .0) noted
+
+        now-stands : TextsHeld (ds ++ r .0 ∷ []) → Stand bytes (ds ++ r .0 ∷ []) (r .1)
+        now-stands held =
+            CauseStatement.oneMore ds first left (r .0) (r .1) st ne (j .reads) (j .stands) (j .place) (j .cited) held
+
+        go :
+            (o : Option ℕ) → counted (r .0) n .broken ≡ o → BrokenAt (counted (r .0) n .broken) (ds ++ r .0 ∷ []) →
+            Ends (λ (e : Refusal). FormCause bytes (e .code) (e .place)) (λ _. Stand bytes (ds ++ r .0 ∷ []) (r .1)) (textsHeld (counted (r .0) n))
+        go none e b =
+            let b′ = subst (λ o. BrokenAt o (ds ++ r .0 ∷ [])) e b in
+            rw (e, textsHeld) (well (now-stands (λ _ x a t. b′ x a t)))
+        go (some q) e b =
+            let b′ = subst (λ o. BrokenAt o (ds ++ r .0 ∷ [])) e b in
+            rw (e, textsHeld)
+            (at-place (FormCause bytes) q
+            (weaker (λ _ z. z)
+            (λ _ t. now-stands (λ a. absurd (noted′ .texts-are .unseen (eqb-true (counted (r .0) n .texts) 0 t) (setting texts) a refl)))
+            (unless-cause (eqb (counted (r .0) n .texts) 0) 25
+            (λ t.
+            let (x, a, s) = noted′ .texts-are .seen (eqb-false (counted (r .0) n .texts) 0 t) in
+            noText ds first left (r .0) (r .1) q st ne (j .reads) (j .stands) (j .place) (j .cited) (subst (λ y. Among y (ds ++ r .0 ∷ [])) s a) b′))))
 
   -- ---- the definitions
 
@@ -243,18 +507,19 @@ module _ (bytes : List ℕ) (are : Each Byte bytes) where
       (fuel : ℕ) (n : Counts) (ds : List (Definition (List ℕ))) (left : List ℕ) →
       length bytes ≤ fuel + length ds →
       Counted n ds →
+      Noted n ds →
       Stand bytes ds left →
       Ends Z₀ (Ended ds) (formDefinitions fuel n (length ds) left)
   unfolding formDefinitions
-  definitions-cause zero n ds [] enough count st = refused (unreadDefinition ds [] st tt)
-  definitions-cause zero n ds (first ∷ left) enough count st = absurd (omega (arith, stand-length st .0))
-  definitions-cause (suc fuel) n ds [] enough count st = refused (unreadDefinition ds [] st tt)
-  definitions-cause (suc fuel) n ds (first ∷ left) enough count st = go (eqb first 0x50) refl (definitions-cause fuel)
+  definitions-cause zero n ds [] enough count noted st = refused (unreadDefinition ds [] st tt)
+  definitions-cause zero n ds (first ∷ left) enough count noted st = absurd (omega (arith, stand-length st .0))
+  definitions-cause (suc fuel) n ds [] enough count noted st = refused (unreadDefinition ds [] st tt)
+  definitions-cause (suc fuel) n ds (first ∷ left) enough count noted st = go (eqb first 0x50) refl (definitions-cause fuel)
     where
       go :
           (b : Bool) →
           eqb first 0x50 ≡ b →
-          ((n : Counts) (ds : List (Definition (List ℕ))) (left : List ℕ) → length bytes ≤ fuel + length ds → Counted n ds → Stand bytes ds left →
+          ((n : Counts) (ds : List (Definition (List ℕ))) (left : List ℕ) → length bytes ≤ fuel + length ds → Counted n ds → Noted n ds → Stand bytes ds left →
           Ends Z₀ (Ended ds) (formDefinitions fuel n (length ds) left)) →
           Ends Z₀ (Ended ds) (formDefinitions (suc fuel) n (length ds) (first ∷ left))
       go true t rest =
@@ -266,11 +531,12 @@ module _ (bytes : List ℕ) (are : Each Byte bytes) where
           }))
       go false t rest =
           rw (t, formDefinitions)
-          (next _ (at-place (FormCause bytes) (length ds) (definition-cause n ds count first left st (eqb-false first 0x50 t))) λ r st₁.
+          (next _ (at-place (FormCause bytes) (length ds) (definition-cause n ds count noted first left st (eqb-false first 0x50 t))) λ r j.
+          next _ (texts-cause n ds count noted first left st (eqb-false first 0x50 t) r j) λ _ st₁.
           let longer : length (ds ++ r .0 ∷ []) ≡ suc (length ds) = snoc-length ds (r .0) in
           next _
           (subst (λ p. Ends Z₀ (Ended (ds ++ r .0 ∷ [])) (formDefinitions fuel (counted (r .0) n) p (r .1))) longer
-          (rest (counted (r .0) n) (ds ++ r .0 ∷ []) (r .1) (omega (arith, longer, enough)) (counted-snoc n ds (r .0) count) st₁)) λ d h.
+          (rest (counted (r .0) n) (ds ++ r .0 ∷ []) (r .1) (omega (arith, longer, enough)) (counted-snoc n ds (r .0) count) (noted-snoc n ds (r .0) noted) st₁)) λ d h.
           well
           (record {
             stands = subst (λ l. Stand bytes l (0x50 ∷ d .rest)) (append-assoc ds (r .0 ∷ []) (d .list)) (h .stands);
@@ -379,12 +645,12 @@ module _ (bytes : List ℕ) (are : Each Byte bytes) where
 abbrev pub Standing : List ℕ → Job (List ℕ) → Type 0
 Standing bytes job = (left : List ℕ) × StandAsked bytes (job .definitions) (job .requests) (0x60 ∷ left)
 
--- CAUSE of 3, 4 and 5: what the form pass is refused for
+-- CAUSE of 3, 4, 5, 25 and 26: what the form pass is refused for
 pub causeOfForm : (bytes : List ℕ) → IsBytes bytes → Ends (λ e. FormCause bytes (e .code) (e .place)) (Standing bytes) (form bytes)
 unfolding form
 causeOfForm bytes are =
     let b = each-byte bytes are in
-    next _ (definitions-cause bytes b (length bytes) noEntries [] bytes (omega arith) nothing-counted noneYet) λ d h.
+    next _ (definitions-cause bytes b (length bytes) noEntries [] bytes (omega arith) nothing-counted nothing-noted noneYet) λ d h.
     let place : suc (length (d .list)) + 0 ≡ suc (length (d .list)) = omega arith in
     next _
     (subst (λ p. Ends (λ e. FormCause bytes (e .code) (e .place)) (Built bytes b (d .counts) (d .list) (h .counts) []) (formRequests (length bytes) (d .counts) 0 p (d .rest))) place
@@ -397,13 +663,21 @@ causeOfForm bytes are =
 pub records-stand : (bytes : List ℕ) (job : Job (List ℕ)) → Standing bytes job → RecordsStand bytes (suc (length (job .definitions)) + length (job .requests))
 records-stand bytes job (left, st) = upToRequests (job .definitions) (job .requests) (0x60 ∷ left) st
 
--- a refusal of the form lies right behind the records that stand
-pub form-bounds : {bytes : List ℕ} {code place : ℕ} → FormCause bytes code place → (3 ≤ code) × (code ≤ 5) × RecordsStand bytes place
-form-bounds (unreadDefinition ds left st h) = (omega arith, omega arith, onlyDefinitions ds left st)
-form-bounds (tableFull ds first left e rest st ne read full) = (omega arith, omega arith, onlyDefinitions ds (first ∷ left) st)
-form-bounds (noEntry ds first left x rest kind n st ne read place c l) = (omega arith, omega arith, onlyDefinitions ds (first ∷ left) st)
-form-bounds (unreadRequest ds qs left st h) = (omega arith, omega arith, upToRequests ds qs left st)
-form-bounds (noEntryAsked ds qs first left q rest kind n st ne read c l) = (omega arith, omega arith, upToRequests ds qs (first ∷ left) st)
-form-bounds (unreadBuild ds qs left st read) = (omega arith, omega arith, upToRequests ds qs (0x60 ∷ left) st)
-form-bounds (noRequestCited ds qs left b rest n st read c l) = (omega arith, omega arith, upToRequests ds qs (0x60 ∷ left) st)
-form-bounds (bytesBehind ds qs left b more rest st read c) = (omega arith, omega arith, upToBuild ds qs left b (more ∷ rest) st read c)
+-- a refusal of the form lies right behind the records that stand; that of a text among them
+pub form-bounds :
+    {bytes : List ℕ} {code place : ℕ} → FormCause bytes code place →
+    (3 ≤ code) × ((code ≤ 5) ⊎ ((25 ≤ code) × (code ≤ 26))) × ((n : ℕ) × RecordsStand bytes n × (place ≤ n))
+form-bounds (unreadDefinition ds left st h) = (omega arith, inl (omega arith), (_, onlyDefinitions ds left st, omega arith))
+form-bounds (misplaced ds first left s rest st ne read m) = (omega arith, inl (omega arith), (_, onlyDefinitions ds (first ∷ left) st, omega arith))
+form-bounds (noHighest first left top rest st ne read o) = (omega arith, inr (omega arith, omega arith), (_, onlyDefinitions [] (first ∷ left) st, omega arith))
+form-bounds (tableFull ds first left e rest st ne read full) = (omega arith, inl (omega arith), (_, onlyDefinitions ds (first ∷ left) st, omega arith))
+form-bounds (noEntry ds first left x rest kind n st ne read s place c l) = (omega arith, inl (omega arith), (_, onlyDefinitions ds (first ∷ left) st, omega arith))
+form-bounds (noText ds first left x rest q st ne read s place c t b) =
+    let inside = found-inside (ds ++ x ∷ []) q (b .text) (b .there) in
+    let longer = snoc-length ds x in
+    (omega arith, inr (omega arith, omega arith), (length ds, onlyDefinitions ds (first ∷ left) st, omega arith))
+form-bounds (unreadRequest ds qs left st h) = (omega arith, inl (omega arith), (_, upToRequests ds qs left st, omega arith))
+form-bounds (noEntryAsked ds qs first left q rest kind n st ne read c l) = (omega arith, inl (omega arith), (_, upToRequests ds qs (first ∷ left) st, omega arith))
+form-bounds (unreadBuild ds qs left st read) = (omega arith, inl (omega arith), (_, upToRequests ds qs (0x60 ∷ left) st, omega arith))
+form-bounds (noRequestCited ds qs left b rest n st read c l) = (omega arith, inl (omega arith), (_, upToRequests ds qs (0x60 ∷ left) st, omega arith))
+form-bounds (bytesBehind ds qs left b more rest st read c) = (omega arith, inl (omega arith), (_, upToBuild ds qs left b (more ∷ rest) st read c, omega arith))

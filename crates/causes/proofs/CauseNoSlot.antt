@@ -11,6 +11,7 @@ use borrow.Author.Tests.{leb-true, leb-false}
 use Rattle.definition.specs.Basics.{good, bad, lookup}
 use Rattle.definition.specs.Shapes.{isWide}
 use Rattle.definition.specs.Job.{Job}
+use Rattle.definition.specs.Numbering.{topOf}
 use Rattle.definition.specs.Definitions.{Held, Defined, tagAt, defineAll, nothingDefined}
 use Rattle.definition.specs.Resolving.{Node}
 use Rattle.definition.specs.Slots.{Gap, size, Slots, wideSlot, slotFor}
@@ -156,17 +157,17 @@ above top held nodes p k s p′ o e high = go (met nodes true k s p p′ e)
 module _
     (job : Job (List ℕ))
     (d : Defined)
-    (defined : defineAll 65534 (constants job) 0 (all job) nothingDefined ≡ good d)
+    (defined : defineAll (topOf job) (constants job) 0 (all job) nothingDefined ≡ good d)
     (nodes : List Node)
     (p : Pool)
-    (o : Occurs 65534 (d .held) nodes p)
+    (o : Occurs (topOf job) (d .held) nodes p)
     (k : ℕ) where
   pub pool-lacks : (code : ℕ) → allocate nodes false k p ≡ bad code → Lacks job nodes k p
   pool-lacks code e =
-      let (unheld, none-free) = lacks 65534 (d .held) nodes p false k code o e in
+      let (unheld, none-free) = lacks (topOf job) (d .held) nodes p false k code o e in
       (unheld, noSlot-same (λ w. w) (λ w. w) (free-pool job d defined nodes p o) none-free)
 
   pub lacks-pool : Lacks job nodes k p → allocate nodes false k p ≡ bad 14
   unfolding noSlot
   lacks-pool (unheld, none-free) =
-      lacks-refused 65534 (d .held) nodes p false k o unheld (noSlot-same (λ w. w) (λ w. w) (pool-free job d defined nodes p o) none-free)
+      lacks-refused (topOf job) (d .held) nodes p false k o unheld (noSlot-same (λ w. w) (λ w. w) (pool-free job d defined nodes p o) none-free)

@@ -12,7 +12,7 @@ use lib.ListN.{length, getElem?}
 use borrow.Author.Tests.{lt-ltb, le-ltb}
 use Rattle.definition.specs.Basics.{same}
 use Rattle.definition.specs.Shapes.{Kind, constant, bootstrap, Entry, withLiteral}
-use Rattle.definition.specs.Job.{Reference, raw, entry, name, Definition, define, named, placed, Job}
+use Rattle.definition.specs.Job.{Reference, raw, entry, name, Definition, define, named, placed, setting, Job}
 use Rattle.definition.specs.Numbering.{constantsOf, bootstrapsOf, literals, numberedEntry, numberedDefinition, numbered}
 use Rattle.definition.specs.Definitions.{Naming, sameKind, nameTarget}
 use Rattle.definition.specs.Resolving.{Goal, tableEntry, refusal, placeOf, follow, goalOf, Resolved, resolve}
@@ -45,6 +45,8 @@ named-found (define x ∷ ds) kind s t zero at e = clash (cc)
 named-found (define x ∷ ds) kind s t (suc i) at e = named-found ds kind s t i at e
 named-found (placed k a m ∷ ds) kind s t zero at e = clash (cc)
 named-found (placed k a m ∷ ds) kind s t (suc i) at e = named-found ds kind s t i at e
+named-found (setting v ∷ ds) kind s t zero at e = clash (cc)
+named-found (setting v ∷ ds) kind s t (suc i) at e = named-found ds kind s t i at e
 named-found (named k l u ∷ ds) kind s t zero at e =
     let q₁ : k ≡ kind = cc in
     let q₂ : l ≡ s = cc in

@@ -13,10 +13,11 @@ use Rattle.definition.specs.Basics.{good, bad, Refusal, position}
 use Rattle.definition.specs.Shapes.{Kind, constant, bootstrap, Entry}
 use Rattle.definition.specs.Job.{Reference, entry, placed, Request, Job}
 use Rattle.definition.specs.Form.{form}
-use Rattle.definition.specs.Numbering.{bootstrapsOf, literals, numberedDefinition, numbered}
+use Rattle.definition.specs.Settings.{known}
+use Rattle.definition.specs.Numbering.{topOf, bootstrapsOf, literals, numberedDefinition, numbered}
 use Rattle.definition.specs.Definitions.{Naming, Defined, defineAll, nothingDefined, tagAt}
 use Rattle.definition.specs.Resolving.{Goal, rawNumber, tableEntry, refusal, placeOf, follow, goalOf, linked, Node, done, Resolved, sameNode, intern, childOf, resolve, resolveAll, nothingResolved}
-use Rattle.definition.specs.Slots.{highestSlot, highestLdc}
+use Rattle.definition.specs.Slots.{highestLdc}
 use Rattle.definition.specs.Building.{Pool, noSlot, allocate, slotOf, slotsOf, Row, rowIndex, Made, buildAll, attributeText, kidsOf, nameWanted, nameSlot}
 use Rattle.definition.specs.Layout.{starters, Ready, endDefinitions, answer, answerAll, buildLayout, layout}
 use Rattle.facts.specs.Lists.{Among}
@@ -24,7 +25,7 @@ use Rattle.facts.proofs.Lists.{clash, some-inj, among-either, among-later, unma
 use Rattle.facts.proofs.Outcomes.{Ends, well, next, weaker, ended, known-good, Anything}
 use Rattle.laws.specs.Statements.{IsBytes}
 use Rattle.laws.specs.Faithful.{InTable, Settled, Faithful}
-use Rattle.causes.specs.CauseStatement.{requestPlace, Resolves, byRaw, byRequest, ResolvingCause, Behind, behind50, behindRequest, AsksFor, HasSlot, AllAnswered, NextNumber, buildPlace, goalIn, SlotCause, noSlotAsked, noLdcSlotAsked, rawAbove, slotAbove, pairAbove, rawLacks, childLacks, bootstrapLacks, nameLacks, noIndex, DefinitionCause, Lacks}
+use Rattle.causes.specs.CauseStatement.{requestPlace, Resolves, byRaw, byRequest, ResolvingCause, Behind, behind50, behindRequest, AsksFor, HasSlot, AllAnswered, NextNumber, buildPlace, goalIn, SlotCause, noSlotAsked, noLdcSlotAsked, rawAbove, slotAbove, pairAbove, rawLacks, childLacks, bootstrapLacks, nameLacks, noIndex, tooNew, DefinitionCause, Lacks}
 use Rattle.laws.proofs.form.CitedEntries.{Cites, Cited, placed-cited}
 use Rattle.laws.proofs.form.FormedJobs.{form-formed}
 use Rattle.laws.proofs.definitions.DefinedAsPlaced.{DefinedFacts, wideAt, defined-facts, starters-start}
@@ -44,6 +45,7 @@ use Rattle.laws.proofs.runs.IndexOccurs.{indexOccurs}
 use Rattle.causes.proofs.CauseSteps.{unless-cause, at-place}
 use Rattle.causes.proofs.CauseDefinitions.{placed-back, causeOfDefinitions}
 use Rattle.causes.proofs.CauseReached.{causeOfResolving}
+use Rattle.causes.proofs.CauseVersion.{building-version}
 use Rattle.causes.proofs.CauseBuilding.{slotOf-good, causeInBuilding}
 use Rattle.causes.proofs.CauseForm.{snoc-length}
 use Rattle.causes.proofs.CauseNoSlot.{pool-lacks}
@@ -75,9 +77,9 @@ module _ (bytes : List ℕ) (job : Job (List ℕ)) (are : IsBytes bytes) (formed
   resolving-later place code (inl z) = inl z
   resolving-later place code (inr c) = inr (inl c)
 
-  module _ (d : Defined) (isDefined : defineAll 65534 (constantsIn (numbered job)) 0 (numbered job .definitions) nothingDefined ≡ good d) where
+  module _ (d : Defined) (isDefined : defineAll (topOf job) (constantsIn (numbered job)) 0 (numbered job .definitions) nothingDefined ≡ good d) where
     facts : DefinedFacts (wideAt (constantsIn (numbered job))) (numbered job .definitions) d
-    facts = defined-facts 65534 (constantsIn (numbered job)) (numbered job .definitions) d isDefined
+    facts = defined-facts (topOf job) (constantsIn (numbered job)) (numbered job .definitions) d isDefined
 
     same-names : d .names ≡ names
     same-names = begun-names bytes job are formed d isDefined
@@ -130,10 +132,10 @@ module _ (bytes : List ℕ) (job : Job (List ℕ)) (are : IsBytes bytes) (formed
         all-raws goals s′ (λ g′ a. h g′ (among-later g′ g goals a)) (resolve-faithful table g s s′ (fine .cited) inside f (k .1) .0)
 
     -- CAUSE at record 50
-    causeOfFifty : Ends (λ code. Later code (length (job .definitions))) Anything (endDefinitions 65534 (tableIn (numbered job) d) size d)
+    causeOfFifty : Ends (λ code. Later code (length (job .definitions))) Anything (endDefinitions (topOf job) (tableIn (numbered job) d) size d)
     unfolding endDefinitions
     causeOfFifty =
-        subst (λ t. Ends (λ code. Later code (length (job .definitions))) Anything (endDefinitions 65534 t size d)) (sym same-table)
+        subst (λ t. Ends (λ code. Later code (length (job .definitions))) Anything (endDefinitions (topOf job) t size d)) (sym same-table)
         (next _
         (weaker (λ code h. resolving-later (length (job .definitions)) code h) (λ a k. k)
         (all-raws (rawGoals size d) (nothingResolved table) raws (nothing-faithful table (fine .cited)))) λ s _. well tt)
@@ -297,7 +299,7 @@ module _ (bytes : List ℕ) (job : Job (List ℕ)) (are : IsBytes bytes) (formed
         well {a = (r .0 ∷ rest .0, rest .1)} h
 
     -- what is kept behind record 50
-    behind-fifty : (w : Ready) → endDefinitions 65534 (tableIn (numbered job) d) size d ≡ good w → Before [] (numbered job .requests) w
+    behind-fifty : (w : Ready) → endDefinitions (topOf job) (tableIn (numbered job) d) size d ≡ good w → Before [] (numbered job .requests) w
     unfolding numbered
     behind-fifty w ready =
         record {
@@ -343,7 +345,7 @@ module _ (bytes : List ℕ) (job : Job (List ℕ)) (are : IsBytes bytes) (formed
           Y code
       row-refused n row p code tag slots q is e =
           let rows = n .rows in
-          let o = indexOccurs highestSlot (numbered job) row rows (record { defined = d; state = w; reached = all-reaches bytes job are formed d b; rowsIn = q; rowOf = is }) in
+          let o = indexOccurs (topOf job) (numbered job) row rows (record { defined = d; state = w; reached = all-reaches bytes job are formed d b; rowsIn = q; rowOf = is }) in
           let number = rowIndex-refused row code rows e in
           let why = exactlySeventeen rows row o .0 (subst (λ c. rowIndex row rows ≡ bad c) number e) in
           inr (inr (subst (λ code. SlotCause job code (buildPlace job)) (sym number) (noIndex d w b n row p tag slots (why .0) (λ i l. used-raw job d isDefined nodes size (w .resolved .marks) (w .pool) q i (why .1 i (omega (arith, l)))))))
@@ -368,7 +370,7 @@ module _ (bytes : List ℕ) (job : Job (List ℕ)) (are : IsBytes bytes) (formed
           well tt
 
       -- CAUSE at the build record
-      causeOfBuild : (answers : List ℕ) → Ends Y Anything (buildLayout 65534 indexes (numbered job .build) answers w)
+      causeOfBuild : (answers : List ℕ) → Ends Y Anything (buildLayout (topOf job) indexes (numbered job .build) answers w)
       unfolding buildLayout
       causeOfBuild answers =
           next _
@@ -377,7 +379,9 @@ module _ (bytes : List ℕ) (job : Job (List ℕ)) (are : IsBytes bytes) (formed
           (λ r c l. inr (inr (rawLacks d w b r c l)))
           (λ n tag l. inr (inr (childLacks d w b n tag l)))
           (λ n tag c l. inr (inr (bootstrapLacks d w b n tag c l)))
-          row-refused)) λ m k.
+          row-refused
+          (λ slot owner pending m st o t.
+          inr (inr (tooNew d w b slot owner pending m st (subst (λ v. known v (tagAt nodes owner) ≡ false) (building-version job d (b .2) o) t)))))) λ m k.
           next _ (name-cause (nameWanted (numbered job .build .nameByte) (length (rowsIn m))) m (k .1) refl) λ s _. well tt
 
   -- ---- the layout
@@ -394,24 +398,24 @@ module _ (bytes : List ℕ) (job : Job (List ℕ)) (are : IsBytes bytes) (formed
   InTurn code place = DefinitionCause job code place ⊎ Later code place
 
   -- CAUSE of a job that is formed: what its records in turn are refused for, or 0 for want of fuel
-  pub causeOfRecords : Ends (λ e. InTurn (e .code) (e .place)) Anything (layout 65534 (numbered job))
+  pub causeOfRecords : Ends (λ e. InTurn (e .code) (e .place)) Anything (layout (topOf job) (numbered job))
   unfolding layout
   causeOfRecords =
       next _
       (weaker (λ e h. inl h) (λ a k. k)
-      (known-good (defineAll 65534 (constantsIn (numbered job)) 0 (numbered job .definitions) nothingDefined) (causeOfDefinitions job (form-formed bytes job are formed)))) λ d defined.
+      (known-good (defineAll (topOf job) (constantsIn (numbered job)) 0 (numbered job .definitions) nothingDefined) (causeOfDefinitions job (form-formed bytes job are formed)))) λ d defined.
       next _
       (weaker (λ e h. inr h) (λ a k. k)
       (at-place Later (length (numbered job .definitions))
-      (subst (λ p. Ends (λ code. Later code p) (λ w. Unit {0} × (endDefinitions 65534 (tableIn (numbered job) d) size d ≡ good w)) (endDefinitions 65534 (tableIn (numbered job) d) size d)) (sym same-ended)
-      (known-good (endDefinitions 65534 (tableIn (numbered job) d) size d) (causeOfFifty d (defined .1)))))) λ w ready.
+      (subst (λ p. Ends (λ code. Later code p) (λ w. Unit {0} × (endDefinitions (topOf job) (tableIn (numbered job) d) size d ≡ good w)) (endDefinitions (topOf job) (tableIn (numbered job) d) size d)) (sym same-ended)
+      (known-good (endDefinitions (topOf job) (tableIn (numbered job) d) size d) (causeOfFifty d (defined .1)))))) λ w ready.
       next _
       (weaker (λ e h. inr h) (λ a k. k)
       (subst (λ p. Ends (λ e. Later (e .code) (e .place)) (λ r. AllAnswered job d (r .1)) (answerAll (d .names) size p (numbered job .requests) w)) first-place
       (all-answered d (defined .1) [] (numbered job .requests) w (behind-fifty d (defined .1) w (ready .1))))) λ r b.
       weaker (λ e h. inr h) (λ a k. k)
       (at-place Later _
-      (subst (λ p. Ends (λ code. Later code p) Anything (buildLayout 65534 (rawsAt (numbered job) d (r .1)) (numbered job .build) (r .0) (r .1))) last-place
+      (subst (λ p. Ends (λ code. Later code p) Anything (buildLayout (topOf job) (rawsAt (numbered job) d (r .1)) (numbered job .build) (r .0) (r .1))) last-place
       (causeOfBuild d (defined .1) (r .1) b (r .0))))
     where
       first-place : suc (length (job .definitions)) + 0 ≡ suc (length (numbered job .definitions))

@@ -1,6 +1,6 @@
 -- Building that ends well passed each place where it asks: it came there over pools and rows of building, and got what it asked for.
 -- Assumes nothing.
-use mathlib.Core.Bool.{false}
+use mathlib.Core.Bool.{true, false}
 use mathlib.Core.List.{List, [], _∷_, _++_, reverse}
 use mathlib.Core.Logic.{_⊎_, inl, inr, _≢_}
 use mathlib.Core.Option.{Option, none, some}
@@ -10,15 +10,16 @@ use native.Mathlib.Omega.{arith}
 use lib.Dec.{eqb, ltb}
 use lib.ListN.{length, getElem?}
 use borrow.Author.Tests.{eqb-true, eqb-false, ltb-false, le-ltb}
-use Rattle.definition.specs.Basics.{good}
+use Rattle.definition.specs.Basics.{good, unless}
 use Rattle.definition.specs.Shapes.{bootstrapTag}
+use Rattle.definition.specs.Settings.{known}
 use Rattle.definition.specs.Definitions.{tagAt}
 use Rattle.definition.specs.Resolving.{Node, firstNode}
 use Rattle.definition.specs.Building.{Pool, allocate, slotOf, slotsOf, Row, Rows, rowIndex, Made, kidsOf, nodeNumber, childNumber, childNumbers, finish, withPending, drain, rawRows, buildAll}
 use Rattle.facts.specs.Lists.{Among}
 use Rattle.facts.proofs.Lists.{among-left}
 use Rattle.facts.proofs.Each.{Each, each-from}
-use Rattle.facts.proofs.Results.{bad≢good, good-inj, good-then, decided}
+use Rattle.facts.proofs.Results.{bad≢good, good-inj, good-then, unless-good, decided}
 use Rattle.causes.specs.CauseStatement.{NextChild, NextRaw, Stack, noneTaken, oneTaken, NextNumber}
 use Rattle.laws.proofs.resolving.NodesAndChildren.{kids-found}
 use Rattle.laws.proofs.runs.StepsOfRuns.{PoolIn, atStart, afterChild, afterTaken, RowsIn, rawOnes, afterInline}
@@ -188,9 +189,9 @@ module _ (nodes : List Node) (indexes : List (ℕ × ℕ)) (start : Pool) where
       subst (λ (x : Made). P (x .pool) × R (x .rows)) (good-inj e₁)
       (numbers-pool owner (parent .kids) (withPending pending m .pool) (m .rows) y (subst (Kids owner) (kids-found nodes owner parent at) (all-kids owner)) (afterTaken pending (m .pool) o) q h)
 
-  stack-pool : {pending : List (ℕ × ℕ)} {m : Made} → Stack nodes indexes start pending m → P (m .pool) × R (m .rows)
+  pub stack-pool : {pending : List (ℕ × ℕ)} {m : Made} → Stack nodes indexes start pending m → P (m .pool) × R (m .rows)
   stack-pool (noneTaken waiting p e) = (raws-pool (reverse indexes) start [] (waiting, p) atStart e, rawOnes waiting p e)
-  stack-pool (oneTaken slot owner pending m m′ st e) =
+  stack-pool (oneTaken slot owner pending m m′ st knows e) =
       let h = stack-pool st in
       finish-pool slot owner pending m m′ (getElem? nodes owner) refl (h .0) (h .1) e
 
@@ -209,14 +210,26 @@ module _ (nodes : List Node) (indexes : List (ℕ × ℕ)) (start : Pool) where
               one
               e₁,
         )
-    stack-goes (oneTaken slot owner pending m m′ st e) = let g = stack-goes st in more (g .0) (g .1)
+    stack-goes (oneTaken slot owner pending m m′ st knows e) = let g = stack-goes st in more (g .0) (g .1)
       where
         more : (fuel : ℕ) → drain fuel nodes ((slot, owner) ∷ pending) m ≡ good made → (fuel : ℕ) × (drain fuel nodes (m′ .pool .pending) m′ ≡ good made)
         more zero f = bad≢good f
         more (suc fuel) f =
-            good-then (finish nodes slot (withPending pending m) (getElem? nodes owner)) _ made f λ m″ h f₁.
+            good-then (unless (known (m .pool .version) (tagAt nodes owner)) 24) _ made f λ _ _ f₀.
+            good-then (finish nodes slot (withPending pending m) (getElem? nodes owner)) _ made f₀ λ m″ h f₁.
             let one : m″ ≡ m′ = good-inj (sym h ∙ e) in
             (fuel, subst (λ (x : Made). drain fuel nodes (x .pool .pending) x ≡ good made) one f₁)
+
+    -- the version has the kind of each constant from the stack
+    pub known-got : (slot owner : ℕ) (pending : List (ℕ × ℕ)) (m : Made) → Stack nodes indexes start ((slot, owner) ∷ pending) m → known (m .pool .version) (tagAt nodes owner) ≡ true
+    unfolding drain
+    known-got slot owner pending m st = let g = stack-goes st in go (g .0) (g .1)
+      where
+        go : (fuel : ℕ) → drain fuel nodes ((slot, owner) ∷ pending) m ≡ good made → known (m .pool .version) (tagAt nodes owner) ≡ true
+        go zero f = bad≢good f
+        go (suc fuel) f =
+            let t = known (m .pool .version) (tagAt nodes owner) in
+            good-then (unless t 24) _ made f λ u h _. unless-good t 24 u h
 
     -- a child of a node from the stack got its number, from a pool and rows of building
     pub number-got :
@@ -235,7 +248,8 @@ module _ (nodes : List Node) (indexes : List (ℕ × ℕ)) (start : Pool) where
             (y : ℕ × Pool × Rows) × (childNumber nodes (65536 + n .node) (n .pool) (n .rows) ≡ good y)
         taken zero f = bad≢good f
         taken (suc fuel) f =
-            good-then (finish nodes (n .slot) (withPending (n .pending) (n .made)) (getElem? nodes (n .owner))) _ made f λ m h f₁.
+            good-then (unless (known (n .made .pool .version) (tagAt nodes (n .owner))) 24) _ made f λ _ _ f₀.
+            good-then (finish nodes (n .slot) (withPending (n .pending) (n .made)) (getElem? nodes (n .owner))) _ made f₀ λ m h f₁.
             good-then (childNumbers nodes (n .parent .kids) (withPending (n .pending) (n .made) .pool) (n .made .rows)) _ m
             (subst (λ o. finish nodes (n .slot) (withPending (n .pending) (n .made)) o ≡ good m) (n .isParent) h) λ z k _.
             numbers-at nodes (n .before) (n .after) (65536 + n .node) (withPending (n .pending) (n .made) .pool) (n .pool) (n .made .rows) (n .rows) (n .numbers) z

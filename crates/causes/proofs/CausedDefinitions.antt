@@ -10,6 +10,7 @@ use lib.ListN.{length, getElem?}
 use Rattle.definition.specs.Basics.{good, atRecord, lookup}
 use Rattle.definition.specs.Shapes.{Kind, constant, bootstrap, Entry}
 use Rattle.definition.specs.Job.{Reference, Definition, named, placed, Job}
+use Rattle.definition.specs.Numbering.{topOf}
 use Rattle.definition.specs.Definitions.{Held, Defined, nameTarget, isNone, lastSlot, placeConstant, placeBootstrap, defineOne, defineAll, nothingDefined}
 use Rattle.facts.proofs.Lists.{clash, none≢some, some-inj}
 use Rattle.facts.proofs.Tables.{among-lookup}
@@ -67,12 +68,12 @@ passed-at top cs place (y ∷ ds) d₀ d e (suc i) x at =
       isPassed = p .isPassed;
     }
 
-module _ (job : Job (List ℕ)) (d : Defined) (defined : defineAll 65534 (constants job) 0 (all job) nothingDefined ≡ good d) where
+module _ (job : Job (List ℕ)) (d : Defined) (defined : defineAll (topOf job) (constants job) 0 (all job) nothingDefined ≡ good d) where
   abbrev At′ : ℕ → Definition ℕ → Type 0
-  At′ i x = Passed 65534 (constants job) 0 (all job) nothingDefined i x
+  At′ i x = Passed (topOf job) (constants job) 0 (all job) nothingDefined i x
 
   passed-placed : (i : ℕ) (kind : Kind) (n e : ℕ) → At job i (placed kind n e) → At′ i (placed kind n e)
-  passed-placed i kind n e at = passed-at 65534 (constants job) 0 (all job) nothingDefined d defined i (placed kind n e) (placed-forth job i kind n e at)
+  passed-placed i kind n e at = passed-at (topOf job) (constants job) 0 (all job) nothingDefined d defined i (placed kind n e) (placed-forth job i kind n e at)
 
   -- nothing before a passed definition takes a slot that it finds free
   not-taken : (i : ℕ) (x : Definition ℕ) (p : At′ i x) (s : ℕ) → Taken job i s → lookup s (p .state .held) ≡ none → ⊥
@@ -81,12 +82,12 @@ module _ (job : Job (List ℕ)) (d : Defined) (defined : defineAll 65534 (consta
 
   constant-passed :
       (i n e : ℕ) → At job i (placed constant n e) → (p : At′ i (placed constant n e)) ×
-      ((held : List (ℕ × Held)) × PlacedConstant 65534 (wideAt (constants job) e) n e (p .state .held) held)
+      ((held : List (ℕ × Held)) × PlacedConstant (topOf job) (wideAt (constants job) e) n e (p .state .held) held)
   unfolding defineOne
   constant-passed i n e at =
       let p = passed-placed i constant n e at in
-      good-then (placeConstant 65534 (wideAt (constants job) e) n e (p .state .held)) _ (p .next) (p .isPassed) λ held h e₁.
-      (p, (held, placed-constant 65534 (wideAt (constants job) e) n e (p .state .held) held h))
+      good-then (placeConstant (topOf job) (wideAt (constants job) e) n e (p .state .held)) _ (p .next) (p .isPassed) λ held h e₁.
+      (p, (held, placed-constant (topOf job) (wideAt (constants job) e) n e (p .state .held) held h))
 
   bootstrap-passed :
       (i n e : ℕ) → At job i (placed bootstrap n e) → (p : At′ i (placed bootstrap n e)) × (n < 65535) × (lookup n (p .state .indexes) ≡ none)
@@ -101,14 +102,14 @@ module _ (job : Job (List ℕ)) (d : Defined) (defined : defineAll 65534 (consta
       (i : ℕ) (kind : Kind) (s : List ℕ) (r : Reference) → At job i (named kind s r) → (p : At′ i (named kind s r)) × (nameTarget kind s (namingsOf (p .before)) ≡ none)
   unfolding defineOne
   name-passed i kind s r at =
-      let p = passed-at 65534 (constants job) 0 (all job) nothingDefined d defined i (named kind s r) (named-forth job i kind s r at) in
+      let p = passed-at (topOf job) (constants job) 0 (all job) nothingDefined d defined i (named kind s r) (named-forth job i kind s r at) in
       let t = unless-first (isNone (nameTarget kind s (p .state .names))) 11 _ (p .next) (p .isPassed) .0 in
-      let names = defined-facts 65534 (constants job) (p .before) (p .state) (p .isBefore) .allNames in
+      let names = defined-facts (topOf job) (constants job) (p .before) (p .state) (p .isBefore) .allNames in
       (p, sym (ap (nameTarget kind s) names) ∙ isNone-true (nameTarget kind s (p .state .names)) t)
 
   -- a passed constant fits
   outside-refuted :
-      (n e : ℕ) (w : Bool) → 1 ≤ n → lastSlot w n ≤ 65534 → (Wide job e → w ≡ true) → (n ≡ 0) ⊎ ((n ≡ 65535) ⊎ ((n ≡ 65534) × Wide job e)) → ⊥
+      (n e : ℕ) (w : Bool) → 1 ≤ n → lastSlot w n ≤ topOf job → (Wide job e → w ≡ true) → (n ≡ 0) ⊎ ((topOf job < n) ⊎ ((n ≡ topOf job) × Wide job e)) → ⊥
   unfolding lastSlot
   outside-refuted n e w low last wide (inl q) = omega (arith, q, low)
   outside-refuted n e true low last wide (inr (inl q)) = omega (arith, q, last)
@@ -143,7 +144,7 @@ module _ (job : Job (List ℕ)) (d : Defined) (defined : defineAll 65534 (consta
       let a =
       among-before job (p .before) (placed bootstrap n e ∷ p .after) (p .isAll) (p .state) (p .isBefore) i (placed bootstrap n k)
       (subst (λ b. i < b) (sym (p .isPlace)) l) (placed-forth job i bootstrap n k other) in
-      let h = defined-facts 65534 (constants job) (p .before) (p .state) (p .isBefore) .allIndexes .indexHeld n k a in
+      let h = defined-facts (topOf job) (constants job) (p .before) (p .state) (p .isBefore) .allIndexes .indexHeld n k a in
       none≢some (sym new ∙ among-lookup n k (p .state .indexes) h .1)
   definitionRefuted (sameName place i kind s r t at l other) =
       let (p, new) = name-passed place kind s r at in

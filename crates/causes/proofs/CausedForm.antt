@@ -1,43 +1,93 @@
--- A job that is well formed has no cause of 3, 4 or 5: the form pass comes to each record that stands, and passes it. Assumes nothing.
-use mathlib.Core.Bool.{true, false}
+-- A job that is well formed has no cause of 3, 4, 5, 25 or 26: the form pass comes to each record that stands, and passes it. Assumes nothing.
+use mathlib.Core.Bool.{true, false, _&&_}
 use mathlib.Core.List.{List, [], _∷_, _++_, append-assoc, append-nil}
-use mathlib.Core.Logic.{inl, inr, _≢_}
-use mathlib.Core.Option.{none, some}
+use mathlib.Core.Logic.{inl, inr, ⊎-elim, _≢_}
+use mathlib.Core.Option.{Option, none, some}
 use mathlib.Core.Path.{_≡_, refl, sym, ap, subst, _∙_}
-use Prim.Native.Nat.{ℕ, zero, suc, _+_, _-_, _<_}
+use Prim.Native.Nat.{ℕ, zero, suc, _+_, _-_, _<_, _≤_}
 use native.Mathlib.Omega.{arith}
-use lib.Dec.{eqb}
+use lib.Dec.{eqb, leb}
 use lib.ListN.{length}
-use borrow.Author.Tests.{eq-eqb, ne-eqb, ltb-true}
+use borrow.Author.Tests.{eq-eqb, ne-eqb, ltb-true, eqb-true, leb-true}
 use Rattle.definition.specs.Basics.{good, atRecord, unless, lookup}
 use Rattle.definition.specs.Bytes.{andThen}
 use Rattle.definition.specs.Shapes.{Entry}
-use Rattle.definition.specs.Job.{Reference, Definition, define, Request, Build, Job, readBody, readDefinition, asks, readRequest, readBuild}
-use Rattle.definition.specs.Form.{Counts, countOf, kindOf, counted, whole, hasRoom, cites, citesEarlier, citesRequest, formDefinition, Definitions, formDefinitions, formRequest, nothingBehind, formBuild, Requests, formRequests, form}
-use Rattle.facts.proofs.Lists.{clash, none≢some, some-inj}
+use Rattle.definition.specs.Job.{Reference, Definition, define, setting, Request, Build, Job, readBody, readDefinition, asks, readRequest, readBuild}
+use Rattle.definition.specs.Settings.{Setting, version, texts, highest, isSlot}
+use Rattle.definition.specs.Form.{Counts, countOf, kindOf, counted, whole, mayStand, textsHeld, hasRoom, cites, citesEarlier, citesRequest, formDefinition, Definitions, formDefinitions, formRequest, nothingBehind, formBuild, Requests, formRequests, form}
+use Rattle.facts.specs.Lists.{Among}
+use Rattle.facts.proofs.Lists.{clash, none≢some, some-inj, both-true}
 use Rattle.facts.proofs.Each.{Each}
 use Rattle.facts.proofs.Results.{bad≢good, good-then, atRecord-good, unless-good, whole-good}
 use Rattle.laws.specs.Statements.{IsBytes}
 use Rattle.laws.specs.Counted.{countIn}
-use Rattle.causes.specs.CauseStatement.{Stand, noneYet, oneMore, StandAsked, noneAsked, oneAsked, NoDefinition, NoRequest, FormCause, unreadDefinition, tableFull, noEntry, unreadRequest, noEntryAsked, unreadBuild, noRequestCited, bytesBehind}
+use Rattle.causes.specs.CauseStatement.{Misplaced, FirstNoText, misplaced, noHighest, noText, Stand, noneYet, oneMore, StandAsked, noneAsked, oneAsked, NoDefinition, NoRequest, FormCause, unreadDefinition, tableFull, noEntry, unreadRequest, noEntryAsked, unreadBuild, noRequestCited, bytesBehind}
 use Rattle.laws.proofs.form.ParsersYield.{Byte, each-byte}
 use Rattle.laws.proofs.form.DefinitionsRead.{noEntries, formed-read, formed-end, formed-step}
-use Rattle.causes.proofs.CauseForm.{Counted, counted-snoc, nothing-counted, snoc-length, stand-length, asked-length, all-cited, cited-there, class-cited}
+use Rattle.causes.proofs.CauseForm.{Counted, counted-snoc, nothing-counted, empty, BrokenAt, Noted, noted-snoc, nothing-noted, snoc-length, stand-length, asked-length, all-cited, cited-there, class-cited}
 
 -- ---- one record passed
 
+record Passed (n : Counts) (x : Definition (List ℕ)) : Type 0 where
+  stands : mayStand n x ≡ good tt
+  room : hasRoom n x ≡ true
+  cited : citesEarlier n x ≡ true
+
 passed :
-    (n : Counts) (first : ℕ) (left : List ℕ) (r : Definition (List ℕ) × List ℕ) →
-    formDefinition n first left ≡ good r →
-    (hasRoom n (r .0) ≡ true) × (citesEarlier n (r .0) ≡ true)
+    (n : Counts) (first : ℕ) (left : List ℕ) (r : Definition (List ℕ) × List ℕ) → formDefinition n first left ≡ good r → Passed n (r .0)
 unfolding formDefinition
 passed n first left r e =
     good-then (whole (readDefinition first left)) _ r e λ x h e₁.
-    good-then (unless (hasRoom n (x .0)) 5) _ r e₁ λ u room e₂.
-    good-then (unless (citesEarlier n (x .0)) 4) _ r e₂ λ v cited e₃.
+    good-then (mayStand n (x .0)) _ r e₁ λ s stands e₂.
+    good-then (unless (hasRoom n (x .0)) 5) _ r e₂ λ u room e₃.
+    good-then (unless (citesEarlier n (x .0)) 4) _ r e₃ λ v cited e₄.
     let same : x ≡ r = cc in
-    subst (λ (y : Definition (List ℕ) × List ℕ). (hasRoom n (y .0) ≡ true) × (citesEarlier n (y .0) ≡ true)) same
-    (unless-good (hasRoom n (x .0)) 5 u room, unless-good (citesEarlier n (x .0)) 4 v cited)
+    subst (λ (y : Definition (List ℕ) × List ℕ). Passed n (y .0)) same
+    (record {
+      stands = stands;
+      room = unless-good (hasRoom n (x .0)) 5 u room;
+      cited = unless-good (citesEarlier n (x .0)) 4 v cited;
+    })
+
+-- and its texts were held
+held-there :
+    (fuel : ℕ) (n : Counts) (place first : ℕ) (left : List ℕ) (d : Definitions) → eqb first 0x50 ≡ false →
+    formDefinitions (suc fuel) n place (first ∷ left) ≡ good d →
+    (r : Definition (List ℕ) × List ℕ) × (formDefinition n first left ≡ good r) × (textsHeld (counted (r .0) n) ≡ good tt)
+unfolding formDefinitions
+held-there fuel n place first left d s e =
+    good-then (atRecord place (formDefinition n first left)) _ d (rw (s, formDefinitions) at e) λ r h e₁.
+    good-then (textsHeld (counted (r .0) n)) _ d e₁ λ u held e₂.
+    (r, atRecord-good place (formDefinition n first left) r h, held)
+
+-- ---- what passed isn't a cause
+
+module _ (n : Counts) (ds : List (Definition (List ℕ))) (noted : Noted n ds) where
+  stands-refuted : (s : Setting) → mayStand n (setting s) ≡ good tt → Misplaced ds s → ⊥
+  unfolding mayStand
+  stands-refuted (version v) e (w, a) =
+      noted .versions-are .unseen (eqb-true (n .versions) 0 (unless-good (eqb (n .versions) 0) 3 tt e)) (setting (version w)) a (w, refl)
+  stands-refuted texts e a = noted .texts-are .unseen (eqb-true (n .texts) 0 (unless-good (eqb (n .texts) 0) 3 tt e)) (setting texts) a refl
+  stands-refuted (highest top) e isnt =
+      good-then (unless (eqb (n .records) 0) 3) _ tt e λ u first e₁.
+      isnt (empty ds (sym (noted .records-are) ∙ eqb-true (n .records) 0 (unless-good (eqb (n .records) 0) 3 u first)))
+
+  held-refuted : (q : ℕ) → textsHeld n ≡ good tt → Among (setting texts) ds → FirstNoText ds q → ⊥
+  unfolding textsHeld
+  held-refuted q e a t = go (n .broken) refl (noted .broken-is)
+    where
+      go : (o : Option ℕ) → n .broken ≡ o → BrokenAt (n .broken) ds → ⊥
+      go none p b = subst (λ o. BrokenAt o ds) p b (t .text) (q, t .there) (t .is)
+      go (some k) p b =
+          let h = atRecord-good k (unless (eqb (n .texts) 0) 25) tt (rw (p, textsHeld) at e) in
+          noted .texts-are .unseen (eqb-true (n .texts) 0 (unless-good (eqb (n .texts) 0) 25 tt h)) (setting texts) a refl
+
+slot-passed : (n : Counts) (top : ℕ) → mayStand n (setting (highest top)) ≡ good tt → (1 ≤ top) × (top ≤ 65534)
+unfolding mayStand isSlot
+slot-passed n top e =
+    good-then (unless (eqb (n .records) 0) 3) _ tt e λ u first e₁.
+    let both = both-true (leb 1 top) (leb top 65534) (unless-good (leb 1 top && leb top 65534) 26 tt e₁) in
+    (leb-true 1 top (both .0), leb-true top 65534 (both .1))
 
 nothing-read : (fuel : ℕ) (n : Counts) (place : ℕ) (d : Definitions) → formDefinitions fuel n place [] ≡ good d → ⊥
 unfolding formDefinitions
@@ -121,17 +171,18 @@ module _
       (fuel : ℕ) → fuel + length ds ≡ length bytes →
       (d′ : Definitions) × (formDefinitions fuel n (length ds) left ≡ good d′) × (d .list ≡ ds ++ d′ .list) × (d .counts ≡ d′ .counts) × (d .rest ≡ d′ .rest)
 
-  stand-going : {ds : List (Definition (List ℕ))} {left : List ℕ} → Stand bytes ds left → (n : Counts) × Counted n ds × Going ds left n
+  stand-going : {ds : List (Definition (List ℕ))} {left : List ℕ} → Stand bytes ds left → (n : Counts) × Counted n ds × Noted n ds × Going ds left n
   stand-going noneYet = (
     noEntries,
     nothing-counted,
+    nothing-noted,
     λ fuel e.
         let same : length bytes ≡ fuel = omega (arith, e) in
         (d, subst (λ f. formDefinitions f noEntries 0 bytes ≡ good d) same read, refl, refl, refl),
   )
-  stand-going (oneMore ds first left x rest st ne here place cited) =
-      let (n, c, go) = stand-going st in
-      (counted x n, counted-snoc n ds x c, λ fuel e. more n go fuel (omega (arith, e, snoc-length ds x)))
+  stand-going (oneMore ds first left x rest st ne here stands place cited held) =
+      let (n, c, k, go) = stand-going st in
+      (counted x n, counted-snoc n ds x c, noted-snoc n ds x k, λ fuel e. more n go fuel (omega (arith, e, snoc-length ds x)))
     where
       more :
           (n : Counts) → Going ds (first ∷ left) n → (fuel : ℕ) → suc fuel + length ds ≡ length bytes →
@@ -157,7 +208,7 @@ module _
 
   asked-going : {ds : List (Definition (List ℕ))} {qs : List Request} {left : List ℕ} → StandAsked bytes ds qs left → (n : Counts) × Counted n ds × Asking ds qs left n
   asked-going {ds} (noneAsked left st) =
-      let (n, c, go) = stand-going st in
+      let (n, c, k, go) = stand-going st in
       let l = stand-length bytes are st .0 in
       let (d₁, f, list, counts, rest) = go (suc (length bytes - suc (length ds))) (omega (arith, l)) in
       let same = formed-end (length bytes - suc (length ds)) n (length ds) 0x50 left d₁ (eq-eqb 0x50 0x50 refl) f in
@@ -201,13 +252,13 @@ module _
       {ds : List (Definition (List ℕ))} {left : List ℕ} (first : ℕ) →
       Stand bytes ds (first ∷ left) →
       first ≢ 0x50 →
-      (n : Counts) × Counted n ds × ((y : Definition (List ℕ) × List ℕ) × (formDefinition n first left ≡ good y))
+      (n : Counts) × Counted n ds × Noted n ds
+      × ((y : Definition (List ℕ) × List ℕ) × (formDefinition n first left ≡ good y) × (textsHeld (counted (y .0) n) ≡ good tt))
   definition-there {ds} {left} first st ne =
-      let (n, c, go) = stand-going st in
+      let (n, c, k, go) = stand-going st in
       let l = stand-length bytes are st .0 in
       let (d₁, f, _, _, _) = go (suc (length bytes - suc (length ds))) (omega (arith, l)) in
-      let (y, _, g, _, _) = formed-step (length bytes - suc (length ds)) n (length ds) first left d₁ (ne-eqb first 0x50 ne) f in
-      (n, c, (y, g))
+      (n, c, k, held-there (length bytes - suc (length ds)) n (length ds) first left d₁ (ne-eqb first 0x50 ne) f)
 
   request-there :
       {ds : List (Definition (List ℕ))} {qs : List Request} {left : List ℕ} (first : ℕ) →
@@ -234,11 +285,11 @@ module _
 
   unread-refuted : (ds : List (Definition (List ℕ))) (left : List ℕ) → Stand bytes ds left → NoDefinition left → ⊥
   unread-refuted ds [] st h =
-      let (n, c, go) = stand-going st in
+      let (n, c, k, go) = stand-going st in
       let (d₁, f, _, _, _) = go (length bytes - length ds) (omega (arith, stand-length bytes are st .0)) in
       nothing-read (length bytes - length ds) n (length ds) d₁ f
   unread-refuted ds (first ∷ left) st h =
-      let (n, c, (y, g)) = definition-there first st (h .0) in
+      let (n, c, k, (y, g, held)) = definition-there first st (h .0) in
       unread-here first left y h (formed-read n first left y g)
 
   unasked-refuted : (ds : List (Definition (List ℕ))) (qs : List Request) (left : List ℕ) → StandAsked bytes ds qs left → NoRequest left → ⊥
@@ -258,15 +309,31 @@ module _
   unfolding nothingBehind
   form-refuted (unreadDefinition ds left st h) = unread-refuted ds left st h
   form-refuted (tableFull ds first left e rest st ne here full) =
-      let (n, c, (y, g)) = definition-there first st ne in
+      let (n, c, k, (y, g, held)) = definition-there first st ne in
       let q : y ≡ (define e, rest) = some-inj (sym (formed-read n first left y g) ∙ here) in
-      let room : hasRoom n (define e) ≡ true = subst (λ (z : Definition (List ℕ) × List ℕ). hasRoom n (z .0) ≡ true) q (passed n first left y g .0) in
+      let room : hasRoom n (define e) ≡ true = subst (λ (z : Definition (List ℕ) × List ℕ). hasRoom n (z .0) ≡ true) q (passed n first left y g .room) in
       omega (arith, room-there ds n c e room, full)
-  form-refuted (noEntry ds first left x rest kind m st ne here place cite full) =
-      let (n, c, (y, g)) = definition-there first st ne in
+  form-refuted (noEntry ds first left x rest kind m st ne here stands place cite full) =
+      let (n, c, k, (y, g, held)) = definition-there first st ne in
       let q : y ≡ (x, rest) = some-inj (sym (formed-read n first left y g) ∙ here) in
-      let cited : citesEarlier n x ≡ true = subst (λ (z : Definition (List ℕ) × List ℕ). citesEarlier n (z .0) ≡ true) q (passed n first left y g .1) in
-      omega (arith, all-cited bytes are n ds c first left st ne x cited kind m cite, full)
+      let cited : citesEarlier n x ≡ true = subst (λ (z : Definition (List ℕ) × List ℕ). citesEarlier n (z .0) ≡ true) q (passed n first left y g .cited) in
+      omega (arith, all-cited bytes are n ds c k first left st ne x cited kind m cite, full)
+  form-refuted (misplaced ds first left s rest st ne here wrong) =
+      let (n, c, k, (y, g, held)) = definition-there first st ne in
+      let q : y ≡ (setting s, rest) = some-inj (sym (formed-read n first left y g) ∙ here) in
+      let p = subst (λ (z : Definition (List ℕ) × List ℕ). Passed n (z .0)) q (passed n first left y g) in
+      stands-refuted n ds k s (p .stands) wrong
+  form-refuted (noHighest first left top rest st ne here wrong) =
+      let (n, c, k, (y, g, held)) = definition-there first st ne in
+      let q : y ≡ (setting (highest top), rest) = some-inj (sym (formed-read n first left y g) ∙ here) in
+      let p = subst (λ (z : Definition (List ℕ) × List ℕ). Passed n (z .0)) q (passed n first left y g) in
+      let slot = slot-passed n top (p .stands) in
+      ⊎-elim (λ e. absurd (omega arith)) (λ e. absurd (omega arith)) wrong
+  form-refuted (noText ds first left x rest q st ne here stands place cited among wrong) =
+      let (n, c, k, (y, g, held)) = definition-there first st ne in
+      let p : y ≡ (x, rest) = some-inj (sym (formed-read n first left y g) ∙ here) in
+      held-refuted (counted x n) (ds ++ x ∷ []) (noted-snoc n ds x k) q
+      (subst (λ (z : Definition (List ℕ) × List ℕ). textsHeld (counted (z .0) n) ≡ good tt) p held) among wrong
   form-refuted (unreadRequest ds qs left st h) = unasked-refuted ds qs left st h
   form-refuted (noEntryAsked ds qs first left q rest kind m st ne here cite full) =
       let (n, c, (y, g)) = request-there first st ne in

@@ -8,8 +8,8 @@ use native.Mathlib.Omega.{arith}
 use lib.ListN.{length, getElem?}
 use Rattle.definition.specs.Basics.{good, same}
 use Rattle.definition.specs.Shapes.{Kind, constant, bootstrap, Entry, withKids, withLiteral}
-use Rattle.definition.specs.Job.{Reference, entry, name, Definition, define, named, placed, Job}
-use Rattle.definition.specs.Numbering.{constantsOf, bootstrapsOf, literals, numberedEntry}
+use Rattle.definition.specs.Job.{Reference, entry, name, Definition, define, named, placed, setting, Job}
+use Rattle.definition.specs.Numbering.{topOf, constantsOf, bootstrapsOf, literals, numberedEntry}
 use Rattle.definition.specs.Definitions.{Defined, sameKind, nameTarget, defineAll, nothingDefined}
 use Rattle.definition.specs.Resolving.{Goal, rawNumber, tableEntry, refusal, placeOf, follow, goalOf, linked, done, Resolved, childOf}
 use Rattle.facts.specs.Lists.{Among}
@@ -40,10 +40,11 @@ first-named [] after kind s r e = rw (hit, nameTarget) refl
     hit = rw (sameKind-refl kind, same-refl s) refl
 first-named (define x ∷ before) after kind s r e = first-named before after kind s r e
 first-named (placed k a m ∷ before) after kind s r e = first-named before after kind s r e
+first-named (setting v ∷ before) after kind s r e = first-named before after kind s r e
 first-named (named k l u ∷ before) after kind s r e =
     decided (sameKind kind k && same s l) _ _ none e (λ b f. none≢some (sym f)) (λ b f. rw (b, nameTarget) (first-named before after kind s r f))
 
-module _ (job : Job (List ℕ)) (d : Defined) (defined : defineAll 65534 (constants job) 0 (all job) nothingDefined ≡ good d) where
+module _ (job : Job (List ℕ)) (d : Defined) (defined : defineAll (topOf job) (constants job) 0 (all job) nothingDefined ≡ good d) where
   -- a name has one record
   target-is : (i : ℕ) (kind : Kind) (s : List ℕ) (r : Reference) → At job i (named kind s r) → nameTarget kind s (names job) ≡ some r
   target-is i kind s r at =

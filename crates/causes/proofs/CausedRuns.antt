@@ -12,7 +12,7 @@ use Rattle.definition.specs.Basics.{Result, good, bad, Refusal, atRecord, unles
 use Rattle.definition.specs.Shapes.{Kind, constant, bootstrap}
 use Rattle.definition.specs.Job.{Reference, placed, Job}
 use Rattle.definition.specs.Form.{form}
-use Rattle.definition.specs.Numbering.{literals, numbered}
+use Rattle.definition.specs.Numbering.{topOf, literals, numbered}
 use Rattle.definition.specs.Definitions.{Defined}
 use Rattle.definition.specs.Resolving.{tableEntry, placeOf, follow, goalOf, Resolved}
 use Rattle.definition.specs.Layout.{starters, Layout, layout}
@@ -37,8 +37,8 @@ use Rattle.causes.proofs.CausedSlots.{slotRefuted}
 
 -- ---- what a job that is laid out resolved
 
-module _ (bytes : List ℕ) (job : Job (List ℕ)) (are : IsBytes bytes) (formed : form bytes ≡ good job) (l : Layout) (laid : layout 65534 (numbered job) ≡ good l) where
-  abbrev stg : Stages 65534 (numbered job) l
+module _ (bytes : List ℕ) (job : Job (List ℕ)) (are : IsBytes bytes) (formed : form bytes ≡ good job) (l : Layout) (laid : layout (topOf job) (numbered job) ≡ good l) where
+  abbrev stg : Stages (topOf job) (numbered job) l
   stg = st bytes job l are formed laid
 
   abbrev d : Defined
@@ -116,7 +116,7 @@ record Passed (lent : Lent) (bytes : List ℕ) : Type 0 where
   job : Job (List ℕ)
   formed : form bytes ≡ good job
   laid-out : Layout
-  laid : layout 65534 (numbered job) ≡ good laid-out
+  laid : layout (topOf job) (numbered job) ≡ good laid-out
   room : fits (render (literals job) laid-out) lent ≡ true
 
 passed : (lent : Lent) (bytes : List ℕ) (b : Built) → run lent bytes ≡ good b → Passed lent bytes
@@ -126,7 +126,7 @@ passed lent bytes b e =
     good-then (atRecord 0 (unless (enough (length bytes) lent) 2)) _ b e₁ λ u₂ h₂ e₂.
     good-then (build bytes) _ b e₂ λ r h₃ e₃.
     good-then (form bytes) _ r h₃ λ job formed f₁.
-    good-then (layout 65534 (numbered job)) _ r f₁ λ l laid f₂.
+    good-then (layout (topOf job) (numbered job)) _ r f₁ λ l laid f₂.
     good-then (atRecord (r .0) (unless (fits (r .1) lent) 18)) _ b e₃ λ u₃ h₄ e₄.
     let is : (suc (length (job .definitions) + length (job .requests)), render (literals job) l) ≡ r = good-inj f₂ in
     let t : fits (r .1) lent ≡ true = unless-good (fits (r .1) lent) 18 u₃ (atRecord-good (r .0) (unless (fits (r .1) lent) 18) u₃ h₄) in
@@ -150,15 +150,15 @@ module _ (lent : Lent) (bytes : List ℕ) (are : IsBytes bytes) (p : Passed lent
   uncaused code place (tooLittle h) = much-lent lent (length bytes) (p .lent-enough) h
   uncaused code place (notFormed c) = formRefuted bytes (p .job) are (p .formed) c
   uncaused code place (defining job f c) =
-      let laid = subst (λ j. layout 65534 (numbered j) ≡ good (p .laid-out)) (same-job job f) (p .laid) in
-      let stg = stages 65534 (numbered job) (p .laid-out) laid in
+      let laid = subst (λ j. layout (topOf j) (numbered j) ≡ good (p .laid-out)) (same-job job f) (p .laid) in
+      let stg = stages (topOf job) (numbered job) (p .laid-out) laid in
       definitionRefuted job (stg .defined) (stg .isDefined) c
   uncaused code place (resolving job f c) =
-      resolving-refuted bytes job are f (p .laid-out) (subst (λ j. layout 65534 (numbered j) ≡ good (p .laid-out)) (same-job job f) (p .laid)) c
+      resolving-refuted bytes job are f (p .laid-out) (subst (λ j. layout (topOf j) (numbered j) ≡ good (p .laid-out)) (same-job job f) (p .laid)) c
   uncaused code place (slots job f c) =
-      slotRefuted bytes job are f (p .laid-out) (subst (λ j. layout 65534 (numbered j) ≡ good (p .laid-out)) (same-job job f) (p .laid)) c
+      slotRefuted bytes job are f (p .laid-out) (subst (λ j. layout (topOf j) (numbered j) ≡ good (p .laid-out)) (same-job job f) (p .laid)) c
   uncaused code place (noRoom job l f laid short) =
-      let same : p .laid-out ≡ l = good-inj (sym (subst (λ j. layout 65534 (numbered j) ≡ good (p .laid-out)) (same-job job f) (p .laid)) ∙ laid) in
+      let same : p .laid-out ≡ l = good-inj (sym (subst (λ j. layout (topOf j) (numbered j) ≡ good (p .laid-out)) (same-job job f) (p .laid)) ∙ laid) in
       let room : fits (render (literals job) l) lent ≡ true =
       subst (λ l. fits (render (literals job) l) lent ≡ true) same (subst (λ (j : Job (List ℕ)). fits (render (literals j) (p .laid-out)) lent ≡ true) (same-job job f) (p .room)) in
       long-enough lent (render (literals job) l) room short

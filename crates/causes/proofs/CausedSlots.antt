@@ -1,4 +1,4 @@
--- A job that is laid out has no cause of 12 to 17: each record behind the definitions got what it asked for. Assumes nothing.
+-- A job that is laid out has no cause of 12 to 17 or of 24: each record behind the definitions got what it asked for. Assumes nothing.
 use mathlib.Core.Bool.{Bool, true, false, _||_, not}
 use mathlib.Core.List.{List, []}
 use mathlib.Core.Logic.{_⊎_, inl, inr, _≢_}
@@ -13,17 +13,18 @@ use Rattle.definition.specs.Basics.{good, atRecord, unless, position}
 use Rattle.definition.specs.Shapes.{bootstrapTag}
 use Rattle.definition.specs.Job.{Request, Job}
 use Rattle.definition.specs.Form.{form}
-use Rattle.definition.specs.Numbering.{numbered}
+use Rattle.definition.specs.Numbering.{topOf, numbered}
+use Rattle.definition.specs.Settings.{known}
 use Rattle.definition.specs.Definitions.{Defined, tagAt}
 use Rattle.definition.specs.Resolving.{Goal, rawNumber, tableEntry, Node, done, Resolved, sameNode, intern, childOf, resolve}
-use Rattle.definition.specs.Slots.{highestSlot, highestLdc}
+use Rattle.definition.specs.Slots.{highestLdc}
 use Rattle.definition.specs.Building.{Pool, allocate, slotOf, slotsOf, Row, Rows, indexOf, rowIndex, Made, kidsOf, buildAll, attributeText, nameWanted, nameSlot}
 use Rattle.definition.specs.Layout.{Ready, endDefinitions, answer, answerAll, Layout, layout}
-use Rattle.facts.proofs.Lists.{clash, drop-place}
+use Rattle.facts.proofs.Lists.{true≢false, clash, drop-place}
 use Rattle.facts.proofs.Results.{bad≢good, good-inj, good-then, atRecord-good, unless-good}
 use Rattle.laws.specs.Faithful.{Settled}
 use Rattle.laws.specs.Statements.{IsBytes}
-use Rattle.causes.specs.CauseStatement.{Wide, Behind, behind50, behindRequest, AsksFor, HasSlot, HasNoSlot, Free, NoSlot, AllAnswered, NextRaw, NextChild, NextNumber, RawIndex, rawIndexes, goalIn, SlotCause, noSlotAsked, noLdcSlotAsked, rawAbove, slotAbove, pairAbove, rawLacks, childLacks, bootstrapLacks, nameLacks, noIndex, Lacks}
+use Rattle.causes.specs.CauseStatement.{Wide, Behind, behind50, behindRequest, AsksFor, HasSlot, HasNoSlot, Free, NoSlot, AllAnswered, NextRaw, NextChild, NextNumber, RawIndex, rawIndexes, goalIn, SlotCause, noSlotAsked, noLdcSlotAsked, rawAbove, slotAbove, pairAbove, rawLacks, childLacks, bootstrapLacks, nameLacks, noIndex, tooNew, Lacks}
 use Rattle.laws.proofs.resolving.ResolvedNodes.{ConstantGoal, child-done}
 use Rattle.laws.proofs.resolving.JobGoals.{jobConstants, jobTable}
 use Rattle.laws.proofs.building.LayoutStages.{tableIn, rowsIn, Stages, stages}
@@ -35,7 +36,8 @@ use Rattle.causes.proofs.CauseForm.{snoc-length}
 use Rattle.causes.proofs.CauseNoSlot.{lacks-pool}
 use Rattle.causes.proofs.UsedIndexes.{raw-used}
 use Rattle.causes.proofs.SlotsSoFar.{drop-all, leads-goes, Kept, kept, all-reaches, Onward, onward, lacks-asked, GetsPair, slot-kept, pair-lowest, building-occurs, name-occurs}
-use Rattle.causes.proofs.CausedBuilding.{number-got, raw-got, child-got, node-good, node-got}
+use Rattle.causes.proofs.CauseVersion.{building-version}
+use Rattle.causes.proofs.CausedBuilding.{stack-pool, known-got, number-got, raw-got, child-got, node-good, node-got}
 
 -- an answer that came: what was resolved, the slot, and that ldc can name it
 answered :
@@ -54,9 +56,9 @@ low-answer : (ldc : Bool) (a : ℕ) → ldc ≡ true → (not ldc || leb a highe
 low-answer true a is t = leb-true a highestLdc t
 low-answer false a is t = clash (cc)
 
-module _ (bytes : List ℕ) (job : Job (List ℕ)) (are : IsBytes bytes) (formed : form bytes ≡ good job) (l : Layout) (laid : layout 65534 (numbered job) ≡ good l) where
-  abbrev stg : Stages 65534 (numbered job) l
-  stg = stages 65534 (numbered job) l laid
+module _ (bytes : List ℕ) (job : Job (List ℕ)) (are : IsBytes bytes) (formed : form bytes ≡ good job) (l : Layout) (laid : layout (topOf job) (numbered job) ≡ good l) where
+  abbrev stg : Stages (topOf job) (numbered job) l
+  stg = stages (topOf job) (numbered job) l laid
 
   abbrev size : ℕ
   size = jobConstants (numbered job)
@@ -99,7 +101,7 @@ module _ (bytes : List ℕ) (job : Job (List ℕ)) (are : IsBytes bytes) (formed
   unfolding numbered
   gone {d} (behind50 w defined ready) =
       let one : stg .defined ≡ d = good-inj (sym (stg .isDefined) ∙ defined) in
-      let two : stg .ready ≡ w = good-inj (sym (subst (λ (d : Defined). endDefinitions 65534 (tableIn (numbered job) d) size d ≡ good (stg .ready)) one (stg .isReady)) ∙ ready) in
+      let two : stg .ready ≡ w = good-inj (sym (subst (λ (d : Defined). endDefinitions (topOf job) (tableIn (numbered job) d) size d ≡ good (stg .ready)) one (stg .isReady)) ∙ ready) in
       record {
         sameDefined = one;
         place = suc (length (numbered job .definitions));
@@ -293,7 +295,7 @@ module _ (bytes : List ℕ) (job : Job (List ℕ)) (are : IsBytes bytes) (formed
               let one : r ≡ (row, p) = good-inj (sym e ∙ slots) in
               let given : rowIndex row (n .rows) ≡ good i = subst (λ (x : List ℕ × Pool). rowIndex (x .0) (n .rows) ≡ good i) one f in
               let occurs-there =
-              indexOccurs highestSlot (numbered job) row (n .rows)
+              indexOccurs (topOf job) (numbered job) row (n .rows)
               (record {
                 defined = d;
                 state = w;
@@ -321,7 +323,7 @@ module _ (bytes : List ℕ) (job : Job (List ℕ)) (are : IsBytes bytes) (formed
         good-then (allocate (intern attributeText made-nodes) false (position (sameNode attributeText) made-nodes) (m .pool)) _ (stg .named) asked λ r e _.
         bad≢good (sym (lacks-pool job d (k₀ .isDefined) (intern attributeText made-nodes) (m .pool) o (position (sameNode attributeText) made-nodes) h) ∙ e)
 
-  -- a job that is laid out has no cause of 14 to 17
+  -- a job that is laid out has no cause of 14 to 17, or of 24
   pub slotRefuted : {code place : ℕ} → SlotCause job code place → ⊥
   slotRefuted (noSlotAsked answers e (d, w, b) a none-had none-free) = lacks-refuted answers e d w false (came answers d w false (tableEntry e) b a) none-had none-free
   slotRefuted (noLdcSlotAsked answers e (d, w, b) a none-had none-free) = lacks-refuted answers e d w true (came answers d w true (tableEntry e) b a) none-had none-free
@@ -334,3 +336,8 @@ module _ (bytes : List ℕ) (job : Job (List ℕ)) (are : IsBytes bytes) (formed
   slotRefuted (bootstrapLacks d w b n tag c h) = bootstrap-refuted d w b n tag c h
   slotRefuted (nameLacks d w m b made wanted h) = name-refuted d w b m made wanted h
   slotRefuted (noIndex d w b n row p tag slots unshared used) = index-refuted d w b n row p tag slots unshared (λ i l. used i (omega (arith, l)))
+  slotRefuted (tooNew d w b slot owner pending m st t) =
+      let nodes = w .resolved .nodes in
+      let passed = known-got nodes (rawIndexes job d w) (w .pool) (stg .made) (built d w b) slot owner pending m st in
+      let same = building-version job d (b .2) (stack-pool nodes (rawIndexes job d w) (w .pool) st .0) in
+      true≢false (sym passed ∙ ap (λ v. known v (tagAt nodes owner)) same ∙ t)

@@ -11,7 +11,7 @@ use borrow.Author.Tests.{ne-eqb}
 use Rattle.definition.specs.Basics.{good, concat}
 use Rattle.definition.specs.Shapes.{isWide, constant}
 use Rattle.definition.specs.Job.{Job}
-use Rattle.definition.specs.Numbering.{literals, numberedDefinition, numbered}
+use Rattle.definition.specs.Numbering.{topOf, literals, numberedDefinition, numbered}
 use Rattle.definition.specs.Definitions.{Held, starts, half, Defined, tagAt, defineAll, nothingDefined}
 use Rattle.definition.specs.Resolving.{Node}
 use Rattle.definition.specs.Building.{Pool}
@@ -137,9 +137,9 @@ module _ (top : ℕ) (held : List (ℕ × Held)) (nodes : List Node) (p : Pool) 
 
 -- ---- what is raw-held, by the records
 
-module _ (job : Job (List ℕ)) (d : Defined) (defined : defineAll 65534 (constants job) 0 (all job) nothingDefined ≡ good d) where
+module _ (job : Job (List ℕ)) (d : Defined) (defined : defineAll (topOf job) (constants job) 0 (all job) nothingDefined ≡ good d) where
   facts : DefinedFacts (wideAt (constants job)) (all job) d
-  facts = defined-facts 65534 (constants job) (all job) d defined
+  facts = defined-facts (topOf job) (constants job) (all job) d defined
 
   same-length : length (all job) ≡ length (job .definitions)
   unfolding numbered
@@ -158,11 +158,11 @@ module _ (job : Job (List ℕ)) (d : Defined) (defined : defineAll 65534 (consta
       let a = facts .allHeld .halfHeld m k (i, placed-forth job i constant m k at) (wide-forth job k w) in
       subst (λ s. Among s (keys (d .held))) (sym e) (a .0, map-at (λ (r : ℕ × Held). r .0) (d .held) (a .0) (suc m, half) (a .1))
 
-  module _ (nodes : List Node) (p : Pool) (o : Occurs 65534 (d .held) nodes p) (s : ℕ) where
+  module _ (nodes : List Node) (p : Pool) (o : Occurs (topOf job) (d .held) nodes p) (s : ℕ) where
     pub pool-free : Among s (freeSlots (p .slots .gaps)) → FreeIn job nodes p s
     pool-free a =
-        let (low, high, raw, given) = free-neither 65534 (d .held) nodes p o s a in
+        let (low, high, raw, given) = free-neither (topOf job) (d .held) nodes p o s a in
         (low, high, λ h. raw (raw-held s h), given)
 
     pub free-pool : FreeIn job nodes p s → Among s (freeSlots (p .slots .gaps))
-    free-pool (low, high, raw, given) = neither-free 65534 (d .held) nodes p o s (low, high, λ h. raw (held-raw s h), given)
+    free-pool (low, high, raw, given) = neither-free (topOf job) (d .held) nodes p o s (low, high, λ h. raw (held-raw s h), given)

@@ -7,6 +7,7 @@ pub mod FreeSlots
 pub mod UsedIndexes
 pub mod CauseNoSlot
 pub mod CauseBuilding
+pub mod CauseVersion
 pub mod CausedForm
 pub mod CausedDefinitions
 pub mod CausedReached

@@ -13,10 +13,10 @@ use Rattle.definition.specs.Basics.{good, bad, unless, lookup}
 use Rattle.definition.specs.Shapes.{Entry, isWide}
 use Rattle.definition.specs.Job.{Reference, Request, Job}
 use Rattle.definition.specs.Form.{form}
-use Rattle.definition.specs.Numbering.{constantsOf, bootstrapsOf, numbered}
+use Rattle.definition.specs.Numbering.{topOf, constantsOf, bootstrapsOf, numbered}
 use Rattle.definition.specs.Definitions.{Naming, Defined, tagAt, defineAll, nothingDefined}
 use Rattle.definition.specs.Resolving.{Goal, tableEntry, goalOf, firstNode, done, Resolved, childOf, intern, resolve, resolveAll, nothingResolved}
-use Rattle.definition.specs.Slots.{highestSlot, highestLdc, slotFor}
+use Rattle.definition.specs.Slots.{highestLdc, slotFor}
 use Rattle.definition.specs.Building.{Pool, noSlot, allocate, slotOf, Made, buildAll, attributeText}
 use Rattle.definition.specs.Layout.{Ready, endDefinitions, answer}
 use Rattle.facts.specs.Lists.{Among}
@@ -79,7 +79,7 @@ module _ (bytes : List ℕ) (job : Job (List ℕ)) (are : IsBytes bytes) (formed
   fine = formed-table bytes job are formed
 
   abbrev IsDefined : Defined → Type 0
-  IsDefined d = defineAll 65534 (constantsIn (numbered job)) 0 (numbered job .definitions) nothingDefined ≡ good d
+  IsDefined d = defineAll (topOf job) (constantsIn (numbered job)) 0 (numbered job .definitions) nothingDefined ≡ good d
 
   -- ---- where references lead
 
@@ -106,13 +106,13 @@ module _ (bytes : List ℕ) (job : Job (List ℕ)) (are : IsBytes bytes) (formed
     pub isDefined : IsDefined d
     pub raws : List (ℕ × ℕ)
     pub asked : (i : ℕ) (q : Request) → getElem? (job .requests) i ≡ some q → InTable (length table) (goes (q .what)) × ConstantGoal table (goes (q .what))
-    pub going : Going table highestSlot (d .held) raws w
+    pub going : Going table (topOf job) (d .held) raws w
     pub tidy : Tidy table (w .resolved)
     pub answered : (i : ℕ) (q : Request) (a : ℕ) → getElem? (job .requests) i ≡ some q → getElem? answers i ≡ some a → Answered (goes (q .what)) a w
     pub given : (k a : ℕ) → Among (k, a) (w .pool .given) → From answers w k a
 
   module _ (d : Defined) where
-    fifty-kept : (w : Ready) → IsDefined d → endDefinitions 65534 (tableIn (numbered job) d) size d ≡ good w → Kept d [] w
+    fifty-kept : (w : Ready) → IsDefined d → endDefinitions (topOf job) (tableIn (numbered job) d) size d ≡ good w → Kept d [] w
     unfolding endDefinitions numbered
     fifty-kept w defined ready =
         record {
@@ -122,16 +122,16 @@ module _ (bytes : List ℕ) (job : Job (List ℕ)) (are : IsBytes bytes) (formed
           going = begun bytes job are formed d defined w ready .0;
           tidy =
               good-then (resolveAll table (rawGoals size d) (nothingResolved table)) _ w
-              (subst (λ t. endDefinitions 65534 t size d ≡ good w) (same-table bytes job are formed d defined) ready) λ s resolved e.
+              (subst (λ t. endDefinitions (topOf job) t size d ≡ good w) (same-table bytes job are formed d defined) ready) λ s resolved e.
               subst (λ (x : Ready). Tidy table (x .resolved)) (good-inj e) (resolveAll-tidy table fine (rawGoals size d) (nothingResolved table) s (nothing-tidy table) resolved);
           answered = λ i q a at has. none≢some has;
-          given = λ k a h. among-nil (k, a) (subst (Among (k, a)) (ended 65534 (tableIn (numbered job) d) size d w ready .1) h);
+          given = λ k a h. among-nil (k, a) (subst (Among (k, a)) (ended (topOf job) (tableIn (numbered job) d) size d w ready .1) h);
         }
 
     module _ (answers : List ℕ) (q : Request) (w w′ : Ready) (a : ℕ) (k : Kept d answers w) (at : getElem? (job .requests) (length answers) ≡ some q) (e : answer (q .ldc) (goes (q .what)) w ≡ good (a, w′)) where
-      went : Going table highestSlot (d .held) (k .raws) w′ × Answered (goes (q .what)) a w′ × Further w w′
+      went : Going table (topOf job) (d .held) (k .raws) w′ × Answered (goes (q .what)) a w′ × Further w w′
       went =
-          answer-going table (fine .cited) highestSlot (d .held) (k .raws) (q .ldc) (goes (q .what)) w (a, w′)
+          answer-going table (fine .cited) (topOf job) (d .held) (k .raws) (q .ldc) (goes (q .what)) w (a, w′)
           (k .asked (length answers) q at .0)
           (k .asked (length answers) q at .1)
           e
@@ -193,17 +193,17 @@ module _ (bytes : List ℕ) (job : Job (List ℕ)) (are : IsBytes bytes) (formed
         request-kept answers q w w′ a k at (subst (λ names. answer (q .ldc) (goalOf names size (q .what)) w ≡ good (a, w′)) (begun-names bytes job are formed d (k .isDefined)) e)
 
     -- what the run came to, and once all requests are answered
-    pub behind-reaches : {answers : List ℕ} {w : Ready} → Behind job d answers w → Reaches highestSlot (numbered job) d (drop (length answers) (job .requests)) w
+    pub behind-reaches : {answers : List ℕ} {w : Ready} → Behind job d answers w → Reaches (topOf job) (numbered job) d (drop (length answers) (job .requests)) w
     unfolding numbered
     behind-reaches (behind50 w defined ready) = afterFifty w defined ready
     behind-reaches (behindRequest answers q w w′ a b at e) =
         let now = drop-place (job .requests) (length answers) q at in
-        subst (λ n. Reaches highestSlot (numbered job) d (drop n (job .requests)) w′) (sym (snoc-length answers a))
-        (afterAnswer q (drop (suc (length answers)) (job .requests)) w w′ a (subst (λ l. Reaches highestSlot (numbered job) d l w) now (behind-reaches b)) e)
+        subst (λ n. Reaches (topOf job) (numbered job) d (drop n (job .requests)) w′) (sym (snoc-length answers a))
+        (afterAnswer q (drop (suc (length answers)) (job .requests)) w w′ a (subst (λ l. Reaches (topOf job) (numbered job) d l w) now (behind-reaches b)) e)
 
-    pub all-reaches : {w : Ready} → AllAnswered job d w → Reaches highestSlot (numbered job) d [] w
+    pub all-reaches : {w : Ready} → AllAnswered job d w → Reaches (topOf job) (numbered job) d [] w
     all-reaches {w} (answers, all, b) =
-        subst (λ l. Reaches highestSlot (numbered job) d l w) (ap (λ n. drop n (job .requests)) all ∙ drop-all (job .requests)) (behind-reaches b)
+        subst (λ l. Reaches (topOf job) (numbered job) d l w) (ap (λ n. drop n (job .requests)) all ∙ drop-all (job .requests)) (behind-reaches b)
 
     -- ---- the request in turn
 
@@ -308,8 +308,8 @@ module _ (bytes : List ℕ) (job : Job (List ℕ)) (are : IsBytes bytes) (formed
         let (n, mark, slot) = got-node e a got in
         (n, a, lookup-at n a given-now slot, takes-same (wide-node e n mark) takes)
 
-    occurs : Occurs 65534 (d .held) (s .nodes) (w .pool)
-    occurs = subst (λ nodes. Occurs 65534 (d .held) nodes (w .pool)) (sym (on .grows .nodesKept .1)) (moreResolved (on .grows .nodesKept .0) (k .going .pooled .occurs))
+    occurs : Occurs (topOf job) (d .held) (s .nodes) (w .pool)
+    occurs = subst (λ nodes. Occurs (topOf job) (d .held) nodes (w .pool)) (sym (on .grows .nodesKept .1)) (moreResolved (on .grows .nodesKept .0) (k .going .pooled .occurs))
 
     pool-asked : (t : ℕ) → Among t (freeSlots (w .pool .slots .gaps)) → Free job answers t
     pool-asked t h =
@@ -338,7 +338,7 @@ module _ (bytes : List ℕ) (job : Job (List ℕ)) (are : IsBytes bytes) (formed
           (ldc : Bool) (code : ℕ) → allocate (s .nodes) ldc n (w .pool) ≡ bad code →
           HasNoSlot job answers e × NoSlot (Wide job e) (Free job answers) ldc × (code ≡ noSlot ldc)
       asked-lacks ldc code refused =
-          let (unheld, none-free) = lacks 65534 (d .held) (s .nodes) (w .pool) ldc n code occurs refused in (
+          let (unheld, none-free) = lacks (topOf job) (d .held) (s .nodes) (w .pool) ldc n code occurs refused in (
             has-none unheld,
             noSlot-same (node-wide e n mark) (wide-node e n mark) asked-pool none-free,
             allocate-refused (s .nodes) ldc n code (w .pool) refused .1,
@@ -346,14 +346,14 @@ module _ (bytes : List ℕ) (job : Job (List ℕ)) (are : IsBytes bytes) (formed
 
       pub lacks-asked : (ldc : Bool) → HasNoSlot job answers e → NoSlot (Wide job e) (Free job answers) ldc → allocate (s .nodes) ldc n (w .pool) ≡ bad (noSlot ldc)
       lacks-asked ldc none-had none-free =
-          lacks-refused 65534 (d .held) (s .nodes) (w .pool) ldc n occurs (not-held none-had) (noSlot-same (wide-node e n mark) (node-wide e n mark) pool-asked none-free)
+          lacks-refused (topOf job) (d .held) (s .nodes) (w .pool) ldc n occurs (not-held none-had) (noSlot-same (wide-node e n mark) (node-wide e n mark) pool-asked none-free)
 
       -- and gets one above 255 for ldc if it has it, or is wide and no two neighbours that are free lie lower
       abbrev pub GetsPair : ℕ → Type 0
       GetsPair a = HasNoSlot job answers e × Wide job e × Free job answers a × Free job answers (suc a) × ((t : ℕ) → Free job answers t → Free job answers (suc t) → a ≤ t)
 
       pub asked-above : (a : ℕ) (p : Pool) → allocate (s .nodes) true n (w .pool) ≡ good (a, p) → 255 < a → HasSlot job answers e a ⊎ GetsPair a
-      asked-above a p got high = go (above 65534 (d .held) (s .nodes) (w .pool) n a p occurs got high)
+      asked-above a p got high = go (above (topOf job) (d .held) (s .nodes) (w .pool) n a p occurs got high)
         where
           go : Above (s .nodes) n (w .pool) a → HasSlot job answers e a ⊎ GetsPair a
           go (had slot) = inl (had-slot e n a mark slot)
@@ -373,7 +373,7 @@ module _ (bytes : List ℕ) (job : Job (List ℕ)) (are : IsBytes bytes) (formed
           go (old h _) = none≢some (sym (not-held none-had) ∙ h)
           go (new slots _ taken _) =
               let pair =
-              wide-pair 65534 (d .held) (s .nodes) (w .pool) b slots occurs
+              wide-pair (topOf job) (d .held) (s .nodes) (w .pool) b slots occurs
               (subst (λ (t : Bool). slotFor t ldc (w .pool .slots) ≡ some (b, slots)) (wide-node e n mark wide) taken) in
               lowest b (pool-asked b (pair .0)) (pool-asked (suc b) (pair .1))
 
@@ -383,14 +383,14 @@ module _ (bytes : List ℕ) (job : Job (List ℕ)) (are : IsBytes bytes) (formed
     kids : KidsIn (w .resolved .nodes)
     kids = kids-in table fine (w .resolved) (k .going .faithful)
 
-    pub building-occurs : {p : Pool} → PoolIn (w .resolved .nodes) (w .pool) p → Occurs 65534 (d .held) (w .resolved .nodes) p
+    pub building-occurs : {p : Pool} → PoolIn (w .resolved .nodes) (w .pool) p → Occurs (topOf job) (d .held) (w .resolved .nodes) p
     building-occurs atStart = k .going .pooled .occurs
     building-occurs (afterChild m c x p p′ h a high e) =
         afterRequest false (c - firstNode) x p′ (building-occurs h) (omega (arith, NodesAndChildren.kids-in (w .resolved .nodes) kids m c a high, high)) e
     building-occurs (afterTaken pending p h) = stackTaken pending (building-occurs h)
 
-    pub name-occurs : (indexes : List (ℕ × ℕ)) (m : Made) → buildAll (w .resolved .nodes) indexes (w .pool) ≡ good m → Occurs 65534 (d .held) (intern attributeText (w .resolved .nodes)) (m .pool)
+    pub name-occurs : (indexes : List (ℕ × ℕ)) (m : Made) → buildAll (w .resolved .nodes) indexes (w .pool) ≡ good m → Occurs (topOf job) (d .held) (intern attributeText (w .resolved .nodes)) (m .pool)
     name-occurs indexes m e =
         let i = interned attributeText (w .resolved .nodes) in
-        subst (λ nodes. Occurs 65534 (d .held) nodes (m .pool)) (sym (i .kept .1))
+        subst (λ nodes. Occurs (topOf job) (d .held) nodes (m .pool)) (sym (i .kept .1))
         (moreResolved (i .kept .0) (building-occurs (whenGood (built (w .resolved .nodes) indexes (w .pool)) e .0)))

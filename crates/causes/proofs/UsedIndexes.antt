@@ -9,6 +9,7 @@ use lib.ListN.{length}
 use Rattle.definition.specs.Basics.{good, lookup}
 use Rattle.definition.specs.Shapes.{bootstrap}
 use Rattle.definition.specs.Job.{Job}
+use Rattle.definition.specs.Numbering.{topOf}
 use Rattle.definition.specs.Definitions.{Defined, defineAll, nothingDefined}
 use Rattle.definition.specs.Resolving.{Node, Mark}
 use Rattle.definition.specs.Building.{Pool, Row, Rows, writeRaw, indexOf, rowIndex}
@@ -58,9 +59,9 @@ kept (x ∷ waiting) written = go (equal (x .0) (length written)) (kept waiting 
         first i r (inr a) = forth i r a
     go (inr q) _ = subst (Kept written (x ∷ waiting)) (sym (write-stop written x waiting q)) (omega arith, λ i r a. a, λ i r a. inr a)
 
-module _ (job : Job (List ℕ)) (d : Defined) (defined : defineAll 65534 (constants job) 0 (all job) nothingDefined ≡ good d) where
+module _ (job : Job (List ℕ)) (d : Defined) (defined : defineAll (topOf job) (constants job) 0 (all job) nothingDefined ≡ good d) where
   facts : DefinedFacts (wideAt (constants job)) (all job) d
-  facts = defined-facts 65534 (constants job) (all job) d defined
+  facts = defined-facts (topOf job) (constants job) (all job) d defined
 
   -- the raw bootstraps, by the records
   index-raw : (i : ℕ) → Among i (keys (d .indexes)) → RawIndex job i

@@ -9,10 +9,12 @@ use Prim.Native.Nat.{ℕ, suc, _+_, _*_, _/_, _≤_, _<_}
 use lib.ListN.{length, getElem?}
 use Rattle.definition.specs.Basics.{good, bad, Refusal, position, lookup}
 use Rattle.definition.specs.Shapes.{Kind, constant, bootstrap, Entry, isWide}
-use Rattle.definition.specs.Job.{Reference, entry, name, Definition, define, named, placed, Request, request, Build, Job}
+use Rattle.definition.specs.Job.{Reference, entry, name, Definition, define, named, placed, setting, Request, request, Build, Job}
 use Rattle.definition.specs.Job.{Body, bodies, readBody, readDefinition, asks, reference, readRequest, readBuild}
 use Rattle.definition.specs.Form.{kindOf, form}
-use Rattle.definition.specs.Numbering.{constantsOf, bootstrapsOf, literals, numbered}
+use Rattle.definition.specs.Numbering.{settings, topOf, constantsOf, bootstrapsOf, literals, numbered}
+use Rattle.definition.specs.Settings.{Setting, version, texts, highest, known}
+use Rattle.definition.specs.Texts.{isText}
 use Rattle.definition.specs.Definitions.{Defined, tagAt, defineAll, nothingDefined}
 use Rattle.definition.specs.Resolving.{Goal, rawNumber, tableEntry, goalOf, linked, Node, sameNode, intern}
 use Rattle.definition.specs.Building.{Pool, slotsOf, Row, Rows, indexOf, fillHoles, Made, kidsOf, childNumbers, finish, withPending, rawRows, buildAll, attributeText, nameWanted}
@@ -24,17 +26,48 @@ use Rattle.laws.specs.LeadsStatement.{Leads}
 use Rattle.laws.specs.SharedStatement.{Same}
 use Rattle.laws.specs.Statements.{IsBytes}
 
--- ---- 3, 4, 5: the form, over the bytes
+-- ---- 3, 4, 5, 25, 26: the form, over the bytes
 
 -- a definition cites entry n of a kind by its number
 abbrev pub CitesEntry : Definition (List ℕ) → Kind → ℕ → Type 0
 CitesEntry (define e) kind n = Among (entry kind n) (e .kids)
 CitesEntry (named k s r) kind n = r ≡ entry kind n
 CitesEntry (placed k at m) kind n = (k ≡ kind) × (m ≡ n)
+CitesEntry (setting s) kind n = ⊥
 
 -- behind other definitions: an entry's table has room for it
 abbrev pub HasPlace : List (Definition (List ℕ)) → Definition (List ℕ) → Type 0
 HasPlace ds x = (e : Entry (List ℕ) Reference) → x ≡ define e → countIn (kindOf (e .tag)) ds < 65536
+
+-- behind other definitions: a setting stands where it can't, 47 and 48 a second time, 49 behind any record
+abbrev pub Misplaced : List (Definition (List ℕ)) → Setting → Type 0
+Misplaced ds (version v) = (w : ℕ) × Among (setting (version w)) ds
+Misplaced ds texts = Among (setting texts) ds
+Misplaced ds (highest top) = ds ≢ []
+
+-- and where it can; 49 then gives a slot that there is
+abbrev pub InPlace : List (Definition (List ℕ)) → Definition (List ℕ) → Type 0
+InPlace ds (define e) = Unit {0}
+InPlace ds (named k s r) = Unit {0}
+InPlace ds (placed k at m) = Unit {0}
+InPlace ds (setting (version v)) = Misplaced ds (version v) → ⊥
+InPlace ds (setting texts) = Misplaced ds texts → ⊥
+InPlace ds (setting (highest top)) = (ds ≡ []) × (1 ≤ top) × (top ≤ 65534)
+
+-- a text that isn't one as JVMS 4.4.7 has it
+abbrev pub NoText : Definition (List ℕ) → Type 0
+NoText x = (e : Entry (List ℕ) Reference) × (x ≡ define e) × (e .tag ≡ 1) × (isText (e .literal) ≡ false)
+
+-- the first among definitions is at place q
+pub record FirstNoText (ds : List (Definition (List ℕ))) (q : ℕ) : Type 0 where
+  pub text : Definition (List ℕ)
+  pub there : getElem? ds q ≡ some text
+  pub is : NoText text
+  pub first : (i : ℕ) (x : Definition (List ℕ)) → i < q → getElem? ds i ≡ some x → NoText x → ⊥
+
+-- texts are held to it, if a 48 stands among the definitions
+abbrev pub TextsHeld : List (Definition (List ℕ)) → Type 0
+TextsHeld ds = Among (setting texts) ds → (x : Definition (List ℕ)) → Among x ds → NoText x → ⊥
 
 -- the bytes begin with these definitions, each well formed behind those before it, and then these bytes are left
 pub data Stand (bytes : List ℕ) : List (Definition (List ℕ)) → List ℕ → Type 0 where
@@ -44,8 +77,10 @@ pub data Stand (bytes : List ℕ) : List (Definition (List ℕ)) → List ℕ �
       Stand bytes ds (first ∷ left) →
       first ≢ 0x50 →
       readDefinition first left ≡ some (x, rest) →
+      InPlace ds x →
       HasPlace ds x →
       ((kind : Kind) (n : ℕ) → CitesEntry x kind n → n < countIn kind ds) →
+      TextsHeld (ds ++ x ∷ []) →
       Stand bytes (ds ++ x ∷ []) rest
 
 -- the bytes begin with these definitions, 50 and these requests, each well formed, and then these bytes are left
@@ -79,6 +114,22 @@ pub data FormCause (bytes : List ℕ) : ℕ → ℕ → Type 0 where
   -- 3, where a definition or 50 must come
   unreadDefinition :
       (ds : List (Definition (List ℕ))) (left : List ℕ) → Stand bytes ds left → NoDefinition left → FormCause bytes 3 (length ds)
+  -- 3: a setting that can't stand there
+  misplaced :
+      (ds : List (Definition (List ℕ))) (first : ℕ) (left : List ℕ) (s : Setting) (rest : List ℕ) →
+      Stand bytes ds (first ∷ left) →
+      first ≢ 0x50 →
+      readDefinition first left ≡ some (setting s, rest) →
+      Misplaced ds s →
+      FormCause bytes 3 (length ds)
+  -- 26: 49, the first record, gives no number from 1 to 65534
+  noHighest :
+      (first : ℕ) (left : List ℕ) (top : ℕ) (rest : List ℕ) →
+      Stand bytes [] (first ∷ left) →
+      first ≢ 0x50 →
+      readDefinition first left ≡ some (setting (highest top), rest) →
+      (top ≡ 0) ⊎ (65534 < top) →
+      FormCause bytes 26 0
   -- 5: the table has 65,536 entries
   tableFull :
       (ds : List (Definition (List ℕ))) (first : ℕ) (left : List ℕ) (e : Entry (List ℕ) Reference) (rest : List ℕ) →
@@ -93,10 +144,23 @@ pub data FormCause (bytes : List ℕ) : ℕ → ℕ → Type 0 where
       Stand bytes ds (first ∷ left) →
       first ≢ 0x50 →
       readDefinition first left ≡ some (x, rest) →
+      InPlace ds x →
       HasPlace ds x →
       CitesEntry x kind n →
       countIn kind ds ≤ n →
       FormCause bytes 4 (length ds)
+  -- 25, at the first text that isn't one: a 48 stands with it, ahead of it or behind, and either is the last record that was read
+  noText :
+      (ds : List (Definition (List ℕ))) (first : ℕ) (left : List ℕ) (x : Definition (List ℕ)) (rest : List ℕ) (q : ℕ) →
+      Stand bytes ds (first ∷ left) →
+      first ≢ 0x50 →
+      readDefinition first left ≡ some (x, rest) →
+      InPlace ds x →
+      HasPlace ds x →
+      ((kind : Kind) (n : ℕ) → CitesEntry x kind n → n < countIn kind ds) →
+      Among (setting texts) (ds ++ x ∷ []) →
+      FirstNoText (ds ++ x ∷ []) q →
+      FormCause bytes 25 q
   -- 3, where a request or 60 must come
   unreadRequest :
       (ds : List (Definition (List ℕ))) (qs : List Request) (left : List ℕ) →
@@ -157,11 +221,11 @@ abbrev pub SecondFree : Job (List ℕ) → ℕ → ℕ → ℕ → Type 0
 SecondFree job place n e = Wide job e → Taken job place (suc n) → ⊥
 
 pub data DefinitionCause (job : Job (List ℕ)) : ℕ → ℕ → Type 0 where
-  -- 6: at 0 or 65535, or a wide one at 65534
+  -- 6: at 0 or above the highest slot, or a wide one at it
   outside :
       (place n e : ℕ) →
       At job place (placed constant n e) →
-      (n ≡ 0) ⊎ ((n ≡ 65535) ⊎ ((n ≡ 65534) × Wide job e)) →
+      (n ≡ 0) ⊎ ((topOf job < n) ⊎ ((n ≡ topOf job) × Wide job e)) →
       DefinitionCause job 6 place
   -- 7: slot n + 1 of a wide one is taken
   secondTaken : (place n e : ℕ) → At job place (placed constant n e) → Wide job e → Taken job place (suc n) → DefinitionCause job 7 place
@@ -258,9 +322,9 @@ goalIn job d q = goalOf (d .names) (length (constantsNumbered job)) (q .what)
 pub data Behind (job : Job (List ℕ)) (d : Defined) : List ℕ → Ready → Type 0 where
   behind50 :
       (w : Ready) →
-      defineAll 65534 (constantsNumbered job) 0 (numbered job .definitions) nothingDefined ≡ good d →
+      defineAll (topOf job) (constantsNumbered job) 0 (numbered job .definitions) nothingDefined ≡ good d →
       endDefinitions
-      65534
+      (topOf job)
       (linked (d .names) (length (constantsNumbered job)) (constantsNumbered job ++ bootstrapsOf (numbered job .definitions)))
       (length (constantsNumbered job))
       d ≡ good w →
@@ -303,9 +367,9 @@ RawHeld job s = Taken job (length (job .definitions)) s
 abbrev pub GivenOut : Job (List ℕ) → List ℕ → ℕ → Type 0
 GivenOut job answers s = (e : ℕ) × (a : ℕ) × Got job answers e a × TakesSlot (Wide job e) a s
 
--- a slot is free: it is one from 1 to 65534, neither raw-held nor given out
+-- a slot is free: it is one from 1 to the highest, neither raw-held nor given out
 abbrev pub Free : Job (List ℕ) → List ℕ → ℕ → Type 0
-Free job answers s = (1 ≤ s) × (s ≤ 65534) × (RawHeld job s → ⊥) × (GivenOut job answers s → ⊥)
+Free job answers s = (1 ≤ s) × (s ≤ topOf job) × (RawHeld job s → ⊥) × (GivenOut job answers s → ⊥)
 
 -- there is no slot: a wide constant needs two neighbours, a narrow one for ldc a slot up to 255, any other any
 pub data NoSlot (wide : Type 0) (free : ℕ → Type 0) : Bool → Type 0 where
@@ -313,15 +377,15 @@ pub data NoSlot (wide : Type 0) (free : ℕ → Type 0) : Bool → Type 0 where
   noneLow : (wide → ⊥) → ((s : ℕ) → free s → s ≤ 255 → ⊥) → NoSlot wide free true
   noneAtAll : (wide → ⊥) → ((s : ℕ) → free s → ⊥) → NoSlot wide free false
 
--- ---- 14 and 17 at the build, over what the definition has when a constant is in turn
+-- ---- 14, 17 and 24 at the build, over what the definition has when a constant is in turn
 
 -- slot s is given out: a node that was given a slot takes it
 abbrev pub GivenToNode : List Node → Pool → ℕ → Type 0
 GivenToNode nodes p s = (k : ℕ) × (a : ℕ) × Among (k, a) (p .given) × TakesSlot (isWide (tagAt nodes k) ≡ true) a s
 
--- a slot is free: it is one from 1 to 65534, neither raw-held nor given out so far
+-- a slot is free: it is one from 1 to the highest, neither raw-held nor given out so far
 abbrev pub FreeIn : Job (List ℕ) → List Node → Pool → ℕ → Type 0
-FreeIn job nodes p s = (1 ≤ s) × (s ≤ 65534) × (RawHeld job s → ⊥) × (GivenToNode nodes p s → ⊥)
+FreeIn job nodes p s = (1 ≤ s) × (s ≤ topOf job) × (RawHeld job s → ⊥) × (GivenToNode nodes p s → ⊥)
 
 -- a node has no slot yet, and there is none for it
 abbrev pub Lacks : Job (List ℕ) → List Node → ℕ → Pool → Type 0
@@ -364,6 +428,7 @@ pub data Stack (nodes : List Node) (indexes : List (ℕ × ℕ)) (start : Pool) 
   oneTaken :
       (slot owner : ℕ) (pending : List (ℕ × ℕ)) (m m′ : Made) →
       Stack nodes indexes start ((slot, owner) ∷ pending) m →
+      known (m .pool .version) (tagAt nodes owner) ≡ true →
       finish nodes slot (withPending pending m) (getElem? nodes owner) ≡ good m′ →
       Stack nodes indexes start (m′ .pool .pending) m′
 
@@ -381,6 +446,7 @@ pub record NextNumber (nodes : List Node) (indexes : List (ℕ × ℕ)) (start :
   pub pool : Pool
   pub rows : Rows
   pub isStack : Stack nodes indexes start ((slot, owner) ∷ pending) made
+  pub isKnown : known (made .pool .version) (tagAt nodes owner) ≡ true
   pub isParent : getElem? nodes owner ≡ some parent
   pub isKids : parent .kids ≡ before ++ (65536 + node) ∷ after
   pub isPool : childNumbers nodes before (withPending pending made .pool) (made .rows) ≡ good (numbers, pool, rows)
@@ -396,6 +462,17 @@ rawIndexes job d w = indexNodes (length (constantsNumbered job)) (w .resolved .m
 -- the number of the build record
 abbrev pub buildPlace : Job (List ℕ) → ℕ
 buildPlace job = requestPlace job (length (job .requests))
+
+-- the version that the last 47 names, and without one this one
+abbrev pub versionFrom : List Setting → ℕ → ℕ
+versionFrom [] v = v
+versionFrom (version w ∷ l) v = versionFrom l w
+versionFrom (texts ∷ l) v = versionFrom l v
+versionFrom (highest t ∷ l) v = versionFrom l v
+
+-- the version of a job: 55, which has every kind, without a 47
+abbrev pub versionOf : Job (List ℕ) → ℕ
+versionOf job = versionFrom (settings (job .definitions)) 55
 
 pub data SlotCause (job : Job (List ℕ)) : ℕ → ℕ → Type 0 where
   -- 14: a request for a constant that has no slot yet, and there is none for it
@@ -479,6 +556,14 @@ pub data SlotCause (job : Job (List ℕ)) : ℕ → ℕ → Type 0 where
       indexOf row (n .rows .inline) ≡ none →
       ((i : ℕ) → i < 65535 → (i < length (n .rows .written)) ⊎ RawIndex job i) →
       SlotCause job 17 (buildPlace job)
+  -- 24: the version doesn't have the kind of a constant that comes off the stack
+  tooNew :
+      (d : Defined) (w : Ready) →
+      AllAnswered job d w →
+      (slot owner : ℕ) (pending : List (ℕ × ℕ)) (m : Made) →
+      Stack (w .resolved .nodes) (rawIndexes job d w) (w .pool) ((slot, owner) ∷ pending) m →
+      known (versionOf job) (tagAt (w .resolved .nodes) owner) ≡ false →
+      SlotCause job 24 (buildPlace job)
 
 -- ---- all of them
 
@@ -500,7 +585,7 @@ pub data CauseOf (lent : Lent) (bytes : List ℕ) : ℕ → ℕ → Type 0 where
   noRoom :
       (job : Job (List ℕ)) (l : Layout) →
       form bytes ≡ good job →
-      layout 65534 (numbered job) ≡ good l →
+      layout (topOf job) (numbered job) ≡ good l →
       Short lent (render (literals job) l) →
       CauseOf lent bytes 18 (buildPlace job)
 
@@ -528,11 +613,12 @@ pub data RecordsStand (bytes : List ℕ) : ℕ → Type 0 where
 abbrev pub InRecords : List ℕ → ℕ → Type 0
 InRecords bytes place = (n : ℕ) × RecordsStand bytes n × (place ≤ n)
 
--- CAUSE PLACED: the number lies from 1 to 18; the place is at most the number of records that stand, and the number of a record if the job is
--- well formed
+-- CAUSE PLACED: the number lies from 1 to 18 or from 24 to 26; the place is at most the number of records that stand, and the number of a
+-- record if the job is well formed
 abbrev pub CausePlaced : Type 0
 CausePlaced =
-    (lent : Lent) (bytes : List ℕ) (r : Refusal) → IsBytes bytes → run lent bytes ≡ bad r → (1 ≤ r .code) × (r .code ≤ 18)
+    (lent : Lent) (bytes : List ℕ) (r : Refusal) → IsBytes bytes → run lent bytes ≡ bad r →
+    (1 ≤ r .code) × ((r .code ≤ 18) ⊎ ((24 ≤ r .code) × (r .code ≤ 26)))
     × InRecords bytes (r .place) × ((job : Job (List ℕ)) → form bytes ≡ good job → r .place < records job)
 
 -- NO CAUSE: a job of bytes is built exactly if there is no cause of a refusal

@@ -5,18 +5,21 @@ use mathlib.Core.Option.{Option, none, some}
 use Prim.Native.Nat.{ℕ, zero, suc, _+_, _-_}
 use lib.Dec.{eqb, ltb}
 use lib.ListN.{length, getD, getElem?, replicate}
-use Rattle.definition.specs.Basics.{Result, good, bad, _>>=_, same, position, lookup}
+use Rattle.definition.specs.Basics.{Result, good, bad, _>>=_, unless, same, position, lookup}
+use Rattle.definition.specs.Settings.{known}
 use Rattle.definition.specs.Shapes.{bootstrapTag, Entry, withKids, isWide}
 use Rattle.definition.specs.Numbering.{attributeNumber}
 use Rattle.definition.specs.Definitions.{tagAt}
 use Rattle.definition.specs.Resolving.{Node, firstNode, sameNode, intern}
 use Rattle.definition.specs.Slots.{Slots, slotFor}
 
--- the gaps and positions; slots given out, as node and slot; and the building stack, its top first, as slot and node
+-- the gaps and positions; slots given out, as node and slot; the building stack, its top first, as slot and node; and the version that
+-- constants are held to
 pub record Pool : Type 0 where
   pub slots : Slots
   pub given : List (ℕ × ℕ)
   pub pending : List (ℕ × ℕ)
+  pub version : ℕ
 
 -- 14: no slot, ordinary request; 15: no slot, ldc request
 unfoldable pub noSlot : Bool → ℕ
@@ -26,7 +29,7 @@ noSlot false = 14
 -- a new slot for a node, which goes onto the stack; 14 or 15 if there is none
 unfoldable pub give : Bool → ℕ → Pool → Option (ℕ × Slots) → Result ℕ (ℕ × Pool)
 give ldc k p none = bad (noSlot ldc)
-give ldc k p (some r) = good (r .0, record { slots = r .1; given = (k, r .0) ∷ p .given; pending = (r .0, k) ∷ p .pending })
+give ldc k p (some r) = good (r .0, record { slots = r .1; given = (k, r .0) ∷ p .given; pending = (r .0, k) ∷ p .pending; version = p .version })
 
 -- a slot for a node: the one that it has, else a new one
 unfoldable pub allocate : List Node → Bool → ℕ → Pool → Result ℕ (ℕ × Pool)
@@ -142,18 +145,21 @@ finish nodes s m (some n) =
 unfoldable pub withPending : List (ℕ × ℕ) → Made → Made
 withPending pending m =
     record {
-      pool = record { slots = m .pool .slots; given = m .pool .given; pending = pending };
+      pool = record { slots = m .pool .slots; given = m .pool .given; pending = pending; version = m .pool .version };
       rows = m .rows;
       owned = m .owned;
     }
 
--- takes from the building stack until it is empty; 0 would tell that the fuel ran out
+-- takes from the building stack until it is empty: 24 unless the version has the constant's kind, then its children; 0 would tell that
+-- the fuel ran out
 unfoldable pub drain : ℕ → List Node → List (ℕ × ℕ) → Made → Result ℕ Made
 drain zero nodes [] m = good m
 drain zero nodes (top ∷ pending) m = bad 0
 drain (suc fuel) nodes [] m = good m
 drain (suc fuel) nodes (top ∷ pending) m =
-    finish nodes (top .0) (withPending pending m) (getElem? nodes (top .1)) >>= λ m′. drain fuel nodes (m′ .pool .pending) m′
+    unless (known (m .pool .version) (tagAt nodes (top .1))) 24 >>= λ _.
+    finish nodes (top .0) (withPending pending m) (getElem? nodes (top .1)) >>= λ m′.
+    drain fuel nodes (m′ .pool .pending) m′
 
 -- raw bootstraps get their children's slots by falling index; given by falling index, the rows come out by rising index
 unfoldable pub rawRows : List Node → List (ℕ × ℕ) → Pool → List (ℕ × Row) → Result ℕ (List (ℕ × Row) × Pool)

@@ -1,4 +1,4 @@
--- The definitions in turn (document 01, "Refusal numbers", 6 to 11): raw constants, raw bootstraps and names. Assumes nothing.
+-- The definitions in turn (document 01, "Refusal numbers", 6 to 11): raw constants, raw bootstraps, names and the version. Assumes nothing.
 use mathlib.Core.Bool.{Bool, true, false, _&&_, _||_, not}
 use mathlib.Core.List.{List, [], _∷_, _++_}
 use mathlib.Core.Option.{Option, none, some}
@@ -6,8 +6,9 @@ use Prim.Native.Nat.{ℕ, suc}
 use lib.Dec.{eqb, leb, ltb}
 use lib.ListN.{getElem?}
 use Rattle.definition.specs.Basics.{Result, good, bad, _>>=_, Refusal, atRecord, unless, same, lookup, insert}
+use Rattle.definition.specs.Settings.{Setting, version, texts, highest, newest}
 use Rattle.definition.specs.Shapes.{Kind, constant, bootstrap, Entry, isWide}
-use Rattle.definition.specs.Job.{Reference, Definition, define, named, placed}
+use Rattle.definition.specs.Job.{Reference, Definition, define, named, placed, setting}
 
 -- how a raw slot is held: a constant starts there, the one with this entry number, or it is the second half of a wide one
 pub data Held : Type 0 where
@@ -20,11 +21,12 @@ pub record Naming : Type 0 where
   pub label : List ℕ
   pub target : Reference
 
--- what was defined so far: raw slots by rising slot, raw bootstraps by rising index, names
+-- what was defined so far: raw slots by rising slot, raw bootstraps by rising index, names, and the version that constants are held to
 pub record Defined : Type 0 where
   pub held : List (ℕ × Held)
   pub indexes : List (ℕ × ℕ)
   pub names : List Naming
+  pub version : ℕ
 
 unfoldable pub sameKind : Kind → Kind → Bool
 sameKind constant constant = true
@@ -77,18 +79,25 @@ placeBootstrap index e indexes = do
   _ ← unless (isNone (lookup index indexes)) 10
   good (insert index e indexes)
 
+-- 47 sets the version
+unfoldable pub withSetting : Setting → Defined → Defined
+withSetting (version v) d = record { held = d .held; indexes = d .indexes; names = d .names; version = v }
+withSetting texts d = d
+withSetting (highest n) d = d
+
 -- one definition in turn, where the job's constants are `constants`; 11: the name is defined for its kind
 unfoldable pub defineOne : {R : Type 0} → ℕ → List (Entry ℕ R) → Definition ℕ → Defined → Result ℕ Defined
 defineOne top constants (define e) d = good d
 defineOne top constants (named kind s r) d = do
   _ ← unless (isNone (nameTarget kind s (d .names))) 11
-  good (record { held = d .held; indexes = d .indexes; names = d .names ++ record { kind = kind; label = s; target = r } ∷ [] })
+  good (record { held = d .held; indexes = d .indexes; names = d .names ++ record { kind = kind; label = s; target = r } ∷ []; version = d .version })
 defineOne top constants (placed constant n e) d = do
   held ← placeConstant top (isWide (tagAt constants e)) n e (d .held)
-  good (record { held = held; indexes = d .indexes; names = d .names })
+  good (record { held = held; indexes = d .indexes; names = d .names; version = d .version })
 defineOne top constants (placed bootstrap index e) d = do
   indexes ← placeBootstrap index e (d .indexes)
-  good (record { held = d .held; indexes = indexes; names = d .names })
+  good (record { held = d .held; indexes = indexes; names = d .names; version = d .version })
+defineOne top constants (setting s) d = good (withSetting s d)
 
 -- all definitions in turn
 unfoldable pub defineAll : {R : Type 0} → ℕ → List (Entry ℕ R) → ℕ → List (Definition ℕ) → Defined → Result Refusal Defined
@@ -97,4 +106,4 @@ defineAll top constants place (x ∷ rest) d =
     atRecord place (defineOne top constants x d) >>= λ d′. defineAll top constants (suc place) rest d′
 
 unfoldable pub nothingDefined : Defined
-nothingDefined = record { held = []; indexes = []; names = [] }
+nothingDefined = record { held = []; indexes = []; names = []; version = newest }

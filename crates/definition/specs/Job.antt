@@ -5,6 +5,7 @@ use mathlib.Core.Option.{Option, none, some}
 use Prim.Native.Nat.{ℕ, zero, suc}
 use Rattle.definition.specs.Basics.{lookup}
 use Rattle.definition.specs.Bytes.{Parser, return, fail, _>>=_, one, two, many}
+use Rattle.definition.specs.Settings.{Setting, version, texts, highest}
 use Rattle.definition.specs.Shapes.{Kind, constant, bootstrap, Field, shapes, bootstrapShape, bootstrapTag, Entry, readEntry}
 
 -- a reference: a raw slot, an entry's number, or a name
@@ -21,6 +22,8 @@ pub data Definition (L : Type 0) : Type 0 where
   named : Kind → List ℕ → Reference → Definition L
   -- 43, 44: raw constant, raw bootstrap; slot or index, then the entry's number
   placed : Kind → ℕ → ℕ → Definition L
+  -- 47 to 49: a rule for the whole job
+  setting : Setting → Definition L
 
 -- 51, 52: asks for a slot, for an ldc slot
 pub record Request : Type 0 where
@@ -70,12 +73,15 @@ reference kind = do
 pub data Body : Type 0 where
   ofEntry : List Field → Body
   ofName ofRaw : Kind → Body
+  -- a setting's number, or nothing
+  ofNumber : (ℕ → Setting) → Body
+  ofNothing : Setting → Body
 
--- the first bytes of definitions: the tags, then 40 to 44
+-- the first bytes of definitions: the tags, then 40 to 44 and 47 to 49
 unfoldable pub bodies : List (ℕ × Body)
 bodies =
     map (λ s. (s .0, ofEntry (s .1))) shapes
-    ++ ((bootstrapTag, ofEntry bootstrapShape) ∷ (0x41, ofName constant) ∷ (0x42, ofName bootstrap) ∷ (0x43, ofRaw constant) ∷ (0x44, ofRaw bootstrap) ∷ [])
+    ++ ((bootstrapTag, ofEntry bootstrapShape) ∷ (0x41, ofName constant) ∷ (0x42, ofName bootstrap) ∷ (0x43, ofRaw constant) ∷ (0x44, ofRaw bootstrap) ∷ (0x47, ofNumber version) ∷ (0x48, ofNothing texts) ∷ (0x49, ofNumber highest) ∷ [])
 
 -- a definition behind its first byte; none: an unknown kind, or one out of place
 unfoldable pub readBody : ℕ → Option Body → Parser (Definition (List ℕ))
@@ -91,6 +97,10 @@ readBody first (some (ofRaw kind)) = do
   at ← two
   number ← two
   return (placed kind at number)
+readBody first (some (ofNumber rule)) = do
+  n ← two
+  return (setting (rule n))
+readBody first (some (ofNothing rule)) = return (setting rule)
 
 unfoldable pub readDefinition : ℕ → Parser (Definition (List ℕ))
 readDefinition first = readBody first (lookup first bodies)

@@ -48,6 +48,7 @@ endDefinitions top table constants d =
             slots = startSlots (gapsFrom top 1 (map (λ r. r .0) (d .held)));
             given = [];
             pending = reverse (map (λ r. (r .0, nodeAt (s .marks) (r .1))) starting);
+            version = d .version;
           };
       origins = [];
     })

@@ -2,6 +2,8 @@ pub mod Basics
 pub mod Ascii
 pub mod Bytes
 pub mod Shapes
+pub mod Settings
+pub mod Texts
 pub mod Job
 pub mod Form
 pub mod Numbering

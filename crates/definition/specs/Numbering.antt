@@ -8,8 +8,9 @@ use lib.Dec.{eqb}
 use lib.ListN.{getD}
 use Rattle.definition.specs.Ascii.{ascii}
 use Rattle.definition.specs.Basics.{same, position, only}
+use Rattle.definition.specs.Settings.{Setting, highestOf}
 use Rattle.definition.specs.Shapes.{bootstrapTag, Entry, withLiteral}
-use Rattle.definition.specs.Job.{Reference, Definition, define, named, placed, Job}
+use Rattle.definition.specs.Job.{Reference, Definition, define, named, placed, setting, Job}
 
 -- a literal: the tag says its kind (text and the four kinds of number), then its bytes; an entry that has none counts as one of no bytes
 abbrev pub Literal : Type 0
@@ -28,6 +29,19 @@ entries [] = []
 entries (define e ∷ rest) = e ∷ entries rest
 entries (named kind s r ∷ rest) = entries rest
 entries (placed kind at number ∷ rest) = entries rest
+entries (setting s ∷ rest) = entries rest
+
+-- the settings, as they stand in the job
+unfoldable pub settings : {L : Type 0} → List (Definition L) → List Setting
+settings [] = []
+settings (define e ∷ rest) = settings rest
+settings (named kind s r ∷ rest) = settings rest
+settings (placed kind at number ∷ rest) = settings rest
+settings (setting s ∷ rest) = s ∷ settings rest
+
+-- the highest slot of a job
+abbrev pub topOf : {L : Type 0} → Job L → ℕ
+topOf job = highestOf (settings (job .definitions))
 
 -- the entries of each table
 unfoldable pub isBootstrap : {L R : Type 0} → Entry L R → Bool
@@ -62,6 +76,7 @@ unfoldable pub numberedDefinition : List Literal → Definition (List ℕ) → D
 numberedDefinition all (define e) = define (numberedEntry all e)
 numberedDefinition all (named kind s r) = named kind s r
 numberedDefinition all (placed kind at number) = placed kind at number
+numberedDefinition all (setting s) = setting s
 
 -- a job with numbers for its literals
 unfoldable pub numbered : Job (List ℕ) → Job ℕ

@@ -9,8 +9,8 @@ use Rattle.definition.specs.Basics.{Result, good, bad, _>>=_, Refusal, a
 use Rattle.definition.specs.Bytes.{be2}
 use Rattle.definition.specs.Shapes.{shapes, bootstrapShape, bootstrapTag, Entry, withLiteral, writeFields}
 use Rattle.definition.specs.Form.{form}
-use Rattle.definition.specs.Numbering.{Literal, literals, literalOf, numbered}
-use Rattle.definition.specs.Slots.{highestSlot, Gap}
+use Rattle.definition.specs.Numbering.{topOf, Literal, literals, literalOf, numbered}
+use Rattle.definition.specs.Slots.{Gap}
 use Rattle.definition.specs.Building.{markOf, Row, Content, nothing, emptyText, holds}
 use Rattle.definition.specs.Layout.{Layout, layout}
 
@@ -71,7 +71,7 @@ Placed = ℕ × Built
 unfoldable pub build : List ℕ → Result Refusal Placed
 build bytes = do
   job ← form bytes
-  l ← layout highestSlot (numbered job)
+  l ← layout (topOf job) (numbered job)
   good (suc (length (job .definitions) + length (job .requests)), render (literals job) l)
 
 -- what the caller lends: work in words, gaps, answers in u16, the other outputs in bytes

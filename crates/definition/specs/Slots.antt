@@ -7,7 +7,7 @@ use lib.Dec.{eqb, leb, ltb}
 use lib.ListN.{drop, getElem?, set}
 use Rattle.definition.specs.Basics.{position}
 
--- slots are 1 to 65534
+-- slots are 1 to 65534, where a job says nothing else
 abbrev pub highestSlot : ℕ
 highestSlot = 65534
 

@@ -7,9 +7,10 @@ use Prim.Native.Nat.{ℕ, zero, suc, _+_, _<_}
 use native.Mathlib.Omega.{arith}
 use lib.ListN.{length, getElem?, take, length-append}
 use borrow.Author.Tests.{ltb-true}
+use Rattle.definition.specs.Settings.{version, texts, highest}
 use Rattle.definition.specs.Shapes.{Kind, constant, bootstrap, Entry}
-use Rattle.definition.specs.Job.{Reference, raw, entry, name, Definition, define, named, placed}
-use Rattle.definition.specs.Form.{Counts, countOf, kindOf, oneMore, counted, citesEarlier}
+use Rattle.definition.specs.Job.{Reference, raw, entry, name, Definition, define, named, placed, setting}
+use Rattle.definition.specs.Form.{Counts, countOf, kindOf, oneMore, oneSetting, withBroken, oneRecord, counted, citesEarlier}
 use Rattle.definition.specs.Numbering.{constantsOf, bootstrapsOf}
 use Rattle.definition.specs.Definitions.{sameKind}
 use Rattle.laws.specs.Statements.{IsBytes}
@@ -29,7 +30,7 @@ use Rattle.definitions.proofs.Prefixes.{first-constant, first-bootstrap
 
 -- so many constants stand behind definitions in turn
 one-after : (n : Counts) (d : Definition (List ℕ)) (ds : List (Definition (List ℕ))) → countOf constant (counted d n) + length (constantsOf ds) ≡ countOf constant n + length (constantsOf (d ∷ ds))
-unfolding countOf counted oneMore noEntry sameKind
+unfolding countOf counted oneMore oneSetting withBroken oneRecord noEntry sameKind
 one-after n (define x) ds = ways (kindOf (x .tag)) refl
   where
     ways : (kind : Kind) → kindOf (x .tag) ≡ kind → countOf constant (oneMore (kindOf (x .tag)) n) + length (constantsOf ds) ≡ n .constants + length (constantsOf (define x ∷ ds))
@@ -37,6 +38,9 @@ one-after n (define x) ds = ways (kindOf (x .tag)) refl
     ways bootstrap h = rw (h, first-bootstrap x ds (kind-told x bootstrap h) .0)
 one-after n (named kind s r) ds = rw (none-entered (named kind s r) ds refl .0)
 one-after n (placed kind at m) ds = rw (none-entered (placed kind at m) ds refl .0)
+one-after n (setting (version v)) ds = rw (none-entered (setting (version v)) ds refl .0)
+one-after n (setting texts) ds = rw (none-entered (setting texts) ds refl .0)
+one-after n (setting (highest top)) ds = rw (none-entered (setting (highest top)) ds refl .0)
 
 constants-after : (n : Counts) (ds : List (Definition (List ℕ))) → countOf constant (countsAfter n ds) ≡ countOf constant n + length (constantsOf ds)
 constants-after n [] = omega (arith, ap length (no-constants .0))

@@ -14,3 +14,4 @@ pub mod Linking
 pub mod Ends
 pub mod Handing
 pub mod Beginning
+pub mod Versions

@@ -25,7 +25,7 @@ use Rattle.raws.specs.Raws.{outcome, rawCount, SomeRaws, TriedConstant, TriedBo
 use Rattle.definitions.specs.Kids.{counted, CanEnter, Enters}
 use Rattle.definitions.specs.Defining.{SomePlace, answered, Stepped}
 use Rattle.definitions.proofs.Rooms.{room}
-use Rattle.definitions.proofs.Steps.{now, now-name, now-raw, now-entry, this-name, naming-at, name-step, cited-low, constant-stands, constant-room, constant-step, bootstrap-low, bootstrap-room, bootstrap-step, can-enter, constant-few, constant-entered, bootstrap-few, bootstrap-entered}
+use Rattle.definitions.proofs.Steps.{now, now-name, now-raw, now-version, now-texts, now-highest, now-entry, setting-step, this-name, naming-at, name-step, cited-low, constant-stands, constant-room, constant-step, bootstrap-low, bootstrap-room, bootstrap-step, can-enter, constant-few, constant-entered, bootstrap-few, bootstrap-entered}
 
 -- REFUSALS are low numbers
 
@@ -171,8 +171,21 @@ module _ (p : List ℕ) (top : ℕ) (s : List ℕ) (t : Store) (at : ℕ) (place
         index-done res is =
             bootstrap-step p top s t at (place .0) (place .1) (room s p work) work bytes _ _ (now-raw p top s t at (place .0) (place .1) bootstrap byte) u code res done is
 
+    -- a setting
+    pub version-done : getD s at 0 ≡ 0x47 → Stepped p top s t t (at + 3)
+    unfolding SomePlace
+    version-done byte = setting-step p top s t at (place .0) (place .1) (room s p work) _ _ (now-version p top s t at (place .0) (place .1) byte)
+
+    pub texts-done : getD s at 0 ≡ 0x48 → Stepped p top s t t (at + 1)
+    unfolding SomePlace
+    texts-done byte = setting-step p top s t at (place .0) (place .1) (room s p work) _ _ (now-texts p top s t at (place .0) (place .1) byte)
+
+    pub highest-done : getD s at 0 ≡ 0x49 → Stepped p top s t t (at + 3)
+    unfolding SomePlace
+    highest-done byte = setting-step p top s t at (place .0) (place .1) (room s p work) _ _ (now-highest p top s t at (place .0) (place .1) byte)
+
     -- an entry
-    module _ (long : (k : ℕ) → length (t k) ≡ size p k) (n1 : getD s at 0 ≡ 0x41 → ⊥) (n2 : getD s at 0 ≡ 0x42 → ⊥) (n3 : getD s at 0 ≡ 0x43 → ⊥) (n4 : getD s at 0 ≡ 0x44 → ⊥) where
+    module _ (long : (k : ℕ) → length (t k) ≡ size p k) (n1 : getD s at 0 ≡ 0x41 → ⊥) (n2 : getD s at 0 ≡ 0x42 → ⊥) (n3 : getD s at 0 ≡ 0x43 → ⊥) (n4 : getD s at 0 ≡ 0x44 → ⊥) (n7 : getD s at 0 ≡ 0x47 → ⊥) (n8 : getD s at 0 ≡ 0x48 → ⊥) (n9 : getD s at 0 ≡ 0x49 → ⊥) where
       module _ (n0 : getD s at 0 ≡ 0x40 → ⊥) where
         constant-kind : (x : Entry (List ℕ) Reference) (next : ℕ) → Found anyDefinition s at (define x) next → kindOf (x .tag) ≡ constant
         unfolding kindOf
@@ -181,7 +194,7 @@ module _ (p : List ℕ) (top : ℕ) (s : List ℕ) (t : Store) (at : ℕ) (place
         pub constant-needs : (x : Entry (List ℕ) Reference) × (next : ℕ) × CanEnter s t at (0 + getD (t COUNTS) CONSTANT-COUNT 0) x next
         unfolding SomePlace
         constant-needs =
-            let n = now-entry p top s t at (place .0) (place .1) n1 n2 n3 n4 in
+            let n = now-entry p top s t at (place .0) (place .1) n1 n2 n3 n4 n7 n8 n9 in
             let few = constant-few p top s t at (place .0) (place .1) (room s p work) work bytes long (n .0) (n .1) (n .2) (constant-kind (n .0) (n .1) (n .2 .found)) in
             (n .0, n .1, can-enter p top s t at (place .0) (place .1) (room s p work) work bytes long (n .0) (n .1) (n .2) CONSTANT-COUNT _ (omega arith) (omega arith) few)
 
@@ -191,7 +204,7 @@ module _ (p : List ℕ) (top : ℕ) (s : List ℕ) (t : Store) (at : ℕ) (place
             Stepped p top s t u res
         unfolding SomePlace
         constant-done u res enters =
-            let n = now-entry p top s t at (place .0) (place .1) n1 n2 n3 n4 in
+            let n = now-entry p top s t at (place .0) (place .1) n1 n2 n3 n4 n7 n8 n9 in
             let kind = constant-kind (n .0) (n .1) (n .2 .found) in
             let few = constant-few p top s t at (place .0) (place .1) (room s p work) work bytes long (n .0) (n .1) (n .2) kind in
             let can = can-enter p top s t at (place .0) (place .1) (room s p work) work bytes long (n .0) (n .1) (n .2) CONSTANT-COUNT _ (omega arith) (omega arith) few in
@@ -205,7 +218,7 @@ module _ (p : List ℕ) (top : ℕ) (s : List ℕ) (t : Store) (at : ℕ) (place
         pub bootstrap-needs : (x : Entry (List ℕ) Reference) × (next : ℕ) × CanEnter s t at (constantsIn s + getD (t COUNTS) BOOTSTRAP-COUNT 0) x next
         unfolding SomePlace
         bootstrap-needs =
-            let n = now-entry p top s t at (place .0) (place .1) n1 n2 n3 n4 in
+            let n = now-entry p top s t at (place .0) (place .1) n1 n2 n3 n4 n7 n8 n9 in
             let few = bootstrap-few p top s t at (place .0) (place .1) (room s p work) work bytes long (n .0) (n .1) (n .2) (bootstrap-kind (n .0) (n .1) (n .2 .found)) in
             (n .0, n .1, can-enter p top s t at (place .0) (place .1) (room s p work) work bytes long (n .0) (n .1) (n .2) BOOTSTRAP-COUNT _ (omega arith) (omega arith) few)
 
@@ -215,7 +228,7 @@ module _ (p : List ℕ) (top : ℕ) (s : List ℕ) (t : Store) (at : ℕ) (place
             Stepped p top s t u res
         unfolding SomePlace
         bootstrap-done u res enters =
-            let n = now-entry p top s t at (place .0) (place .1) n1 n2 n3 n4 in
+            let n = now-entry p top s t at (place .0) (place .1) n1 n2 n3 n4 n7 n8 n9 in
             let kind = bootstrap-kind (n .0) (n .1) (n .2 .found) in
             let few = bootstrap-few p top s t at (place .0) (place .1) (room s p work) work bytes long (n .0) (n .1) (n .2) kind in
             let can = can-enter p top s t at (place .0) (place .1) (room s p work) work bytes long (n .0) (n .1) (n .2) BOOTSTRAP-COUNT _ (omega arith) (omega arith) few in

@@ -8,7 +8,7 @@ use native.Mathlib.Omega.{arith}
 use lib.ListN.{length, getElem?, take, drop}
 use Rattle.definition.specs.Basics.{only}
 use Rattle.definition.specs.Shapes.{Kind, bootstrap, Entry}
-use Rattle.definition.specs.Job.{Reference, Definition, define, named, placed}
+use Rattle.definition.specs.Job.{Reference, Definition, define, named, placed, setting}
 use Rattle.definition.specs.Form.{kindOf}
 use Rattle.definition.specs.Numbering.{entries, isBootstrap, constantsOf, bootstrapsOf}
 use Rattle.definition.specs.Definitions.{sameKind}
@@ -65,6 +65,7 @@ module _ (ds : List (Definition (List ℕ))) where
       go (define e ∷ ds) = ap (λ l. e ∷ l) (go ds)
       go (named kind s r ∷ ds) = go ds
       go (placed kind at n ∷ ds) = go ds
+      go (setting rule ∷ ds) = go ds
 
   pub namings-append : (es : List (Definition (List ℕ))) → namingsOf (ds ++ es) ≡ namingsOf ds ++ namingsOf es
   unfolding namingsOf
@@ -75,6 +76,7 @@ module _ (ds : List (Definition (List ℕ))) where
       go (define e ∷ ds) = go ds
       go (named kind s r ∷ ds) = ap (λ l. record { kind = kind; label = s; target = r } ∷ l) (go ds)
       go (placed kind at n ∷ ds) = go ds
+      go (setting rule ∷ ds) = go ds
 
   pub references-append : (es : List (Definition (List ℕ))) → referencesIn (ds ++ es) ≡ referencesIn ds + referencesIn es
   unfolding referencesIn
@@ -107,12 +109,14 @@ unfoldable pub noEntry : Definition (List ℕ) → Bool
 noEntry (define e) = false
 noEntry (named kind s r) = true
 noEntry (placed kind at n) = true
+noEntry (setting rule) = true
 
 pub none-entered : (d : Definition (List ℕ)) (ds : List (Definition (List ℕ))) → noEntry d ≡ true → (constantsOf (d ∷ ds) ≡ constantsOf ds) × (bootstrapsOf (d ∷ ds) ≡ bootstrapsOf ds) × (referencesIn (d ∷ ds) ≡ referencesIn ds)
 unfolding constantsOf bootstrapsOf entries noEntry referencesIn kidsIn
 none-entered (define e) ds h = absurd (let z : _≡_ {A = ℕ} 0 1 = cc in omega arith)
 none-entered (named kind s r) ds h = (refl, refl, omega arith)
 none-entered (placed kind at n) ds h = (refl, refl, omega arith)
+none-entered (setting rule) ds h = (refl, refl, omega arith)
 
 -- tables' numbers
 pub kind-told : (x : Entry (List ℕ) Reference) (kind : Kind) → kindOf (x .tag) ≡ kind → isBootstrap x ≡ sameKind bootstrap kind

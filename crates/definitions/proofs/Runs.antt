@@ -7,11 +7,12 @@ use Prim.Native.Nat.{ℕ, zero, suc, _+_, _≤_, _<_}
 use native.Mathlib.Omega.{arith}
 use lib.ListN.{length, getElem?, drop, length-append}
 use Rattle.definition.specs.Basics.{Result, good, bad, _>>=_, atRecord, unless, only, insert}
+use Rattle.definition.specs.Settings.{Setting}
 use Rattle.definition.specs.Shapes.{Kind, constant, bootstrap, Entry, isWide, withLiteral}
-use Rattle.definition.specs.Job.{Reference, Definition, define, named, placed}
+use Rattle.definition.specs.Job.{Reference, Definition, define, named, placed, setting}
 use Rattle.definition.specs.Form.{kindOf}
 use Rattle.definition.specs.Numbering.{constantsOf, bootstrapsOf, literals, numberedEntry, numberedDefinition, numbered}
-use Rattle.definition.specs.Definitions.{Held, Naming, Defined, isNone, nameTarget, tagAt, hold, placeConstant, placeBootstrap, defineOne, defineAll, sameKind}
+use Rattle.definition.specs.Definitions.{Held, Naming, Defined, isNone, nameTarget, tagAt, hold, placeConstant, placeBootstrap, withSetting, defineOne, defineAll, sameKind}
 use Rattle.facts.proofs.Lists.{map-at, found-append, found-seam, inside-found}
 use Rattle.laws.proofs.numbering.NumberedCited.{constants-numbered}
 use Rattle.job.specs.Forms.{kidsIn, referencesIn, isPlacing, countsOf}
@@ -50,35 +51,39 @@ module _ (top : ℕ) (s : List ℕ) (d : Defined) where
   unfolding defineOne numberedDefinition
   one-entry x = refl
 
+  pub one-setting : (rule : Setting) → defineOne top (constantsOf (recordsIn s)) (numberedDefinition (literals (jobIn s)) (setting rule)) d ≡ good (withSetting rule d)
+  unfolding defineOne numberedDefinition
+  one-setting rule = refl
+
   module _ (kind : Kind) (l : List ℕ) (r : Reference) where
-    pub one-name : isNone (nameTarget kind l (d .names)) ≡ true → defineOne top (constantsOf (recordsIn s)) (numberedDefinition (literals (jobIn s)) (named kind l r)) d ≡ good (record { held = d .held; indexes = d .indexes; names = d .names ++ record { kind = kind; label = l; target = r } ∷ [] })
+    pub one-name : isNone (nameTarget kind l (d .names)) ≡ true → defineOne top (constantsOf (recordsIn s)) (numberedDefinition (literals (jobIn s)) (named kind l r)) d ≡ good (record { held = d .held; indexes = d .indexes; names = d .names ++ record { kind = kind; label = l; target = r } ∷ []; version = d .version })
     unfolding defineOne numberedDefinition unless
-    one-name e = ap (λ b. unless b 11 >>= λ _. good (record { held = d .held; indexes = d .indexes; names = d .names ++ record { kind = kind; label = l; target = r } ∷ [] })) e
+    one-name e = ap (λ b. unless b 11 >>= λ _. good (record { held = d .held; indexes = d .indexes; names = d .names ++ record { kind = kind; label = l; target = r } ∷ []; version = d .version })) e
 
     pub one-old : isNone (nameTarget kind l (d .names)) ≡ false → defineOne top (constantsOf (recordsIn s)) (numberedDefinition (literals (jobIn s)) (named kind l r)) d ≡ bad 11
     unfolding defineOne numberedDefinition unless
-    one-old e = ap (λ b. unless b 11 >>= λ _. good (record { held = d .held; indexes = d .indexes; names = d .names ++ record { kind = kind; label = l; target = r } ∷ [] })) e
+    one-old e = ap (λ b. unless b 11 >>= λ _. good (record { held = d .held; indexes = d .indexes; names = d .names ++ record { kind = kind; label = l; target = r } ∷ []; version = d .version })) e
 
   abbrev withHeld : List (ℕ × Held) → Result ℕ Defined
-  withHeld held = good (record { held = held; indexes = d .indexes; names = d .names })
+  withHeld held = good (record { held = held; indexes = d .indexes; names = d .names; version = d .version })
 
   abbrev withIndexes : List (ℕ × ℕ) → Result ℕ Defined
-  withIndexes indexes = good (record { held = d .held; indexes = indexes; names = d .names })
+  withIndexes indexes = good (record { held = d .held; indexes = indexes; names = d .names; version = d .version })
 
   module _ (n e code : ℕ) where
-    pub one-constant : (wide : Bool) → isWide (tagAt (constantsOf (recordsIn s)) e) ≡ wide → placeConstant top wide n e (d .held) ≡ outcome code (hold wide n e (d .held)) → defineOne top (constantsOf (recordsIn s)) (numberedDefinition (literals (jobIn s)) (placed constant n e)) d ≡ outcome code (record { held = hold wide n e (d .held); indexes = d .indexes; names = d .names })
+    pub one-constant : (wide : Bool) → isWide (tagAt (constantsOf (recordsIn s)) e) ≡ wide → placeConstant top wide n e (d .held) ≡ outcome code (hold wide n e (d .held)) → defineOne top (constantsOf (recordsIn s)) (numberedDefinition (literals (jobIn s)) (placed constant n e)) d ≡ outcome code (record { held = hold wide n e (d .held); indexes = d .indexes; names = d .names; version = d .version })
     unfolding defineOne numberedDefinition outcome
     one-constant wide w g = ap (λ b. placeConstant top b n e (d .held) >>= withHeld) w ∙ ap (λ r. r >>= withHeld) g ∙ ways code
       where
-        ways : (c : ℕ) → (outcome c (hold wide n e (d .held)) >>= withHeld) ≡ outcome c (record { held = hold wide n e (d .held); indexes = d .indexes; names = d .names })
+        ways : (c : ℕ) → (outcome c (hold wide n e (d .held)) >>= withHeld) ≡ outcome c (record { held = hold wide n e (d .held); indexes = d .indexes; names = d .names; version = d .version })
         ways zero = refl
         ways (suc c) = refl
 
-    pub one-bootstrap : placeBootstrap n e (d .indexes) ≡ outcome code (insert n e (d .indexes)) → defineOne top (constantsOf (recordsIn s)) (numberedDefinition (literals (jobIn s)) (placed bootstrap n e)) d ≡ outcome code (record { held = d .held; indexes = insert n e (d .indexes); names = d .names })
+    pub one-bootstrap : placeBootstrap n e (d .indexes) ≡ outcome code (insert n e (d .indexes)) → defineOne top (constantsOf (recordsIn s)) (numberedDefinition (literals (jobIn s)) (placed bootstrap n e)) d ≡ outcome code (record { held = d .held; indexes = insert n e (d .indexes); names = d .names; version = d .version })
     unfolding defineOne numberedDefinition outcome
     one-bootstrap g = ap (λ r. r >>= withIndexes) g ∙ ways code
       where
-        ways : (c : ℕ) → (outcome c (insert n e (d .indexes)) >>= withIndexes) ≡ outcome c (record { held = d .held; indexes = insert n e (d .indexes); names = d .names })
+        ways : (c : ℕ) → (outcome c (insert n e (d .indexes)) >>= withIndexes) ≡ outcome c (record { held = d .held; indexes = insert n e (d .indexes); names = d .names; version = d .version })
         ways zero = refl
         ways (suc c) = refl
 
@@ -209,6 +214,7 @@ unfoldable pub noName : Definition (List ℕ) → Bool
 noName (define e) = true
 noName (named kind s r) = false
 noName (placed kind at n) = true
+noName (setting rule) = true
 
 pub names-same : (s : List ℕ) (k : ℕ) (x : Definition (List ℕ)) → getElem? (definitionsIn s) k ≡ some x → noName x ≡ true → length (namingsOf (doneIn s (suc k))) ≡ length (namingsOf (doneIn s k))
 unfolding noName namingsOf
@@ -218,3 +224,4 @@ names-same s k x turn h = ap (λ m. length (namingsOf m)) (next-done s k x turn)
     none-named (define e) h = refl
     none-named (named kind l r) h = absurd (let z : _≡_ {A = ℕ} 0 1 = cc in omega arith)
     none-named (placed kind at n) h = refl
+    none-named (setting rule) h = refl

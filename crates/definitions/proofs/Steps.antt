@@ -9,11 +9,12 @@ use native.Mathlib.Omega.{arith}
 use lib.ListN.{length, getD, getElem?, set, take, drop, length-set}
 use lib.Seq.{getD-set-same, getD-set-other}
 use Rattle.definition.specs.Basics.{every, insert, only}
+use Rattle.definition.specs.Settings.{Setting, version, texts, highest}
 use Rattle.definition.specs.Shapes.{Kind, constant, bootstrap, Entry, isWide}
-use Rattle.definition.specs.Job.{Reference, Definition, define, named, placed}
+use Rattle.definition.specs.Job.{Reference, Definition, define, named, placed, setting}
 use Rattle.definition.specs.Form.{kindOf}
 use Rattle.definition.specs.Numbering.{constantsOf, literals, numberedDefinition}
-use Rattle.definition.specs.Definitions.{Held, Naming, Defined, isNone, nameTarget, tagAt, hold, sameKind, defineOne}
+use Rattle.definition.specs.Definitions.{Held, Naming, Defined, isNone, nameTarget, tagAt, hold, sameKind, withSetting, defineOne}
 use Rattle.definition.specs.Resolving.{placeOf}
 use Rattle.laws.specs.Statements.{IsBytes}
 use Rattle.facts.proofs.Lists.{inside-found}
@@ -21,7 +22,7 @@ use Rattle.laws.specs.Counted.{countIn}
 use Rattle.job.specs.Forms.{kidsIn, isPlacing, countsOf}
 use Rattle.job.specs.Stored.{Found, InTurn, WhatEntry, EntryStands, anyDefinition}
 use Rattle.job.proofs.Laws.{number}
-use Rattle.job.proofs.Endings.{opens-name, opens-raw, opens-entry}
+use Rattle.job.proofs.Endings.{opens-name, opens-raw, opens-version, opens-texts, opens-highest, opens-entry}
 use Rattle.store.specs.Store.{Store, size, Kept}
 use Rattle.store.specs.JobIn.{jobIn, definitionsIn, namingsIn, constantsIn, entriesIn}
 use Rattle.store.specs.Regions.{COUNTS, NAME-HEADS, RAW-HEADS, NAME-LINKS, RAW-LINKS, RECORDS, OFFSETS, FIRSTS, SIZES, GOALS, NAME-PLACES, RAW-KEYS, RAW-ENTRIES, PLACE, CONSTANT-COUNT, BOOTSTRAP-COUNT, REFERENCE-COUNT, NAME-COUNT, RAW-COUNT, HELD-COUNT, rawsOf, Work}
@@ -36,7 +37,7 @@ use Rattle.definitions.proofs.Rooms.{Room}
 use Rattle.definitions.proofs.Prefixes.{take-next, drop-next, noEntry}
 use Rattle.definitions.proofs.Entering.{entries-skip, entries-more, entered-low}
 use Rattle.definitions.proofs.Cited.{kids-cited, name-cited, bootstrap-cited, constant-cited}
-use Rattle.definitions.proofs.Runs.{passes, refuses, one-entry, one-name, one-old, one-constant, one-bootstrap, tag-of, few-constants, few-bootstraps, earlier-constant, references-next, references-room, raws-next, raws-room, counts-constant, counts-bootstrap, counts-other, name-here, names-next, names-same, noName}
+use Rattle.definitions.proofs.Runs.{passes, refuses, one-entry, one-setting, one-name, one-old, one-constant, one-bootstrap, tag-of, few-constants, few-bootstraps, earlier-constant, references-next, references-room, raws-next, raws-room, counts-constant, counts-bootstrap, counts-other, name-here, names-next, names-same, noName}
 
 -- LEFT ALONE
 
@@ -96,6 +97,13 @@ module _ (s : List ℕ) (k : ℕ) (x : Definition (List ℕ)) (turn : getElem? (
 two-sets : (l : List ℕ) (a v b w j : ℕ) → (j ≡ a → ⊥) → (j ≡ b → ⊥) → getD (set (set l a v) b w) j 0 ≡ getD l j 0
 two-sets l a v b w j m n = getD-set-other (set l a v) b j w 0 n ∙ getD-set-other l a j v 0 m
 
+-- a setting leaves all but the version
+setting-leaves : (rule : Setting) (d : Defined) → (withSetting rule d .held ≡ d .held) × (withSetting rule d .indexes ≡ d .indexes) × (withSetting rule d .names ≡ d .names)
+unfolding withSetting
+setting-leaves (version v) d = (refl, refl, refl)
+setting-leaves texts d = (refl, refl, refl)
+setting-leaves (highest top) d = (refl, refl, refl)
+
 -- THE STEP
 
 module _ (p : List ℕ) (top : ℕ) (s : List ℕ) (t : Store) (at : ℕ) (d : Defined) (here : InPlace p top s t at d) where
@@ -127,11 +135,76 @@ module _ (p : List ℕ) (top : ℕ) (s : List ℕ) (t : Store) (at : ℕ) (d : D
       let g = opens-raw s at (n .0) (n .1) (n .2 .found) kind b in
       rw (g .0) (subst (λ x. Now x (n .1)) (g .1) (n .2))
 
-  pub now-entry : (getD s at 0 ≡ 0x41 → ⊥) → (getD s at 0 ≡ 0x42 → ⊥) → (getD s at 0 ≡ 0x43 → ⊥) → (getD s at 0 ≡ 0x44 → ⊥) → (x : Entry (List ℕ) Reference) × (next : ℕ) × Now (define x) next
-  now-entry n1 n2 n3 n4 =
+  pub now-version : getD s at 0 ≡ 0x47 → Now (setting (version (number s (at + 1)))) (at + 3)
+  now-version b =
       let n = now in
-      let g = opens-entry s at (n .0) (n .1) (n .2 .found) n1 n2 n3 n4 in
+      let g = opens-version s at (n .0) (n .1) (n .2 .found) b in
+      rw (g .0) (subst (λ x. Now x (n .1)) (g .1) (n .2))
+
+  pub now-texts : getD s at 0 ≡ 0x48 → Now (setting texts) (at + 1)
+  now-texts b =
+      let n = now in
+      let g = opens-texts s at (n .0) (n .1) (n .2 .found) b in
+      rw (g .0) (subst (λ x. Now x (n .1)) (g .1) (n .2))
+
+  pub now-highest : getD s at 0 ≡ 0x49 → Now (setting (highest (number s (at + 1)))) (at + 3)
+  now-highest b =
+      let n = now in
+      let g = opens-highest s at (n .0) (n .1) (n .2 .found) b in
+      rw (g .0) (subst (λ x. Now x (n .1)) (g .1) (n .2))
+
+  pub now-entry :
+      (getD s at 0 ≡ 0x41 → ⊥) → (getD s at 0 ≡ 0x42 → ⊥) → (getD s at 0 ≡ 0x43 → ⊥) → (getD s at 0 ≡ 0x44 → ⊥) →
+      (getD s at 0 ≡ 0x47 → ⊥) → (getD s at 0 ≡ 0x48 → ⊥) → (getD s at 0 ≡ 0x49 → ⊥) →
+      (x : Entry (List ℕ) Reference) × (next : ℕ) × Now (define x) next
+  now-entry n1 n2 n3 n4 n7 n8 n9 =
+      let n = now in
+      let g = opens-entry s at (n .0) (n .1) (n .2 .found) n1 n2 n3 n4 n7 n8 n9 in
       (g .0, n .1, subst (λ x. Now x (n .1)) (g .1) (n .2))
+
+  -- SETTINGS: nothing is stored for them
+
+  module _ (room : Room s p) (rule : Setting) (next : ℕ) (n : Now (setting rule) next) where
+    still : SameEntries t t
+    still =
+        record {
+          records = refl;
+          offsets = refl;
+          firsts = refl;
+          sizes = refl;
+          goals = refl;
+          constants = refl;
+          bootstraps = refl;
+          references = refl;
+        }
+
+    pub setting-step : Stepped p top s t t next
+    unfolding noEntry noName
+    setting-step =
+        let same = setting-leaves rule d in
+        record {
+          through =
+              λ _. (
+                withSetting rule d,
+                record {
+                  few = here .1;
+                  rest = passes top s K (setting rule) (n .turn) d (here .0 .rest) (withSetting rule d) (one-setting top s d rule);
+                  laid = here .0 .laid;
+                  turn = n .later;
+                  entries = entries-still s K (setting rule) (n .turn) refl t t still (here .0 .entries);
+                  counters = counters-still s K (setting rule) (n .turn) refl t t still (here .0 .counters);
+                  names = here .0 .names;
+                  named = here .0 .named ∙ sym (names-same s K (setting rule) (n .turn) refl);
+                  naming = same .2 ∙ here .0 .naming;
+                  raws = rw (same .0, same .1) (here .0 .raws);
+                  room = omega (arith, here .0 .room, raws-next s K (setting rule) (n .turn));
+                },
+              );
+          refused = λ h. absurd (omega (arith, n .found .within, room .bytes));
+          place = refl;
+          counters = λ j l. refl;
+          kept = λ k _. refl;
+        }
 
   -- NAMES
 
@@ -188,7 +261,7 @@ module _ (p : List ℕ) (top : ℕ) (s : List ℕ) (t : Store) (at : ℕ) (d : D
           }
         where
           more : Defined
-          more = record { held = d .held; indexes = d .indexes; names = d .names ++ TheName ∷ [] }
+          more = record { held = d .held; indexes = d .indexes; names = d .names ++ TheName ∷ []; version = d .version }
 
           through : (code ≡ 0) × NamesIn (size p NAME-HEADS) s u × (nameCount u ≡ nameCount t + 1) → Defining p top s u (suc K) next more
           through g =
@@ -258,10 +331,10 @@ module _ (p : List ℕ) (top : ℕ) (s : List ℕ) (t : Store) (at : ℕ) (d : D
     -- with other raw definitions
     raw-defined :
         (kind : Kind) (n e : ℕ) (now : Now (placed kind n e) (at + 5)) (held : List (ℕ × Held)) (indexes : List (ℕ × ℕ)) →
-        definedIn top s ≡ definedFrom top s (suc K) (record { held = held; indexes = indexes; names = d .names }) →
+        definedIn top s ≡ definedFrom top s (suc K) (record { held = held; indexes = indexes; names = d .names; version = d .version }) →
         RawsIn p (constantsIn s) top held indexes u →
         rawCount u ≤ rawCount t + rawsOf (countsOf (placed kind n e ∷ []) 0) →
-        Defining p top s u (suc K) (at + 5) (record { held = held; indexes = indexes; names = d .names })
+        Defining p top s u (suc K) (at + 5) (record { held = held; indexes = indexes; names = d .names; version = d .version })
     unfolding noEntry noName
     raw-defined kind n e now held indexes run raws count =
         record {
@@ -282,14 +355,14 @@ module _ (p : List ℕ) (top : ℕ) (s : List ℕ) (t : Store) (at : ℕ) (d : D
     raw-step :
         (room : Room s p) (kind : Kind) (n e : ℕ) (now : Now (placed kind n e) (at + 5)) (held : List (ℕ × Held)) (indexes : List (ℕ × ℕ)) (code res : ℕ) →
         res ≡ answered code (at + 5) →
-        defineOne top (constantsOf (recordsIn s)) (numberedDefinition (literals (jobIn s)) (placed kind n e)) d ≡ outcome code (record { held = held; indexes = indexes; names = d .names }) →
+        defineOne top (constantsOf (recordsIn s)) (numberedDefinition (literals (jobIn s)) (placed kind n e)) d ≡ outcome code (record { held = held; indexes = indexes; names = d .names; version = d .version }) →
         (code ≡ 0 → RawsIn p (constantsIn s) top held indexes u) →
         rawCount u ≤ rawCount t + rawsOf (countsOf (placed kind n e ∷ []) 0) →
         Stepped p top s t u res
     unfolding answered outcome
     raw-step room kind n e now held indexes zero res is one again count =
         record {
-          through = λ _. (record { held = held; indexes = indexes; names = d .names }, rw is (raw-defined kind n e now held indexes (passes top s K (placed kind n e) (now .turn) d (here .0 .rest) (record { held = held; indexes = indexes; names = d .names }) one) (again refl) count));
+          through = λ _. (record { held = held; indexes = indexes; names = d .names; version = d .version }, rw is (raw-defined kind n e now held indexes (passes top s K (placed kind n e) (now .turn) d (here .0 .rest) (record { held = held; indexes = indexes; names = d .names; version = d .version }) one) (again refl) count));
           refused = λ h. absurd (omega (arith, now .found .within, room .bytes));
           place = counters PLACE (λ q. omega arith) (λ q. omega arith);
           counters = λ j l. counters j (λ q. omega arith) (λ q. omega arith);

@@ -29,6 +29,7 @@ readyFrom top s d state =
             slots = startSlots (gapsFrom top 1 (map (λ r. r .0) (d .held)));
             given = [];
             pending = reverse (map (λ r. (r .0, nodeAt (state .marks) (r .1))) (starters (d .held)));
+            version = d .version;
           };
       origins = [];
     }

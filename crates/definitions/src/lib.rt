@@ -205,7 +205,7 @@ fn add_bs_raw_def(job: &[u8], w: &mut [u32], p: &[usize], at: usize) -> usize
     answer(code, at + 5)
 }
 
-// The definition at a place; the place behind it, or REFUSED + a number: `defineOne`.
+// The definition at a place; the place behind it, or REFUSED + a number: `defineOne`. The form pass has read what settings say.
 fn define_one(job: &[u8], w: &mut [u32], p: &[usize], at: usize, top: usize) -> usize
     requires { ⌜ On (now p) (length (now w)) × Work (now job) (now p) × SomePlace (now p) top (now job) (store (now p) (now w)) at ⌝ }
     ensures { λ r. ⌜ Stepped (now (p .entry)) top (now (job .entry)) (store (now (p .entry)) (now (w .entry))) (store (now (p .entry)) (now (w .exit))) r ⌝ }
@@ -216,6 +216,9 @@ fn define_one(job: &[u8], w: &mut [u32], p: &[usize], at: usize, top: usize) -> 
         0x42 => add_sym_def(job, w, p, at),
         0x43 => add_raw_def(job, w, p, at, top),
         0x44 => add_bs_raw_def(job, w, p, at),
+        0x47 => at + 3,
+        0x48 => at + 1,
+        0x49 => at + 3,
         _ => add_counted(job, w, p, at, CONSTANT_COUNT, 0),
     }
 }

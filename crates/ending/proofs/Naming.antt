@@ -42,7 +42,7 @@ module _ (nodes : List Node) (m : Made) where
   abbrev taken : ℕ → Slots → Made
   taken slot slots =
       record {
-        pool = record { slots = slots; given = (place, slot) ∷ m .pool .given; pending = (slot, place) ∷ m .pool .pending };
+        pool = record { slots = slots; given = (place, slot) ∷ m .pool .given; pending = (slot, place) ∷ m .pool .pending; version = m .pool .version };
         rows = m .rows;
         owned = (slot, attributeText) ∷ m .owned;
       }

@@ -50,6 +50,17 @@ fn counted(job: &[u8], expected: [usize; 8]) {
     tell(is_counted(job, expected));
 }
 
+fn is_set(job: &[u8], highest: usize, version: usize) -> bool {
+    match form(job) {
+        Formed::Refused { code: _, place: _ } => false,
+        Formed::Counts(c) => (c.highest == highest) & (c.version == version),
+    }
+}
+
+fn set(job: &[u8], highest: usize, version: usize) {
+    tell(is_set(job, highest, version));
+}
+
 // Decided points 1 and 2: which record, and which number within a record.
 fn first_faults() {
     refused(b"\x07\x01\x00\x00\xff", 4, 0);
@@ -188,6 +199,102 @@ fn known_jobs_from_f() {
         b"\x50\x52\x00\x01\x00\x60\x02\x00\x00\x00",
         [0, 0, 0, 0, 0, 0, 0, 1],
     );
+    end_line();
+}
+
+// Document 02, No. 10: record 49 is the first, gives a slot, and is not cut.
+fn highest_slots() {
+    set(b"\x50\x60\x02\x00\x00\x00", 65534, 55);
+    set(b"\x49\x00\x01\x50\x60\x02\x00\x00\x00", 1, 55);
+    set(b"\x49\xff\xfe\x50\x60\x02\x00\x00\x00", 65534, 55);
+    refused(b"\x49\x00\x00\x50\x60\x02\x00\x00\x00", 26, 0);
+    refused(b"\x49\xff\xff\x50\x60\x02\x00\x00\x00", 26, 0);
+    refused(b"\x49\x00", 3, 0);
+    refused(b"\x49\x00\x01\x49\x00\x01", 3, 1);
+    refused(b"\x48\x49\x00\x00", 3, 1);
+    refused(b"\x01\x00\x00\x49\x00\x01", 3, 1);
+    refused(b"\x50\x49\x00\x01", 3, 1);
+    end_line();
+}
+
+// No. 5: record 47 comes once, before 50, with any number.
+fn versions() {
+    set(b"\x47\x00\x32\x50\x60\x02\x00\x00\x00", 65534, 50);
+    set(b"\x47\x00\x00\x50\x60\x02\x00\x00\x00", 65534, 0);
+    set(
+        b"\x49\x00\x09\x01\x00\x00\x47\xff\xff\x50\x60\x02\x00\x00\x00",
+        9,
+        65535,
+    );
+    refused(b"\x47\x00\x32\x47\x00\x32", 3, 1);
+    refused(b"\x47\x00", 3, 0);
+    refused(b"\x50\x47\x00\x32", 3, 1);
+    end_line();
+}
+
+// No. 8: which text is told, and where record 48 counts.
+fn held_texts() {
+    refused(b"\x01\x00\x01\x00\x48", 25, 0);
+    refused(b"\x48\x01\x00\x01\x00\x50\x60\x02\x00\x00\x00", 25, 1);
+    refused(b"\x01\x00\x01\x00\x01\x00\x01\x00\x48", 25, 0);
+    refused(b"\x01\x00\x01\x00\x07\x01\x00\x01\x48", 4, 1);
+    refused(b"\x01\x00\x01\x00\x48\x48", 25, 0);
+    refused(b"\x48\x48", 3, 1);
+    refused(b"\x01\x00\x01\x00\x50\x48", 3, 2);
+    refused(b"\x48\x01\x00\x02\x00", 3, 1);
+    counted(
+        b"\x01\x00\x01\x00\x50\x60\x02\x00\x00\x00",
+        [1, 1, 0, 0, 0, 0, 0, 0],
+    );
+    counted(
+        b"\x48\x41\x01\x00\x00\x00\x00\x50\x60\x02\x00\x00\x00",
+        [2, 0, 0, 0, 1, 0, 0, 0],
+    );
+    end_line();
+}
+
+// A text of three bytes under record 48, accepted or not.
+fn is_held(a: u8, b: u8, c: u8) -> bool {
+    let job = [
+        0x48,
+        0x01,
+        0x00,
+        0x03,
+        a,
+        b,
+        c,
+        0x50,
+        0x60,
+        0x02,
+        0x00,
+        0x00,
+        0x00,
+    ];
+    match form(&job) {
+        Formed::Refused { code, place } => !((code == 25) & (place == 1)),
+        Formed::Counts(_) => true,
+    }
+}
+
+// The forms of JVMS 4.4.7: one, two and three bytes, overlong and surrogate ones too; then bytes that no form has in their place.
+fn forms_of_texts() {
+    tell(is_held(0x01, 0x41, 0x7f));
+    tell(is_held(0xc0, 0x80, 0x41));
+    tell(is_held(0x41, 0xdf, 0xbf));
+    tell(is_held(0xe0, 0x80, 0x80));
+    tell(is_held(0xed, 0xa0, 0x80));
+    tell(is_held(0xef, 0xbf, 0xbf));
+    tell(!is_held(0x41, 0x00, 0x41));
+    tell(!is_held(0x80, 0x41, 0x41));
+    tell(!is_held(0xbf, 0x41, 0x41));
+    tell(!is_held(0x41, 0x41, 0xc0));
+    tell(!is_held(0xc0, 0x41, 0x41));
+    tell(!is_held(0xc0, 0xc0, 0x80));
+    tell(!is_held(0x41, 0xe0, 0x80));
+    tell(!is_held(0xe0, 0x80, 0x41));
+    tell(!is_held(0xe0, 0x7f, 0x80));
+    tell(!is_held(0xf0, 0x80, 0x80));
+    tell(!is_held(0x41, 0x41, 0xff));
     end_line();
 }
 
@@ -614,6 +721,10 @@ fn main() {
     two_tables();
     known_jobs_to_e();
     known_jobs_from_f();
+    highest_slots();
+    versions();
+    held_texts();
+    forms_of_texts();
     let mut job = [0u8; 162];
     put_literals(&mut job);
     put_references(&mut job);

@@ -12,7 +12,7 @@ use borrow.Author.Tests.{not-true}
 use Rattle.definition.specs.Basics.{every, only, lookup}
 use Rattle.definition.specs.Bytes.{Parser, one, two, many}
 use Rattle.definition.specs.Shapes.{Kind, constant, Field, text, bits, byte, to, toMany, Entry, shapes, bootstrapShape, withKids, withLiteral, withByte, readFields, readEntry}
-use Rattle.definition.specs.Job.{Reference, Definition, define, Body, ofEntry, ofName, ofRaw, bodies, shortName, reference, readBody, readDefinition}
+use Rattle.definition.specs.Job.{Reference, Definition, define, Body, ofEntry, ofName, ofRaw, ofNumber, ofNothing, bodies, shortName, reference, readBody, readDefinition}
 use Rattle.definition.specs.Numbering.{entries, isBootstrap, constantsOf, bootstrapsOf, literals, numberedEntry}
 use Rattle.facts.specs.Lists.{Among}
 use Rattle.facts.proofs.Lists.{clash, both-true, none≢some, some-inj, inside-found, among-either, only-at, map-at}
@@ -56,6 +56,8 @@ shapedBody : ℕ × Body → Bool
 shapedBody (tag, ofEntry fields) = leaf fields || (refers fields && not (showsLiteral fields))
 shapedBody (tag, ofName kind) = true
 shapedBody (tag, ofRaw kind) = true
+shapedBody (tag, ofNumber rule) = true
+shapedBody (tag, ofNothing rule) = true
 
 bodies-shaped : every shapedBody bodies ≡ true
 unfolding every shapedBody leaf refers bodies shapes bootstrapShape
@@ -166,6 +168,8 @@ body-shaped first (some (ofRaw kind)) bytes r x o p q =
     some-then (two bytes) _ r p λ n rest _ s.
     some-then (two rest) _ r s λ k rest _ t.
     clash (cc)
+body-shaped first (some (ofNumber rule)) bytes r x o p q = some-then (two bytes) _ r p λ n rest _ s. clash (cc)
+body-shaped first (some (ofNothing rule)) bytes r x o p q = clash (cc)
 
 pub found-shaped : (s : List ℕ) (at : ℕ) (x : Entry (List ℕ) Reference) (next : ℕ) → Found anyDefinition s at (define x) next → Shaped x
 unfolding readDefinition

@@ -21,7 +21,7 @@ use Rattle.job.specs.declared.Formed.{Formed}
 use Rattle.job.specs.declared.Formed.the-variants as formed
 use Rattle.job.specs.declared.Skipped.{Skipped}
 use Rattle.job.specs.declared.Skipped.the-variants.{To, Cut}
-use Rattle.job.specs.Forms.{Read, Skips, referencesIn, countsOf, plus, Bounded, tablesIn, Moved, formedBuild}
+use Rattle.job.specs.Forms.{Read, Skips, referencesIn, versionFrom, highestFrom, brokenFrom, more, Bounded, tablesIn, Moved, formedBuild}
 use Rattle.job.proofs.Laws.{one-at, one-cut, mapped}
 use Rattle.facts.proofs.Tables.{NoKey, lookup-none}
 
@@ -52,10 +52,15 @@ Requested c =
       «raw_constants» = c .«raw_constants»;
       «raw_bootstraps» = c .«raw_bootstraps»;
       requests = c .requests + 1;
+      versions = c .versions;
+      version = c .version;
+      texts = c .texts;
+      broken = c .broken;
+      highest = c .highest;
     }
 
-pub requested : (c : JobCounts) → plus c (countsOf [] 1) ≡ Requested c
-unfolding plus countsOf constantsOf bootstrapsOf entries only referencesIn
+pub requested : (c : JobCounts) → more c [] 1 ≡ Requested c
+unfolding more constantsOf bootstrapsOf entries only referencesIn versionFrom highestFrom brokenFrom
 requested c = simp add-zero
 
 module _ (c : JobCounts) (s : List ℕ) (at : ℕ) where
@@ -70,7 +75,7 @@ module _ (c : JobCounts) (s : List ℕ) (at : ℕ) where
     unfolding formRequest whole unless
     request-missing missing = rw (v .read, ← v .cites, missing)
 
-    pub request-good : cited ≡ true → Bounded at c → Moved (formRequest (tablesIn c)) (λ q. countsOf [] 1) s at c next (Requested c)
+    pub request-good : cited ≡ true → Bounded at c → Moved (formRequest (tablesIn c)) (λ q. []) 1 s at c next (Requested c)
     unfolding formRequest whole unless
     request-good there bounded =
         record {

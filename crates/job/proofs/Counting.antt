@@ -3,35 +3,34 @@ use mathlib.Core.Bool.{Bool, true, false, not}
 use mathlib.Core.List.{List, [], _∷_}
 use mathlib.Core.Path.{_≡_, refl, ap, _∙_}
 use Prim.Native.Nat.{ℕ, suc, _+_, _≤_}
-use native.Mathlib.Nat.{add-assoc, add-zero, zero-add}
+use native.Mathlib.Nat.{add-zero, zero-add}
 use native.Mathlib.Omega.{arith}
 use lib.Dec.{eqb}
 use lib.ListN.{length}
 use Rattle.facts.proofs.Lists.{only-here, only-later, only-more}
 use Rattle.definition.specs.Basics.{only}
+use Rattle.definition.specs.Settings.{highestOf}
+use Rattle.definition.specs.Slots.{highestSlot}
 use Rattle.definition.specs.Shapes.{Kind, constant, bootstrap, bootstrapTag, Entry}
-use Rattle.definition.specs.Job.{Reference, Definition, define, named, placed}
+use Rattle.definition.specs.Job.{Reference, Definition, define, named, placed, setting}
 use Rattle.definition.specs.Form.{kindOf}
 use Rattle.definition.specs.Definitions.{sameKind}
-use Rattle.definition.specs.Numbering.{entries, isBootstrap, constantsOf, bootstrapsOf}
+use Rattle.definition.specs.Numbering.{entries, isBootstrap, constantsOf, bootstrapsOf, settings}
 use Rattle.job.specs.declared.JobCounts.{JobCounts}
 use Rattle.job.specs.declared.Opening.{Opening}
-use Rattle.job.specs.declared.Opening.the-variants.{Constant, Bootstrap, NamedConstant, NamedBootstrap, RawConstant, RawBootstrap}
-use Rattle.job.specs.Forms.{isNaming, isPlacing, referencesIn, kidsIn, countsOf, plus, single, oneOf, Bounded}
+use Rattle.job.specs.declared.Opening.the-variants.{Constant, Bootstrap, NamedConstant, NamedBootstrap, RawConstant, RawBootstrap, Version, Texts, Highest}
+use Rattle.job.specs.Forms.{isNaming, isPlacing, isVersion, isHolding, isBroken, referencesIn, kidsIn, versionWith, versionFrom, highestWith, highestFrom, brokenFrom, countsOf, more, grown, countedAs, Bounded}
 
--- ---- adding up
+-- ---- nothing more, and nothing before
 
-pub plus-assoc : (a b c : JobCounts) → plus (plus a b) c ≡ plus a (plus b c)
-unfolding plus
-plus-assoc a b c = simp add-assoc
+pub more-none : (c : JobCounts) → more c [] 0 ≡ c
+unfolding more constantsOf bootstrapsOf entries only referencesIn versionFrom highestFrom brokenFrom
+more-none c = simp add-zero
 
-pub plus-none : (c : JobCounts) → plus c (countsOf [] 0) ≡ c
-unfolding plus countsOf constantsOf bootstrapsOf entries only referencesIn
-plus-none c = simp add-zero
-
-pub none-plus : (c : JobCounts) → plus (countsOf [] 0) c ≡ c
-unfolding plus countsOf constantsOf bootstrapsOf entries only referencesIn
-none-plus c = simp zero-add
+-- behind nothing stands what the list counts, if one record 49 at most, the first, says the highest slot
+pub none-more : (l : List (Definition (List ℕ))) (k : ℕ) → highestFrom highestSlot l ≡ highestOf (settings l) → more (countsOf [] 0) l k ≡ countsOf l k
+unfolding more countsOf constantsOf bootstrapsOf entries only referencesIn versionFrom brokenFrom settings highestOf
+none-more l k h = rw h (simp zero-add)
 
 -- ---- one more in front of a list
 
@@ -42,22 +41,32 @@ unfolding entries only
 entries-more p (define e) l = only-more p e (entries l)
 entries-more p (named kind s r) l = omega arith
 entries-more p (placed kind at number) l = omega arith
+entries-more p (setting s) l = omega arith
 
-pub counts-more : (d : Definition (List ℕ)) (l : List (Definition (List ℕ))) → countsOf (d ∷ l) 0 ≡ plus (countsOf (d ∷ []) 0) (countsOf l 0)
-unfolding countsOf plus constantsOf bootstrapsOf referencesIn
-counts-more d l =
-    let size : suc (length l) ≡ 1 + length l = omega arith in
-    let kids : kidsIn d + referencesIn l ≡ kidsIn d + 0 + referencesIn l = omega arith in
+added : (a b x y : ℕ) → x ≡ b + y → a + x ≡ a + b + y
+added a b x y h = omega (arith, h)
+
+pub more-cons : (c : JobCounts) (d : Definition (List ℕ)) (l : List (Definition (List ℕ))) → more c (d ∷ l) 0 ≡ more (more c (d ∷ []) 0) l 0
+unfolding more constantsOf bootstrapsOf referencesIn versionFrom highestFrom brokenFrom
+more-cons c d l =
+    let size = added (c .definitions) 1 (suc (length l)) (length l) (omega arith) in
+    let kids = added (c .references) (kidsIn d + 0) (kidsIn d + referencesIn l) (referencesIn l) (omega arith) in
+    let none : c .requests + 0 ≡ c .requests + 0 + 0 = omega arith in
     λ i.
     record {
       definitions = size i;
-      constants = entries-more (λ e. not (isBootstrap e)) d l i;
-      bootstraps = entries-more isBootstrap d l i;
+      constants = added (c .constants) _ _ _ (entries-more (λ e. not (isBootstrap e)) d l) i;
+      bootstraps = added (c .bootstraps) _ _ _ (entries-more isBootstrap d l) i;
       references = kids i;
-      names = only-more isNaming d l i;
-      «raw_constants» = only-more (isPlacing constant) d l i;
-      «raw_bootstraps» = only-more (isPlacing bootstrap) d l i;
-      requests = 0;
+      names = added (c .names) _ _ _ (only-more isNaming d l) i;
+      «raw_constants» = added (c .«raw_constants») _ _ _ (only-more (isPlacing constant) d l) i;
+      «raw_bootstraps» = added (c .«raw_bootstraps») _ _ _ (only-more (isPlacing bootstrap) d l) i;
+      requests = none i;
+      versions = added (c .versions) _ _ _ (only-more isVersion d l) i;
+      version = versionFrom (versionWith d (c .version)) l;
+      texts = added (c .texts) _ _ _ (only-more isHolding d l) i;
+      broken = brokenFrom (c .definitions) (c .broken) (d ∷ l);
+      highest = highestFrom (highestWith d (c .highest)) l;
     }
 
 -- ---- what one definition counts
@@ -71,21 +80,27 @@ in-table e kind h = ways (eqb (e .tag) bootstrapTag) refl ∙ ap (sameKind boots
     ways true t = rw (t, kindOf)
     ways false t = rw (t, kindOf)
 
-pub one-constant : (e : Entry (List ℕ) Reference) → isBootstrap e ≡ false → countsOf (define e ∷ []) 0 ≡ single 1 0 (length (e .kids)) 0 0 0
-unfolding countsOf constantsOf bootstrapsOf entries referencesIn kidsIn only isNaming isPlacing
-one-constant e h = rw (only-here (λ e. not (isBootstrap e)) e [] (ap not h), only-later isBootstrap e [] h, add-zero)
+module _ (c : JobCounts) (e : Entry (List ℕ) Reference) where
+  pub one-constant : isBootstrap e ≡ false → more c (define e ∷ []) 0 ≡ grown 1 0 (length (e .kids)) 0 0 0 0 0 (c .version) (c .highest) (isBroken (define e)) c
+  unfolding more constantsOf bootstrapsOf entries referencesIn kidsIn only isNaming isPlacing isVersion isHolding versionFrom versionWith highestFrom highestWith brokenFrom
+  one-constant h = rw (only-here (λ e. not (isBootstrap e)) e [] (ap not h), only-later isBootstrap e [] h, add-zero (length (e .kids)))
 
-pub one-bootstrap : (e : Entry (List ℕ) Reference) → isBootstrap e ≡ true → countsOf (define e ∷ []) 0 ≡ single 0 1 (length (e .kids)) 0 0 0
-unfolding countsOf constantsOf bootstrapsOf entries referencesIn kidsIn only isNaming isPlacing
-one-bootstrap e h = rw (only-later (λ e. not (isBootstrap e)) e [] (ap not h), only-here isBootstrap e [] h, add-zero)
+  pub one-bootstrap : isBootstrap e ≡ true → more c (define e ∷ []) 0 ≡ grown 0 1 (length (e .kids)) 0 0 0 0 0 (c .version) (c .highest) (isBroken (define e)) c
+  unfolding more constantsOf bootstrapsOf entries referencesIn kidsIn only isNaming isPlacing isVersion isHolding versionFrom versionWith highestFrom highestWith brokenFrom
+  one-bootstrap h = rw (only-later (λ e. not (isBootstrap e)) e [] (ap not h), only-here isBootstrap e [] h, add-zero (length (e .kids)))
 
 -- ---- bounds
 
-pub bounded-one : (opening : Opening) (c : JobCounts) (at k next : ℕ) → Bounded at c → at + 1 + k ≤ next → Bounded next (plus c (oneOf opening k))
-unfolding plus oneOf
-bounded-one (Constant fields) c at k next b h = omega arith
-bounded-one Bootstrap c at k next b h = omega arith
-bounded-one NamedConstant c at k next b h = omega arith
-bounded-one NamedBootstrap c at k next b h = omega arith
-bounded-one RawConstant c at k next b h = omega arith
-bounded-one RawBootstrap c at k next b h = omega arith
+pub bounded-one :
+    (opening : Opening) (c : JobCounts) (at k number : ℕ) (broken : Bool) (next : ℕ) → Bounded at c → at + 1 + k ≤ next →
+    Bounded next (countedAs opening k number broken c)
+unfolding countedAs
+bounded-one (Constant fields) c at k number broken next b h = omega arith
+bounded-one Bootstrap c at k number broken next b h = omega arith
+bounded-one NamedConstant c at k number broken next b h = omega arith
+bounded-one NamedBootstrap c at k number broken next b h = omega arith
+bounded-one RawConstant c at k number broken next b h = omega arith
+bounded-one RawBootstrap c at k number broken next b h = omega arith
+bounded-one Version c at k number broken next b h = omega arith
+bounded-one Texts c at k number broken next b h = omega arith
+bounded-one Highest c at k number broken next b h = omega arith

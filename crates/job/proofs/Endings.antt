@@ -8,6 +8,7 @@ use native.Mathlib.Omega.{arith}
 use lib.Dec.{eqb}
 use lib.ListN.{length, getD, drop}
 use Rattle.definition.specs.Basics.{lookup}
+use Rattle.definition.specs.Settings.{version, texts, highest}
 use Rattle.definition.specs.Shapes.{Kind, constant, bootstrap, shapes, bootstrapShape, Entry, isWide}
 use Rattle.definition.specs.Job.{Reference, Definition, define, named, Body, bodies, reference, readBody, readDefinition, shortName}
 use Rattle.definition.specs.Form.{kindOf}
@@ -16,12 +17,12 @@ use Rattle.facts.proofs.Each.{Each, each-at}
 use Rattle.facts.proofs.Tables.{lookup-at}
 use Rattle.raw_const.specs.declared.Shape.the-variants.{Text, Bits, One, Two, Dynamic, KindOne, Unknown}
 use Rattle.job.specs.declared.Opening.{Opening}
-use Rattle.job.specs.declared.Opening.the-variants.{Constant, Bootstrap, NamedConstant, NamedBootstrap, RawConstant, RawBootstrap}
+use Rattle.job.specs.declared.Opening.the-variants.{Constant, Bootstrap, NamedConstant, NamedBootstrap, RawConstant, RawBootstrap, Version, Texts, Highest}
 use Rattle.job.specs.Forms.{entryBody, bodyOf}
 use Rattle.job.specs.Stored.{Found, InTurn, anyDefinition, firstKind, kindIn, kidKind, bytesBetween, KidsTurn, firstPlace}
 use Rattle.job.proofs.Laws.{number}
 use Rattle.job.proofs.Taking.{byte-then}
-use Rattle.job.proofs.Standing.{Refers, EntryIs, NamingIs, PlacingIs, DefinitionIs, tag-there, entry-there, definition-there}
+use Rattle.job.proofs.Standing.{Refers, EntryIs, NamingIs, PlacingIs, SettingIs, BareIs, DefinitionIs, tag-there, entry-there, definition-there}
 
 -- a Dynamic's first reference is to a bootstrap
 unfoldable pub kindIf : Bool → Kind
@@ -54,6 +55,9 @@ Fit tag NamedConstant = tag ≡ 0x41
 Fit tag NamedBootstrap = tag ≡ 0x42
 Fit tag RawConstant = tag ≡ 0x43
 Fit tag RawBootstrap = tag ≡ 0x44
+Fit tag Version = tag ≡ 0x47
+Fit tag Texts = tag ≡ 0x48
+Fit tag Highest = tag ≡ 0x49
 
 abbrev Known : ℕ × Body → Type 0
 Known r = (o : Opening) × (bodyOf o ≡ some (r .1)) × Fit (r .0) o × (kindIn (some (r .1)) ≡ kindIf (eqb (r .0) 17 || eqb (r .0) 18))
@@ -104,7 +108,16 @@ all-known = (
                                           (RawConstant, refl, refl, refl),
                                           (
                                             (RawBootstrap, refl, refl, refl),
-                                            tt,
+                                            (
+                                              (Version, refl, refl, refl),
+                                              (
+                                                (Texts, refl, refl, refl),
+                                                (
+                                                  (Highest, refl, refl, refl),
+                                                  tt,
+                                                ),
+                                              ),
+                                            ),
                                           ),
                                         ),
                                       ),
@@ -171,6 +184,9 @@ module _ (s : List ℕ) (at : ℕ) where
       ways NamedBootstrap fit h = by bootstrap fit h
       ways RawConstant fit h = clash (cc (h .1))
       ways RawBootstrap fit h = clash (cc (h .1))
+      ways Version fit h = clash (cc (h .1))
+      ways Texts fit h = clash (cc (h .1))
+      ways Highest fit h = clash (cc (h .1))
 
   -- what stands at a place, by its first byte
   module _ (d : Definition (List ℕ)) (next : ℕ) (f : Found anyDefinition s at d next) where
@@ -184,8 +200,23 @@ module _ (s : List ℕ) (at : ℕ) where
     opens-raw constant e = definition-there s at d next RawConstant f (rw e)
     opens-raw bootstrap e = definition-there s at d next RawBootstrap f (rw e)
 
-    pub opens-entry : (getD s at 0 ≡ 0x41 → ⊥) → (getD s at 0 ≡ 0x42 → ⊥) → (getD s at 0 ≡ 0x43 → ⊥) → (getD s at 0 ≡ 0x44 → ⊥) → (x : Entry (List ℕ) Reference) × (d ≡ define x)
-    opens-entry n1 n2 n3 n4 = let o = opened d next f in ways (o .0) (o .2) (definition-there s at d next (o .0) f (o .1))
+    pub opens-version : getD s at 0 ≡ 0x47 → SettingIs s at version d next
+    unfolding bodyOf bodies shapes lookup
+    opens-version e = definition-there s at d next Version f (rw e)
+
+    pub opens-texts : getD s at 0 ≡ 0x48 → BareIs s at texts d next
+    unfolding bodyOf bodies shapes lookup
+    opens-texts e = definition-there s at d next Texts f (rw e)
+
+    pub opens-highest : getD s at 0 ≡ 0x49 → SettingIs s at highest d next
+    unfolding bodyOf bodies shapes lookup
+    opens-highest e = definition-there s at d next Highest f (rw e)
+
+    pub opens-entry :
+        (getD s at 0 ≡ 0x41 → ⊥) → (getD s at 0 ≡ 0x42 → ⊥) → (getD s at 0 ≡ 0x43 → ⊥) → (getD s at 0 ≡ 0x44 → ⊥) →
+        (getD s at 0 ≡ 0x47 → ⊥) → (getD s at 0 ≡ 0x48 → ⊥) → (getD s at 0 ≡ 0x49 → ⊥) →
+        (x : Entry (List ℕ) Reference) × (d ≡ define x)
+    opens-entry n1 n2 n3 n4 n7 n8 n9 = let o = opened d next f in ways (o .0) (o .2) (definition-there s at d next (o .0) f (o .1))
       where
         ways : (o : Opening) → Fit (getD s at 0) o → DefinitionIs s at o d next → (x : Entry (List ℕ) Reference) × (d ≡ define x)
         ways (Constant shape) fit h = h
@@ -194,6 +225,9 @@ module _ (s : List ℕ) (at : ℕ) where
         ways NamedBootstrap fit h = absurd (n2 fit)
         ways RawConstant fit h = absurd (n3 fit)
         ways RawBootstrap fit h = absurd (n4 fit)
+        ways Version fit h = absurd (n7 fit)
+        ways Texts fit h = absurd (n8 fit)
+        ways Highest fit h = absurd (n9 fit)
 
   -- an entry: its references from the first on, or its literal, and the place behind it
   module _ (x : Entry (List ℕ) Reference) (next : ℕ) (f : Found anyDefinition s at (define x) next) where
@@ -246,6 +280,9 @@ module _ (s : List ℕ) (at : ℕ) where
         ways NamedBootstrap b fit h = absurd h
         ways RawConstant b fit h = absurd h
         ways RawBootstrap b fit h = absurd h
+        ways Version b fit h = absurd h
+        ways Texts b fit h = absurd h
+        ways Highest b fit h = absurd h
 
     pub literal-there : length (x .kids) ≡ 0 → literalEnd s at (x .tag) ≡ next
     unfolding literalEnd bitsOf
@@ -271,3 +308,6 @@ module _ (s : List ℕ) (at : ℕ) where
         ways NamedBootstrap fit h = absurd h
         ways RawConstant fit h = absurd h
         ways RawBootstrap fit h = absurd h
+        ways Version fit h = absurd h
+        ways Texts fit h = absurd h
+        ways Highest fit h = absurd h

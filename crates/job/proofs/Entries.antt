@@ -24,7 +24,7 @@ pub reference-bounds :
     (at < next) × (next ≤ length s)
 unfolding countOf
 reference-bounds entries s at next cited references h =
-    let v = h constant (record { constants = entries; bootstraps = 0 }) refl in
+    let v = h constant (record { constants = entries; bootstraps = 0; records = 0; versions = 0; texts = 0; broken = none }) refl in
     (omega arith, v .within)
 
 pub several-bounds :
@@ -32,7 +32,7 @@ pub several-bounds :
     ((c : Counts) → c .constants ≡ entries → Skips (many count (reference constant)) (every (cites c)) length s at (To next cited references)) →
     (at + references ≤ next) × (next ≤ length s)
 several-bounds entries count s at next cited references h =
-    let v = h (record { constants = entries; bootstraps = 0 }) refl in
+    let v = h (record { constants = entries; bootstraps = 0; records = 0; versions = 0; texts = 0; broken = none }) refl in
     (v .past, v .within)
 
 module _ (n : Counts) (s : List ℕ) (at : ℕ) where

@@ -12,7 +12,7 @@ use borrow.Author.Tests.{eqb-true}
 use Rattle.definition.specs.Basics.{good, atRecord, unless, lookup}
 use Rattle.definition.specs.Bytes.{Parser, _>>=_, one}
 use Rattle.definition.specs.Job.{Build, Job, readDefinition, asks, readRequest, readBuild}
-use Rattle.definition.specs.Form.{Counts, counted, whole, cites, citesRequest, Definitions, formDefinitions, formRequest, nothingBehind, formBuild, Requests, formRequests, form}
+use Rattle.definition.specs.Form.{Counts, nothingYet, counted, whole, cites, citesRequest, Definitions, formDefinitions, formRequest, nothingBehind, formBuild, Requests, formRequests, form}
 use Rattle.laws.proofs.form.DefinitionsRead.{formed-read, formed-end, formed-step}
 use Rattle.facts.proofs.Lists.{true≢false, front}
 use Rattle.facts.proofs.Results.{bad≢good, good-inj, good-then, atRecord-good, unless-good, whole-good, decided}
@@ -127,9 +127,9 @@ module _ (s : List ℕ) where
   pub form-laid : (job : Job (List ℕ)) → form s ≡ good job → Laid s job
   unfolding form
   form-laid job e =
-      good-then (formDefinitions (length s) (record { constants = 0; bootstraps = 0 }) 0 s) _ job e λ d here e₁.
+      good-then (formDefinitions (length s) nothingYet 0 s) _ job e λ d here e₁.
       good-then (formRequests (length s) (d .counts) 0 (suc (length (d .list))) (d .rest)) _ job e₁ λ r there e₂.
-      let g = definitions-laid (length s) (record { constants = 0; bootstraps = 0 }) 0 0 s d refl here in
+      let g = definitions-laid (length s) nothingYet 0 0 s d refl here in
       let h = requests-laid (length s) (d .counts) 0 (suc (length (d .list))) (suc (g .0)) (d .rest) r (g .4) there in
       let is : record { definitions = d .list; requests = r .list; build = r .build } ≡ job = cc in
       subst

@@ -7,6 +7,7 @@ pub mod Counting
 pub mod Stepping
 pub mod Passes
 pub mod Asking
+pub mod Tops
 pub mod Whole
 pub mod Taking
 pub mod Standing
@@ -14,3 +15,6 @@ pub mod Stored
 pub mod Laying
 pub mod Single
 pub mod Endings
+pub mod Faults
+pub mod Settling
+pub mod Units

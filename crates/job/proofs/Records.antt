@@ -9,8 +9,9 @@ use lib.Dec.{ltb}
 use lib.ListN.{length, drop}
 use Rattle.definition.specs.Basics.{every}
 use Rattle.definition.specs.Bytes.{return, _>>=_, two}
+use Rattle.definition.specs.Settings.{Setting}
 use Rattle.definition.specs.Shapes.{Kind, Field, readEntry}
-use Rattle.definition.specs.Job.{define, named, placed, ofEntry, ofName, ofRaw, shortName, reference, readBody}
+use Rattle.definition.specs.Job.{define, named, placed, setting, ofEntry, ofName, ofRaw, ofNumber, ofNothing, shortName, reference, readBody}
 use Rattle.definition.specs.Form.{Counts, countOf, cites, citesEarlier}
 use Rattle.job.specs.declared.Skipped.{Skipped}
 use Rattle.job.specs.declared.Skipped.the-variants.{To, Cut}
@@ -30,6 +31,17 @@ module _ (n : Counts) (s : List ℕ) (at : ℕ) where
   pub unknown-cut : SkipsDefinition n none s at Cut
   unfolding readBody
   unknown-cut = λ first. refl
+
+  -- ---- a setting, with a number and without
+
+  pub number-to : (rule : ℕ → Setting) (r : Skipped) → Skips two (λ _. true) (λ _. 0) s at r → SkipsDefinition n (some (ofNumber rule)) s at r
+  unfolding readBody citesEarlier kidsIn
+  number-to rule r v =
+      λ first. mapped two (λ m. setting (rule m)) (λ _. true) (λ _. 0) (citesEarlier n) kidsIn s at r (λ m. refl) (λ m. refl) v
+
+  pub nothing-to : (rule : Setting) → at ≤ length s → SkipsDefinition n (some (ofNothing rule)) s at (To at true 0)
+  unfolding readBody citesEarlier kidsIn
+  nothing-to rule low = λ first. record { value = setting rule; read = refl; past = omega arith; within = low; cites = refl; count = refl }
 
   module _ (kind : Kind) where
     -- ---- a name and what it stands for

@@ -10,18 +10,19 @@ use Rattle.facts.proofs.Lists.{clash, none≢some, some-inj}
 use Rattle.facts.proofs.Results.{some-then}
 use Rattle.definition.specs.Basics.{lookup}
 use Rattle.definition.specs.Bytes.{return, andThen, _>>=_, one, two, many}
+use Rattle.definition.specs.Settings.{Setting, version, texts, highest}
 use Rattle.definition.specs.Shapes.{Kind, constant, bootstrap, Field, text, bits, byte, to, bootstrapShape, Entry, withKids, withLiteral, withByte, readFields, readEntry}
-use Rattle.definition.specs.Job.{Reference, raw, entry, name, Definition, define, named, placed, Request, ClassSlot, slot, request, Build, Body, ofEntry, ofName, ofRaw, bodies, shortName, referenceForm, reference, readBody, readDefinition, asks, readRequest, classForm, nameForm, readBuild}
+use Rattle.definition.specs.Job.{Reference, raw, entry, name, Definition, define, named, placed, setting, Request, ClassSlot, slot, request, Build, Body, ofEntry, ofName, ofRaw, ofNumber, ofNothing, bodies, shortName, referenceForm, reference, readBody, readDefinition, asks, readRequest, classForm, nameForm, readBuild}
 use Rattle.job.specs.declared.Stretch.{Stretch}
 use Rattle.raw_const.specs.Entries.{fieldsOf}
 use Rattle.raw_const.specs.declared.Shape.{Shape}
 use Rattle.raw_const.specs.declared.Shape.the-variants.{Text, Bits, One, Two, Dynamic, KindOne, Unknown}
 use Rattle.job.specs.declared.Opening.{Opening}
-use Rattle.job.specs.declared.Opening.the-variants.{Constant, Bootstrap, NamedConstant, NamedBootstrap, RawConstant, RawBootstrap}
+use Rattle.job.specs.declared.Opening.the-variants.{Constant, Bootstrap, NamedConstant, NamedBootstrap, RawConstant, RawBootstrap, Version, Texts, Highest}
 use Rattle.job.specs.Forms.{entryBody, bodyOf}
 use Rattle.job.specs.Stored.{Found, InTurn, Spans, anyDefinition, anyRequest}
 use Rattle.job.proofs.Laws.{number}
-use Rattle.job.proofs.Stepping.{entry-read, name-read, raw-read}
+use Rattle.job.proofs.Stepping.{entry-read, name-read, raw-read, setting-read, bare-read}
 use Rattle.job.proofs.Taking.{takes-name, takes-reference, finds-then, byte-then, two-then, bytes-then, ends}
 
 -- from a place on, so many bytes
@@ -246,13 +247,19 @@ is-entry x e rest left h =
     let pair = some-inj h in
     rw (same-entry x e (ap (λ r. r .0) pair), ap (λ r. r .1) pair)
 
--- a name or a raw definition is no entry, and an entry has the tag that it was read from
+-- a name, a raw definition or a setting is no entry, and an entry has the tag that it was read from
 module _ (first : ℕ) (l : List ℕ) (e : Entry (List ℕ) Reference) (left : List ℕ) where
   no-naming : {X : Type 0} (kind : Kind) → readBody first (some (ofName kind)) l ≡ some (define e, left) → X
   no-naming kind h = let n = name-read first kind l left (define e) h .2 in clash (cc)
 
   no-placing : {X : Type 0} (kind : Kind) → readBody first (some (ofRaw kind)) l ≡ some (define e, left) → X
   no-placing kind h = let n = raw-read first kind l left (define e) h .2 in clash (cc)
+
+  no-setting : {X : Type 0} (rule : ℕ → Setting) → readBody first (some (ofNumber rule)) l ≡ some (define e, left) → X
+  no-setting rule h = let n = setting-read first rule l left (define e) h .1 in clash (cc)
+
+  no-bare : {X : Type 0} (rule : Setting) → readBody first (some (ofNothing rule)) l ≡ some (define e, left) → X
+  no-bare rule h = let n = bare-read first rule l left (define e) h in clash (cc)
 
   body-tag : (body : Option Body) → readBody first body l ≡ some (define e, left) → e .tag ≡ first
   unfolding readBody
@@ -263,6 +270,8 @@ module _ (first : ℕ) (l : List ℕ) (e : Entry (List ℕ) Reference) (left : L
       ap (λ x. x .tag) same ∙ r .2
   body-tag (some (ofName kind)) h = no-naming kind h
   body-tag (some (ofRaw kind)) h = no-placing kind h
+  body-tag (some (ofNumber rule)) h = no-setting rule h
+  body-tag (some (ofNothing rule)) h = no-bare rule h
 
 module _ (s : List ℕ) (at : ℕ) where
   abbrev pub EntryIs : Opening → Entry (List ℕ) Reference → ℕ → Type 0
@@ -272,6 +281,9 @@ module _ (s : List ℕ) (at : ℕ) where
   EntryIs NamedBootstrap e next = ⊥
   EntryIs RawConstant e next = ⊥
   EntryIs RawBootstrap e next = ⊥
+  EntryIs Version e next = ⊥
+  EntryIs Texts e next = ⊥
+  EntryIs Highest e next = ⊥
 
   module _ (e : Entry (List ℕ) Reference) (next : ℕ) where
     module _ (low : at + 1 ≤ length s) (high : next ≤ length s) where
@@ -302,6 +314,9 @@ module _ (s : List ℕ) (at : ℕ) where
       body-is NamedBootstrap h = no-naming (getD s at 0) (drop (at + 1) s) e (drop next s) bootstrap h
       body-is RawConstant h = no-placing (getD s at 0) (drop (at + 1) s) e (drop next s) constant h
       body-is RawBootstrap h = no-placing (getD s at 0) (drop (at + 1) s) e (drop next s) bootstrap h
+      body-is Version h = no-setting (getD s at 0) (drop (at + 1) s) e (drop next s) version h
+      body-is Texts h = no-bare (getD s at 0) (drop (at + 1) s) e (drop next s) texts h
+      body-is Highest h = no-setting (getD s at 0) (drop (at + 1) s) e (drop next s) highest h
 
     -- whatever entry stands at a place, its first byte is its tag
     pub tag-there : Found anyDefinition s at (define e) next → e .tag ≡ getD s at 0
@@ -329,6 +344,13 @@ module _ (s : List ℕ) (at : ℕ) where
   abbrev pub PlacingIs : Kind → Definition (List ℕ) → ℕ → Type 0
   PlacingIs kind d next = (at + 5 ≡ next) × (d ≡ placed kind (number s (at + 1)) (number s (at + 3)))
 
+  -- a setting, with a number and without
+  abbrev pub SettingIs : (ℕ → Setting) → Definition (List ℕ) → ℕ → Type 0
+  SettingIs rule d next = (at + 3 ≡ next) × (d ≡ setting (rule (number s (at + 1))))
+
+  abbrev pub BareIs : Setting → Definition (List ℕ) → ℕ → Type 0
+  BareIs rule d next = (at + 1 ≡ next) × (d ≡ setting rule)
+
   -- a definition, by what its first byte opens
   abbrev pub DefinitionIs : Opening → Definition (List ℕ) → ℕ → Type 0
   DefinitionIs (Constant shape) d next = (e : Entry (List ℕ) Reference) × (d ≡ define e)
@@ -337,6 +359,9 @@ module _ (s : List ℕ) (at : ℕ) where
   DefinitionIs NamedBootstrap d next = NamingIs bootstrap d next
   DefinitionIs RawConstant d next = PlacingIs constant d next
   DefinitionIs RawBootstrap d next = PlacingIs bootstrap d next
+  DefinitionIs Version d next = SettingIs version d next
+  DefinitionIs Texts d next = BareIs texts d next
+  DefinitionIs Highest d next = SettingIs highest d next
 
   module _ (d : Definition (List ℕ)) (next : ℕ) (low : at + 1 ≤ length s) (high : next ≤ length s) where
     abbrev BodyRead : ℕ → Option Body → Type 0
@@ -362,6 +387,17 @@ module _ (s : List ℕ) (at : ℕ) where
         let place : at + 1 + 2 ≡ at + 3 = omega arith in
         (omega (arith, z .1), rw place at (sym (z .0)))
 
+    ruling : (first : ℕ) (rule : ℕ → Setting) → BodyRead first (some (ofNumber rule)) → SettingIs rule d next
+    unfolding readBody
+    ruling first rule h =
+        let t = two-then s (at + 1) (λ n. return (setting (rule n))) d (drop next s) low h in
+        let z = ends s (at + 1 + 2) next (setting (rule (number s (at + 1)))) d (t .0) high (t .1) in
+        (omega (arith, z .1), sym (z .0))
+
+    bare : (first : ℕ) (rule : Setting) → BodyRead first (some (ofNothing rule)) → BareIs rule d next
+    unfolding readBody
+    bare first rule h = let z = ends s (at + 1) next (setting rule) d low high h in (z .1, sym (z .0))
+
     definition-is : (first : ℕ) (opening : Opening) → BodyRead first (bodyOf opening) → DefinitionIs opening d next
     unfolding bodyOf entryBody readBody
     definition-is first (Constant shape) h = listed (fieldsOf shape) h
@@ -374,6 +410,9 @@ module _ (s : List ℕ) (at : ℕ) where
     definition-is first NamedBootstrap h = naming first bootstrap h
     definition-is first RawConstant h = placing first constant h
     definition-is first RawBootstrap h = placing first bootstrap h
+    definition-is first Version h = ruling first version h
+    definition-is first Texts h = bare first texts h
+    definition-is first Highest h = ruling first highest h
 
   pub definition-there :
       (d : Definition (List ℕ)) (next : ℕ) (opening : Opening) → Found anyDefinition s at d next → bodyOf opening ≡ lookup (getD s at 0) bodies → DefinitionIs opening d next

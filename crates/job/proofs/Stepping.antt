@@ -3,25 +3,27 @@ use mathlib.Core.Bool.{Bool, true, false}
 use mathlib.Core.List.{List, [], _∷_}
 use mathlib.Core.Option.{Option, none, some}
 use mathlib.Core.Path.{_≡_, refl, sym, ap, _∙_}
-use Prim.Native.Nat.{ℕ, _+_}
+use Prim.Native.Nat.{ℕ, zero, suc, _+_}
 use native.Mathlib.Omega.{arith}
+use lib.Dec.{eqb}
 use lib.ListN.{getD, drop}
 use Rattle.laws.proofs.form.EmptyLiterals.{fields-keep}
 use Rattle.facts.proofs.Lists.{clash}
 use Rattle.facts.proofs.Results.{some-then}
-use Rattle.definition.specs.Basics.{bad, unless, only}
+use Rattle.definition.specs.Basics.{Result, good, bad, _>>=_, unless, only}
 use Rattle.definition.specs.Bytes.{return, andThen, two}
+use Rattle.definition.specs.Settings.{Setting, version, texts, highest, isSlot}
 use Rattle.definition.specs.Shapes.{Kind, constant, bootstrap, Field, byte, bootstrapShape, Entry, readEntry}
-use Rattle.definition.specs.Job.{Reference, Definition, define, named, placed, ofEntry, ofName, ofRaw, shortName, reference, readBody, readDefinition}
-use Rattle.definition.specs.Form.{Counts, countOf, kindOf, whole, hasRoom, citesEarlier, formDefinition}
+use Rattle.definition.specs.Job.{Reference, Definition, define, named, placed, setting, ofEntry, ofName, ofRaw, ofNumber, ofNothing, shortName, reference, readBody, readDefinition}
+use Rattle.definition.specs.Form.{Counts, countOf, kindOf, whole, mayStand, hasRoom, citesEarlier, formDefinition}
 use Rattle.definition.specs.Definitions.{sameKind}
 use Rattle.definition.specs.Numbering.{entries, constantsOf, bootstrapsOf}
 use Rattle.job.specs.declared.JobCounts.{JobCounts}
 use Rattle.raw_const.specs.Entries.{fieldsOf}
 use Rattle.raw_const.specs.declared.Shape.{Shape}
 use Rattle.job.specs.declared.Opening.{Opening}
-use Rattle.job.specs.declared.Opening.the-variants.{Constant, Bootstrap, NamedConstant, NamedBootstrap, RawConstant, RawBootstrap}
-use Rattle.job.specs.Forms.{entryBody, Read, bodyOf, tableOf, isNaming, isPlacing, referencesIn, kidsIn, countsOf, plus, oneOf, Bounded, roomFor, tablesIn, Moved}
+use Rattle.job.specs.declared.Opening.the-variants.{Constant, Bootstrap, NamedConstant, NamedBootstrap, RawConstant, RawBootstrap, Version, Texts, Highest}
+use Rattle.job.specs.Forms.{entryBody, Read, bodyOf, tableOf, isNaming, isPlacing, isVersion, isHolding, isBroken, numberIn, referencesIn, kidsIn, versionWith, versionFrom, highestWith, highestFrom, brokenFrom, more, countedAs, Bounded, roomFor, onceFault, highestFault, settingFault, faultBehind, faultOf, tablesIn, Moved}
 use Rattle.job.proofs.Table.{Right}
 use Rattle.job.proofs.Counting.{in-table, one-constant, one-bootstrap, bounded-one}
 
@@ -29,10 +31,40 @@ use Rattle.job.proofs.Counting.{in-table, one-constant, one-bootstrap, 
 value-is : {A : Type 0} {a b : A} {l m : List ℕ} → _≡_ {A = Option (A × List ℕ)} (some (a, l)) (some (b, m)) → b ≡ a
 value-is {A} {a} {b} {l} {m} h = let p : _≡_ {A = A × List ℕ} (b, m) (a, l) = cc in ap (λ r. r .0) p
 
--- what a definition so opened is: what it counts, and whether there is room for it
+-- what a fault leads to, and with it the tests behind it
+unfoldable pub passing : ℕ → Result ℕ (Unit {0})
+passing zero = good tt
+passing (suc fault) = bad (suc fault)
+
+unfoldable pub tested : {A : Type 0} → ℕ → A → Result ℕ A
+tested zero a = good a
+tested (suc fault) a = bad (suc fault)
+
+test-all :
+    {A : Type 0} (fault : ℕ) (room cited : Bool) (a : A) →
+    (passing fault >>= λ _. unless room 5 >>= λ _. unless cited 4 >>= λ _. good a) ≡ tested (faultBehind fault room cited) a
+unfolding passing tested faultBehind unless
+test-all zero true true a = refl
+test-all zero true false a = refl
+test-all zero false cited a = refl
+test-all (suc fault) room cited a = refl
+
+once-stands : (b : Bool) → unless b 3 ≡ passing (elim b [ true ↦ 0 | false ↦ 3 ])
+unfolding unless passing
+once-stands true = refl
+once-stands false = refl
+
+highest-stands : (b t : Bool) → (unless b 3 >>= λ _. unless t 26) ≡ passing (elim b [ true ↦ elim t [ true ↦ 0 | false ↦ 26 ] | false ↦ 3 ])
+unfolding unless passing
+highest-stands true true = refl
+highest-stands true false = refl
+highest-stands false t = refl
+
+-- what a definition so opened is: where it may stand, what it counts, and whether there is room for it
 pub record Fits (opening : Opening) (d : Definition (List ℕ)) : Type 0 where
-  pub room : (n : Counts) → hasRoom n d ≡ roomFor opening n
-  pub counts : oneOf opening (kidsIn d) ≡ countsOf (d ∷ []) 0
+  pub stands : (c : JobCounts) → mayStand (tablesIn c) d ≡ passing (settingFault opening (numberIn d) c)
+  pub room : (n : Counts) → hasRoom n d ≡ roomFor opening (n .constants) (n .bootstraps)
+  pub counts : (c : JobCounts) → countedAs opening (kidsIn d) (numberIn d) (isBroken d) c ≡ more c (d ∷ []) 0
 
 -- an entry has the tag that it was read from
 pub entry-read :
@@ -67,30 +99,51 @@ raw-read first kind l rest d h =
     some-then (two l₁) (λ number. return (placed kind at number)) (d, rest) h₁
     (λ number l₂ _ h₂. (at, number, value-is h₂)))
 
+pub setting-read :
+    (first : ℕ) (rule : ℕ → Setting) (l rest : List ℕ) (d : Definition (List ℕ)) →
+    readBody first (some (ofNumber rule)) l ≡ some (d, rest) →
+    (number : ℕ) × (d ≡ setting (rule number))
+unfolding readBody
+setting-read first rule l rest d h =
+    some-then (two l) (λ number. return (setting (rule number))) (d, rest) h
+    (λ number l₁ _ h₁. (number, value-is h₁))
+
+pub bare-read :
+    (first : ℕ) (rule : Setting) (l rest : List ℕ) (d : Definition (List ℕ)) →
+    readBody first (some (ofNothing rule)) l ≡ some (d, rest) →
+    d ≡ setting rule
+unfolding readBody
+bare-read first rule l rest d h = value-is h
+
 module _ (first : ℕ) (l rest : List ℕ) (d : Definition (List ℕ)) where
   fits-constant : (shape : Shape) (fields : Option (List Field)) → constant ≡ kindOf first → readBody first (entryBody fields) l ≡ some (d, rest) → Fits (Constant shape) d
-  unfolding entryBody readBody hasRoom roomFor oneOf kidsIn countOf sameKind
+  unfolding entryBody readBody mayStand settingFault passing hasRoom roomFor countedAs kidsIn countOf sameKind
   fits-constant shape none t h = clash (cc)
   fits-constant shape (some fields) t h =
       let r = entry-read first fields l rest d h in
       let k : kindOf (r .0 .tag) ≡ constant = ap kindOf (r .2) ∙ sym t in
-      rw (r .1) (record { room = λ n. rw k; counts = sym (one-constant (r .0) (in-table (r .0) constant k)) })
+      rw (r .1) (record { stands = λ c. refl; room = λ n. rw k; counts = λ c. sym (one-constant c (r .0) (in-table (r .0) constant k)) })
 
   pub fits-bootstrap : bootstrap ≡ kindOf first → readBody first (some (ofEntry bootstrapShape)) l ≡ some (d, rest) → Fits Bootstrap d
-  unfolding hasRoom roomFor oneOf kidsIn countOf sameKind
+  unfolding mayStand settingFault passing hasRoom roomFor countedAs kidsIn countOf sameKind
   fits-bootstrap t h =
       let r = entry-read first bootstrapShape l rest d h in
       let k : kindOf (r .0 .tag) ≡ bootstrap = ap kindOf (r .2) ∙ sym t in
-      rw (r .1) (record { room = λ n. rw k; counts = sym (one-bootstrap (r .0) (in-table (r .0) bootstrap k)) })
+      rw (r .1) (record { stands = λ c. refl; room = λ n. rw k; counts = λ c. sym (one-bootstrap c (r .0) (in-table (r .0) bootstrap k)) })
 
   pub fits : (opening : Opening) → tableOf opening ≡ kindOf first → readBody first (bodyOf opening) l ≡ some (d, rest) → Fits opening d
-  unfolding bodyOf tableOf readBody hasRoom roomFor oneOf kidsIn countsOf constantsOf bootstrapsOf entries referencesIn only isNaming isPlacing sameKind
+  unfolding bodyOf tableOf readBody mayStand settingFault onceFault highestFault passing hasRoom roomFor countedAs numberIn kidsIn isBroken more constantsOf bootstrapsOf entries referencesIn only isNaming isPlacing isVersion isHolding versionFrom versionWith highestFrom highestWith brokenFrom sameKind
   fits (Constant shape) t h = fits-constant shape (fieldsOf shape) t h
   fits Bootstrap t h = fits-bootstrap t h
-  fits NamedConstant t h = rw (name-read first constant l rest d h .2) (record { room = λ n. refl; counts = refl })
-  fits NamedBootstrap t h = rw (name-read first bootstrap l rest d h .2) (record { room = λ n. refl; counts = refl })
-  fits RawConstant t h = rw (raw-read first constant l rest d h .2) (record { room = λ n. refl; counts = refl })
-  fits RawBootstrap t h = rw (raw-read first bootstrap l rest d h .2) (record { room = λ n. refl; counts = refl })
+  fits NamedConstant t h = rw (name-read first constant l rest d h .2) (record { stands = λ c. refl; room = λ n. refl; counts = λ c. refl })
+  fits NamedBootstrap t h = rw (name-read first bootstrap l rest d h .2) (record { stands = λ c. refl; room = λ n. refl; counts = λ c. refl })
+  fits RawConstant t h = rw (raw-read first constant l rest d h .2) (record { stands = λ c. refl; room = λ n. refl; counts = λ c. refl })
+  fits RawBootstrap t h = rw (raw-read first bootstrap l rest d h .2) (record { stands = λ c. refl; room = λ n. refl; counts = λ c. refl })
+  fits Version t h = rw (setting-read first version l rest d h .1) (record { stands = λ c. once-stands (eqb (c .versions) 0); room = λ n. refl; counts = λ c. refl })
+  fits Texts t h = rw (bare-read first texts l rest d h) (record { stands = λ c. once-stands (eqb (c .texts) 0); room = λ n. refl; counts = λ c. refl })
+  fits Highest t h =
+      let r = setting-read first highest l rest d h in
+      rw (r .1) (record { stands = λ c. highest-stands (eqb (c .definitions) 0) (isSlot (r .0)); room = λ n. refl; counts = λ c. refl })
 
 -- ---- the step
 
@@ -103,26 +156,30 @@ module _ (c : JobCounts) (s : List ℕ) (at : ℕ) (opening : Opening) (right : 
     of-opening : Fits opening (v .value)
     of-opening = fits (getD s at 0) (drop (at + 1) s) (drop next s) (v .value) opening (right .1) (v .read)
 
-    pub step-full : false ≡ roomFor opening (tablesIn c) → formDefinition (tablesIn c) (getD s at 0) (drop (at + 1) s) ≡ bad 5
-    unfolding formDefinition readDefinition whole unless
-    step-full full = rw (← right .0, v .read, of-opening .room (tablesIn c), ← full)
+    step-tested :
+        formDefinition (tablesIn c) (getD s at 0) (drop (at + 1) s) ≡ tested (faultOf opening (numberIn (v .value)) cited c) (v .value, drop next s)
+    unfolding formDefinition readDefinition whole faultOf
+    step-tested =
+        rw (← right .0, v .read, of-opening .stands c, of-opening .room (tablesIn c), ← v .cites)
+        (test-all (settingFault opening (numberIn (v .value)) c) (roomFor opening (c .constants) (c .bootstraps)) cited (v .value, drop next s))
 
-    pub step-cites : true ≡ roomFor opening (tablesIn c) → cited ≡ false → formDefinition (tablesIn c) (getD s at 0) (drop (at + 1) s) ≡ bad 4
-    unfolding formDefinition readDefinition whole unless
-    step-cites room missing = rw (← right .0, v .read, of-opening .room (tablesIn c), ← room, ← v .cites, missing)
+    pub step-refused :
+        (fault : ℕ) → fault ≡ faultOf opening (numberIn (v .value)) cited c → (fault ≡ 0 → ⊥) →
+        formDefinition (tablesIn c) (getD s at 0) (drop (at + 1) s) ≡ bad fault
+    unfolding tested
+    step-refused zero e n = absurd (n refl)
+    step-refused (suc fault) e n = step-tested ∙ rw (← e)
 
     pub step-to :
-        true ≡ roomFor opening (tablesIn c) →
-        cited ≡ true →
-        Bounded at c →
-        Moved (formDefinition (tablesIn c)) (λ d. countsOf (d ∷ []) 0) s at c next (plus c (oneOf opening references))
-    unfolding formDefinition readDefinition whole unless
-    step-to room there bounded =
+        (fault : ℕ) → fault ≡ faultOf opening (numberIn (v .value)) cited c → fault ≡ 0 → Bounded at c →
+        Moved (formDefinition (tablesIn c)) (λ d. d ∷ []) 0 s at c next (countedAs opening references (numberIn (v .value)) (isBroken (v .value)) c)
+    unfolding tested
+    step-to fault e z bounded =
         record {
           value = v .value;
-          read = rw (← right .0, v .read, of-opening .room (tablesIn c), ← room, ← v .cites, there);
-          count = ap (plus c) (rw (v .count) (of-opening .counts));
+          read = step-tested ∙ rw (← e, z);
+          count = rw (v .count) (of-opening .counts c);
           past = omega arith;
           within = v .within;
-          bounded = bounded-one opening c at references next bounded (v .past);
+          bounded = bounded-one opening c at references (numberIn (v .value)) (isBroken (v .value)) next bounded (v .past);
         }

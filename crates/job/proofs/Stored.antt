@@ -22,7 +22,7 @@ use Rattle.raw_const.specs.Entries.{fieldsOf}
 use Rattle.raw_const.specs.declared.Shape.{Shape}
 use Rattle.raw_const.specs.declared.Shape.the-variants.{Text, Bits, One, Two, Dynamic, KindOne, Unknown}
 use Rattle.job.specs.declared.Opening.{Opening}
-use Rattle.job.specs.declared.Opening.the-variants.{Constant, Bootstrap, NamedConstant, NamedBootstrap, RawConstant, RawBootstrap}
+use Rattle.job.specs.declared.Opening.the-variants.{Constant, Bootstrap, NamedConstant, NamedBootstrap, RawConstant, RawBootstrap, Version, Texts, Highest}
 use Rattle.raw_const.proofs.Shape.{the-type as shape-type}
 use Rattle.job.proofs.Opening.{the-type}
 use Rattle.job.specs.Forms.{entryBody, bodyOf, tableOf}
@@ -176,19 +176,22 @@ module _ (s : List ℕ) (at : ℕ) where
 
     -- what isn't a constant is a bootstrap
     bootstrap-shaped :
-        OneOf (1 ∷ 2 ∷ 3 ∷ 4 ∷ 5 ∷ []) (tagOf the-type opening) →
+        OneOf (1 ∷ 2 ∷ 3 ∷ 4 ∷ 5 ∷ 6 ∷ 7 ∷ 8 ∷ []) (tagOf the-type opening) →
         (e : Entry (List ℕ) Reference) (next : ℕ) →
         Found anyDefinition s at (define e) next →
         BootstrapIs s (at + 1) e next
     bootstrap-shaped k e next f = ways opening k (opened e next f)
       where
-        ways : (x : Opening) → OneOf (1 ∷ 2 ∷ 3 ∷ 4 ∷ 5 ∷ []) (tagOf the-type x) → EntryIs s at x e next → BootstrapIs s (at + 1) e next
-        ways (Constant shape) k h = absurd (miss (1 ∷ 2 ∷ 3 ∷ 4 ∷ 5 ∷ []) 0 tt k)
+        ways : (x : Opening) → OneOf (1 ∷ 2 ∷ 3 ∷ 4 ∷ 5 ∷ 6 ∷ 7 ∷ 8 ∷ []) (tagOf the-type x) → EntryIs s at x e next → BootstrapIs s (at + 1) e next
+        ways (Constant shape) k h = absurd (miss (1 ∷ 2 ∷ 3 ∷ 4 ∷ 5 ∷ 6 ∷ 7 ∷ 8 ∷ []) 0 tt k)
         ways Bootstrap k h = h
         ways NamedConstant k h = absurd h
         ways NamedBootstrap k h = absurd h
         ways RawConstant k h = absurd h
         ways RawBootstrap k h = absurd h
+        ways Version k h = absurd h
+        ways Texts k h = absurd h
+        ways Highest k h = absurd h
 
     -- ---- literals
 
@@ -197,7 +200,7 @@ module _ (s : List ℕ) (at : ℕ) where
         let size : at - at ≡ 0 = omega arith in
         record { are = rw (size, e); rising = omega arith; within = h }
 
-    pub bootstrap-literal : OneOf (1 ∷ 2 ∷ 3 ∷ 4 ∷ 5 ∷ []) (tagOf the-type opening) → WhatEntry s at (λ e. Spans s (record { start = at; end = at }) (e .literal))
+    pub bootstrap-literal : OneOf (1 ∷ 2 ∷ 3 ∷ 4 ∷ 5 ∷ 6 ∷ 7 ∷ 8 ∷ []) (tagOf the-type opening) → WhatEntry s at (λ e. Spans s (record { start = at; end = at }) (e .literal))
     bootstrap-literal k e next f = nothing-spans (e .literal) (omega arith) (bootstrap-shaped k e next f .noLiteral)
 
     module _ (shape : Shape) (constant-opened : opening ≡ Constant shape) where
@@ -308,7 +311,7 @@ module _ (s : List ℕ) (at : ℕ) where
 
     -- ---- a bootstrap: its first reference, and its count behind it
 
-    module _ (k : OneOf (1 ∷ 2 ∷ 3 ∷ 4 ∷ 5 ∷ []) (tagOf the-type opening)) where
+    module _ (k : OneOf (1 ∷ 2 ∷ 3 ∷ 4 ∷ 5 ∷ 6 ∷ 7 ∷ 8 ∷ []) (tagOf the-type opening)) where
       pub bootstrap-byte : WhatEntry s at (λ e. 0 ≡ e .byte)
       bootstrap-byte e next f = sym (bootstrap-shaped k e next f .noByte)
 
@@ -321,15 +324,18 @@ module _ (s : List ℕ) (at : ℕ) where
           ways opening k (opened e next f) (told ∙ ap (λ t. lookup t bodies) (is e next f)) (table ∙ ap kindOf (is e next f))
         where
           ways :
-              (x : Opening) → OneOf (1 ∷ 2 ∷ 3 ∷ 4 ∷ 5 ∷ []) (tagOf the-type x) → EntryIs s at x e next → bodyOf x ≡ lookup (e .tag) bodies →
+              (x : Opening) → OneOf (1 ∷ 2 ∷ 3 ∷ 4 ∷ 5 ∷ 6 ∷ 7 ∷ 8 ∷ []) (tagOf the-type x) → EntryIs s at x e next → bodyOf x ≡ lookup (e .tag) bodies →
               tableOf x ≡ kindOf (e .tag) → KidAt s e 0 (at + 1)
-          ways (Constant shape) k h b t = absurd (miss (1 ∷ 2 ∷ 3 ∷ 4 ∷ 5 ∷ []) 0 tt k)
+          ways (Constant shape) k h b t = absurd (miss (1 ∷ 2 ∷ 3 ∷ 4 ∷ 5 ∷ 6 ∷ 7 ∷ 8 ∷ []) 0 tt k)
           ways Bootstrap k h b t =
               kid-first s e constant (at + 1) 2 next (ap kindIn (sym b)) (ap (λ kind. bytesBetween kind 0) (sym t)) (h .refers)
           ways NamedConstant k h b t = absurd h
           ways NamedBootstrap k h b t = absurd h
           ways RawConstant k h b t = absurd h
           ways RawBootstrap k h b t = absurd h
+          ways Version k h b t = absurd h
+          ways Texts k h b t = absurd h
+          ways Highest k h b t = absurd h
 
       module _ (p : ℕ) (behind : WhatReference s (at + 1) (λ kind a next. p ≡ next)) where
         pub count-room : EntryStands s at → p + 2 ≤ length s

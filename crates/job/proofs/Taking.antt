@@ -14,7 +14,7 @@ use Rattle.facts.proofs.Results.{some-then}
 use Rattle.definition.specs.Basics.{lookup}
 use Rattle.definition.specs.Bytes.{Parser, return, fail, _>>=_, one, two, many}
 use Rattle.definition.specs.Shapes.{Kind, constant, Field, text, bits, byte, to, toMany, Entry, withKids, withLiteral, withByte, readFields, readEntry}
-use Rattle.definition.specs.Job.{Reference, raw, entry, name, define, named, placed, Body, ofEntry, ofName, ofRaw, bodies, asks, shortName, referenceForm, reference, readBody, readDefinition, readRequest}
+use Rattle.definition.specs.Job.{Reference, raw, entry, name, define, named, placed, setting, Body, ofEntry, ofName, ofRaw, ofNumber, ofNothing, bodies, asks, shortName, referenceForm, reference, readBody, readDefinition, readRequest}
 use Rattle.job.specs.Stored.{Found, anyDefinition, anyRequest}
 use Rattle.job.proofs.Laws.{number, many-reads, many-cut, one-at, one-cut, two-at, two-cut}
 
@@ -100,6 +100,8 @@ takes-body first (some (ofName kind)) =
     takes-bind 0 (reference kind) _ (takes-kid kind) λ r. takes-return (named kind s r)
 takes-body first (some (ofRaw kind)) =
     takes-bind 0 two _ (takes-any two takes-two) λ at. takes-bind 0 two _ (takes-any two takes-two) λ n. takes-return (placed kind at n)
+takes-body first (some (ofNumber rule)) = takes-bind 0 two _ (takes-any two takes-two) λ n. takes-return (setting (rule n))
+takes-body first (some (ofNothing rule)) = takes-return (setting rule)
 
 pub takes-definition : Takes 1 anyDefinition
 unfolding readDefinition

@@ -8,19 +8,22 @@ use lib.ListN.{length, drop}
 use Rattle.facts.proofs.Lists.{clash}
 use Rattle.facts.proofs.Results.{good-inj}
 use Rattle.definition.specs.Basics.{Result, good, bad, _>>=_, Refusal, only}
+use Rattle.definition.specs.Settings.{highestOf}
+use Rattle.definition.specs.Slots.{highestSlot}
 use Rattle.definition.specs.Job.{Definition}
-use Rattle.definition.specs.Form.{Counts, Definitions, formDefinitions, Requests, formRequests, form}
-use Rattle.definition.specs.Numbering.{entries, constantsOf, bootstrapsOf}
+use Rattle.definition.specs.Form.{Counts, nothingYet, Definitions, formDefinitions, Requests, formRequests, form}
+use Rattle.definition.specs.Numbering.{entries, constantsOf, bootstrapsOf, settings}
 use Rattle.job.specs.declared.JobCounts.{JobCounts}
 use Rattle.job.specs.declared.Formed.{Formed}
 use Rattle.job.specs.declared.Formed.the-variants as formed
-use Rattle.job.specs.Forms.{referencesIn, countsOf, plus, tables, tablesIn, tallied, placeOf, formedRequests, formedOf}
-use Rattle.job.proofs.Counting.{none-plus}
+use Rattle.job.specs.Forms.{referencesIn, versionFrom, highestFrom, brokenFrom, countsOf, more, tablesIn, tallied, placeOf, formedRequests, formedOf}
+use Rattle.job.proofs.Counting.{none-more}
+use Rattle.job.proofs.Tops.{top-first}
 use Rattle.job.proofs.Passes.{RequestsLeft}
 
 -- requests are counted beside definitions
-pub beside : (l : List (Definition (List ℕ))) (k : ℕ) → countsOf l k ≡ plus (countsOf l 0) (countsOf [] k)
-unfolding plus countsOf constantsOf bootstrapsOf entries only referencesIn
+pub beside : (l : List (Definition (List ℕ))) (k : ℕ) → countsOf l k ≡ more (countsOf l 0) [] k
+unfolding more countsOf constantsOf bootstrapsOf entries only referencesIn versionFrom highestFrom brokenFrom
 beside l k = simp (add-zero, zero-add)
 
 pub formed-job :
@@ -53,25 +56,27 @@ module _ (s : List ℕ) where
   after-bad (bad other) refusal e = let p : other ≡ refusal = cc in rw p
 
   pub after-good :
-      (x : Result Refusal Definitions) (c : JobCounts) (next : ℕ) → tallied (countsOf [] 0) x ≡ good (c, tablesIn c, drop next s) →
+      (x : Result Refusal Definitions) (c : JobCounts) (next : ℕ) →
+      ((d : Definitions) → x ≡ good d → highestFrom highestSlot (d .list) ≡ highestOf (settings (d .list))) →
+      tallied (countsOf [] 0) x ≡ good (c, tablesIn c, drop next s) →
       After x ≡ RequestsLeft s next c
   unfolding tallied
-  after-good (good d) c next e =
+  after-good (good d) c next top e =
       let p = good-inj e in
-      let counts : countsOf (d .list) 0 ≡ c = sym (none-plus (countsOf (d .list) 0)) ∙ ap (λ t. t .0) p in
+      let counts : countsOf (d .list) 0 ≡ c = sym (none-more (d .list) 0 (top d refl)) ∙ ap (λ t. t .0) p in
       formed-job (d .list) (formRequests (length s) (d .counts) 0 (suc (length (d .list))) (d .rest))
       ∙ requests-start s (d .rest) (d .list) (d .counts)
       ∙ rw (counts, ap (λ t. t .1) p, ap (λ t. t .2) p)
-  after-good (bad other) c next e = clash (cc)
+  after-good (bad other) c next top e = clash (cc)
 
   pub whole-bad :
-      (refusal : Refusal) → tallied (countsOf [] 0) (formDefinitions (length s) (tables 0 0) 0 s) ≡ bad refusal →
+      (refusal : Refusal) → tallied (countsOf [] 0) (formDefinitions (length s) nothingYet 0 s) ≡ bad refusal →
       formedOf (form s) ≡ formed.Refused (refusal .code) (refusal .place)
   unfolding form
-  whole-bad refusal e = after-bad (formDefinitions (length s) (tables 0 0) 0 s) refusal e
+  whole-bad refusal e = after-bad (formDefinitions (length s) nothingYet 0 s) refusal e
 
   pub whole-good :
-      (c : JobCounts) (next : ℕ) → tallied (countsOf [] 0) (formDefinitions (length s) (tables 0 0) 0 s) ≡ good (c, tablesIn c, drop next s) →
+      (c : JobCounts) (next : ℕ) → tallied (countsOf [] 0) (formDefinitions (length s) nothingYet 0 s) ≡ good (c, tablesIn c, drop next s) →
       formedOf (form s) ≡ RequestsLeft s next c
   unfolding form
-  whole-good c next e = after-good (formDefinitions (length s) (tables 0 0) 0 s) c next e
+  whole-good c next e = after-good (formDefinitions (length s) nothingYet 0 s) c next (top-first s) e

@@ -1,21 +1,25 @@
 -- What the form pass returns, and how it goes by the definition's readers. Assumes nothing.
-use mathlib.Core.Bool.{Bool, true, false}
+use mathlib.Core.Bool.{Bool, true, false, _&&_, _||_, not}
 use mathlib.Core.List.{List, [], _∷_}
 use mathlib.Core.Option.{Option, none, some}
 use mathlib.Core.Path.{_≡_}
-use Prim.Native.Nat.{ℕ, suc, _+_, _^_, _≤_, _<_}
-use lib.Dec.{ltb}
-use lib.ListN.{length, getD, drop}
+use Prim.Native.Nat.{ℕ, zero, suc, _+_, _*_, _-_, _^_, _≤_, _<_}
+use lib.Dec.{eqb, ltb}
+use lib.ListN.{length, getD, take, drop}
 use Rattle.definition.specs.Basics.{Result, good, bad, Refusal, every, only}
 use Rattle.definition.specs.Bytes.{Parser}
+use Rattle.definition.specs.Settings.{version, texts, highest, isSlot, highestOf, newest}
 use Rattle.definition.specs.Shapes.{Kind, constant, bootstrap, Field, bootstrapShape, readEntry}
-use Rattle.definition.specs.Job.{Definition, define, named, placed, Build, Job, Body, ofEntry, ofName, ofRaw, reference, readBody}
+use Rattle.definition.specs.Texts.{between, isText}
+use Rattle.definition.specs.Job.{Definition, define, named, placed, setting, Build, Job, Body, ofEntry, ofName, ofRaw, ofNumber, ofNothing, reference, readBody}
 use Rattle.definition.specs.Form.{Counts, countOf, cites, citesEarlier, tableSize, Definitions, Requests}
-use Rattle.definition.specs.Numbering.{constantsOf, bootstrapsOf}
+use Rattle.definition.specs.Numbering.{constantsOf, bootstrapsOf, settings}
 use Rattle.definition.specs.Definitions.{sameKind}
 use Rattle.raw_const.specs.Entries.{fieldsOf}
 use Rattle.job.specs.declared.Opening.{Opening}
-use Rattle.job.specs.declared.Opening.the-variants.{Constant, Bootstrap, NamedConstant, NamedBootstrap, RawConstant, RawBootstrap}
+use Rattle.job.specs.declared.Opening.the-variants.{Constant, Bootstrap, NamedConstant, NamedBootstrap, RawConstant, RawBootstrap, Version, Texts, Highest}
+use Rattle.raw_const.specs.declared.Shape.{Shape}
+use Rattle.raw_const.specs.declared.Shape.the-variants.{Text, Bits, One, Two, Dynamic, KindOne, Unknown}
 use Rattle.job.specs.declared.JobCounts.{JobCounts}
 use Rattle.job.specs.declared.Formed.{Formed}
 use Rattle.job.specs.declared.Formed.the-variants as formed
@@ -41,6 +45,9 @@ bodyOf NamedConstant = some (ofName constant)
 bodyOf NamedBootstrap = some (ofName bootstrap)
 bodyOf RawConstant = some (ofRaw constant)
 bodyOf RawBootstrap = some (ofRaw bootstrap)
+bodyOf Version = some (ofNumber version)
+bodyOf Texts = some (ofNothing texts)
+bodyOf Highest = some (ofNumber highest)
 
 -- the table that an entry goes into: as kindOf has it, the first for all but 40 hex
 unfoldable pub tableOf : Opening → Kind
@@ -50,6 +57,30 @@ tableOf NamedConstant = constant
 tableOf NamedBootstrap = constant
 tableOf RawConstant = constant
 tableOf RawBootstrap = constant
+tableOf Version = constant
+tableOf Texts = constant
+tableOf Highest = constant
+
+-- a text, and no other
+unfoldable pub isTextShape : Shape → Bool
+isTextShape Text = true
+isTextShape (Bits n) = false
+isTextShape One = false
+isTextShape Two = false
+isTextShape KindOne = false
+isTextShape Dynamic = false
+isTextShape Unknown = false
+
+unfoldable pub opensText : Opening → Bool
+opensText (Constant shape) = isTextShape shape
+opensText Bootstrap = false
+opensText NamedConstant = false
+opensText NamedBootstrap = false
+opensText RawConstant = false
+opensText RawBootstrap = false
+opensText Version = false
+opensText Texts = false
+opensText Highest = false
 
 -- ---- skipping
 
@@ -80,14 +111,80 @@ unfoldable pub kidsIn : Definition (List ℕ) → ℕ
 kidsIn (define e) = length (e .kids)
 kidsIn (named kind s r) = 0
 kidsIn (placed kind at number) = 0
+kidsIn (setting s) = 0
 
 -- a definition behind its first byte, where so many entries stand earlier
 abbrev pub SkipsDefinition : Counts → Option Body → List ℕ → ℕ → Skipped → Type 0
 SkipsDefinition n body s at r = (first : ℕ) → Skips (readBody first body) (citesEarlier n) kidsIn s at r
 
--- the entries so far
-abbrev pub tables : ℕ → ℕ → Counts
-tables constants bootstraps = record { constants = constants; bootstraps = bootstraps }
+-- the same, where the tables have so many entries
+abbrev pub SkipsAfter : ℕ → ℕ → Option Body → List ℕ → ℕ → Skipped → Type 0
+SkipsAfter constants bootstraps body s at r = (n : Counts) → n .constants ≡ constants → n .bootstraps ≡ bootstraps → SkipsDefinition n body s at r
+
+-- a setting's number stands at a place
+abbrev pub NumberRoom : Opening → List ℕ → ℕ → Type 0
+NumberRoom (Constant shape) s at = Unit {0}
+NumberRoom Bootstrap s at = Unit {0}
+NumberRoom NamedConstant s at = Unit {0}
+NumberRoom NamedBootstrap s at = Unit {0}
+NumberRoom RawConstant s at = Unit {0}
+NumberRoom RawBootstrap s at = Unit {0}
+NumberRoom Version s at = at + 2 ≤ length s
+NumberRoom Texts s at = Unit {0}
+NumberRoom Highest s at = at + 2 ≤ length s
+
+unfoldable pub numberOpened : Opening → List ℕ → ℕ → ℕ
+numberOpened (Constant shape) s at = 0
+numberOpened Bootstrap s at = 0
+numberOpened NamedConstant s at = 0
+numberOpened NamedBootstrap s at = 0
+numberOpened RawConstant s at = 0
+numberOpened RawBootstrap s at = 0
+numberOpened Version s at = 256 * getD s at 0 + getD s (at + 1) 0
+numberOpened Texts s at = 0
+numberOpened Highest s at = 256 * getD s at 0 + getD s (at + 1) 0
+
+-- the number of a setting
+unfoldable pub numberIn : Definition (List ℕ) → ℕ
+numberIn (define e) = 0
+numberIn (named kind s r) = 0
+numberIn (placed kind at number) = 0
+numberIn (setting (version v)) = v
+numberIn (setting texts) = 0
+numberIn (setting (highest n)) = n
+
+-- ---- texts
+
+-- how many bytes follow a unit's first byte, and are needed behind a byte where so many were needed with it; 3: it can't stand there
+unfoldable pub neededFirst : ℕ → ℕ
+neededFirst b =
+    elim (between 0x01 0x7f b) [
+      | true ↦ 0
+      | false ↦ elim (between 0xc0 0xdf b) [ true ↦ 1 | false ↦ elim (between 0xe0 0xef b) [ true ↦ 2 | false ↦ 3 ] ]
+    ]
+
+unfoldable pub neededBehind : ℕ → ℕ → ℕ
+neededBehind b zero = neededFirst b
+neededBehind b (suc needed) = elim (between 0x80 0xbf b) [ true ↦ needed | false ↦ 3 ]
+
+-- a text that isn't one, by what a definition's first byte opens, and by the definition
+unfoldable pub brokenOpened : Opening → List ℕ → ℕ → ℕ → Bool
+brokenOpened opening s at next = opensText opening && not (isText (take (next - (at + 3)) (drop (at + 3) s)))
+
+unfoldable pub isBroken : Definition (List ℕ) → Bool
+isBroken (define e) = eqb (e .tag) 1 && not (isText (e .literal))
+isBroken (named kind s r) = false
+isBroken (placed kind at number) = false
+isBroken (setting s) = false
+
+-- one more than the record of the first such text, with one record more; 0: there is none
+unfoldable pub brokenWith : ℕ → Bool → ℕ → ℕ
+brokenWith place broken zero = elim broken [ true ↦ suc place | false ↦ 0 ]
+brokenWith place broken (suc earlier) = suc earlier
+
+unfoldable pub asBroken : ℕ → Option ℕ
+asBroken zero = none
+asBroken (suc place) = some place
 
 -- ---- counting
 
@@ -95,15 +192,63 @@ unfoldable pub isNaming : Definition (List ℕ) → Bool
 isNaming (define e) = false
 isNaming (named kind s r) = true
 isNaming (placed kind at number) = false
+isNaming (setting s) = false
 
 unfoldable pub isPlacing : Kind → Definition (List ℕ) → Bool
 isPlacing kind (define e) = false
 isPlacing kind (named other s r) = false
 isPlacing kind (placed other at number) = sameKind kind other
+isPlacing kind (setting s) = false
+
+unfoldable pub isVersion : Definition (List ℕ) → Bool
+isVersion (define e) = false
+isVersion (named kind s r) = false
+isVersion (placed kind at number) = false
+isVersion (setting (version v)) = true
+isVersion (setting texts) = false
+isVersion (setting (highest n)) = false
+
+unfoldable pub isHolding : Definition (List ℕ) → Bool
+isHolding (define e) = false
+isHolding (named kind s r) = false
+isHolding (placed kind at number) = false
+isHolding (setting (version v)) = false
+isHolding (setting texts) = true
+isHolding (setting (highest n)) = false
 
 unfoldable pub referencesIn : List (Definition (List ℕ)) → ℕ
 referencesIn [] = 0
 referencesIn (d ∷ rest) = kidsIn d + referencesIn rest
+
+-- the version and the highest slot behind a definition, and behind several
+unfoldable pub versionWith : Definition (List ℕ) → ℕ → ℕ
+versionWith (define e) v = v
+versionWith (named kind s r) v = v
+versionWith (placed kind at number) v = v
+versionWith (setting (version w)) v = w
+versionWith (setting texts) v = v
+versionWith (setting (highest n)) v = v
+
+unfoldable pub versionFrom : ℕ → List (Definition (List ℕ)) → ℕ
+versionFrom v [] = v
+versionFrom v (d ∷ rest) = versionFrom (versionWith d v) rest
+
+unfoldable pub highestWith : Definition (List ℕ) → ℕ → ℕ
+highestWith (define e) top = top
+highestWith (named kind s r) top = top
+highestWith (placed kind at number) top = top
+highestWith (setting (version v)) top = top
+highestWith (setting texts) top = top
+highestWith (setting (highest n)) top = n
+
+unfoldable pub highestFrom : ℕ → List (Definition (List ℕ)) → ℕ
+highestFrom top [] = top
+highestFrom top (d ∷ rest) = highestFrom (highestWith d top) rest
+
+-- the first text that isn't one, behind several definitions from a record on
+unfoldable pub brokenFrom : ℕ → ℕ → List (Definition (List ℕ)) → ℕ
+brokenFrom place earlier [] = earlier
+brokenFrom place earlier (d ∷ rest) = brokenFrom (place + 1) (brokenWith place (isBroken d) earlier) rest
 
 -- what a job with these definitions and so many requests counts
 unfoldable pub countsOf : List (Definition (List ℕ)) → ℕ → JobCounts
@@ -117,6 +262,11 @@ countsOf list requests =
       «raw_constants» = length (only (isPlacing constant) list);
       «raw_bootstraps» = length (only (isPlacing bootstrap) list);
       requests = requests;
+      versions = length (only isVersion list);
+      version = versionFrom newest list;
+      texts = length (only isHolding list);
+      broken = brokenFrom 0 0 list;
+      highest = highestOf (settings list);
     }
 
 -- what the form pass returns
@@ -124,41 +274,55 @@ unfoldable pub formedOf : Result Refusal (Job (List ℕ)) → Formed
 formedOf (good job) = formed.Counts (countsOf (job .definitions) (length (job .requests)))
 formedOf (bad refusal) = formed.Refused (refusal .code) (refusal .place)
 
--- counts, added up
-unfoldable pub plus : JobCounts → JobCounts → JobCounts
-plus a b =
+-- counts, and those of definitions and requests behind them
+unfoldable pub more : JobCounts → List (Definition (List ℕ)) → ℕ → JobCounts
+more c list requests =
     record {
-      definitions = a .definitions + b .definitions;
-      constants = a .constants + b .constants;
-      bootstraps = a .bootstraps + b .bootstraps;
-      references = a .references + b .references;
-      names = a .names + b .names;
-      «raw_constants» = a .«raw_constants» + b .«raw_constants»;
-      «raw_bootstraps» = a .«raw_bootstraps» + b .«raw_bootstraps»;
-      requests = a .requests + b .requests;
+      definitions = c .definitions + length list;
+      constants = c .constants + length (constantsOf list);
+      bootstraps = c .bootstraps + length (bootstrapsOf list);
+      references = c .references + referencesIn list;
+      names = c .names + length (only isNaming list);
+      «raw_constants» = c .«raw_constants» + length (only (isPlacing constant) list);
+      «raw_bootstraps» = c .«raw_bootstraps» + length (only (isPlacing bootstrap) list);
+      requests = c .requests + requests;
+      versions = c .versions + length (only isVersion list);
+      version = versionFrom (c .version) list;
+      texts = c .texts + length (only isHolding list);
+      broken = brokenFrom (c .definitions) (c .broken) list;
+      highest = highestFrom (c .highest) list;
     }
 
-abbrev pub single : ℕ → ℕ → ℕ → ℕ → ℕ → ℕ → JobCounts
-single constants bootstraps references names raws indexes =
+-- one definition more, which is so many constants, bootstraps, names and so on
+abbrev pub grown : ℕ → ℕ → ℕ → ℕ → ℕ → ℕ → ℕ → ℕ → ℕ → ℕ → Bool → JobCounts → JobCounts
+grown constants bootstraps references names raws indexes versions holding major top broken c =
     record {
-      definitions = 1;
-      constants = constants;
-      bootstraps = bootstraps;
-      references = references;
-      names = names;
-      «raw_constants» = raws;
-      «raw_bootstraps» = indexes;
-      requests = 0;
+      definitions = c .definitions + 1;
+      constants = c .constants + constants;
+      bootstraps = c .bootstraps + bootstraps;
+      references = c .references + references;
+      names = c .names + names;
+      «raw_constants» = c .«raw_constants» + raws;
+      «raw_bootstraps» = c .«raw_bootstraps» + indexes;
+      requests = c .requests + 0;
+      versions = c .versions + versions;
+      version = major;
+      texts = c .texts + holding;
+      broken = brokenWith (c .definitions) broken (c .broken);
+      highest = top;
     }
 
--- what one definition so opened, with so many references, counts
-unfoldable pub oneOf : Opening → ℕ → JobCounts
-oneOf (Constant shape) k = single 1 0 k 0 0 0
-oneOf Bootstrap k = single 0 1 k 0 0 0
-oneOf NamedConstant k = single 0 0 k 1 0 0
-oneOf NamedBootstrap k = single 0 0 k 1 0 0
-oneOf RawConstant k = single 0 0 k 0 1 0
-oneOf RawBootstrap k = single 0 0 k 0 0 1
+-- the counts with one definition so opened, with so many references, and this number if it is a setting
+unfoldable pub countedAs : Opening → ℕ → ℕ → Bool → JobCounts → JobCounts
+countedAs (Constant shape) k number broken c = grown 1 0 k 0 0 0 0 0 (c .version) (c .highest) broken c
+countedAs Bootstrap k number broken c = grown 0 1 k 0 0 0 0 0 (c .version) (c .highest) broken c
+countedAs NamedConstant k number broken c = grown 0 0 k 1 0 0 0 0 (c .version) (c .highest) broken c
+countedAs NamedBootstrap k number broken c = grown 0 0 k 1 0 0 0 0 (c .version) (c .highest) broken c
+countedAs RawConstant k number broken c = grown 0 0 k 0 1 0 0 0 (c .version) (c .highest) broken c
+countedAs RawBootstrap k number broken c = grown 0 0 k 0 0 1 0 0 (c .version) (c .highest) broken c
+countedAs Version k number broken c = grown 0 0 k 0 0 0 1 0 number (c .highest) broken c
+countedAs Texts k number broken c = grown 0 0 k 0 0 0 0 1 (c .version) (c .highest) broken c
+countedAs Highest k number broken c = grown 0 0 k 0 0 0 0 0 (c .version) number broken c
 
 -- no count is above m, nor are definitions and requests together
 pub record Bounded (m : ℕ) (c : JobCounts) : Type 0 where
@@ -169,6 +333,8 @@ pub record Bounded (m : ℕ) (c : JobCounts) : Type 0 where
   pub names : c .names ≤ m
   pub constants-placed : c .«raw_constants» ≤ m
   pub bootstraps-placed : c .«raw_bootstraps» ≤ m
+  pub versions : c .versions ≤ m
+  pub texts : c .texts ≤ m
 
 -- the counts are so small that one record more, with so many references, can be counted
 pub record Room (c : JobCounts) (references : ℕ) : Type 0 where
@@ -177,36 +343,77 @@ pub record Room (c : JobCounts) (references : ℕ) : Type 0 where
   pub small : most + references + 1 < 2 ^ 64
 
 -- the table that a definition goes into isn't full
-unfoldable pub roomFor : Opening → Counts → Bool
-roomFor (Constant shape) n = ltb (n .constants) tableSize
-roomFor Bootstrap n = ltb (n .bootstraps) tableSize
-roomFor NamedConstant n = true
-roomFor NamedBootstrap n = true
-roomFor RawConstant n = true
-roomFor RawBootstrap n = true
+unfoldable pub roomFor : Opening → ℕ → ℕ → Bool
+roomFor (Constant shape) constants bootstraps = ltb constants tableSize
+roomFor Bootstrap constants bootstraps = ltb bootstraps tableSize
+roomFor NamedConstant constants bootstraps = true
+roomFor NamedBootstrap constants bootstraps = true
+roomFor RawConstant constants bootstraps = true
+roomFor RawBootstrap constants bootstraps = true
+roomFor Version constants bootstraps = true
+roomFor Texts constants bootstraps = true
+roomFor Highest constants bootstraps = true
+
+-- a setting that mayn't stand behind what was counted: 3, then 26; else 0
+unfoldable pub onceFault : ℕ → ℕ
+onceFault earlier = elim (eqb earlier 0) [ true ↦ 0 | false ↦ 3 ]
+
+unfoldable pub highestFault : ℕ → ℕ → ℕ
+highestFault records number = elim (eqb records 0) [ true ↦ elim (isSlot number) [ true ↦ 0 | false ↦ 26 ] | false ↦ 3 ]
+
+unfoldable pub settingFault : Opening → ℕ → JobCounts → ℕ
+settingFault (Constant shape) number c = 0
+settingFault Bootstrap number c = 0
+settingFault NamedConstant number c = 0
+settingFault NamedBootstrap number c = 0
+settingFault RawConstant number c = 0
+settingFault RawBootstrap number c = 0
+settingFault Version number c = onceFault (c .versions)
+settingFault Texts number c = onceFault (c .texts)
+settingFault Highest number c = highestFault (c .definitions) number
+
+-- what is wrong with a definition that was read: a setting's fault, then 5, then 4; else 0
+unfoldable pub faultBehind : ℕ → Bool → Bool → ℕ
+faultBehind zero room cited = elim room [ true ↦ elim cited [ true ↦ 0 | false ↦ 4 ] | false ↦ 5 ]
+faultBehind (suc fault) room cited = suc fault
+
+unfoldable pub faultOf : Opening → ℕ → Bool → JobCounts → ℕ
+faultOf opening number cited c = faultBehind (settingFault opening number c) (roomFor opening (c .constants) (c .bootstraps)) cited
+
+-- no record 48 stands with a text that isn't one
+unfoldable pub textsHold : JobCounts → Bool
+textsHold c = eqb (c .broken) 0 || eqb (c .texts) 0
 
 -- ---- a record, and all of them
 
 abbrev pub tablesIn : JobCounts → Counts
-tablesIn c = tables (c .constants) (c .bootstraps)
+tablesIn c =
+    record {
+      constants = c .constants;
+      bootstraps = c .bootstraps;
+      records = c .definitions;
+      versions = c .versions;
+      texts = c .texts;
+      broken = asBroken (c .broken);
+    }
 
--- a record was read at a place, and what it counts was added
-pub record Moved {A : Type 0} (f : ℕ → List ℕ → Result ℕ (A × List ℕ)) (counts : A → JobCounts) (s : List ℕ) (at : ℕ) (c : JobCounts) (next : ℕ) (d : JobCounts) : Type 0 where
+-- a record was read at a place, and the definitions and requests that it is were counted
+pub record Moved {A : Type 0} (f : ℕ → List ℕ → Result ℕ (A × List ℕ)) (list : A → List (Definition (List ℕ))) (requests : ℕ) (s : List ℕ) (at : ℕ) (c : JobCounts) (next : ℕ) (d : JobCounts) : Type 0 where
   pub value : A
   pub read : f (getD s at 0) (drop (at + 1) s) ≡ good (value, drop next s)
-  pub count : d ≡ plus c (counts value)
+  pub count : d ≡ more c (list value) requests
   pub past : at < next
   pub within : next ≤ length s
   pub bounded : Bounded next d
 
 -- a record at a place is read as f does from its first byte
-abbrev pub Steps : {A : Type 0} → (ℕ → List ℕ → Result ℕ (A × List ℕ)) → (A → JobCounts) → List ℕ → ℕ → JobCounts → Step → Type 0
-Steps f counts s at c (step.To next d) = Moved f counts s at c next d
-Steps f counts s at c (step.Refused code) = f (getD s at 0) (drop (at + 1) s) ≡ bad code
+abbrev pub Steps : {A : Type 0} → (ℕ → List ℕ → Result ℕ (A × List ℕ)) → (A → List (Definition (List ℕ))) → ℕ → List ℕ → ℕ → JobCounts → Step → Type 0
+Steps f list requests s at c (step.To next d) = Moved f list requests s at c next d
+Steps f list requests s at c (step.Refused code) = f (getD s at 0) (drop (at + 1) s) ≡ bad code
 
 -- what is seen of all definitions: what they count, beside what was counted before them, the entries, and the bytes behind 50
 unfoldable pub tallied : JobCounts → Result Refusal Definitions → Result Refusal (JobCounts × Counts × List ℕ)
-tallied c (good d) = good (plus c (countsOf (d .list) 0), d .counts, d .rest)
+tallied c (good d) = good (more c (d .list) 0, d .counts, d .rest)
 tallied c (bad refusal) = bad refusal
 
 abbrev pub definedAs : List ℕ → Defined → Result Refusal (JobCounts × Counts × List ℕ)
@@ -223,7 +430,7 @@ placeOf c = suc (c .definitions + c .requests)
 
 -- what the requests and 60 lead to, after what was counted before them
 unfoldable pub formedRequests : JobCounts → Result Refusal Requests → Formed
-formedRequests c (good r) = formed.Counts (plus c (countsOf [] (length (r .list))))
+formedRequests c (good r) = formed.Counts (more c [] (length (r .list)))
 formedRequests c (bad refusal) = formed.Refused (refusal .code) (refusal .place)
 
 unfoldable pub formedBuild : JobCounts → Result Refusal Build → Formed

@@ -9,7 +9,7 @@ use lib.ListN.{length, take, drop, getElem?}
 use Rattle.definition.specs.Basics.{lookup}
 use Rattle.definition.specs.Bytes.{Parser, _>>=_, one}
 use Rattle.definition.specs.Shapes.{Kind, constant, bootstrap, Field, text, bits, byte, to, toMany, Entry}
-use Rattle.definition.specs.Job.{Reference, raw, entry, name, Definition, define, Request, Job, Body, ofEntry, ofName, ofRaw, bodies, reference, readDefinition, asks, readRequest, readBuild}
+use Rattle.definition.specs.Job.{Reference, raw, entry, name, Definition, define, Request, Job, Body, ofEntry, ofName, ofRaw, ofNumber, ofNothing, bodies, reference, readDefinition, asks, readRequest, readBuild}
 use Rattle.definition.specs.Form.{kindOf}
 use Rattle.job.specs.declared.Stretch.{Stretch}
 use Rattle.job.specs.declared.RefType.{RefType}
@@ -80,6 +80,8 @@ kindIn none = constant
 kindIn (some (ofEntry fields)) = firstKind fields
 kindIn (some (ofName kind)) = constant
 kindIn (some (ofRaw kind)) = constant
+kindIn (some (ofNumber rule)) = constant
+kindIn (some (ofNothing rule)) = constant
 
 -- the table that an entry's i-th reference leads to, by the entry's tag
 unfoldable pub kidKind : ℕ → ℕ → Kind

@@ -6,19 +6,26 @@ ghost use mathlib.Core.Bool.{true};
 ghost use mathlib.Core.List.{List, [], _∷_};
 ghost use mathlib.Core.Option.{some};
 ghost use Prim.Native.Nat.{ℕ, _+_, _-_, _^_, _<_, _≤_};
-ghost use lib.Dec.{ltb};
-ghost use lib.ListN.{length, drop};
+ghost use lib.Dec.{eqb, ltb};
+ghost use lib.ListN.{length, take, drop};
 ghost use Rattle.definition.specs.Basics.{every, lookup};
 ghost use Rattle.definition.specs.Bytes.{one, two, many};
 ghost use Rattle.definition.specs.Shapes.{Kind, Entry, constant, text, byte, to, bootstrapShape};
 ghost use Rattle.definition.specs.Job.{Reference, define, shortName, referenceForm, reference, bodies, ofName, ofRaw, asks, readRequest, readBuild};
-ghost use Rattle.definition.specs.Form.{Counts, countOf, cites, kindOf, citesRequest, formDefinition, formDefinitions, formRequest, formBuild, formRequests, form};
+ghost use Rattle.definition.specs.Form.{Counts, nothingYet, countOf, cites, kindOf, citesRequest, formDefinition, formDefinitions, formRequest, formBuild, formRequests, form};
+ghost use Rattle.definition.specs.Texts.{isText};
 ghost use Rattle.raw_const.specs.Entries.{fieldsOf};
-ghost use Rattle.job.specs.Forms.{Skips, SkipsReference, SkipsEntry, SkipsDefinition, entryBody, bodyOf, tableOf, tables, roomFor, Bounded, Room, plus, oneOf, countsOf, tablesIn, Steps, tallied, definedAs, Within, placeOf, formedBuild, formedRequests, formedOf};
+ghost use Rattle.job.specs.Forms.{Skips, SkipsReference, SkipsEntry, SkipsDefinition, SkipsAfter, entryBody, bodyOf, tableOf, opensText, roomFor, NumberRoom, numberOpened, onceFault, highestFault, settingFault, faultOf, neededFirst, neededBehind, brokenOpened, brokenWith, textsHold, Bounded, Room, countedAs, countsOf, tablesIn, Steps, tallied, definedAs, Within, placeOf, formedBuild, formedRequests, formedOf};
 ghost use Rattle.job.specs.Stored.{Found, Stands, WhatStands, ReferenceStands, WhatReference, EntryStands, WhatEntry, Spans, Tells, anyDefinition, KidAt};
 
 // How many entries each table takes.
 const TABLE_SIZE: usize = 65536;
+
+// What a job without record 49 has for its highest slot.
+const HIGHEST_SLOT: usize = 65534;
+
+// What a job without record 47 is held to: a version that has every kind of constant.
+const NEWEST: usize = 55;
 
 // What the form pass counts.
 pub struct JobCounts {
@@ -33,6 +40,14 @@ pub struct JobCounts {
     pub raw_constants: usize,
     pub raw_bootstraps: usize,
     pub requests: usize,
+    // The records 47, and the version that constants are held to: the newest without one.
+    pub versions: usize,
+    pub version: usize,
+    // The records 48, and one more than the record of the first text that isn't one: 0 if each is.
+    pub texts: usize,
+    pub broken: usize,
+    // The highest slot: what a record 49 says, else the last that there is.
+    pub highest: usize,
 }
 
 pub enum Formed {
@@ -49,6 +64,9 @@ enum Opening {
     NamedBootstrap,
     RawConstant,
     RawBootstrap,
+    Version,
+    Texts,
+    Highest,
 }
 
 // What skipping a part of a record finds.
@@ -76,7 +94,7 @@ enum Defined {
 }
 
 fn opening_of(first: u8) -> Opening
-    ensures { λ r. ⌜ (bodyOf r ≡ lookup first bodies) × (tableOf r ≡ kindOf first) ⌝ }
+    ensures { λ r. ⌜ (bodyOf r ≡ lookup first bodies) × (tableOf r ≡ kindOf first) × (opensText r ≡ eqb first 1) ⌝ }
 {
     match first {
         0x40 => Opening::Bootstrap,
@@ -84,6 +102,9 @@ fn opening_of(first: u8) -> Opening
         0x42 => Opening::NamedBootstrap,
         0x43 => Opening::RawConstant,
         0x44 => Opening::RawBootstrap,
+        0x47 => Opening::Version,
+        0x48 => Opening::Texts,
+        0x49 => Opening::Highest,
         _ => Opening::Constant(raw_const::shape_of(first)),
     }
 }
@@ -299,7 +320,7 @@ fn skip_constant(
     bootstraps: usize,
 ) -> Skipped
     requires { ⌜ at ≤ length (now job) ⌝ }
-    ensures { λ r. ⌜ SkipsDefinition (tables constants bootstraps) (entryBody (fieldsOf shape)) (now (job .entry)) at r ⌝ }
+    ensures { λ r. ⌜ SkipsAfter constants bootstraps (entryBody (fieldsOf shape)) (now (job .entry)) at r ⌝ }
 {
     match shape {
         Shape::Text => skip_text(job, at),
@@ -359,7 +380,7 @@ fn skip_definition(
     bootstraps: usize,
 ) -> Skipped
     requires { ⌜ at ≤ length (now job) ⌝ }
-    ensures { λ r. ⌜ SkipsDefinition (tables constants bootstraps) (bodyOf opening) (now (job .entry)) at r ⌝ }
+    ensures { λ r. ⌜ SkipsAfter constants bootstraps (bodyOf opening) (now (job .entry)) at r ⌝ }
 {
     match opening {
         Opening::Constant(shape) => skip_constant(job, at, shape, constants, bootstraps),
@@ -368,29 +389,177 @@ fn skip_definition(
         Opening::NamedBootstrap => skip_naming(job, at, bootstraps),
         Opening::RawConstant => skip_placing(job, at, constants),
         Opening::RawBootstrap => skip_placing(job, at, bootstraps),
+        Opening::Version => skip_raw_slot(job, at),
+        Opening::Texts => Skipped::To {
+            next: at,
+            cited: true,
+            references: 0,
+        },
+        Opening::Highest => skip_raw_slot(job, at),
+    }
+}
+
+// The number of a setting that has one, behind its first byte; 0 for any other definition.
+fn setting_number(job: &[u8], at: usize, opening: Opening) -> usize
+    requires { ⌜ NumberRoom opening (now job) at ⌝ }
+    ensures { λ r. ⌜ r ≡ numberOpened opening (now (job .entry)) at ⌝ }
+{
+    match opening {
+        Opening::Version => writer::get_u16(job, at) as usize,
+        Opening::Highest => writer::get_u16(job, at) as usize,
+        _ => 0,
+    }
+}
+
+// A setting so opened, with this number, may stand behind these records: 3 if it mayn't (47 and 48 come once each, 49 is the first
+// record), 26 if a highest slot is none, else 0.
+fn setting_fault(opening: Opening, number: usize, counts: JobCounts) -> u32
+    ensures { λ r. ⌜ r ≡ settingFault opening number counts ⌝ }
+{
+    match opening {
+        Opening::Version => once(counts.versions),
+        Opening::Texts => once(counts.texts),
+        Opening::Highest => highest_fault(counts.definitions, number),
+        _ => 0,
+    }
+}
+
+// 3 where there was one.
+fn once(earlier: usize) -> u32
+    ensures { λ r. ⌜ r ≡ onceFault earlier ⌝ }
+{
+    if earlier == 0 { 0 } else { 3 }
+}
+
+// 49 behind so many records, with this number: 3, then 26.
+fn highest_fault(records: usize, number: usize) -> u32
+    ensures { λ r. ⌜ r ≡ highestFault records number ⌝ }
+{
+    if records != 0 {
+        return 3;
+    }
+    if (1 <= number) & (number <= HIGHEST_SLOT) {
+        0
+    } else {
+        26
     }
 }
 
 // The table that a definition so opened goes into isn't full.
 fn has_room(opening: Opening, constants: usize, bootstraps: usize) -> bool
-    ensures { λ r. ⌜ r ≡ roomFor opening (tables constants bootstraps) ⌝ }
+    ensures { λ r. ⌜ r ≡ roomFor opening constants bootstraps ⌝ }
 {
     match opening {
         Opening::Constant(_) => constants < TABLE_SIZE,
         Opening::Bootstrap => bootstraps < TABLE_SIZE,
-        Opening::NamedConstant => true,
-        Opening::NamedBootstrap => true,
-        Opening::RawConstant => true,
-        Opening::RawBootstrap => true,
+        _ => true,
     }
 }
 
-// The counts with a definition so opened, which has so many references.
-fn counted(counts: JobCounts, opening: Opening, references: usize) -> JobCounts
+// A definition that was read, with what was found of it: 3 or 26 if it is a setting that mayn't stand there, then 5 if its table is
+// full, then 4 if it cites what isn't there, else 0.
+fn fault_of(opening: Opening, number: usize, cited: bool, counts: JobCounts) -> u32
+    ensures { λ r. ⌜ r ≡ faultOf opening number cited counts ⌝ }
+{
+    let fault = setting_fault(opening, number, counts);
+    if fault != 0 {
+        return fault;
+    }
+    let constants = counts.constants;
+    let bootstraps = counts.bootstraps;
+    if !has_room(opening, constants, bootstraps) {
+        return 5;
+    }
+    if cited { 0 } else { 4 }
+}
+
+// How many bytes a unit of a text needs behind this byte, if with it it needs so many (0: it begins one); 3 if the byte can't stand
+// there (JVMS 4.4.7).
+fn needed_behind(b: u8, needed: usize) -> usize
+    ensures { λ r. ⌜ r ≡ neededBehind b needed ⌝ }
+{
+    if needed == 0 {
+        return needed_first(b);
+    }
+    if (0x80 <= b) & (b <= 0xbf) {
+        needed - 1
+    } else {
+        3
+    }
+}
+
+// How many bytes follow a unit's first byte; 3 if it can't be one.
+fn needed_first(b: u8) -> usize
+    ensures { λ r. ⌜ r ≡ neededFirst b ⌝ }
+{
+    if (0x01 <= b) & (b <= 0x7f) {
+        return 0;
+    }
+    if (0xc0 <= b) & (b <= 0xdf) {
+        return 1;
+    }
+    if (0xe0 <= b) & (b <= 0xef) {
+        return 2;
+    }
+    3
+}
+
+// The bytes from one place to another are a text as JVMS 4.4.7 has it.
+pub fn is_text(job: &[u8], start: usize, end: usize) -> bool
+    requires { ⌜ end ≤ length (now job) ⌝ }
+    ensures { λ r. ⌜ r ≡ isText (take (end - start) (drop start (now (job .entry)))) ⌝ }
+{
+    let mut at = start;
+    let mut needed = 0;
+    while at < end {
+        needed = needed_behind(writer::get_u8(job, at), needed);
+        if needed == 3 {
+            return false;
+        }
+        at += 1;
+    }
+    needed == 0
+}
+
+// A definition so opened, from one place to another, is a text that isn't one.
+fn is_broken(job: &[u8], at: usize, next: usize, opening: Opening) -> bool
+    requires { ⌜ (at < length (now job)) × (next ≤ length (now job)) ⌝ }
+    ensures { λ r. ⌜ r ≡ brokenOpened opening (now (job .entry)) at next ⌝ }
+{
+    let Opening::Constant(shape) = opening else {
+        return false;
+    };
+    match shape {
+        Shape::Text => !is_text(job, at + 3, next),
+        _ => false,
+    }
+}
+
+// One more than the record of the first text that isn't one, with this record, which is one or not; `earlier` without it.
+fn first_broken(earlier: usize, place: usize, broken: bool) -> usize
+    requires { ⌜ place + 1 < 2 ^ 64 ⌝ }
+    ensures { λ r. ⌜ r ≡ brokenWith place broken earlier ⌝ }
+{
+    if (earlier == 0) & broken {
+        place + 1
+    } else {
+        earlier
+    }
+}
+
+// The counts with a definition so opened, which has so many references, this number if it is a setting, and is a broken text or not.
+fn counted(
+    counts: JobCounts,
+    opening: Opening,
+    references: usize,
+    number: usize,
+    broken: bool,
+) -> JobCounts
     requires { ⌜ Room counts references ⌝ }
-    ensures { λ r. ⌜ r ≡ plus counts (oneOf opening references) ⌝ }
+    ensures { λ r. ⌜ r ≡ countedAs opening references number broken counts ⌝ }
 {
     let mut c = counts;
+    c.broken = first_broken(counts.broken, counts.definitions, broken);
     c.definitions += 1;
     c.references += references;
     match opening {
@@ -418,13 +587,26 @@ fn counted(counts: JobCounts, opening: Opening, references: usize) -> JobCounts
             c.raw_bootstraps += 1;
             c
         }
+        Opening::Version => {
+            c.versions += 1;
+            c.version = number;
+            c
+        }
+        Opening::Texts => {
+            c.texts += 1;
+            c
+        }
+        Opening::Highest => {
+            c.highest = number;
+            c
+        }
     }
 }
 
-// One definition: 3 if it is cut or unknown, then 5 if its table is full, then 4 if it cites what isn't there.
+// One definition: 3 if it is cut or unknown, then what else is wrong with it.
 fn form_definition(job: &[u8], at: usize, counts: JobCounts) -> Step
     requires { ⌜ (at < length (now job)) × Bounded at counts ⌝ }
-    ensures { λ r. ⌜ Steps (formDefinition (tablesIn counts)) (λ d. countsOf (d ∷ []) 0) (now (job .entry)) at counts r ⌝ }
+    ensures { λ r. ⌜ Steps (formDefinition (tablesIn counts)) (λ d. d ∷ []) 0 (now (job .entry)) at counts r ⌝ }
 {
     let constants = counts.constants;
     let bootstraps = counts.bootstraps;
@@ -435,24 +617,31 @@ fn form_definition(job: &[u8], at: usize, counts: JobCounts) -> Step
             cited,
             references,
         } => {
-            if !has_room(opening, constants, bootstraps) {
-                return Step::Refused(5);
+            let number = setting_number(job, at + 1, opening);
+            let fault = fault_of(opening, number, cited, counts);
+            if fault != 0 {
+                return Step::Refused(fault);
             }
-            if !cited {
-                return Step::Refused(4);
-            }
+            let broken = is_broken(job, at, next, opening);
             Step::To {
                 next,
-                counts: counted(counts, opening, references),
+                counts: counted(counts, opening, references, number, broken),
             }
         }
         Skipped::Cut => Step::Refused(3),
     }
 }
 
-// The definitions and 50.
+// No record 48 stands with a text that isn't one.
+fn texts_hold(counts: JobCounts) -> bool
+    ensures { λ r. ⌜ r ≡ textsHold counts ⌝ }
+{
+    (counts.broken == 0) | (counts.texts == 0)
+}
+
+// The definitions and 50; 25 as soon as a record 48 and a text that isn't one stand, at that text.
 fn form_definitions(job: &[u8]) -> Defined
-    ensures { λ r. ⌜ tallied (countsOf [] 0) (formDefinitions (length (now (job .entry))) (tables 0 0) 0 (now (job .entry))) ≡ definedAs (now (job .entry)) r ⌝ }
+    ensures { λ r. ⌜ tallied (countsOf [] 0) (formDefinitions (length (now (job .entry))) nothingYet 0 (now (job .entry))) ≡ definedAs (now (job .entry)) r ⌝ }
     ensures { λ r. ⌜ Within (now (job .entry)) r ⌝ }
 {
     let mut at = 0;
@@ -465,6 +654,11 @@ fn form_definitions(job: &[u8]) -> Defined
         raw_constants: 0,
         raw_bootstraps: 0,
         requests: 0,
+        versions: 0,
+        version: NEWEST,
+        texts: 0,
+        broken: 0,
+        highest: HIGHEST_SLOT,
     };
     while at < job.len() {
         if writer::get_u8(job, at) == 0x50 {
@@ -475,6 +669,12 @@ fn form_definitions(job: &[u8]) -> Defined
         }
         match form_definition(job, at, counts) {
             Step::To { next, counts: more } => {
+                if !texts_hold(more) {
+                    return Defined::Refused {
+                        code: 25,
+                        place: more.broken - 1,
+                    };
+                }
                 at = next;
                 counts = more;
             }
@@ -506,7 +706,7 @@ fn skip_request(job: &[u8], at: usize, first: u8, constants: usize) -> Skipped
 // One request: 3 if it is cut or unknown, then 4 if it cites what isn't there.
 fn form_request(job: &[u8], at: usize, counts: JobCounts) -> Step
     requires { ⌜ (at < length (now job)) × Bounded at counts ⌝ }
-    ensures { λ r. ⌜ Steps (formRequest (tablesIn counts)) (λ _. countsOf [] 1) (now (job .entry)) at counts r ⌝ }
+    ensures { λ r. ⌜ Steps (formRequest (tablesIn counts)) (λ _. []) 1 (now (job .entry)) at counts r ⌝ }
 {
     let constants = counts.constants;
     let first = writer::get_u8(job, at);
@@ -611,7 +811,7 @@ fn form_requests(job: &[u8], start: usize, defined: JobCounts) -> Formed
     }
 }
 
-// The form pass over a whole job: refusal 3, 5 or 4 at a record, or what the job counts.
+// The form pass over a whole job: refusal 3, 26, 5, 25 or 4 at a record, or what the job counts.
 pub fn form(job: &[u8]) -> Formed
     ensures { λ r. ⌜ r ≡ formedOf (form (now (job .entry))) ⌝ }
 {

@@ -7,3 +7,4 @@ pub mod building
 pub mod reading
 pub mod runs
 pub mod blocks
+pub mod texts

@@ -3,6 +3,7 @@ pub mod RefusalNumbers
 pub mod EntryShapes
 pub mod ParsersYield
 pub mod DefinitionsRead
+pub mod HighestSlots
 pub mod EmptyLiterals
 pub mod FormedEntries
 pub mod FormedJobs

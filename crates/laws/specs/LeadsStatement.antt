@@ -8,7 +8,7 @@ use Prim.Native.Nat.{ℕ, _+_}
 use lib.ListN.{length, getElem?}
 use Rattle.definition.specs.Basics.{good}
 use Rattle.definition.specs.Shapes.{Kind, constant, bootstrap}
-use Rattle.definition.specs.Job.{Reference, raw, entry, name, Definition, define, named, placed, Job}
+use Rattle.definition.specs.Job.{Reference, raw, entry, name, Definition, define, named, placed, setting, Job}
 use Rattle.definition.specs.Form.{form}
 use Rattle.definition.specs.Numbering.{constantsOf}
 use Rattle.definition.specs.Definitions.{Naming}
@@ -38,6 +38,7 @@ namings [] = []
 namings (define e ∷ rest) = namings rest
 namings (named kind s r ∷ rest) = record { kind = kind; label = s; target = r } ∷ namings rest
 namings (placed kind at number ∷ rest) = namings rest
+namings (setting rule ∷ rest) = namings rest
 
 -- where the definition follows a reference of a job
 abbrev pub goalIn : List (Definition (List ℕ)) → Reference → Goal

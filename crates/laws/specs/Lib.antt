@@ -1,5 +1,6 @@
 pub mod AsEntries
 pub mod LeadsStatement
+pub mod OrderStatement
 pub mod Statements
 pub mod ShapeStatement
 pub mod SharedStatement
@@ -8,3 +9,4 @@ pub mod ReaderStatements
 pub mod Faithful
 pub mod Counted
 pub mod Gaps
+pub mod TextStatements

@@ -14,12 +14,12 @@ use lib.Dec.{eqb}
 use lib.ListN.{length, getD, getElem?}
 use Rattle.definition.specs.Basics.{good, bad, Refusal, only, concat, lookup, from}
 use Rattle.definition.specs.Shapes.{Kind, bootstrap, bootstrapTag, Entry, withLiteral, isWide}
-use Rattle.definition.specs.Job.{Reference, entry, Definition, define, named, placed, Request, Build, Job}
+use Rattle.definition.specs.Job.{Reference, entry, Definition, define, named, placed, setting, Request, Build, Job}
 use Rattle.definition.specs.Form.{form}
-use Rattle.definition.specs.Numbering.{Literal, attributeName, entries, constantsOf, bootstrapsOf, literals, numberOf, literalOf, numbered}
+use Rattle.definition.specs.Numbering.{topOf, Literal, attributeName, entries, constantsOf, bootstrapsOf, literals, numberOf, literalOf, numbered}
 use Rattle.definition.specs.Definitions.{Held, Naming, Defined, tagAt, defineAll, nothingDefined}
 use Rattle.definition.specs.Resolving.{Goal, rawNumber, tableEntry, refusal, follow, goalOf, Node, Mark}
-use Rattle.definition.specs.Slots.{highestSlot, Gap, size}
+use Rattle.definition.specs.Slots.{Gap, size}
 use Rattle.definition.specs.Building.{Pool, allocate, Row, Rows, indexOf, rowIndex, rawRows}
 use Rattle.definition.specs.Layout.{Ready, endDefinitions, classSlotOf, Layout, indexNodes, layout}
 use Rattle.definition.specs.Run.{shown, Built, render, Lent, Memory, lentOf, longestJob, memoryAfter, run}
@@ -59,6 +59,7 @@ unfoldable pub skeleton : Definition (List ℕ) → Definition (Unit {0})
 skeleton (define e) = define (withLiteral tt e)
 skeleton (named kind s r) = named kind s r
 skeleton (placed kind at number) = placed kind at number
+skeleton (setting rule) = setting rule
 
 -- two jobs alike but for their literals: two literals of a kind (text, or one of the four kinds of number) are equal in one exactly when
 -- they are in the other; the list of literals begins with "BootstrapMethods", so a text is this name in both or neither
@@ -76,6 +77,7 @@ unfoldable pub isRaw : Definition (List ℕ) → Bool
 isRaw (define e) = false
 isRaw (named kind s r) = false
 isRaw (placed kind at number) = true
+isRaw (setting rule) = false
 
 -- VISITS: the count is at most entries, references in entries, raw definitions and requests together
 abbrev pub Visits : Type 0
@@ -119,7 +121,7 @@ pub data Occurs (top : ℕ) (held : List (ℕ × Held)) : List Node → Pool →
   moreResolved : {nodes : List Node} {p : Pool} (more : List Node) → Occurs top held nodes p → Occurs top held (nodes ++ more) p
   stackTaken :
       {nodes : List Node} {p : Pool} (pending : List (ℕ × ℕ)) →
-      Occurs top held nodes p → Occurs top held nodes (record { slots = p .slots; given = p .given; pending = pending })
+      Occurs top held nodes p → Occurs top held nodes (record { slots = p .slots; given = p .given; pending = pending; version = p .version })
 
 -- KEPT: raw-held, given-out and free slots are as many as the highest slot, and each slot from 1 to it stands once among them: none is
 -- given twice, and none that is raw-held is given
@@ -171,7 +173,7 @@ ExactlySeventeen =
 abbrev pub Reads : Type 0
 Reads =
     (bytes : List ℕ) (job : Job (List ℕ)) (lent : Lent) (b : Built) → IsBytes bytes → form bytes ≡ good job → run lent bytes ≡ good b →
-    (l : Layout) × (layout highestSlot (numbered job) ≡ good l) × (b ≡ render (literals job) l)
+    (l : Layout) × (layout (topOf job) (numbered job) ≡ good l) × (b ≡ render (literals job) l)
     × (Option·map (map asShown) (read-pool (b .pool)) ≡ some (map (shown (literals job)) (l .contents)))
     × (Option·map (map asRow) (read-bootstrap-methods (b .bootstrapCount) (b .bootstraps))
     ≡ some (map (λ row. record { tag = bootstrapTag; literal = []; byte = 0; kids = row }) (l .rows)))

@@ -212,8 +212,8 @@ module _
       unfolding lookup
       none-given k = rw (so .kept GIVEN refl) (sym (word-none (getD (t GIVEN) k 0) (can .given k)))
 
-      pub pooled-one : PooledIn (startPool top held (map markWord (t MARKS))) u h
-      pooled-one =
+      pub pooled-one : (version : ℕ) → PooledIn (startPool top held (map markWord (t MARKS)) version) u h
+      pooled-one version =
           record {
             slots = slots-are;
             given = none-given;

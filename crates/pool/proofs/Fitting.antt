@@ -8,7 +8,7 @@ use lib.ListN.{length, getD, drop}
 use Rattle.definition.specs.Basics.{good, only, lookup}
 use Rattle.definition.specs.Bytes.{_>>=_, return, two}
 use Rattle.definition.specs.Shapes.{Kind, constant, bootstrap, Entry, readEntry}
-use Rattle.definition.specs.Job.{Definition, define, named, placed, Body, ofEntry, ofName, ofRaw, bodies, shortName, reference, readBody, readDefinition}
+use Rattle.definition.specs.Job.{Definition, define, named, placed, setting, Body, ofEntry, ofName, ofRaw, ofNumber, ofNothing, bodies, shortName, reference, readBody, readDefinition}
 use Rattle.definition.specs.Numbering.{literals, numbered}
 use Rattle.definition.specs.Definitions.{Defined, sameKind, defineAll, nothingDefined}
 use Rattle.definition.specs.Slots.{gapsFrom}
@@ -18,6 +18,7 @@ use Rattle.facts.proofs.Results.{some-then}
 use Rattle.facts.specs.Lists.{keys}
 use Rattle.job.specs.Forms.{isPlacing, countsOf}
 use Rattle.job.specs.Stored.{Found, InTurn, anyDefinition}
+use Rattle.job.proofs.Stepping.{setting-read, bare-read}
 use Rattle.job.proofs.Taking.{byte-then, two-then, ends}
 use Rattle.store.specs.Store.{size}
 use Rattle.store.specs.JobIn.{WellFormed, jobIn, definitionsIn, countsIn}
@@ -48,6 +49,12 @@ module _ (s : List ℕ) (at : ℕ) (kind : Kind) (n e next : ℕ) where
           let t = two-then s (at + 1) (λ slot. two >>= λ m. return (placed other slot m)) (placed kind n e) (drop next s) (omega (arith, f .past, f .within)) h in
           let u = two-then s (at + 1 + 2) (λ m. return (placed other _ m)) (placed kind n e) (drop next s) (t .0) (t .1) in
           omega (arith, ends s (at + 1 + 2 + 2) next _ (placed kind n e) (u .0) (f .within) (u .1) .1)
+      body (some (ofNumber rule)) h =
+          let q = setting-read (getD s at 0) rule (drop (at + 1) s) (drop next s) (placed kind n e) h .1 in
+          clash (cc)
+      body (some (ofNothing rule)) h =
+          let q = bare-read (getD s at 0) rule (drop (at + 1) s) (drop next s) (placed kind n e) h in
+          clash (cc)
 
 placings-long :
     (s : List ℕ) (at : ℕ) (list : List (Definition (List ℕ))) (end : ℕ) → InTurn anyDefinition s at list end → at + 5 * placings list ≤ end
@@ -58,6 +65,7 @@ placings-long s at (named kind l r ∷ list) end (next, f, h) = omega (arith, f 
 placings-long s at (placed constant n e ∷ list) end (next, f, h) =
     omega (arith, placing-long s at constant n e next f, placings-long s next list end h)
 placings-long s at (placed bootstrap n e ∷ list) end (next, f, h) = omega (arith, f .past, placings-long s next list end h)
+placings-long s at (setting rule ∷ list) end (next, f, h) = omega (arith, f .past, placings-long s next list end h)
 
 pub placings-few : (s : List ℕ) → WellFormed s → 5 * placings (jobIn s .definitions) ≤ length s
 placings-few s well =
@@ -71,6 +79,7 @@ placings-counted (define x ∷ ds) = placings-counted ds
 placings-counted (named kind l r ∷ ds) = placings-counted ds
 placings-counted (placed constant n e ∷ ds) = ap suc (placings-counted ds)
 placings-counted (placed bootstrap n e ∷ ds) = placings-counted ds
+placings-counted (setting rule ∷ ds) = placings-counted ds
 
 -- ROOM
 

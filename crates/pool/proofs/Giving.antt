@@ -105,7 +105,7 @@ module _ (wide ldc : Bool) (t u : Store) (g h : GapTable) (r : ℕ) (took : Took
       }
 
   -- the pool with the slots that are left
-  pub pooled-took : (pool : Pool) → PooledIn pool t g → PooledIn (record { slots = slotsIn (u COUNTS) h; given = pool .given; pending = pool .pending }) u h
+  pub pooled-took : (pool : Pool) → PooledIn pool t g → PooledIn (record { slots = slotsIn (u COUNTS) h; given = pool .given; pending = pool .pending; version = pool .version }) u h
   pooled-took pool q =
       record {
         slots = refl;
@@ -181,7 +181,7 @@ module _
 
   pub pooled-gave :
       LiveIn t h → (pool : Pool) → PooledIn pool t h →
-      PooledIn (record { slots = pool .slots; given = (k, slot) ∷ pool .given; pending = (slot, k) ∷ pool .pending }) after h
+      PooledIn (record { slots = pool .slots; given = (k, slot) ∷ pool .given; pending = (slot, k) ∷ pool .pending; version = pool .version }) after h
   pooled-gave live pool q =
       record {
         slots = slots-same (t COUNTS) (after COUNTS) h (same-gaps (t COUNTS) (pendingCount t + 1)) ∙ q .slots;

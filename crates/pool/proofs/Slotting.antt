@@ -141,11 +141,11 @@ module _
         record {
           met =
               λ pool q f. (
-                record { slots = slotsIn (v COUNTS) h; given = (k, slot) ∷ pool .given; pending = (slot, k) ∷ pool .pending },
+                record { slots = slotsIn (v COUNTS) h; given = (k, slot) ∷ pool .given; pending = (slot, k) ∷ pool .pending; version = pool .version },
                 asked pool q ∙ rw (took .met z, has-slot),
                 rw same
                     (pooled-gave v h k slot z lacks-still inside low-still size live-still
-                    (record { slots = slotsIn (v COUNTS) h; given = pool .given; pending = pool .pending })
+                    (record { slots = slotsIn (v COUNTS) h; given = pool .given; pending = pool .pending; version = pool .version })
                     (pooled-took wide ldc t v g h slot took pool q)),
               );
           refused = λ pool q f. absurd (omega arith);

@@ -9,10 +9,11 @@ use Prim.Native.Nat.{ℕ, suc, _+_, _≤_, _<_}
 use native.Mathlib.Omega.{arith}
 use lib.ListN.{length}
 use Rattle.definition.specs.Basics.{good, lookup, insert}
+use Rattle.definition.specs.Settings.{version, texts, highest}
 use Rattle.definition.specs.Shapes.{constant, bootstrap, Entry, isWide}
-use Rattle.definition.specs.Job.{Definition, define, named, placed}
+use Rattle.definition.specs.Job.{Definition, define, named, placed, setting}
 use Rattle.definition.specs.Numbering.{Literal, numberedDefinition}
-use Rattle.definition.specs.Definitions.{Held, starts, half, Defined, tagAt, isNone, nameTarget, hold, placeConstant, placeBootstrap, defineOne, defineAll, nothingDefined}
+use Rattle.definition.specs.Definitions.{Held, starts, half, Defined, tagAt, isNone, nameTarget, hold, placeConstant, placeBootstrap, withSetting, defineOne, defineAll, nothingDefined}
 use Rattle.definition.specs.Slots.{Gap, gapBefore, gapsFrom}
 use Rattle.definition.specs.Layout.{starters}
 use Rattle.facts.proofs.Lists.{order, equal, none≢some}
@@ -145,6 +146,7 @@ placings (define e ∷ ds) = placings ds
 placings (named kind s r ∷ ds) = placings ds
 placings (placed constant n e ∷ ds) = suc (placings ds)
 placings (placed bootstrap n e ∷ ds) = placings ds
+placings (setting rule ∷ ds) = placings ds
 
 one-placing : (ds : List (Definition ℕ)) (x : Definition ℕ) → placings (ds ++ x ∷ []) ≡ placings ds + placings (x ∷ [])
 unfolding placings
@@ -153,6 +155,7 @@ one-placing (define e ∷ ds) x = one-placing ds x
 one-placing (named kind s r ∷ ds) x = one-placing ds x
 one-placing (placed constant n e ∷ ds) x = omega (arith, one-placing ds x)
 one-placing (placed bootstrap n e ∷ ds) x = one-placing ds x
+one-placing (setting rule ∷ ds) x = one-placing ds x
 
 pub placings-numbered : (all : List Literal) (ds : List (Definition (List ℕ))) → placings (map (numberedDefinition all) ds) ≡ placings ds
 unfolding placings numberedDefinition
@@ -161,6 +164,7 @@ placings-numbered all (define e ∷ ds) = placings-numbered all ds
 placings-numbered all (named kind s r ∷ ds) = placings-numbered all ds
 placings-numbered all (placed constant n e ∷ ds) = ap suc (placings-numbered all ds)
 placings-numbered all (placed bootstrap n e ∷ ds) = placings-numbered all ds
+placings-numbered all (setting rule ∷ ds) = placings-numbered all ds
 
 -- the raw slots after some definitions
 abbrev pub Spared : List (Definition ℕ) → Defined → Type 0
@@ -176,7 +180,7 @@ hold-paired false n e held h behind here p = narrow-paired 1 n e held h here p
 one-spared :
     {R : Type 0} (top : ℕ) (constants : List (Entry ℕ R)) (ds : List (Definition ℕ)) (x : Definition ℕ) (d d′ : Defined) →
     Spared ds d → defineOne top constants x d ≡ good d′ → Spared (ds ++ x ∷ []) d′
-unfolding defineOne placings
+unfolding defineOne withSetting placings
 one-spared top constants ds (define e) d d′ p h = rw (← good-inj h) (p .0, omega (arith, p .1, one-placing ds (define e)))
 one-spared top constants ds (named kind s t) d d′ p h =
     rw (← good-inj (unless-first (isNone (nameTarget kind s (d .names))) 11 _ d′ h .1)) (p .0, omega (arith, p .1, one-placing ds (named kind s t)))
@@ -191,6 +195,9 @@ one-spared top constants ds (placed constant n e) d d′ p h =
 one-spared top constants ds (placed bootstrap n e) d d′ p h =
     good-then (placeBootstrap n e (d .indexes)) _ d′ h λ indexes q g.
     rw (← good-inj g) (p .0, omega (arith, p .1, one-placing ds (placed bootstrap n e)))
+one-spared top constants ds (setting (version v)) d d′ p h = rw (← good-inj h) (p .0, omega (arith, p .1, one-placing ds (setting (version v))))
+one-spared top constants ds (setting texts) d d′ p h = rw (← good-inj h) (p .0, omega (arith, p .1, one-placing ds (setting texts)))
+one-spared top constants ds (setting (highest n)) d d′ p h = rw (← good-inj h) (p .0, omega (arith, p .1, one-placing ds (setting (highest n))))
 
 pub spared :
     {R : Type 0} (top : ℕ) (constants : List (Entry ℕ R)) (definitions : List (Definition ℕ)) (d : Defined) →

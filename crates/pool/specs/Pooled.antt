@@ -191,7 +191,7 @@ pub record Popped (t u : Store) (r : ℕ) : Type 0 where
       (slot : ℕ)
       × (rest : List (ℕ × ℕ))
       × (pool .pending ≡ (slot, r) ∷ rest)
-      × PooledIn (record { slots = pool .slots; given = pool .given; pending = rest }) u g
+      × PooledIn (record { slots = pool .slots; given = pool .given; pending = rest; version = pool .version }) u g
   pub live : (g : GapTable) → LiveIn t g → LiveIn u g × (r < getD (t COUNTS) NODE-COUNT 0)
   pub fewer : pendingCount u + 1 ≡ pendingCount t
   pub counters : (c : ℕ) → (c ≡ PENDING-COUNT → ⊥) → getD (u COUNTS) c 0 ≡ getD (t COUNTS) c 0

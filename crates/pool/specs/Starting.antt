@@ -20,13 +20,14 @@ use Rattle.store.specs.Words.{HALF, markWord}
 use Rattle.raws.specs.Raws.{rawCount, heldCount, Ordered}
 use Rattle.pool.specs.Pooled.{gapsIn, PooledIn, LiveIn, pendingCount, withPending}
 
--- the pool of `endDefinitions`
-abbrev pub startPool : ℕ → List (ℕ × Held) → List Mark → Pool
-startPool top held marks =
+-- the pool of `endDefinitions`; no word holds the version
+abbrev pub startPool : ℕ → List (ℕ × Held) → List Mark → ℕ → Pool
+startPool top held marks version =
     record {
       slots = startSlots (gapsFrom top 1 (map (λ r. r .0) held));
       given = [];
       pending = reverse (map (λ r. (r .0, nodeAt marks (r .1))) (starters held));
+      version = version;
     }
 
 -- WORDS, by the order
@@ -112,8 +113,8 @@ SomeStart p top t g = (constants : ℕ) × (held : List (ℕ × Held)) × (index
 -- the pool is there: t and the gap table g before, u and h after
 pub record PoolStarted (p : List ℕ) (top : ℕ) (t u : Store) (g h : GapTable) : Type 0 where
   pub pooled :
-      (constants : ℕ) (held : List (ℕ × Held)) (indexes : List (ℕ × ℕ)) → CanStart p constants top held indexes t g →
-      PooledIn (startPool top held (map markWord (t MARKS))) u h
+      (constants : ℕ) (held : List (ℕ × Held)) (indexes : List (ℕ × ℕ)) → CanStart p constants top held indexes t g → (version : ℕ) →
+      PooledIn (startPool top held (map markWord (t MARKS)) version) u h
   pub live : LiveIn u h
   pub apart : Apart top 1 (gapsIn (u COUNTS) h)
   pub long : length h ≡ length g

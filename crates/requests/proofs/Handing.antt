@@ -110,7 +110,7 @@ module _ (s p : List ℕ) (top : ℕ) (t u : Store) (d : Defined) (f : AtFifty p
 
   -- the pool that the definition's requests start from
   abbrev pub firstPool : Pool
-  firstPool = startPool top (d .held) (map markWord (t MARKS))
+  firstPool = startPool top (d .held) (map markWord (t MARKS)) (d .version)
 
   abbrev pub firstReady : Ready
   firstReady = readyFrom top s d (resolvedIn s t)

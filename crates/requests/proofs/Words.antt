@@ -102,7 +102,7 @@ module _
       (n r : ℕ) → On p n → CanStart p (constantsIn s) top (d .held) (d .indexes) t g → RepliedAll s p u v h k r →
       AskedAll p n top s v k r
   asked-all n r on can replied =
-      let first = started .pooled (constantsIn s) (d .held) (d .indexes) can in
+      let first = started .pooled (constantsIn s) (d .held) (d .indexes) can (d .version) in
       let start = firstPool s p top t u d f g h started in
       let are = replies-are s p top t u d f g h started in
       record {

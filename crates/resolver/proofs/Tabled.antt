@@ -8,7 +8,7 @@ use native.Mathlib.Omega.{arith}
 use lib.ListN.{length, getD, getElem?, length-map}
 use Rattle.definition.specs.Basics.{only, from}
 use Rattle.definition.specs.Shapes.{Entry, withKids, withLiteral}
-use Rattle.definition.specs.Job.{Reference, Definition, define, named, placed}
+use Rattle.definition.specs.Job.{Reference, Definition, define, named, placed, setting}
 use Rattle.definition.specs.Numbering.{entries, isBootstrap, constantsOf, bootstrapsOf, literals, numberedEntry}
 use Rattle.definition.specs.Resolving.{Goal, goalOf, fuelFor, linked}
 use Rattle.job.specs.Forms.{kidsIn, referencesIn, countsOf}
@@ -112,6 +112,7 @@ weight-entries [] = refl
 weight-entries (define e ∷ ds) = ap (λ n. length (e .kids) + n) (weight-entries ds)
 weight-entries (named kind s r ∷ ds) = let ih = weight-entries ds in omega arith
 weight-entries (placed kind at number ∷ ds) = let ih = weight-entries ds in omega arith
+weight-entries (setting rule ∷ ds) = let ih = weight-entries ds in omega arith
 
 weight-table : (s : List ℕ) → weight (tableIn s) ≡ countsIn s .references
 unfolding tableOf countsIn countsOf constantsOf bootstrapsOf

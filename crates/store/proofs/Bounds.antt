@@ -8,9 +8,10 @@ use lib.Dec.{eqb}
 use lib.ListN.{length}
 use borrow.Author.Tests.{ltb-true}
 use Rattle.definition.specs.Basics.{good, unless, only}
+use Rattle.definition.specs.Settings.{version, texts, highest}
 use Rattle.definition.specs.Shapes.{Kind, constant, bootstrap, Entry}
-use Rattle.definition.specs.Job.{Reference, Definition, define, named, placed, readDefinition}
-use Rattle.definition.specs.Form.{Counts, countOf, kindOf, oneMore, counted, whole, hasRoom, citesEarlier, formDefinition, Definitions, formDefinitions, form}
+use Rattle.definition.specs.Job.{Reference, Definition, define, named, placed, setting, readDefinition}
+use Rattle.definition.specs.Form.{Counts, countOf, kindOf, oneMore, oneSetting, withBroken, oneRecord, counted, whole, mayStand, hasRoom, citesEarlier, formDefinition, Definitions, formDefinitions, form}
 use Rattle.definition.specs.Numbering.{entries, isBootstrap, constantsOf, bootstrapsOf}
 use Rattle.definition.specs.Definitions.{sameKind}
 use Rattle.laws.proofs.form.DefinitionsRead.{noEntries, formed-definitions, formed-end, formed-step}
@@ -62,10 +63,13 @@ fit-entry n e list bootstrap same (h, g) =
     rw (only-later (λ e. not (isBootstrap e)) e (entries list) (ap not b), only-here isBootstrap e (entries list) b) (omega arith, omega arith)
 
 fit-more : (n : Counts) (d : Definition (List ℕ)) (list : List (Definition (List ℕ))) → Fit (counted d n) list → Fit n (d ∷ list)
-unfolding counted constantsOf bootstrapsOf entries
+unfolding counted oneRecord oneSetting withBroken constantsOf bootstrapsOf entries
 fit-more n (define e) list h = fit-entry n e list (kindOf (e .tag)) refl h
 fit-more n (named kind s r) list h = h
 fit-more n (placed kind at number) list h = h
+fit-more n (setting (version v)) list h = h
+fit-more n (setting texts) list h = h
+fit-more n (setting (highest top)) list h = h
 
 abbrev Roomy : Counts → Type 0
 Roomy n = (n .constants ≤ 65536) × (n .bootstraps ≤ 65536)
@@ -76,16 +80,20 @@ roomy-entry n constant h (a, b) = (omega arith, b)
 roomy-entry n bootstrap h (a, b) = (a, omega arith)
 
 roomy-more : (n : Counts) (d : Definition (List ℕ)) → hasRoom n d ≡ true → Roomy n → Roomy (counted d n)
-unfolding counted hasRoom
+unfolding counted oneRecord oneSetting withBroken hasRoom
 roomy-more n (define e) h r = roomy-entry n (kindOf (e .tag)) (ltb-true (countOf (kindOf (e .tag)) n) 65536 h) r
 roomy-more n (named kind s t) h r = r
 roomy-more n (placed kind at number) h r = r
+roomy-more n (setting (version v)) h r = r
+roomy-more n (setting texts) h r = r
+roomy-more n (setting (highest top)) h r = r
 
 formed-room :
     (n : Counts) (first : ℕ) (bytes : List ℕ) (r : Definition (List ℕ) × List ℕ) → formDefinition n first bytes ≡ good r → hasRoom n (r .0) ≡ true
 unfolding formDefinition
 formed-room n first bytes r e =
     good-then (whole (readDefinition first bytes)) _ r e λ a p q.
+    good-then (mayStand n (a .0)) _ r q λ _ _ q.
     good-then (unless (hasRoom n (a .0)) 5) _ r q λ u h s.
     good-then (unless (citesEarlier n (a .0)) 4) _ r s λ _ _ t.
     subst (λ x. hasRoom n (x .0) ≡ true) (good-inj t) (unless-good (hasRoom n (a .0)) 5 u h)
@@ -144,6 +152,7 @@ names-are [] = refl
 names-are (define e ∷ list) = names-are list
 names-are (named kind s r ∷ list) = ap suc (names-are list)
 names-are (placed kind at number ∷ list) = names-are list
+names-are (setting s ∷ list) = names-are list
 
 pub small : (s : List ℕ) → WellFormed s → Small s
 unfolding countsIn countsOf

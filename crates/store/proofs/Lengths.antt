@@ -1,5 +1,5 @@
 -- Every record of a job takes bytes: two or more for each reference, and enough for the words that the regions have for it. Assumes nothing.
-use mathlib.Core.Bool.{Bool, true, false}
+use mathlib.Core.Bool.{Bool, true, false, not}
 use mathlib.Core.List.{List, [], _∷_, _++_}
 use mathlib.Core.Option.{Option, none, some}
 use mathlib.Core.Path.{_≡_, refl, ap, subst, _∙_}
@@ -10,18 +10,19 @@ use lib.ListN.{length, getD, drop, length-append, length-drop}
 use borrow.Author.Tests.{leb-true}
 use Rattle.definition.specs.Basics.{every, lookup, only}
 use Rattle.definition.specs.Bytes.{Parser, return, one, two, many}
+use Rattle.definition.specs.Settings.{Setting, version, texts, highest}
 use Rattle.definition.specs.Shapes.{Kind, constant, bootstrap, Field, text, bits, byte, to, toMany, shapes, bootstrapShape, bootstrapTag, Entry, withKids, withLiteral, withByte, readFields, readEntry}
-use Rattle.definition.specs.Job.{Reference, raw, entry, name, Definition, define, named, placed, Body, ofEntry, ofName, ofRaw, bodies, shortName, referenceForm, reference, readBody, readDefinition}
+use Rattle.definition.specs.Job.{Reference, raw, entry, name, Definition, define, named, placed, setting, Body, ofEntry, ofName, ofRaw, ofNumber, ofNothing, bodies, shortName, referenceForm, reference, readBody, readDefinition}
 use Rattle.definition.specs.Numbering.{entries, isBootstrap, constantsOf, bootstrapsOf}
 use Rattle.definition.specs.Definitions.{sameKind}
 use Rattle.laws.proofs.form.EmptyLiterals.{fields-keep}
-use Rattle.facts.proofs.Lists.{none≢some}
+use Rattle.facts.proofs.Lists.{none≢some, only-here, only-later, only-more}
 use Rattle.facts.proofs.Results.{some-then}
 use Rattle.facts.proofs.Tables.{lookup-every}
 use Rattle.job.specs.declared.JobCounts.{JobCounts}
-use Rattle.job.specs.Forms.{isNaming, isPlacing, kidsIn, referencesIn, countsOf, plus, single, Bounded}
+use Rattle.job.specs.Forms.{isNaming, isPlacing, isVersion, isHolding, kidsIn, referencesIn, countsOf, Bounded}
 use Rattle.job.specs.Stored.{Found, InTurn, anyDefinition}
-use Rattle.job.proofs.Counting.{counts-more, one-constant, one-bootstrap}
+use Rattle.job.proofs.Counting.{entries-more}
 use Rattle.job.proofs.Taking.{byte-then}
 use Rattle.store.specs.Regions.{entriesOf}
 
@@ -154,6 +155,8 @@ unfoldable enough : ℕ → Body → Bool
 enough tag (ofEntry fields) = leb (wanted (eqb tag bootstrapTag)) (6 * fixed fields + 9 * always fields)
 enough tag (ofName kind) = true
 enough tag (ofRaw kind) = true
+enough tag (ofNumber rule) = true
+enough tag (ofNothing rule) = true
 
 all-enough : every (λ r. enough (r .0) (r .1)) bodies ≡ true
 unfolding every bodies shapes bootstrapShape enough wanted fixed always
@@ -176,42 +179,86 @@ pub record Enough (bytes : ℕ) (c : JobCounts) : Type 0 where
   pub bounded : Bounded bytes c
   pub words : wordsFor c ≤ 6 * bytes
 
-pub enough-plus : (m n : ℕ) (a b : JobCounts) → Enough m a → Enough n b → Enough (m + n) (plus a b)
-unfolding plus wordsFor
-enough-plus m n a b f g =
+-- what is added up in counts
+record Adds (a b c : JobCounts) : Type 0 where
+  definitions : c .definitions ≡ a .definitions + b .definitions
+  constants : c .constants ≡ a .constants + b .constants
+  bootstraps : c .bootstraps ≡ a .bootstraps + b .bootstraps
+  references : c .references ≡ a .references + b .references
+  names : c .names ≡ a .names + b .names
+  raw-constants : c .«raw_constants» ≡ a .«raw_constants» + b .«raw_constants»
+  raw-bootstraps : c .«raw_bootstraps» ≡ a .«raw_bootstraps» + b .«raw_bootstraps»
+  requests : c .requests ≡ a .requests + b .requests
+  versions : c .versions ≡ a .versions + b .versions
+  texts : c .texts ≡ a .texts + b .texts
+
+counts-add : (d : Definition (List ℕ)) (l : List (Definition (List ℕ))) → Adds (countsOf (d ∷ []) 0) (countsOf l 0) (countsOf (d ∷ l) 0)
+unfolding countsOf constantsOf bootstrapsOf referencesIn
+counts-add d l =
+    record {
+      definitions = omega arith;
+      constants = entries-more (λ e. not (isBootstrap e)) d l;
+      bootstraps = entries-more isBootstrap d l;
+      references = omega arith;
+      names = only-more isNaming d l;
+      raw-constants = only-more (isPlacing constant) d l;
+      raw-bootstraps = only-more (isPlacing bootstrap) d l;
+      requests = refl;
+      versions = only-more isVersion d l;
+      texts = only-more isHolding d l;
+    }
+
+enough-plus : (m n : ℕ) (a b c : JobCounts) → Adds a b c → Enough m a → Enough n b → Enough (m + n) c
+unfolding wordsFor
+enough-plus m n a b c s f g =
     let x = f .bounded in
     let y = g .bounded in
     record {
       bounded =
           record {
-            records = omega (arith, x .records, y .records);
-            constants = omega (arith, x .constants, y .constants);
-            bootstraps = omega (arith, x .bootstraps, y .bootstraps);
-            references = omega (arith, x .references, y .references);
-            names = omega (arith, x .names, y .names);
-            constants-placed = omega (arith, x .constants-placed, y .constants-placed);
-            bootstraps-placed = omega (arith, x .bootstraps-placed, y .bootstraps-placed);
+            records = omega (arith, s .definitions, s .requests, x .records, y .records);
+            constants = omega (arith, s .constants, x .constants, y .constants);
+            bootstraps = omega (arith, s .bootstraps, x .bootstraps, y .bootstraps);
+            references = omega (arith, s .references, x .references, y .references);
+            names = omega (arith, s .names, x .names, y .names);
+            constants-placed = omega (arith, s .raw-constants, x .constants-placed, y .constants-placed);
+            bootstraps-placed = omega (arith, s .raw-bootstraps, x .bootstraps-placed, y .bootstraps-placed);
+            versions = omega (arith, s .versions, x .versions, y .versions);
+            texts = omega (arith, s .texts, x .texts, y .texts);
           };
-      words = omega (arith, f .words, g .words);
+      words = omega (arith, s, f .words, g .words);
     }
 
--- a constant or a bootstrap with k references, a name, a raw definition
-enough-constant : (k n : ℕ) → 1 + k ≤ n → 14 + 3 * k ≤ 6 * n → Enough n (single 1 0 k 0 0 0)
-unfolding wordsFor
-enough-constant k n h g = record { bounded = omega arith; words = omega arith }
+-- a constant or a bootstrap with its references, a name, a raw definition, a setting
+module _ (e : Entry (List ℕ) Reference) (n : ℕ) (long : 1 + length (e .kids) ≤ n) where
+  enough-constant : isBootstrap e ≡ false → 14 + 3 * length (e .kids) ≤ 6 * n → Enough n (countsOf (define e ∷ []) 0)
+  unfolding countsOf constantsOf bootstrapsOf entries referencesIn kidsIn only isNaming isPlacing isVersion isHolding wordsFor
+  enough-constant h g =
+      let here = ap length (only-here (λ e. not (isBootstrap e)) e [] (ap not h)) in
+      let none = ap length (only-later isBootstrap e [] h) in
+      record { bounded = omega (arith, here, none); words = omega (arith, here, none) }
 
-enough-bootstrap : (k n : ℕ) → 1 + k ≤ n → 18 + 3 * k ≤ 6 * n → Enough n (single 0 1 k 0 0 0)
-unfolding wordsFor
-enough-bootstrap k n h g = record { bounded = omega arith; words = omega arith }
+  enough-bootstrap : isBootstrap e ≡ true → 18 + 3 * length (e .kids) ≤ 6 * n → Enough n (countsOf (define e ∷ []) 0)
+  unfolding countsOf constantsOf bootstrapsOf entries referencesIn kidsIn only isNaming isPlacing isVersion isHolding wordsFor
+  enough-bootstrap h g =
+      let none = ap length (only-later (λ e. not (isBootstrap e)) e [] (ap not h)) in
+      let here = ap length (only-here isBootstrap e [] h) in
+      record { bounded = omega (arith, here, none); words = omega (arith, here, none) }
 
 enough-named : (kind : Kind) (s : List ℕ) (r : Reference) (n : ℕ) → 1 ≤ n → Enough n (countsOf (named kind s r ∷ []) 0)
-unfolding countsOf constantsOf bootstrapsOf entries referencesIn kidsIn only isNaming isPlacing wordsFor
+unfolding countsOf constantsOf bootstrapsOf entries referencesIn kidsIn only isNaming isPlacing isVersion isHolding wordsFor
 enough-named kind s r n h = record { bounded = omega arith; words = omega arith }
 
 enough-placed : (kind : Kind) (at number n : ℕ) → 2 ≤ n → Enough n (countsOf (placed kind at number ∷ []) 0)
-unfolding countsOf constantsOf bootstrapsOf entries referencesIn kidsIn only isNaming isPlacing sameKind wordsFor
+unfolding countsOf constantsOf bootstrapsOf entries referencesIn kidsIn only isNaming isPlacing isVersion isHolding sameKind wordsFor
 enough-placed constant at number n h = record { bounded = omega arith; words = omega arith }
 enough-placed bootstrap at number n h = record { bounded = omega arith; words = omega arith }
+
+enough-set : (rule : Setting) (n : ℕ) → 1 ≤ n → Enough n (countsOf (setting rule ∷ []) 0)
+unfolding countsOf constantsOf bootstrapsOf entries referencesIn kidsIn only isNaming isPlacing isVersion isHolding wordsFor
+enough-set (version v) n h = record { bounded = omega arith; words = omega arith }
+enough-set texts n h = record { bounded = omega arith; words = omega arith }
+enough-set (highest top) n h = record { bounded = omega arith; words = omega arith }
 
 shape-enough :
     (tag : ℕ) (fields : List Field) (b : Bool) → lookup tag bodies ≡ some (ofEntry fields) → eqb tag bootstrapTag ≡ b →
@@ -235,12 +282,10 @@ module _ (n first : ℕ) (l rest : List ℕ) (size : n + length rest ≡ suc (le
   unfolding wanted isBootstrap
   enough-entry fields e told f true same t =
       let w = shape-enough first fields true told same in
-      rw (one-bootstrap e (ap (λ k. eqb k bootstrapTag) t ∙ same))
-      (enough-bootstrap (length (e .kids)) n (omega (arith, f .long)) (omega (arith, f .long, f .kids, w)))
+      enough-bootstrap e n (omega (arith, f .long)) (ap (λ k. eqb k bootstrapTag) t ∙ same) (omega (arith, f .long, f .kids, w))
   enough-entry fields e told f false same t =
       let w = shape-enough first fields false told same in
-      rw (one-constant e (ap (λ k. eqb k bootstrapTag) t ∙ same))
-      (enough-constant (length (e .kids)) n (omega (arith, f .long)) (omega (arith, f .long, f .kids, w)))
+      enough-constant e n (omega (arith, f .long)) (ap (λ k. eqb k bootstrapTag) t ∙ same) (omega (arith, f .long, f .kids, w))
 
   enough-body : (body : Body) (d : Definition (List ℕ)) → lookup first bodies ≡ some body → readBody first (some body) l ≡ some (d, rest) → Enough n (countsOf (d ∷ []) 0)
   unfolding readBody readEntry
@@ -263,6 +308,14 @@ module _ (n first : ℕ) (l rest : List ℕ) (size : n + length rest ≡ suc (le
       let g = same-rest (placed kind at number) d l₂ rest h₄ in
       subst (λ x. Enough n (countsOf (x ∷ []) 0)) (g .0)
       (enough-placed kind at number n (omega (arith, cost-two l at l₁ h₁, cost-two l₁ number l₂ h₃, g .1)))
+  enough-body (ofNumber rule) d told h =
+      some-then (two l) _ (d, rest) h λ number l₁ h₁ h₂.
+      let g = same-rest (setting (rule number)) d l₁ rest h₂ in
+      subst (λ x. Enough n (countsOf (x ∷ []) 0)) (g .0)
+      (enough-set (rule number) n (omega (arith, cost-two l number l₁ h₁, g .1)))
+  enough-body (ofNothing rule) d told h =
+      let g = same-rest (setting rule) d l rest h in
+      subst (λ x. Enough n (countsOf (x ∷ []) 0)) (g .0) (enough-set rule n (omega (arith, g .1)))
 
   enough-read : (d : Definition (List ℕ)) (body : Option Body) → lookup first bodies ≡ body → readBody first body l ≡ some (d, rest) → Enough n (countsOf (d ∷ []) 0)
   unfolding readBody
@@ -292,7 +345,7 @@ enough-turn s at [] end h =
 enough-turn s at (d ∷ list) end (next, f, h) =
     let g = enough-turn s next list end h in
     let size : next - at + (end - next) ≡ end - at = omega (arith, f .past, g .0) in
-    (omega (arith, f .past, g .0), rw (counts-more d list, ← size) (enough-plus (next - at) (end - next) (countsOf (d ∷ []) 0) (countsOf list 0) (enough-found s at d next f) (g .1)))
+    (omega (arith, f .past, g .0), rw (← size) (enough-plus (next - at) (end - next) (countsOf (d ∷ []) 0) (countsOf list 0) (countsOf (d ∷ list) 0) (counts-add d list) (enough-found s at d next f) (g .1)))
 
 -- records of any kind: each takes a byte or more
 pub turn-length : {A : Type 0} (p : Parser A) (s : List ℕ) (at : ℕ) (list : List A) (end : ℕ) → InTurn p s at list end → at + length list ≤ end

@@ -5,7 +5,7 @@ use Prim.Native.Nat.{ℕ, _+_, _≤_}
 use lib.ListN.{length}
 use Rattle.definition.specs.Basics.{Result, good, bad}
 use Rattle.definition.specs.Shapes.{Entry}
-use Rattle.definition.specs.Job.{Reference, Definition, define, named, placed, slot, Job}
+use Rattle.definition.specs.Job.{Reference, Definition, define, named, placed, setting, slot, Job}
 use Rattle.definition.specs.Form.{form}
 use Rattle.definition.specs.Numbering.{constantsOf, bootstrapsOf, numbered}
 use Rattle.definition.specs.Definitions.{Naming}
@@ -56,6 +56,7 @@ namingsOf [] = []
 namingsOf (define e ∷ rest) = namingsOf rest
 namingsOf (named kind s r ∷ rest) = record { kind = kind; label = s; target = r } ∷ namingsOf rest
 namingsOf (placed kind at number ∷ rest) = namingsOf rest
+namingsOf (setting s ∷ rest) = namingsOf rest
 
 abbrev pub namingsIn : List ℕ → List Naming
 namingsIn s = namingsOf (definitionsIn s)

@@ -8,13 +8,13 @@ use native.Mathlib.Omega.{arith}
 use lib.ListN.{length, getD, drop}
 use Rattle.definition.specs.Basics.{same, lookup}
 use Rattle.definition.specs.Shapes.{Kind, constant, bootstrap, shapes}
-use Rattle.definition.specs.Job.{Definition, named, Body, ofEntry, ofName, ofRaw, bodies, shortName, reference, readBody, readDefinition}
+use Rattle.definition.specs.Job.{Definition, named, Body, ofEntry, ofName, ofRaw, ofNumber, ofNothing, bodies, shortName, reference, readBody, readDefinition}
 use Rattle.definition.specs.Definitions.{Naming, sameKind}
 use Rattle.facts.proofs.Lists.{clash, none≢some, both-true, same-true, same-refl}
 use Rattle.facts.proofs.Each.{Each, lookup-each}
 use Rattle.laws.proofs.form.CitedEntries.{sameKind-true}
 use Rattle.job.specs.Stored.{Found, anyDefinition}
-use Rattle.job.proofs.Stepping.{entry-read, raw-read}
+use Rattle.job.proofs.Stepping.{entry-read, raw-read, setting-read, bare-read}
 use Rattle.job.proofs.Taking.{takes-name, takes-reference, finds-then, byte-then, ends}
 use Rattle.sym_refs.specs.Names.{kindByte, NamingAt, isName}
 
@@ -49,10 +49,12 @@ FirstOf : ℕ → Body → Type 0
 FirstOf first (ofEntry fields) = Unit {0}
 FirstOf first (ofName kind) = first ≡ kindByte kind
 FirstOf first (ofRaw kind) = Unit {0}
+FirstOf first (ofNumber rule) = Unit {0}
+FirstOf first (ofNothing rule) = Unit {0}
 
 all-first : Each (λ r. FirstOf (r .0) (r .1)) bodies
 unfolding bodies shapes FirstOf kindByte
-all-first = (tt, (tt, (tt, (tt, (tt, (tt, (tt, (tt, (tt, (tt, (tt, (tt, (tt, (tt, (tt, (tt, (tt, (tt, (refl, (refl, (tt, (tt, tt))))))))))))))))))))))
+all-first = (tt, (tt, (tt, (tt, (tt, (tt, (tt, (tt, (tt, (tt, (tt, (tt, (tt, (tt, (tt, (tt, (tt, (tt, (refl, (refl, (tt, (tt, (tt, (tt, (tt, tt)))))))))))))))))))))))))
 
 first-of : (first : ℕ) (kind : Kind) → lookup first bodies ≡ some (ofName kind) → first ≡ kindByte kind
 unfolding FirstOf
@@ -95,6 +97,12 @@ module _ (s : List ℕ) (at : ℕ) (x : Naming) (next : ℕ) (f : Found anyDefin
   by (some (ofRaw kind)) e inside r =
       let t = raw-read (getD s at 0) kind (drop (at + 1) s) (drop next s) d r in
       let same = t .2 in
+      clash (cc)
+  by (some (ofNumber rule)) e inside r =
+      let same = setting-read (getD s at 0) rule (drop (at + 1) s) (drop next s) d r .1 in
+      clash (cc)
+  by (some (ofNothing rule)) e inside r =
+      let same = bare-read (getD s at 0) rule (drop (at + 1) s) (drop next s) d r in
       clash (cc)
 
   found-there : NamingThere s at x

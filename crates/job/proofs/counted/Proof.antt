@@ -1,9 +1,12 @@
 -- `job::counted` meets its contract. Assumes nothing.
-use Rattle.job.specs.Forms.{plus, oneOf}
 use native.Mathlib.Nat.{add-zero}
+use Rattle.job.specs.Forms.{countedAs}
 use borrow.Author.Needs.{needs}
 use Rattle.job.proofs.counted.Statement.{statement}
 use Rattle.job.proofs.counted.Tie as tie
+
+first-broken-requires : tie.Need-first-broken-requires
+first-broken-requires c κs = search needs
 
 add-c : tie.Need-add-c
 add-c c = search needs
@@ -47,34 +50,62 @@ enum-told-6 c = search needs
 add-c-8 : tie.Need-add-c-8
 add-c-8 c = search needs
 
+enum-told-7 : tie.Need-enum-told-7
+enum-told-7 c = search needs
+
+add-c-9 : tie.Need-add-c-9
+add-c-9 c = search needs
+
+enum-told-8 : tie.Need-enum-told-8
+enum-told-8 c = search needs
+
+add-c-10 : tie.Need-add-c-10
+add-c-10 c = search needs
+
+enum-told-9 : tie.Need-enum-told-9
+enum-told-9 c = search needs
+
 returns : tie.Need-returns
-unfolding plus oneOf
-returns c = rw (c .before .enum-told .given .1) (simp add-zero)
+unfolding countedAs
+returns c = rw (c .before .enum-told .given .1, c .before .before .before .before .before .first-broken .ensures) (simp add-zero)
 
 returns-2 : tie.Need-returns-2
-unfolding plus oneOf
-returns-2 c = rw (c .before .enum-told2 .given .1) (simp add-zero)
+unfolding countedAs
+returns-2 c = rw (c .before .enum-told2 .given .1, c .before .before .before .before .before .first-broken .ensures) (simp add-zero)
 
 returns-3 : tie.Need-returns-3
-unfolding plus oneOf
-returns-3 c = rw (c .before .enum-told3 .given .1) (simp add-zero)
+unfolding countedAs
+returns-3 c = rw (c .before .enum-told3 .given .1, c .before .before .before .before .before .first-broken .ensures) (simp add-zero)
 
 returns-4 : tie.Need-returns-4
-unfolding plus oneOf
-returns-4 c = rw (c .before .enum-told4 .given .1) (simp add-zero)
+unfolding countedAs
+returns-4 c = rw (c .before .enum-told4 .given .1, c .before .before .before .before .before .first-broken .ensures) (simp add-zero)
 
 returns-5 : tie.Need-returns-5
-unfolding plus oneOf
-returns-5 c = rw (c .before .enum-told5 .given .1) (simp add-zero)
+unfolding countedAs
+returns-5 c = rw (c .before .enum-told5 .given .1, c .before .before .before .before .before .first-broken .ensures) (simp add-zero)
 
 returns-6 : tie.Need-returns-6
-unfolding plus oneOf
-returns-6 c = rw (c .before .enum-told6 .given .1) (simp add-zero)
+unfolding countedAs
+returns-6 c = rw (c .before .enum-told6 .given .1, c .before .before .before .before .before .first-broken .ensures) (simp add-zero)
+
+returns-7 : tie.Need-returns-7
+unfolding countedAs
+returns-7 c = rw (c .before .enum-told7 .given .1, c .before .before .before .before .before .first-broken .ensures) (simp add-zero)
+
+returns-8 : tie.Need-returns-8
+unfolding countedAs
+returns-8 c = rw (c .before .enum-told8 .given .1, c .before .before .before .before .before .first-broken .ensures) (simp add-zero)
+
+returns-9 : tie.Need-returns-9
+unfolding countedAs
+returns-9 c = rw (c .enum-told9 .given .1, c .before .before .before .before .first-broken .ensures) (simp add-zero)
 
 pub counted-spec : {M : Type 1} → statement M
 counted-spec =
     tie.close
     (tie.spec
+    first-broken-requires
     add-c
     add-c-2
     enum-told
@@ -89,9 +120,17 @@ counted-spec =
     add-c-7
     enum-told-6
     add-c-8
+    enum-told-7
+    add-c-9
+    enum-told-8
+    add-c-10
+    enum-told-9
     returns
     returns-2
     returns-3
     returns-4
     returns-5
-    returns-6)
+    returns-6
+    returns-7
+    returns-8
+    returns-9)

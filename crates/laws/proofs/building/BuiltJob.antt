@@ -10,10 +10,9 @@ use Rattle.definition.specs.Basics.{good}
 use Rattle.definition.specs.Shapes.{bootstrapTag, Entry, withKids}
 use Rattle.definition.specs.Job.{Request, Job}
 use Rattle.definition.specs.Form.{form}
-use Rattle.definition.specs.Numbering.{constantsOf, numbered}
+use Rattle.definition.specs.Numbering.{topOf, constantsOf, numbered}
 use Rattle.definition.specs.Definitions.{tagAt}
 use Rattle.definition.specs.Resolving.{Goal, tableEntry, goalOf, Node, Mark, done}
-use Rattle.definition.specs.Slots.{highestSlot}
 use Rattle.definition.specs.Building.{Row, nameWanted}
 use Rattle.definition.specs.Layout.{starters, nodeAt, answerAll, Layout, indexNodes, layout}
 use Rattle.facts.specs.Lists.{Among}
@@ -36,18 +35,18 @@ use Rattle.laws.proofs.building.BeforeRequests.{formed-table, begun, be
 use Rattle.laws.proofs.building.AfterBuilding.{built-inline}
 use Rattle.laws.proofs.building.AfterName.{Named, named}
 
-module _ (bytes : List ℕ) (job : Job (List ℕ)) (l : Layout) (are : IsBytes bytes) (formed : form bytes ≡ good job) (laid : layout highestSlot (numbered job) ≡ good l) where
-  pub st : Stages highestSlot (numbered job) l
-  st = stages highestSlot (numbered job) l laid
+module _ (bytes : List ℕ) (job : Job (List ℕ)) (l : Layout) (are : IsBytes bytes) (formed : form bytes ≡ good job) (laid : layout (topOf job) (numbered job) ≡ good l) where
+  pub st : Stages (topOf job) (numbered job) l
+  st = stages (topOf job) (numbered job) l laid
 
   abbrev pub table : List (Entry ℕ Goal)
   table = jobTable (numbered job)
 
   pub facts : DefinedFacts (wideAt (constantsOf (numbered job .definitions))) (numbered job .definitions) (st .defined)
-  facts = defined-facts highestSlot (constantsOf (numbered job .definitions)) (numbered job .definitions) (st .defined) (st .isDefined)
+  facts = defined-facts (topOf job) (constantsOf (numbered job .definitions)) (numbered job .definitions) (st .defined) (st .isDefined)
 
-  pub rising : Rises highestSlot (st .defined)
-  rising = rises highestSlot (constantsOf (numbered job .definitions)) (numbered job .definitions) (st .defined) (st .isDefined)
+  pub rising : Rises (topOf job) (st .defined)
+  rising = rises (topOf job) (constantsOf (numbered job .definitions)) (numbered job .definitions) (st .defined) (st .isDefined)
 
   pub good-job-table : GoodTable table
   good-job-table = formed-table bytes job are formed
@@ -58,7 +57,7 @@ module _ (bytes : List ℕ) (job : Job (List ℕ)) (l : Layout) (are : IsBytes b
 
   -- what record 50 left
   pub started :
-      Going table highestSlot (st .defined .held) raws (st .ready)
+      Going table (topOf job) (st .defined .held) raws (st .ready)
       × ((g : Goal) → Among g (rawGoals (jobConstants (numbered job)) (st .defined)) → Settled (st .ready .resolved .marks) g)
   started = begun bytes job are formed (st .defined) (st .isDefined) (st .ready) (st .isReady)
 
@@ -71,13 +70,13 @@ module _ (bytes : List ℕ) (job : Job (List ℕ)) (l : Layout) (are : IsBytes b
       (st .isAsked)
 
   pub asked :
-      Going table highestSlot (st .defined .held) raws (st .asked)
+      Going table (topOf job) (st .defined .held) raws (st .asked)
       × Further (st .ready) (st .asked)
       × ((i : ℕ) (q : Request) →
       getElem? (numbered job .requests) i ≡ some q →
       (a : ℕ) × (getElem? (st .answers) i ≡ some a) × Answered (goalOf (jobNames (numbered job)) (jobConstants (numbered job)) (q .what)) a (st .asked))
   asked =
-      answerAll-going table (good-job-table .cited) highestSlot (st .defined .held) raws (jobNames (numbered job)) (jobConstants (numbered job))
+      answerAll-going table (good-job-table .cited) (topOf job) (st .defined .held) raws (jobNames (numbered job)) (jobConstants (numbered job))
       (suc (length (numbered job .definitions)))
       (numbered job .requests)
       (st .ready)
@@ -179,11 +178,11 @@ module _ (bytes : List ℕ) (job : Job (List ℕ)) (l : Layout) (are : IsBytes b
   inline = st .made .rows .inline
 
   pub ending :
-      Named highestSlot (st .defined .held) raws nodes (InlineIn inline) (nameWanted (numbered job .build .nameByte) (length rows)) (st .made) (st .named)
+      Named (topOf job) (st .defined .held) raws nodes (InlineIn inline) (nameWanted (numbered job .build .nameByte) (length rows)) (st .made) (st .named)
   ending =
-      named highestSlot (st .defined .held) raws nodes (InlineIn inline) (nameWanted (numbered job .build .nameByte) (length rows)) (st .made) (st .named)
+      named (topOf job) (st .defined .held) raws nodes (InlineIn inline) (nameWanted (numbered job .build .nameByte) (length rows)) (st .made) (st .named)
       (starts-here .kidsIn)
-      (built-inline highestSlot (st .defined .held) raws nodes indexes (st .asked .pool) (st .made)
+      (built-inline (topOf job) (st .defined .held) raws nodes indexes (st .asked .pool) (st .made)
       (asked .0 .pooled)
       starts-here
       (bootstrap-kids table good-job-table (st .asked .resolved) (asked .0 .faithful))

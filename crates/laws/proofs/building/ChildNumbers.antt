@@ -295,7 +295,7 @@ pub record Building (nodes : List Node) (raws pending : List (ℕ × ℕ)) (m : 
 
 -- the pool once the stack is another
 abbrev pub takenPool : List (ℕ × ℕ) → Pool → Pool
-takenPool pending p = record { slots = p .slots; given = p .given; pending = pending }
+takenPool pending p = record { slots = p .slots; given = p .given; pending = pending; version = p .version }
 
 -- one more is taken from the stack and finished
 abbrev pub finishedMade : ℕ → Node → Made → List ℕ × Pool × Rows → Made

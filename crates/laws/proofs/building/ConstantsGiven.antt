@@ -7,7 +7,8 @@ use Prim.Native.Nat.{ℕ, zero, suc, _-_}
 use lib.Dec.{eqb, ltb}
 use lib.ListN.{getElem?}
 use borrow.Author.Tests.{eqb-true, eqb-false, ltb-false}
-use Rattle.definition.specs.Basics.{good}
+use Rattle.definition.specs.Settings.{known}
+use Rattle.definition.specs.Basics.{good, unless}
 use Rattle.definition.specs.Shapes.{bootstrapTag}
 use Rattle.definition.specs.Definitions.{tagAt}
 use Rattle.definition.specs.Resolving.{Node, firstNode}
@@ -84,6 +85,7 @@ module _ (nodes : List Node) (bootstraps : BootstrapKids nodes) where
   drain-given zero (top ∷ pending) m m′ e h = bad≢good e
   drain-given (suc fuel) [] m m′ e h = subst (λ x. Given (x .pool)) (good-inj e) h
   drain-given (suc fuel) (top ∷ pending) m m′ e h =
+      good-then (unless (known (m .pool .version) (tagAt nodes (top .1))) 24) _ m′ e λ _ _ e.
       good-then (finish nodes (top .0) (withPending pending m) (getElem? nodes (top .1))) _ m′ e λ r here e₁.
       drain-given fuel (r .pool .pending) r m′ e₁ (finish-given (top .0) (withPending pending m) r (getElem? nodes (top .1)) here h)
 

@@ -10,7 +10,8 @@ use native.Mathlib.Omega.{arith}
 use lib.Dec.{eqb, ltb}
 use lib.ListN.{length, getElem?, replicate, length-append}
 use borrow.Author.Tests.{eqb-true, eqb-false, ltb-true, ltb-false}
-use Rattle.definition.specs.Basics.{Result, good, _>>=_}
+use Rattle.definition.specs.Settings.{known}
+use Rattle.definition.specs.Basics.{Result, good, _>>=_, unless}
 use Rattle.definition.specs.Shapes.{bootstrapTag}
 use Rattle.definition.specs.Definitions.{tagAt}
 use Rattle.definition.specs.Resolving.{Node, firstNode}
@@ -309,7 +310,7 @@ module _ (nodes : List Node) (indexes raws : List (ℕ × ℕ)) where
   told-drained zero (top ∷ pending) m m′ kids b h e = bad≢good e
   told-drained (suc fuel) [] m m′ kids b h e = subst (λ (x : Made). Told (x .pool .given) (x .rows)) (good-inj e) h
   told-drained (suc fuel) (top ∷ pending) m m′ kids b h e =
-      let (x, isOne, rest) = good-first (finish nodes (top .0) (withPending pending m) (getElem? nodes (top .1))) (λ x. drain fuel nodes (x .pool .pending) x) m′ e in
+      let (x, isOne, rest) = good-first (finish nodes (top .0) (withPending pending m) (getElem? nodes (top .1))) (λ x. drain fuel nodes (x .pool .pending) x) m′ (good-first (unless (known (m .pool .version) (tagAt nodes (top .1))) 24) (λ _. finish nodes (top .0) (withPending pending m) (getElem? nodes (top .1)) >>= λ x. drain fuel nodes (x .pool .pending) x) m′ e .2) in
       told-drained fuel (x .pool .pending) x m′ kids (drained-one nodes indexes raws top pending m x kids b isOne .building) (told-finished top pending m x kids b h isOne) rest
 
   module _ (p : Pool) (m : Made) (starts : Starts nodes raws p) (done : buildAll nodes indexes p ≡ good m) where

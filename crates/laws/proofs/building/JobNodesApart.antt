@@ -8,10 +8,10 @@ use Rattle.definition.specs.Basics.{good, atRecord, unless}
 use Rattle.definition.specs.Shapes.{Entry}
 use Rattle.definition.specs.Job.{Request, Job}
 use Rattle.definition.specs.Form.{form}
-use Rattle.definition.specs.Numbering.{numbered}
+use Rattle.definition.specs.Numbering.{topOf, numbered}
 use Rattle.definition.specs.Definitions.{Naming, Defined}
 use Rattle.definition.specs.Resolving.{Goal, goalOf, childOf, resolve, resolveAll, nothingResolved}
-use Rattle.definition.specs.Slots.{highestSlot, highestLdc}
+use Rattle.definition.specs.Slots.{highestLdc}
 use Rattle.definition.specs.Building.{slotOf}
 use Rattle.definition.specs.Layout.{Ready, endDefinitions, answer, answerAll, Layout, layout}
 use Rattle.facts.proofs.Results.{good-inj, good-then, atRecord-good}
@@ -56,12 +56,12 @@ module _ (table : List (Entry ℕ Goal)) (fine : GoodTable table) where
       let one = answer-tidy (q .ldc) (goalOf names constants (q .what)) w a h (atRecord-good place _ a here) in
       subst (λ (x : List ℕ × Ready). TidyReady (x .1)) (good-inj e₂) (answerAll-tidy names constants (suc place) requests (a .1) rest one there)
 
-module _ (bytes : List ℕ) (job : Job (List ℕ)) (l : Layout) (are : IsBytes bytes) (formed : form bytes ≡ good job) (laid : layout highestSlot (numbered job) ≡ good l) where
+module _ (bytes : List ℕ) (job : Job (List ℕ)) (l : Layout) (are : IsBytes bytes) (formed : form bytes ≡ good job) (laid : layout (topOf job) (numbered job) ≡ good l) where
   pub nodes-apart : Orderly (nodes bytes job l are formed laid)
   nodes-apart =
       let stages = st bytes job l are formed laid in
       let fine = good-job-table bytes job l are formed laid in
       let ready =
-      ready-tidy (table bytes job l are formed laid) fine highestSlot (jobConstants (numbered job)) (stages .defined) (stages .ready)
-      (subst (λ t. endDefinitions highestSlot t (jobConstants (numbered job)) (stages .defined) ≡ good (stages .ready)) (same-table bytes job are formed (stages .defined) (stages .isDefined)) (stages .isReady)) in
+      ready-tidy (table bytes job l are formed laid) fine (topOf job) (jobConstants (numbered job)) (stages .defined) (stages .ready)
+      (subst (λ t. endDefinitions (topOf job) t (jobConstants (numbered job)) (stages .defined) ≡ good (stages .ready)) (same-table bytes job are formed (stages .defined) (stages .isDefined)) (stages .isReady)) in
       answerAll-tidy (table bytes job l are formed laid) fine (stages .defined .names) _ _ (numbered job .requests) (stages .ready) (stages .answers, stages .asked) ready (stages .isAsked) .1 .orderly

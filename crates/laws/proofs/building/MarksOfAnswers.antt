@@ -14,10 +14,10 @@ use Rattle.definition.specs.Basics.{good, atRecord, unless, lookup}
 use Rattle.definition.specs.Shapes.{Entry}
 use Rattle.definition.specs.Job.{Request, Job}
 use Rattle.definition.specs.Form.{form}
-use Rattle.definition.specs.Numbering.{numbered}
+use Rattle.definition.specs.Numbering.{topOf, numbered}
 use Rattle.definition.specs.Definitions.{Held, Naming, Defined}
 use Rattle.definition.specs.Resolving.{Goal, tableEntry, goalOf, firstNode, Mark, childOf, resolve, resolveAll, nothingResolved}
-use Rattle.definition.specs.Slots.{highestSlot, highestLdc}
+use Rattle.definition.specs.Slots.{highestLdc}
 use Rattle.definition.specs.Building.{Pool, slotOf, Origin, raw, new, old, originOf, markOf}
 use Rattle.definition.specs.Layout.{starters, Ready, endDefinitions, answer, answerAll, Layout, layoutOf, layout}
 use Rattle.definition.specs.Run.{Built, render, Lent, longestJob, enough, build, run}
@@ -97,7 +97,7 @@ unfolding render
 as-many-marks bytes lent b ran =
     let (job, formed) = formed-of lent bytes b ran in
     let (l, laid, is) = run-laid bytes job lent b formed ran in
-    rw (← is) (length-map (l .origins) markOf ∙ layout-origins highestSlot (numbered job) l laid)
+    rw (← is) (length-map (l .origins) markOf ∙ layout-origins (topOf job) (numbered job) l laid)
 
 -- ---- which mark
 

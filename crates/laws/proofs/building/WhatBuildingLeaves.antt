@@ -9,7 +9,8 @@ use native.Mathlib.Omega.{arith}
 use lib.Dec.{eqb, ltb}
 use lib.ListN.{length, getElem?, replicate, length-append}
 use borrow.Author.Tests.{eqb-true, eqb-false, ltb-true, ltb-false}
-use Rattle.definition.specs.Basics.{Result, good, lookup, _>>=_}
+use Rattle.definition.specs.Settings.{known}
+use Rattle.definition.specs.Basics.{Result, good, lookup, _>>=_, unless}
 use Rattle.definition.specs.Shapes.{bootstrapTag, Entry, withKids}
 use Rattle.definition.specs.Definitions.{Held, tagAt}
 use Rattle.definition.specs.Resolving.{Node, firstNode}
@@ -683,7 +684,7 @@ module _ (nodes : List Node) where
     drained zero raws (top ∷ pending) m m′ kids h e = bad≢good e
     drained (suc fuel) raws [] m m′ kids h e = drained-not h (good-inj e)
     drained (suc fuel) raws (top ∷ pending) m m′ kids h e =
-        let first = good-first (finish nodes (top .0) (withPending pending m) (getElem? nodes (top .1))) (λ x. drain fuel nodes (x .pool .pending) x) m′ e in
+        let first = good-first (finish nodes (top .0) (withPending pending m) (getElem? nodes (top .1))) (λ x. drain fuel nodes (x .pool .pending) x) m′ (good-first (unless (known (m .pool .version) (tagAt nodes (top .1))) 24) (λ _. finish nodes (top .0) (withPending pending m) (getElem? nodes (top .1)) >>= λ x. drain fuel nodes (x .pool .pending) x) m′ e .2) in
         let x = first .0 in
         let one = drained-one raws top pending m x kids h (first .1) in
         drained-twice one (drained fuel raws (x .pool .pending) x m′ kids (one .building) (first .2))

@@ -9,10 +9,11 @@ use Prim.Native.Nat.{ℕ, zero, suc, _+_}
 use native.Mathlib.Omega.{arith}
 use lib.ListN.{getElem?}
 use Rattle.definition.specs.Basics.{good, unless, insert}
+use Rattle.definition.specs.Settings.{version, texts, highest}
 use Rattle.definition.specs.Shapes.{Kind, isWide, Entry, constant, bootstrap}
-use Rattle.definition.specs.Job.{Definition, define, named, placed, Job}
+use Rattle.definition.specs.Job.{Definition, define, named, placed, setting, Job}
 use Rattle.definition.specs.Numbering.{Literal, literals, numberedDefinition, numbered}
-use Rattle.definition.specs.Definitions.{Held, starts, half, Naming, Defined, nameTarget, isNone, tagAt, hold, placeConstant, placeBootstrap, defineOne, defineAll, nothingDefined}
+use Rattle.definition.specs.Definitions.{withSetting, Held, starts, half, Naming, Defined, nameTarget, isNone, tagAt, hold, placeConstant, placeBootstrap, defineOne, defineAll, nothingDefined}
 use Rattle.definition.specs.Layout.{starters}
 use Rattle.facts.specs.Lists.{Among}
 use Rattle.facts.proofs.Lists.{clash, among-nil, among-later, among-left, among-right, among-snoc, map-at, map-some}
@@ -28,6 +29,7 @@ namingsOf [] = []
 namingsOf (define e ∷ ds) = namingsOf ds
 namingsOf (named kind s r ∷ ds) = record { kind = kind; label = s; target = r } ∷ namingsOf ds
 namingsOf (placed kind n e ∷ ds) = namingsOf ds
+namingsOf (setting rule ∷ ds) = namingsOf ds
 
 namings-snoc : {L : Type 0} (ds : List (Definition L)) (x : Definition L) → namingsOf (ds ++ x ∷ []) ≡ namingsOf ds ++ namingsOf (x ∷ [])
 unfolding namingsOf
@@ -35,6 +37,7 @@ namings-snoc [] x = refl
 namings-snoc (define e ∷ ds) x = namings-snoc ds x
 namings-snoc (named kind s r ∷ ds) x = ap (λ l. record { kind = kind; label = s; target = r } ∷ l) (namings-snoc ds x)
 namings-snoc (placed kind n e ∷ ds) x = namings-snoc ds x
+namings-snoc (setting rule ∷ ds) x = namings-snoc ds x
 
 -- the slots behind the records of a list: what was placed is held, what is held was placed, and second halves stand behind wide starts
 pub record HeldFacts (wide : ℕ → Bool) (ds : List (Definition ℕ)) (held : List (ℕ × Held)) : Type 0 where
@@ -221,7 +224,7 @@ module _ {R : Type 0} (top : ℕ) (constants : List (Entry ℕ R)) where
       DefinedFacts (wideAt constants) ds d →
       defineOne top constants x d ≡ good d′ →
       DefinedFacts (wideAt constants) (ds ++ x ∷ []) d′
-  unfolding defineOne namingsOf
+  unfolding defineOne namingsOf withSetting
   one-defined ds (define x) d d′ f q =
       let same : d ≡ d′ = cc in
       rw (← same)
@@ -232,7 +235,7 @@ module _ {R : Type 0} (top : ℕ) (constants : List (Entry ℕ R)) where
       })
   one-defined ds (named kind s r) d d′ f q =
       good-then (unless (isNone (nameTarget kind s (d .names))) 11) _ d′ q λ _ _ q₁.
-      let now : Defined = record { held = d .held; indexes = d .indexes; names = d .names ++ record { kind = kind; label = s; target = r } ∷ [] } in
+      let now : Defined = record { held = d .held; indexes = d .indexes; names = d .names ++ record { kind = kind; label = s; target = r } ∷ []; version = d .version } in
       let same : now ≡ d′ = cc in
       rw (← same)
       (record {
@@ -242,7 +245,7 @@ module _ {R : Type 0} (top : ℕ) (constants : List (Entry ℕ R)) where
       })
   one-defined ds (placed constant n e) d d′ f q =
       good-then (placeConstant top (wideAt constants e) n e (d .held)) _ d′ q λ held p q₁.
-      let now : Defined = record { held = held; indexes = d .indexes; names = d .names } in
+      let now : Defined = record { held = held; indexes = d .indexes; names = d .names; version = d .version } in
       let same : now ≡ d′ = cc in
       let g = placed-constant top (wideAt constants e) n e (d .held) held p in
       rw (← same)
@@ -253,13 +256,38 @@ module _ {R : Type 0} (top : ℕ) (constants : List (Entry ℕ R)) where
       })
   one-defined ds (placed bootstrap n e) d d′ f q =
       good-then (placeBootstrap n e (d .indexes)) _ d′ q λ indexes p q₁.
-      let now : Defined = record { held = d .held; indexes = indexes; names = d .names } in
+      let now : Defined = record { held = d .held; indexes = indexes; names = d .names; version = d .version } in
       let same : now ≡ d′ = cc in
       rw (← same)
       (record {
         allNames = f .allNames ∙ sym (append-nil (namingsOf ds)) ∙ sym (namings-snoc ds (placed bootstrap n e));
         allHeld = held-other (wideAt constants) ds (placed bootstrap n e) (d .held) (λ _ _ p. clash (cc)) (f .allHeld);
         allIndexes = index-more ds n e (d .indexes) indexes (f .allIndexes) p;
+      })
+  one-defined ds (setting (version v)) d d′ f q =
+      let now : Defined = record { held = d .held; indexes = d .indexes; names = d .names; version = v } in
+      let same : now ≡ d′ = cc in
+      rw (← same)
+      (record {
+        allNames = f .allNames ∙ sym (append-nil (namingsOf ds)) ∙ sym (namings-snoc ds (setting (version v)));
+        allHeld = held-other (wideAt constants) ds (setting (version v)) (d .held) (λ _ _ p. clash (cc)) (f .allHeld);
+        allIndexes = index-other ds (setting (version v)) (d .indexes) (λ _ _ p. clash (cc)) (f .allIndexes);
+      })
+  one-defined ds (setting (highest n)) d d′ f q =
+      let same : d ≡ d′ = cc in
+      rw (← same)
+      (record {
+        allNames = f .allNames ∙ sym (append-nil (namingsOf ds)) ∙ sym (namings-snoc ds (setting (highest n)));
+        allHeld = held-other (wideAt constants) ds (setting (highest n)) (d .held) (λ _ _ p. clash (cc)) (f .allHeld);
+        allIndexes = index-other ds (setting (highest n)) (d .indexes) (λ _ _ p. clash (cc)) (f .allIndexes);
+      })
+  one-defined ds (setting texts) d d′ f q =
+      let same : d ≡ d′ = cc in
+      rw (← same)
+      (record {
+        allNames = f .allNames ∙ sym (append-nil (namingsOf ds)) ∙ sym (namings-snoc ds (setting texts));
+        allHeld = held-other (wideAt constants) ds (setting texts) (d .held) (λ _ _ p. clash (cc)) (f .allHeld);
+        allIndexes = index-other ds (setting texts) (d .indexes) (λ _ _ p. clash (cc)) (f .allIndexes);
       })
 
   -- the definitions of a job, all in turn
@@ -274,6 +302,7 @@ all-namings all [] = refl
 all-namings all (define e ∷ ds) = all-namings all ds
 all-namings all (named kind s r ∷ ds) = ap (λ l. record { kind = kind; label = s; target = r } ∷ l) (all-namings all ds)
 all-namings all (placed kind at n ∷ ds) = all-namings all ds
+all-namings all (setting rule ∷ ds) = all-namings all ds
 
 pub namings-numbered : (job : Job (List ℕ)) → namingsOf (numbered job .definitions) ≡ namings (job .definitions)
 unfolding numbered
@@ -284,6 +313,7 @@ numbered-placed : (all : List Literal) (x : Definition (List ℕ)) (kind : Kind)
 unfolding numberedDefinition
 numbered-placed all (define y) kind n e h = clash (cc)
 numbered-placed all (named kind′ s r) kind n e h = clash (cc)
+numbered-placed all (setting rule) kind n e h = clash (cc)
 numbered-placed all (placed kind′ n′ e′) kind n e h =
     let k : kind′ ≡ kind = cc in
     let p : n′ ≡ n = cc in

@@ -8,9 +8,10 @@ use native.Mathlib.Omega.{arith}
 use lib.Dec.{ltb}
 use lib.ListN.{length}
 use Rattle.definition.specs.Basics.{same, lookup, insert}
+use Rattle.definition.specs.Settings.{version, texts, highest}
 use Rattle.definition.specs.Shapes.{Entry, constant, bootstrap}
-use Rattle.definition.specs.Job.{Definition, define, named, placed}
-use Rattle.definition.specs.Definitions.{Held, starts, half, Defined, startFree, hold, placeConstant, placeBootstrap, defineOne, defineAll}
+use Rattle.definition.specs.Job.{Definition, define, named, placed, setting}
+use Rattle.definition.specs.Definitions.{withSetting, Held, starts, half, Defined, startFree, hold, placeConstant, placeBootstrap, defineOne, defineAll}
 use Rattle.definition.specs.Layout.{starters}
 use Rattle.facts.proofs.Tables.{insert-length}
 use Rattle.facts.proofs.Each.{Each, each-append}
@@ -85,6 +86,7 @@ unfoldable pub rawOne : {L : Type 0} → Definition L → ℕ
 rawOne (define e) = 0
 rawOne (named kind s r) = 0
 rawOne (placed kind at number) = 1
+rawOne (setting rule) = 0
 
 unfoldable pub raws : {L : Type 0} → List (Definition L) → ℕ
 raws [] = 0
@@ -95,19 +97,23 @@ defineOne-ends :
     (H → DefLow x) →
     (H → Each NameLow (d .names)) →
     Ends Z (Defines H (rawOne x) d) (defineOne top constants x d)
-unfolding defineOne rawOne
+unfolding defineOne rawOne withSetting
 defineOne-ends z H top constants (define e) d low names = well {a = d} (record { more = omega arith; names = names })
 defineOne-ends z H top constants (named kind s r) d low names =
     next _ (unless-ends _ 11 (z 11 tt tt)) λ _ _.
     let more = record { kind = kind; label = s; target = r } ∷ [] in
-    well {a = record { held = d .held; indexes = d .indexes; names = d .names ++ more }}
+    well {a = record { held = d .held; indexes = d .indexes; names = d .names ++ more; version = d .version }}
     (record { more = omega arith; names = λ h. each-append NameLow (d .names) more (names h) (low h, tt) })
 defineOne-ends z H top constants (placed constant n e) d low names =
     next _ (placeConstant-ends z top _ n e (d .held)) λ held same.
-    well {a = record { held = held; indexes = d .indexes; names = d .names }} (record { more = omega arith; names = names })
+    well {a = record { held = held; indexes = d .indexes; names = d .names; version = d .version }} (record { more = omega arith; names = names })
 defineOne-ends z H top constants (placed bootstrap index e) d low names =
     next _ (placeBootstrap-ends z index e (d .indexes)) λ indexes same.
-    well {a = record { held = d .held; indexes = indexes; names = d .names }} (record { more = omega arith; names = names })
+    well {a = record { held = d .held; indexes = indexes; names = d .names; version = d .version }} (record { more = omega arith; names = names })
+defineOne-ends z H top constants (setting (version v)) d low names =
+    well {a = record { held = d .held; indexes = d .indexes; names = d .names; version = v }} (record { more = omega arith; names = names })
+defineOne-ends z H top constants (setting (highest n)) d low names = well {a = d} (record { more = omega arith; names = names })
+defineOne-ends z H top constants (setting texts) d low names = well {a = d} (record { more = omega arith; names = names })
 
 pub defineAll-ends :
     {Z : ℕ → Type 0} → Early Z → (H : Type 0) {R : Type 0} (top : ℕ) (constants : List (Entry ℕ R)) (place : ℕ) (l : List (Definition ℕ)) (d : Defined) →

@@ -8,9 +8,10 @@ use native.Mathlib.Omega.{arith}
 use lib.Dec.{eqb, leb, ltb}
 use borrow.Author.Tests.{eqb-false, ltb-true, leb-true, not-true}
 use Rattle.definition.specs.Basics.{Result, good, atRecord, lookup, insert, _>>=_}
+use Rattle.definition.specs.Settings.{version, texts, highest}
 use Rattle.definition.specs.Shapes.{isWide, Entry, constant, bootstrap}
-use Rattle.definition.specs.Job.{Definition, define, named, placed}
-use Rattle.definition.specs.Definitions.{Held, starts, half, Defined, nameTarget, isNone, tagAt, startFree, lastSlot, hold, placeConstant, placeBootstrap, defineOne, defineAll, nothingDefined}
+use Rattle.definition.specs.Job.{Definition, define, named, placed, setting}
+use Rattle.definition.specs.Definitions.{withSetting, Held, starts, half, Defined, nameTarget, isNone, tagAt, startFree, lastSlot, hold, placeConstant, placeBootstrap, defineOne, defineAll, nothingDefined}
 use Rattle.facts.specs.Lists.{Rising, keys}
 use Rattle.facts.proofs.Lists.{true≢false, both-true}
 use Rattle.facts.proofs.Tables.{lookup-insert-other, rising-insert}
@@ -111,7 +112,7 @@ pub one-rises :
     defineOne top constants x d ≡ good d′ →
     Rises top d →
     Rises top d′
-unfolding defineOne
+unfolding defineOne withSetting
 one-rises top constants (define e) d d′ h r = rw (← good-inj h) r
 one-rises top constants (named kind s t) d d′ h r =
     rw (← good-inj (unless-first (isNone (nameTarget kind s (d .names))) 11 _ d′ h .1)) r
@@ -121,6 +122,9 @@ one-rises top constants (placed constant n e) d d′ h r =
 one-rises top constants (placed bootstrap n e) d d′ h r =
     good-then (placeBootstrap n e (d .indexes)) _ d′ h λ indexes q g.
     rw (← good-inj g) (r .0, bootstrap-rises n e (d .indexes) indexes q (r .1))
+one-rises top constants (setting (version v)) d d′ h r = rw (← good-inj h) r
+one-rises top constants (setting (highest n)) d d′ h r = rw (← good-inj h) r
+one-rises top constants (setting texts) d d′ h r = rw (← good-inj h) r
 
 -- what is kept by each definition in turn holds when all are through
 pub defined-all :

@@ -11,9 +11,10 @@ use lib.Dec.{eqb}
 use lib.ListN.{length, getElem?}
 use borrow.Author.Tests.{ltb-true}
 use Rattle.definition.specs.Basics.{same, every, only}
+use Rattle.definition.specs.Settings.{version, texts, highest}
 use Rattle.definition.specs.Shapes.{Kind, Field, text, bits, byte, to, toMany, shapes, bootstrapShape, Entry, constant, bootstrap}
-use Rattle.definition.specs.Job.{Reference, raw, entry, name, Definition, define, named, placed, Request, Job}
-use Rattle.definition.specs.Form.{Counts, countOf, kindOf, oneMore, counted, cites, citesEarlier}
+use Rattle.definition.specs.Job.{Reference, raw, entry, name, Definition, define, named, placed, setting, Request, Job}
+use Rattle.definition.specs.Form.{oneSetting, oneRecord, withBroken, Counts, countOf, kindOf, oneMore, counted, cites, citesEarlier}
 use Rattle.definition.specs.Numbering.{entries, isBootstrap, constantsOf, bootstrapsOf}
 use Rattle.definition.specs.Definitions.{sameKind}
 use Rattle.facts.specs.Lists.{Among}
@@ -45,12 +46,14 @@ unfoldable pub AllCited : {L : Type 0} → List (Definition L) → Definition L 
 AllCited ds (define e) = (i : ℕ) (r : Reference) → getElem? (e .kids) i ≡ some r → Cites ds r
 AllCited ds (named kind s r) = Cites ds r
 AllCited ds (placed kind at n) = n < countIn kind ds
+AllCited ds (setting rule) = Unit {0}
 
 -- and of the kind that its place wants
 unfoldable pub AllOfKind : {L : Type 0} → Definition L → Type 0
 AllOfKind (define e) = KidsOfKind (e .tag) (e .kids)
 AllOfKind (named kind s r) = OfKind kind r
 AllOfKind (placed kind at n) = Unit {0}
+AllOfKind (setting rule) = Unit {0}
 
 -- a test on kinds passes only equal ones
 pub sameKind-true : (a b : Kind) → sameKind a b ≡ true → a ≡ b
@@ -118,6 +121,7 @@ formed-kinds (define e) h =
     subst (λ j. OfKind (kidKind (e .tag) j) r) (zero-add i) (kids-kinds (e .tag) (h .fields) 0 (e .kids) (h .ofKinds) (shape-conforms (e .tag) (h .fields) (h .shapeOf)) i r p)
 formed-kinds (named kind s r) h = h .1
 formed-kinds (placed kind at n) h = tt
+formed-kinds (setting rule) h = tt
 
 -- a definition more is counted where it stands
 module _ {L : Type 0} (e : Entry L Reference) (ds : List (Definition L)) where
@@ -155,7 +159,7 @@ count-same bootstrap x ds e = ap (λ l. length (only isBootstrap l)) e
 count-one :
     (kind : Kind) (x : Definition (List ℕ)) (ds : List (Definition (List ℕ))) (n : Counts) →
     countOf kind (counted x n) + countIn kind ds ≡ countOf kind n + countIn kind (x ∷ ds)
-unfolding counted oneMore countOf countIn entries
+unfolding counted oneRecord withBroken oneMore oneSetting countOf countIn entries
 count-one constant (define e) ds n = ways (isBootstrap e) refl
   where
     ways :
@@ -172,8 +176,16 @@ count-one bootstrap (define e) ds n = ways (isBootstrap e) refl
         countOf bootstrap (oneMore (kindOf (e .tag)) n) + length (bootstrapsOf ds) ≡ n .bootstraps + length (bootstrapsOf (define e ∷ ds))
     ways true h = rw (kind-bootstrap e ds h, bootstraps-more e ds h) (omega arith)
     ways false h = rw (kind-constant e ds h, bootstraps-skip e ds h)
-count-one kind (named k s r) ds n = ap (λ m. countOf kind n + m) (count-same kind (named k s r) ds refl)
-count-one kind (placed k at m) ds n = ap (λ m. countOf kind n + m) (count-same kind (placed k at m) ds refl)
+count-one constant (named k s r) ds n = ap (λ m. countOf constant n + m) (count-same constant (named k s r) ds refl)
+count-one bootstrap (named k s r) ds n = ap (λ m. countOf bootstrap n + m) (count-same bootstrap (named k s r) ds refl)
+count-one constant (placed k at m) ds n = ap (λ m. countOf constant n + m) (count-same constant (placed k at m) ds refl)
+count-one bootstrap (placed k at m) ds n = ap (λ m. countOf bootstrap n + m) (count-same bootstrap (placed k at m) ds refl)
+count-one constant (setting (version v)) ds n = ap (λ m. countOf constant n + m) (count-same constant (setting (version v)) ds refl)
+count-one constant (setting texts) ds n = ap (λ m. countOf constant n + m) (count-same constant (setting texts) ds refl)
+count-one constant (setting (highest top)) ds n = ap (λ m. countOf constant n + m) (count-same constant (setting (highest top)) ds refl)
+count-one bootstrap (setting (version v)) ds n = ap (λ m. countOf bootstrap n + m) (count-same bootstrap (setting (version v)) ds refl)
+count-one bootstrap (setting texts) ds n = ap (λ m. countOf bootstrap n + m) (count-same bootstrap (setting texts) ds refl)
+count-one bootstrap (setting (highest top)) ds n = ap (λ m. countOf bootstrap n + m) (count-same bootstrap (setting (highest top)) ds refl)
 
 count-nil : (kind : Kind) → countIn {L = List ℕ} kind [] ≡ 0
 unfolding countIn constantsOf bootstrapsOf entries only
@@ -220,6 +232,7 @@ earlier-there ds n (placed kind at m) h e =
     let p = ltb-true m (countOf kind n) e in
     let q = h kind in
     omega arith
+earlier-there ds n (setting rule) h e = tt
 
 -- a job whose references all cite what is there, each of the kind that its place wants
 pub record Cited (L : Type 0) (job : Job L) : Type 0 where

@@ -8,8 +8,8 @@ use lib.Dec.{eqb}
 use lib.ListN.{length, getElem?}
 use Rattle.definition.specs.Basics.{good, atRecord, unless}
 use Rattle.definition.specs.Shapes.{Entry}
-use Rattle.definition.specs.Job.{Reference, Definition, define, named, placed, Job, readDefinition}
-use Rattle.definition.specs.Form.{Counts, counted, whole, hasRoom, citesEarlier, formDefinition, Definitions, formDefinitions, formRequests, form}
+use Rattle.definition.specs.Job.{Reference, Definition, define, named, placed, setting, Job, readDefinition}
+use Rattle.definition.specs.Form.{Counts, nothingYet, counted, whole, mayStand, hasRoom, textsHeld, citesEarlier, formDefinition, Definitions, formDefinitions, formRequests, form}
 use Rattle.definition.specs.Numbering.{entries}
 use Rattle.facts.specs.Lists.{Among}
 use Rattle.facts.proofs.Lists.{clash, all-cons, among-later}
@@ -17,7 +17,7 @@ use Rattle.facts.proofs.Results.{good-then, atRecord-good, whole-good}
 
 -- no entry yet
 abbrev pub noEntries : Counts
-noEntries = record { constants = 0; bootstraps = 0 }
+noEntries = nothingYet
 
 -- a formed job's definitions are those that were formed first
 pub formed-definitions :
@@ -36,6 +36,7 @@ pub formed-read :
 unfolding formDefinition
 formed-read n first bytes r e =
     good-then (whole (readDefinition first bytes)) _ r e λ a p q.
+    good-then (mayStand n (a .0)) _ r q λ _ _ q.
     good-then (unless (hasRoom n (a .0)) 5) _ r q λ _ _ s.
     good-then (unless (citesEarlier n (a .0)) 4) _ r s λ _ _ t.
     whole-good (readDefinition first bytes) r (p ∙ t)
@@ -64,6 +65,7 @@ pub formed-step :
 unfolding formDefinitions
 formed-step fuel n place first bytes d s e =
     good-then (atRecord place (formDefinition n first bytes)) _ d (rw (s, formDefinitions) at e) λ r p q.
+    good-then (textsHeld (counted (r .0) n)) _ d q λ _ _ q.
     good-then (formDefinitions fuel (counted (r .0) n) (suc place) (r .1)) _ d q λ d′ t u.
     (r, d′, atRecord-good place (formDefinition n first bytes) r p, t, cc)
 
@@ -123,3 +125,4 @@ entry-defined (define x ∷ ds) zero e p = let q : x ≡ e = cc in (0, ap (λ y.
 entry-defined (define x ∷ ds) (suc i) e p = among-later (define e) (define x) ds (entry-defined ds i e p)
 entry-defined (named kind s r ∷ ds) i e p = among-later (define e) (named kind s r) ds (entry-defined ds i e p)
 entry-defined (placed kind at n ∷ ds) i e p = among-later (define e) (placed kind at n) ds (entry-defined ds i e p)
+entry-defined (setting rule ∷ ds) i e p = among-later (define e) (setting rule) ds (entry-defined ds i e p)

@@ -9,7 +9,7 @@ use borrow.Author.Tests.{not-true}
 use Rattle.definition.specs.Basics.{good, every, lookup}
 use Rattle.definition.specs.Bytes.{Parser, one, two, many}
 use Rattle.definition.specs.Shapes.{Kind, Field, text, bits, byte, to, toMany, shapes, bootstrapShape, Entry, withKids, withLiteral, withByte, readFields, readEntry, constant}
-use Rattle.definition.specs.Job.{Reference, Definition, define, Job, shortName, reference, Body, ofEntry, bodies, readBody, readDefinition, ofName, ofRaw}
+use Rattle.definition.specs.Job.{Reference, Definition, define, Job, shortName, reference, Body, ofEntry, bodies, readBody, readDefinition, ofName, ofRaw, ofNumber, ofNothing}
 use Rattle.definition.specs.Form.{form}
 use Rattle.definition.specs.Numbering.{Literal, entries}
 use Rattle.facts.proofs.Lists.{stands}
@@ -52,6 +52,8 @@ bareBody : ℕ × Body → Bool
 bareBody (tag, ofEntry fields) = hasLiteral tag || not (showsLiteral fields)
 bareBody (tag, ofName kind) = true
 bareBody (tag, ofRaw kind) = true
+bareBody (tag, ofNumber rule) = true
+bareBody (tag, ofNothing rule) = true
 
 bodies-bare : every bareBody bodies ≡ true
 unfolding every bareBody bodies shapes bootstrapShape
@@ -90,6 +92,8 @@ body-bare first (some (ofRaw kind)) bytes r e o p q h =
     some-then (two bytes) _ r p λ n rest _ s.
     some-then (two rest) _ r s λ k rest _ t.
     cc
+body-bare first (some (ofNumber rule)) bytes r e o p q h = some-then (two bytes) _ r p λ n rest _ t. cc
+body-bare first (some (ofNothing rule)) bytes r e o p q h = cc
 
 -- and so has each entry of a formed job
 pub entries-bare :

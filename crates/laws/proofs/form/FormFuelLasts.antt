@@ -12,11 +12,11 @@ use Rattle.facts.proofs.Each.{Each}
 use Rattle.facts.proofs.Results.{atRecord-good}
 use Rattle.facts.proofs.Outcomes.{Ends, well, refused, next, known, Anything, atRecord-ends}
 use Rattle.laws.specs.Statements.{IsBytes}
-use Rattle.laws.proofs.form.RefusalNumbers.{nonZero, early-nonZero, Coded}
+use Rattle.laws.proofs.form.RefusalNumbers.{nonZero, early-nonZero, late-nonZero, Coded}
 use Rattle.laws.proofs.form.ParsersYield.{Byte, each-byte}
 use Rattle.laws.proofs.form.FormedJobs.{formed-definition, formed-request, form-formed}
 use Rattle.laws.proofs.form.RawNumbersLow.{JobLow, formed-low}
-use Rattle.laws.proofs.form.FormRefusals.{formDefinition-ends, formRequest-ends, formBuild-ends}
+use Rattle.laws.proofs.form.FormRefusals.{textsHeld-ends, formDefinition-ends, formRequest-ends, formBuild-ends}
 
 -- a byte string of at most n
 abbrev Within : ℕ → List ℕ → Type 0
@@ -46,8 +46,9 @@ formDefinitions-ends (suc fuel) c place (first ∷ bytes) w = go (eqb first 0x50
         rw
         (e, formDefinitions)
         (next _
-        (known (atRecord place (formDefinition c first bytes)) (atRecord-ends place (formDefinition-ends early-nonZero c first bytes))
+        (known (atRecord place (formDefinition c first bytes)) (atRecord-ends place (formDefinition-ends early-nonZero late-nonZero c first bytes))
         (λ r g. formed-definition c first bytes r (w .1 .1) (atRecord-good place (formDefinition c first bytes) r g))) λ r h.
+        next _ (textsHeld-ends late-nonZero (counted (r .0) c)) λ _ _.
         next _ (ih (counted (r .0) c) (suc place) (r .1) (omega (arith, w .0, h .2), h .1)) λ d k. well (roomier fuel (suc fuel) (d .rest) (omega arith) k))
 
 formRequests-ends :

@@ -7,10 +7,11 @@ use Prim.Native.Nat.{ℕ, zero, suc}
 use lib.Dec.{eqb}
 use lib.ListN.{length}
 use Rattle.definition.specs.Basics.{lookup}
-use Rattle.definition.specs.Job.{readDefinition, asks, readRequest, readBuild}
-use Rattle.definition.specs.Form.{Counts, counted, whole, formDefinition, formDefinitions, formRequest, formBuild, formRequests, form}
+use Rattle.definition.specs.Settings.{version, texts, highest}
+use Rattle.definition.specs.Job.{Definition, define, named, placed, setting, readDefinition, asks, readRequest, readBuild}
+use Rattle.definition.specs.Form.{Counts, counted, whole, mayStand, textsHeld, formDefinition, formDefinitions, formRequest, formBuild, formRequests, form}
 use Rattle.facts.proofs.Outcomes.{Ends, well, refused, next, Anything, atRecord-ends, unless-ends}
-use Rattle.laws.proofs.form.RefusalNumbers.{Early}
+use Rattle.laws.proofs.form.RefusalNumbers.{Early, Late}
 
 -- what was read, or 3
 whole-ends : {A : Type 0} {Z : ℕ → Type 0} → Early Z → (o : Option A) → Ends Z Anything (whole o)
@@ -18,11 +19,31 @@ unfolding whole
 whole-ends z none = refused (z 3 tt tt)
 whole-ends z (some a) = well tt
 
--- 3, 5 or 4
-pub formDefinition-ends : {Z : ℕ → Type 0} → Early Z → (c : Counts) (first : ℕ) (bytes : List ℕ) → Ends Z Anything (formDefinition c first bytes)
+-- 3 or 26
+mayStand-ends : {Z : ℕ → Type 0} → Early Z → Late Z → (n : Counts) (x : Definition (List ℕ)) → Ends Z Anything (mayStand n x)
+unfolding mayStand
+mayStand-ends z late n (define e) = well tt
+mayStand-ends z late n (named kind s r) = well tt
+mayStand-ends z late n (placed kind at number) = well tt
+mayStand-ends z late n (setting (version v)) = unless-ends _ 3 (z 3 tt tt)
+mayStand-ends z late n (setting texts) = unless-ends _ 3 (z 3 tt tt)
+mayStand-ends z late n (setting (highest top)) = next _ (unless-ends _ 3 (z 3 tt tt)) λ _ _. unless-ends _ 26 (late 26 tt)
+
+-- 25
+pub textsHeld-ends : {Z : ℕ → Type 0} → Late Z → (n : Counts) → Ends (λ e. Z (e .code)) Anything (textsHeld n)
+unfolding textsHeld
+textsHeld-ends {Z} late n = go (n .broken) refl
+  where
+    go : (o : Option ℕ) → n .broken ≡ o → Ends (λ e. Z (e .code)) Anything (textsHeld n)
+    go none e = rw (e, textsHeld) (well tt)
+    go (some place) e = rw (e, textsHeld) (atRecord-ends place (unless-ends _ 25 (late 25 tt)))
+
+-- 3, 26, 5 or 4
+pub formDefinition-ends : {Z : ℕ → Type 0} → Early Z → Late Z → (c : Counts) (first : ℕ) (bytes : List ℕ) → Ends Z Anything (formDefinition c first bytes)
 unfolding formDefinition
-formDefinition-ends z c first bytes =
+formDefinition-ends z late c first bytes =
     next _ (whole-ends z (readDefinition first bytes)) λ r _.
+    next _ (mayStand-ends z late c (r .0)) λ _ _.
     next _ (unless-ends _ 5 (z 5 tt tt)) λ _ _.
     next _ (unless-ends _ 4 (z 4 tt tt)) λ _ _.
     well tt
@@ -43,7 +64,7 @@ formBuild-ends z requests place bytes =
     well tt
 
 -- Z is what is known of a refusal's number; 0 would tell that fuel ran out
-module _ {Z : ℕ → Type 0} (z : Early Z) (empty : Z 0) where
+module _ {Z : ℕ → Type 0} (z : Early Z) (late : Late Z) (empty : Z 0) where
   formDefinitions-early : (fuel : ℕ) (c : Counts) (place : ℕ) (bytes : List ℕ) → Ends (λ e. Z (e .code)) Anything (formDefinitions fuel c place bytes)
   unfolding formDefinitions
   formDefinitions-early zero c place [] = refused (z 3 tt tt)
@@ -60,7 +81,8 @@ module _ {Z : ℕ → Type 0} (z : Early Z) (empty : Z 0) where
       go false e ih =
           rw
           (e, formDefinitions)
-          (next _ (atRecord-ends place (formDefinition-ends z c first bytes)) λ r _.
+          (next _ (atRecord-ends place (formDefinition-ends z late c first bytes)) λ r _.
+          next _ (textsHeld-ends late (counted (r .0) c)) λ _ _.
           next _ (ih (counted (r .0) c) (suc place) (r .1)) λ d _. well tt)
 
   formRequests-early :

@@ -12,7 +12,8 @@ use lib.ListN.{length}
 use Rattle.definition.specs.Basics.{every, lookup}
 use Rattle.definition.specs.Bytes.{one, two, many}
 use Rattle.definition.specs.Shapes.{Kind, Field, text, bits, byte, to, toMany, shapes, bootstrapShape, bootstrapTag, Entry, withKids, withLiteral, withByte, readFields, readEntry, constant, bootstrap}
-use Rattle.definition.specs.Job.{Reference, raw, entry, name, Definition, define, named, placed, shortName, referenceForm, reference, Body, ofEntry, bodies, readBody, readDefinition, ofName, ofRaw}
+use Rattle.definition.specs.Settings.{version, texts, highest}
+use Rattle.definition.specs.Job.{Reference, raw, entry, name, Definition, define, named, placed, setting, shortName, referenceForm, reference, Body, ofEntry, bodies, readBody, readDefinition, ofName, ofRaw, ofNumber, ofNothing}
 use Rattle.facts.proofs.Lists.{true≢false}
 use Rattle.facts.proofs.Tables.{lookup-every}
 use Rattle.facts.proofs.Each.{Each, each-weaker, lookup-each}
@@ -251,6 +252,8 @@ abbrev BodyOf : ℕ → Body → Type 0
 BodyOf first (ofEntry fields) = ShapeOf first fields × (plain fields ≡ true)
 BodyOf first (ofName kind) = Unit {0}
 BodyOf first (ofRaw kind) = Unit {0}
+BodyOf first (ofNumber rule) = Unit {0}
+BodyOf first (ofNothing rule) = Unit {0}
 
 -- every shape is plain
 plainShapes : every (λ (s : ℕ × List Field). plain (s .1)) shapes ≡ true
@@ -275,13 +278,13 @@ lookup-behind k (r ∷ l) m b e = go (eqb k (r .0)) e (lookup-behind k l m b)
     go true e rest = inl (r .1, refl, cc)
     go false e rest = rest e
 
--- the first bytes behind the table, 40 to 44
+-- the first bytes behind the table, 40 to 44 and 47 to 49
 others : List (ℕ × Body)
-others = (bootstrapTag, ofEntry bootstrapShape) ∷ (0x41, ofName constant) ∷ (0x42, ofName bootstrap) ∷ (0x43, ofRaw constant) ∷ (0x44, ofRaw bootstrap) ∷ []
+others = (bootstrapTag, ofEntry bootstrapShape) ∷ (0x41, ofName constant) ∷ (0x42, ofName bootstrap) ∷ (0x43, ofRaw constant) ∷ (0x44, ofRaw bootstrap) ∷ (0x47, ofNumber version) ∷ (0x48, ofNothing texts) ∷ (0x49, ofNumber highest) ∷ []
 
 eachOther : Each (λ r. BodyOf (r .0) (r .1)) others
 unfolding others bootstrapShape plain
-eachOther = ((inr (refl, refl), refl), (tt, (tt, (tt, (tt, tt)))))
+eachOther = ((inr (refl, refl), refl), (tt, (tt, (tt, (tt, (tt, (tt, (tt, tt))))))))
 
 bodyOf : (first : ℕ) (b : Body) → lookup first bodies ≡ some b → BodyOf first b
 unfolding bodies others
@@ -298,6 +301,7 @@ abbrev pub FormedDefinition : Definition (List ℕ) → Type 0
 FormedDefinition (define e) = FormedEntry e
 FormedDefinition (named kind s r) = ShortName s × OfKind kind r
 FormedDefinition (placed kind at number) = Short at × Short number
+FormedDefinition (setting rule) = Unit {0}
 
 yields-body : (first : ℕ) (o : Option Body) → lookup first bodies ≡ o → Yields FormedDefinition (readBody first o)
 unfolding readBody
@@ -314,6 +318,9 @@ yields-body first (some (ofRaw kind)) e =
     yields-bind Short FormedDefinition two _ yields-two λ at h.
     yields-bind Short FormedDefinition two _ yields-two λ number g.
     yields-return FormedDefinition (placed kind at number) (h, g)
+yields-body first (some (ofNumber rule)) e =
+    yields-bind Short FormedDefinition two _ yields-two λ n h. yields-return FormedDefinition (setting (rule n)) tt
+yields-body first (some (ofNothing rule)) e = yields-return FormedDefinition (setting rule) tt
 
 pub yields-definition : (first : ℕ) → Yields FormedDefinition (readDefinition first)
 unfolding readDefinition

@@ -12,7 +12,7 @@ use Rattle.definition.specs.Basics.{good, atRecord, unless, lookup}
 use Rattle.definition.specs.Bytes.{one, two}
 use Rattle.definition.specs.Shapes.{constant}
 use Rattle.definition.specs.Job.{Definition, Request, ClassSlot, Build, Job, reference, readDefinition, asks, readRequest, classForm, nameForm, readBuild, slot, request}
-use Rattle.definition.specs.Form.{Counts, counted, whole, hasRoom, cites, citesEarlier, citesRequest, formDefinition, Definitions, formDefinitions, formRequest, nothingBehind, formBuild, Requests, formRequests, form}
+use Rattle.definition.specs.Form.{Counts, counted, whole, mayStand, hasRoom, textsHeld, cites, citesEarlier, citesRequest, formDefinition, Definitions, formDefinitions, formRequest, nothingBehind, formBuild, Requests, formRequests, form}
 use Rattle.facts.proofs.Each.{Each}
 use Rattle.facts.proofs.Results.{bad≢good, good-then, atRecord-good, unless-good, whole-good, decided}
 use Rattle.laws.specs.Statements.{IsBytes}
@@ -43,6 +43,7 @@ pub formed-definition :
 unfolding formDefinition
 formed-definition n first bytes r b e =
     good-then (whole (readDefinition first bytes)) _ r e λ x wholly e₁.
+    good-then (mayStand n (x .0)) _ r e₁ λ _ _ e₁.
     good-then (unless (hasRoom n (x .0)) 5) _ r e₁ λ _ _ e₂.
     good-then (unless (citesEarlier n (x .0)) 4) _ r e₂ λ v earlier e₃.
     let same : x ≡ r = cc in
@@ -79,6 +80,7 @@ formed-definitions (suc fuel) n place (first ∷ bytes) d b e =
     subst (Pass n) same (record { formed = tt; counts = refl; left = b .1 }))
     (λ t e.
     good-then (atRecord place (formDefinition n first bytes)) _ d e λ r here e₁.
+    good-then (textsHeld (counted (r .0) n)) _ d e₁ λ _ _ e₁.
     good-then (formDefinitions fuel (counted (r .0) n) (suc place) (r .1)) _ d e₁ λ d′ there e₂.
     let g = formed-definition n first bytes r (b .1) (atRecord-good place (formDefinition n first bytes) r here) in
     let p = formed-definitions fuel (counted (r .0) n) (suc place) (r .1) d′ (g .1) there in

@@ -2,7 +2,7 @@
 use mathlib.Core.List.{List}
 use Prim.Native.Nat.{ℕ, _<_}
 use Rattle.definition.specs.Shapes.{Kind, Entry, constant}
-use Rattle.definition.specs.Job.{Reference, raw, entry, name, Definition, define, named, placed, Job}
+use Rattle.definition.specs.Job.{Reference, raw, entry, name, Definition, define, named, placed, setting, Job}
 use Rattle.definition.specs.Definitions.{Naming}
 use Rattle.definition.specs.Resolving.{firstNode}
 use Rattle.facts.proofs.Each.{Each, each-weaker}
@@ -22,6 +22,7 @@ abbrev pub DefLow : {L : Type 0} → Definition L → Type 0
 DefLow (define e) = KidsLow e
 DefLow (named kind s r) = RefLow r
 DefLow (placed kind at number) = Unit {0}
+DefLow (setting rule) = Unit {0}
 
 abbrev pub NameLow : Naming → Type 0
 NameLow n = RefLow (n .target)
@@ -41,6 +42,7 @@ definition-low (define e) h =
     each-weaker (λ r. (kind : Kind) × OfKind kind r) RefLow (λ r k. reference-low (k .0) r (k .1)) (e .kids) (ofKinds-each (h .fields) (e .kids) (h .ofKinds))
 definition-low (named kind s r) h = reference-low kind r (h .1)
 definition-low (placed kind at n) h = tt
+definition-low (setting rule) h = tt
 
 pub formed-low : (job : Job (List ℕ)) → Formed job → JobLow job
 formed-low job f =

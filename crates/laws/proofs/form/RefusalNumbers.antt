@@ -19,5 +19,12 @@ Early Z = (code : ℕ) → T (ltb 0 code) → T (ltb code 14) → Z code
 pub early-nonZero : Early NonZero
 early-nonZero code t u = nonZero code t
 
+-- what the numbers above 21 have: those of the form pass that document 02 adds
+abbrev pub Late : (ℕ → Type 0) → Type 0
+Late Z = (code : ℕ) → T (ltb 21 code) → Z code
+
+pub late-nonZero : Late NonZero
+late-nonZero code t e = let h = ltb→lt 21 code t in omega arith
+
 abbrev pub Coded : Refusal → Type 0
 Coded r = NonZero (r .code)

@@ -8,7 +8,7 @@ use Prim.Native.Nat.{ℕ, zero, suc}
 use lib.ListN.{length, getElem?, length-map}
 use Rattle.definition.specs.Basics.{good}
 use Rattle.definition.specs.Shapes.{Entry, withLiteral}
-use Rattle.definition.specs.Job.{Reference, Definition, define, named, placed, Job}
+use Rattle.definition.specs.Job.{Reference, Definition, define, named, placed, setting, Job}
 use Rattle.definition.specs.Form.{form}
 use Rattle.definition.specs.Numbering.{Literal, sameLiteral, attributeName, entries, literals, numberOf, numberedEntry, numberedDefinition, numbered}
 use Rattle.definition.specs.Run.{build}
@@ -28,6 +28,7 @@ entries-skeleton [] = refl
 entries-skeleton (define e ∷ ds) = ap (λ l. stripped e ∷ l) (entries-skeleton ds)
 entries-skeleton (named kind s r ∷ ds) = entries-skeleton ds
 entries-skeleton (placed kind at number ∷ ds) = entries-skeleton ds
+entries-skeleton (setting rule ∷ ds) = entries-skeleton ds
 
 -- so alike definitions have alike entries
 module _ (ds₁ ds₂ : List (Definition (List ℕ))) (alike : map skeleton ds₁ ≡ map skeleton ds₂) where
@@ -71,6 +72,13 @@ numbered-alike all₁ all₂ (named kind₁ t₁ r₁ ∷ ds₁) (placed kind at
 numbered-alike all₁ all₂ (placed kind₁ at₁ number₁ ∷ ds₁) (define x₂ ∷ ds₂) s n = cc
 numbered-alike all₁ all₂ (placed kind₁ at₁ number₁ ∷ ds₁) (named kind t r ∷ ds₂) s n = cc
 numbered-alike all₁ all₂ (placed kind₁ at₁ number₁ ∷ ds₁) (placed kind at number ∷ ds₂) s n = cc (numbered-alike all₁ all₂ ds₁ ds₂ (cc) n)
+numbered-alike all₁ all₂ (define x₁ ∷ ds₁) (setting rule ∷ ds₂) s n = cc
+numbered-alike all₁ all₂ (named kind₁ t₁ r₁ ∷ ds₁) (setting rule ∷ ds₂) s n = cc
+numbered-alike all₁ all₂ (placed kind₁ at₁ number₁ ∷ ds₁) (setting rule ∷ ds₂) s n = cc
+numbered-alike all₁ all₂ (setting rule₁ ∷ ds₁) (define x₂ ∷ ds₂) s n = cc
+numbered-alike all₁ all₂ (setting rule₁ ∷ ds₁) (named kind t r ∷ ds₂) s n = cc
+numbered-alike all₁ all₂ (setting rule₁ ∷ ds₁) (placed kind at number ∷ ds₂) s n = cc
+numbered-alike all₁ all₂ (setting rule₁ ∷ ds₁) (setting rule ∷ ds₂) s n = cc (numbered-alike all₁ all₂ ds₁ ds₂ (cc) n)
 
 -- equal literals in one job are equal in the other, if those of one kind are and those of no kind are empty
 carry :

@@ -6,7 +6,7 @@ use mathlib.Core.Path.{_≡_, refl, ap, _∙_}
 use Prim.Native.Nat.{ℕ}
 use lib.ListN.{length, getElem?, length-map}
 use Rattle.definition.specs.Shapes.{Kind, withLiteral, constant, bootstrap}
-use Rattle.definition.specs.Job.{Reference, raw, entry, name, Definition, define, named, placed, Job}
+use Rattle.definition.specs.Job.{Reference, raw, entry, name, Definition, define, named, placed, setting, Job}
 use Rattle.definition.specs.Numbering.{Literal, entries, isBootstrap, constantsOf, bootstrapsOf, literals, numberedEntry, numberedDefinition, numbered}
 use Rattle.facts.proofs.Lists.{map-some, only-map}
 use Rattle.laws.proofs.form.CitedEntries.{Cites, AllCited, AllOfKind, Cited}
@@ -19,6 +19,7 @@ entries-numbered all [] = refl
 entries-numbered all (define e ∷ ds) = ap (λ l. numberedEntry all e ∷ l) (entries-numbered all ds)
 entries-numbered all (named kind s r ∷ ds) = entries-numbered all ds
 entries-numbered all (placed kind at n ∷ ds) = entries-numbered all ds
+entries-numbered all (setting rule ∷ ds) = entries-numbered all ds
 
 module _ (job : Job (List ℕ)) where
   pub constants-numbered : constantsOf (numbered job .definitions) ≡ map (numberedEntry (literals job)) (constantsOf (job .definitions))
@@ -55,6 +56,7 @@ unfolding AllCited AllOfKind numberedDefinition numberedEntry withLiteral
 all-numbered all ds es (define e) h c k = (λ i r p. cites-as ds es r h (c i r p), k)
 all-numbered all ds es (named kind s r) h c k = (cites-as ds es r h c, k)
 all-numbered all ds es (placed kind at n) h c k = (rw (h kind) c, tt)
+all-numbered all ds es (setting rule) h c k = (tt, tt)
 
 pub cited-numbered : (job : Job (List ℕ)) → Cited (List ℕ) job → Cited ℕ (numbered job)
 unfolding numbered

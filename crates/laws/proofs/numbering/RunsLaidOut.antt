@@ -8,8 +8,7 @@ use lib.ListN.{length}
 use Rattle.definition.specs.Basics.{Result, good, bad, Refusal, atRecord, unless, _>>=_}
 use Rattle.definition.specs.Job.{Job}
 use Rattle.definition.specs.Form.{form}
-use Rattle.definition.specs.Numbering.{literals, numbered}
-use Rattle.definition.specs.Slots.{highestSlot}
+use Rattle.definition.specs.Numbering.{topOf, literals, numbered}
 use Rattle.definition.specs.Layout.{Layout, layout}
 use Rattle.definition.specs.Run.{Built, render, Placed, build, Lent, longestJob, enough, fits, run}
 use Rattle.facts.proofs.Results.{bad≢good, good-inj, good-first, past-unless}
@@ -40,9 +39,9 @@ room-run lent bytes room =
 pub build-layout :
     (bytes : List ℕ) (j : Job (List ℕ)) →
     form bytes ≡ good j →
-    (build bytes >>= λ b. good (b .1)) ≡ (layout highestSlot (numbered j) >>= λ l. good (render (literals j) l))
+    (build bytes >>= λ b. good (b .1)) ≡ (layout (topOf j) (numbered j) >>= λ l. good (render (literals j) l))
 unfolding build
-build-layout bytes j formed = rw (formed, build) (ways (layout highestSlot (numbered j)))
+build-layout bytes j formed = rw (formed, build) (ways (layout (topOf j) (numbered j)))
   where
     laid : Layout → Result Refusal Placed
     laid l = good (suc (length (j .definitions) + length (j .requests)), render (literals j) l)
@@ -56,10 +55,10 @@ pub run-laid :
     (bytes : List ℕ) (job : Job (List ℕ)) (lent : Lent) (b : Built) →
     form bytes ≡ good job →
     run lent bytes ≡ good b →
-    (l : Layout) × (layout highestSlot (numbered job) ≡ good l) × (render (literals job) l ≡ b)
+    (l : Layout) × (layout (topOf job) (numbered job) ≡ good l) × (render (literals job) l ≡ b)
 run-laid bytes job lent b formed e =
     let p = room-run lent bytes (λ r q. bad≢good (sym q ∙ e)) ∙ build-layout bytes job formed in
-    let (l, laid, is) = good-first (layout highestSlot (numbered job)) _ b (sym p ∙ e) in
+    let (l, laid, is) = good-first (layout (topOf job) (numbered job)) _ b (sym p ∙ e) in
     (l, laid, good-inj is)
 
 -- a layout is refused or not

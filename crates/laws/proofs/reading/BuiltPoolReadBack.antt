@@ -14,10 +14,10 @@ use Rattle.definition.specs.Ascii.{ascii}
 use Rattle.definition.specs.Shapes.{bootstrapShape, bootstrapTag, isWide, Entry, withKids, withLiteral, constant}
 use Rattle.definition.specs.Job.{Reference, placed, Job}
 use Rattle.definition.specs.Form.{form}
-use Rattle.definition.specs.Numbering.{attributeName, constantsOf, bootstrapsOf, literals, literalOf, numbered}
+use Rattle.definition.specs.Numbering.{topOf, attributeName, constantsOf, bootstrapsOf, literals, literalOf, numbered}
 use Rattle.definition.specs.Definitions.{half, tagAt}
 use Rattle.definition.specs.Resolving.{Goal, Node, firstNode, done, childOf}
-use Rattle.definition.specs.Slots.{highestSlot, countFrom}
+use Rattle.definition.specs.Slots.{countFrom}
 use Rattle.definition.specs.Building.{Pool, Row, kidsOf, attributeText, nameWanted, contentOf}
 use Rattle.definition.specs.Layout.{starters, nodeAt, Layout, layoutOf, indexNodes, layout}
 use Rattle.definition.specs.Run.{shown, render}
@@ -42,6 +42,7 @@ use Rattle.laws.proofs.slots.PoolsThatOccur.{Sound, sound}
 use Rattle.laws.proofs.slots.SlotsToHold.{toHold, toHold-among, count-range, start-in, wide-in, wide-apart}
 use Rattle.laws.proofs.building.ChildNumbers.{SlotFor, StandsIn, InlineIn, IndexKept, NumberFor, OwnerOf, slots-same, given-held, slots-kept, owner-kept}
 use Rattle.laws.proofs.building.SlotsAndRowsBuilt.{inline-end, rowsFrom, rowsFit}
+use Rattle.laws.proofs.form.HighestSlots.{top-low}
 use Rattle.laws.proofs.building.LayoutStages.{Stages}
 use Rattle.laws.proofs.building.AfterName.{Named}
 use Rattle.laws.proofs.building.BuiltJob.{st, table, facts, rising, good-job-table, raws, asked, nodes, marks, raw-node, indexes, node-tag, indexes-are, starts-here, rows, inline, ending}
@@ -50,11 +51,11 @@ use Rattle.laws.proofs.reading.PoolReadBack.{rowShown, Fits, LaidBehind
 use Rattle.laws.proofs.reading.BuiltEntriesFit.{fits-formed, isFor-formed, attribute-bytes}
 use Rattle.laws.proofs.reading.PoolContents.{wideThere, spelled, laidFrom}
 
-module _ (bytes : List ℕ) (job : Job (List ℕ)) (l : Layout) (are : IsBytes bytes) (formed : form bytes ≡ good job) (laid : layout highestSlot (numbered job) ≡ good l) where
-  abbrev pub stg : Stages highestSlot (numbered job) l
+module _ (bytes : List ℕ) (job : Job (List ℕ)) (l : Layout) (are : IsBytes bytes) (formed : form bytes ≡ good job) (laid : layout (topOf job) (numbered job) ≡ good l) where
+  abbrev pub stg : Stages (topOf job) (numbered job) l
   stg = st bytes job l are formed laid
 
-  abbrev pub end : Named highestSlot (stg .defined .held) (raws bytes job l are formed laid) (nodes bytes job l are formed laid) (InlineIn (inline bytes job l are formed laid)) (nameWanted (numbered job .build .nameByte) (length (rows bytes job l are formed laid))) (stg .made) (stg .named)
+  abbrev pub end : Named (topOf job) (stg .defined .held) (raws bytes job l are formed laid) (nodes bytes job l are formed laid) (InlineIn (inline bytes job l are formed laid)) (nameWanted (numbered job .build .nameByte) (length (rows bytes job l are formed laid))) (stg .made) (stg .named)
   end = ending bytes job l are formed laid
 
   abbrev pub allNodes : List Node
@@ -78,7 +79,7 @@ module _ (bytes : List ℕ) (job : Job (List ℕ)) (l : Layout) (are : IsBytes b
   pub owner-here : (n : ℕ) (e : Entry ℕ ℕ) → lookup n owned ≡ some e → OwnerOf allNodes (pool .given) raw (rows bytes job l are formed laid) n e
   owner-here n e h = owner-kept allNodes raw n e slots-same inline-rows (λ k b. b) (end .ended .owner n e h)
 
-  pub soundly : Sound highestSlot (stg .defined .held) allNodes pool
+  pub soundly : Sound (topOf job) (stg .defined .held) allNodes pool
   soundly = sound (end .ended .occurs)
 
   -- raw constants start where the raw definitions say
@@ -121,11 +122,11 @@ module _ (bytes : List ℕ) (job : Job (List ℕ)) (l : Layout) (are : IsBytes b
       facts bytes job l are formed laid .allHeld .halfHeld n (r .0) (r .1) (ap isWide (sym (r .2)) ∙ w)
 
   abbrev pub count : ℕ
-  count = countFrom highestSlot (pool .slots .gaps)
+  count = countFrom (topOf job) (pool .slots .gaps)
 
   -- a slot that is to hold a node lies from 1 to below the count
-  pub starts-at : (n k : ℕ) → Among (n, k) (toHold (pool .given) raw) → (1 ≤ n) × (n ≤ highestSlot) × (n < count)
-  starts-at = start-in highestSlot (stg .defined .held) allNodes pool raw soundly raw-keys raw-wide
+  pub starts-at : (n k : ℕ) → Among (n, k) (toHold (pool .given) raw) → (1 ≤ n) × (n ≤ (topOf job)) × (n < count)
+  starts-at = start-in (topOf job) (stg .defined .held) allNodes pool raw soundly raw-keys raw-wide
 
   -- raw bootstraps by rising index, below 65535
   pub index-rises : Rising 0 65534 (keys (indexes bytes job l are formed laid))
@@ -139,7 +140,7 @@ module _ (bytes : List ℕ) (job : Job (List ℕ)) (l : Layout) (are : IsBytes b
   -- numbers that stand for children fit two bytes
   slot-short : (c n : ℕ) → SlotFor (pool .given) c n → Short n
   slot-short c n (inl h) = omega (arith, h .0, h .1)
-  slot-short c n (inr h) = omega (arith, starts-at n (c - firstNode) (given-held (c - firstNode) n (pool .given) raw (h .1)))
+  slot-short c n (inr h) = omega (arith, top-low bytes job formed, starts-at n (c - firstNode) (given-held (c - firstNode) n (pool .given) raw (h .1)))
 
   number-short : (c n : ℕ) → NumberFor allNodes (pool .given) (rows bytes job l are formed laid) c n → Short n
   number-short c n (inl h) = omega (arith, h .0, h .1)
@@ -231,7 +232,7 @@ module _ (bytes : List ℕ) (job : Job (List ℕ)) (l : Layout) (are : IsBytes b
           (k : ℕ) × Among (n, k) (toHold (pool .given) raw) × (tagAt allNodes k ≡ e .tag) →
           (k : ℕ) × Among (suc n, k) (toHold (pool .given) raw) × (tagAt allNodes k ≡ e′ .tag) →
           w ≡ false
-      go true w o o′ = absurd (wide-apart highestSlot (stg .defined .held) allNodes pool raw soundly raw-keys raw-wide n (o .0) (o′ .0) (o .1) (ap isWide (o .2) ∙ w) (o′ .1))
+      go true w o o′ = absurd (wide-apart (topOf job) (stg .defined .held) allNodes pool raw soundly raw-keys raw-wide n (o .0) (o′ .0) (o .1) (ap isWide (o .2) ∙ w) (o′ .1))
       go false w o o′ = refl
 
   -- the last slot below the count isn't the first half of a wide one
@@ -249,8 +250,8 @@ module _ (bytes : List ℕ) (job : Job (List ℕ)) (l : Layout) (are : IsBytes b
           absurd
           (omega (
             arith,
-            wide-in highestSlot (stg .defined .held) allNodes pool raw soundly raw-keys raw-wide (0 + (count - 1)) (o .0) (o .1) (ap isWide (o .2) ∙ w),
-            count-range highestSlot (pool .slots .gaps) (soundly .apart),
+            wide-in (topOf job) (stg .defined .held) allNodes pool raw soundly raw-keys raw-wide (0 + (count - 1)) (o .0) (o .1) (ap isWide (o .2) ∙ w),
+            count-range (topOf job) (pool .slots .gaps) (soundly .apart),
           ))
       go false w o = refl
 
@@ -299,14 +300,14 @@ module _ (bytes : List ℕ) (job : Job (List ℕ)) (l : Layout) (are : IsBytes b
       × (readBootstraps (render (literals job) l .bootstrapCount) (render (literals job) l .bootstraps) ≡ some (map rowShown (l .rows)))
   unfolding layoutOf
   read-back =
-      let range = count-range highestSlot (pool .slots .gaps) (soundly .apart) in
+      let range = count-range (topOf job) (pool .slots .gaps) (soundly .apart) in
       subst
       (λ (x : Layout).
       (readPool (render (literals job) x .pool) ≡ some (map (shown (literals job)) (x .contents)))
       × (readBootstraps (render (literals job) x .bootstrapCount) (render (literals job) x .bootstraps) ≡ some (map rowShown (x .rows))))
       (stg .isLaid)
-      (reads-layout (literals job) (layoutOf highestSlot (stg .answers) (stg .asked .origins) (stg .asked .resolved .visits) (numbered job .build .class) (rows bytes job l are formed laid) (stg .named))
-      (omega (arith, range, length-from (contentOf owned) 1 (count - 1)))
-      (omega (arith, range))
+      (reads-layout (literals job) (layoutOf (topOf job) (stg .answers) (stg .asked .origins) (stg .asked .resolved .visits) (numbered job .build .class) (rows bytes job l are formed laid) (stg .named))
+      (omega (arith, range, top-low bytes job formed, length-from (contentOf owned) 1 (count - 1)))
+      (omega (arith, range, top-low bytes job formed))
       contents-laid
       (each-from (λ row. IsFor bootstrapShape (rowShown row)) (rows bytes job l are formed laid) row-fits))

@@ -10,10 +10,9 @@ use Rattle.definition.specs.Basics.{good, lookup}
 use Rattle.definition.specs.Shapes.{Kind, constant, bootstrap, bootstrapTag, Entry, withKids, withLiteral}
 use Rattle.definition.specs.Job.{Reference, entry, placed, Request, Job}
 use Rattle.definition.specs.Form.{form}
-use Rattle.definition.specs.Numbering.{literals, numbered}
+use Rattle.definition.specs.Numbering.{topOf, literals, numbered}
 use Rattle.definition.specs.Definitions.{tagAt}
 use Rattle.definition.specs.Resolving.{Goal, rawNumber, tableEntry, refusal, placeOf, goalOf, firstNode, done, childOf}
-use Rattle.definition.specs.Slots.{highestSlot}
 use Rattle.definition.specs.Building.{Row, kidsOf}
 use Rattle.definition.specs.Layout.{Layout, layout}
 use Rattle.facts.specs.Lists.{Among}
@@ -46,7 +45,7 @@ constant-low t (rawNumber n) h = h
 constant-low t (tableEntry e) h = tt
 constant-low t (refusal code) h = tt
 
-module _ (bytes : List ℕ) (job : Job (List ℕ)) (l : Layout) (are : IsBytes bytes) (formed : form bytes ≡ good job) (laid : layout highestSlot (numbered job) ≡ good l) where
+module _ (bytes : List ℕ) (job : Job (List ℕ)) (l : Layout) (are : IsBytes bytes) (formed : form bytes ≡ good job) (laid : layout (topOf job) (numbered job) ≡ good l) where
   abbrev f : Finished
   f = finished bytes job l are formed laid
 

@@ -7,8 +7,7 @@ use Prim.Native.Nat.{ℕ}
 use Rattle.definition.specs.Basics.{good}
 use Rattle.definition.specs.Job.{Job}
 use Rattle.definition.specs.Form.{form}
-use Rattle.definition.specs.Numbering.{literals, numbered}
-use Rattle.definition.specs.Slots.{highestSlot}
+use Rattle.definition.specs.Numbering.{topOf, literals, numbered}
 use Rattle.definition.specs.Layout.{Layout, layoutOf, layout}
 use Rattle.definition.specs.Run.{shown, Built, render, Lent, run}
 use Rattle.jvms.specs.Pool.{Slot, BootstrapMethod, read-pool, read-bootstrap-methods}
@@ -28,7 +27,7 @@ held-laid :
     (bytes : List ℕ) (job : Job (List ℕ)) (l : Layout) →
     IsBytes bytes →
     form bytes ≡ good job →
-    layout highestSlot (numbered job) ≡ good l →
+    layout (topOf job) (numbered job) ≡ good l →
     HeldBy (shownOf job l) (job .requests) (job .build) (render (literals job) l)
 unfolding layoutOf
 held-laid bytes job l are formed laid =
@@ -41,7 +40,7 @@ pub as-read :
     form bytes ≡ good job →
     run lent bytes ≡ good b →
     (P : Finished → Built → Type 0) →
-    ((l : Layout) → layout highestSlot (numbered job) ≡ good l → P (shownOf job l) (render (literals job) l)) →
+    ((l : Layout) → layout (topOf job) (numbered job) ≡ good l → P (shownOf job l) (render (literals job) l)) →
     (pool : List Slot)
     × (methods : List BootstrapMethod)
     × (read-pool (b .pool) ≡ some pool)

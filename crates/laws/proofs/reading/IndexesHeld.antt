@@ -12,10 +12,9 @@ use Rattle.definition.specs.Basics.{good}
 use Rattle.definition.specs.Shapes.{bootstrap, bootstrapTag, Entry, withKids, withLiteral}
 use Rattle.definition.specs.Job.{Job}
 use Rattle.definition.specs.Form.{form}
-use Rattle.definition.specs.Numbering.{constantsOf, literals, numbered}
+use Rattle.definition.specs.Numbering.{topOf, constantsOf, literals, numbered}
 use Rattle.definition.specs.Definitions.{tagAt}
 use Rattle.definition.specs.Resolving.{Goal, rawNumber, tableEntry, refusal, firstNode, childOf}
-use Rattle.definition.specs.Slots.{highestSlot}
 use Rattle.definition.specs.Building.{Row, indexOf, kidsOf}
 use Rattle.definition.specs.Layout.{nodeAt, Layout, indexNodes, layout}
 use Rattle.facts.specs.Lists.{Among}
@@ -38,7 +37,7 @@ use Rattle.laws.proofs.reading.PoolContents.{spelled}
 use Rattle.laws.proofs.reading.BuiltPoolReadBack.{stg, end, allNodes, raw, pool, index-rises}
 use Rattle.laws.proofs.reading.SlotsShow.{finished, entry-became, tag-of, held-there, all-show}
 
-module _ (bytes : List ℕ) (job : Job (List ℕ)) (l : Layout) (are : IsBytes bytes) (formed : form bytes ≡ good job) (laid : layout highestSlot (numbered job) ≡ good l) where
+module _ (bytes : List ℕ) (job : Job (List ℕ)) (l : Layout) (are : IsBytes bytes) (formed : form bytes ≡ good job) (laid : layout (topOf job) (numbered job) ≡ good l) where
   abbrev f : Finished
   f = finished bytes job l are formed laid
 

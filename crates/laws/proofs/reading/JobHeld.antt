@@ -13,10 +13,9 @@ use Rattle.definition.specs.Basics.{good, lookup}
 use Rattle.definition.specs.Shapes.{Kind, bootstrapTag, isWide, Entry, withLiteral, constant, bootstrap}
 use Rattle.definition.specs.Job.{entry, placed, Job}
 use Rattle.definition.specs.Form.{form}
-use Rattle.definition.specs.Numbering.{Literal, attributeName, literals, literalOf, numbered}
+use Rattle.definition.specs.Numbering.{topOf, Literal, attributeName, literals, literalOf, numbered}
 use Rattle.definition.specs.Definitions.{starts, tagAt}
 use Rattle.definition.specs.Resolving.{Goal, rawNumber, tableEntry, refusal, placeOf, follow, goalOf, done, childOf}
-use Rattle.definition.specs.Slots.{highestSlot}
 use Rattle.definition.specs.Building.{Row, kidsOf, attributeText, nameWanted, Content, nothing, emptyText, holds, behind, contentOf, textIn, className}
 use Rattle.definition.specs.Layout.{starters, nodeAt, classSlotOf, Layout, layoutOf, indexNodes, layout}
 use Rattle.definition.specs.Run.{shown, classBytes, render}
@@ -72,7 +71,7 @@ text-past : (f : Finished) (n : ℕ) → length (f .pool) ≤ n → textAt f (su
 unfolding textAt
 text-past f n h = List·getD-eq-default (map textOf (f .pool)) (some []) (omega (arith, h, length-map (f .pool) textOf))
 
-module _ (bytes : List ℕ) (job : Job (List ℕ)) (l : Layout) (are : IsBytes bytes) (formed : form bytes ≡ good job) (laid : layout highestSlot (numbered job) ≡ good l) where
+module _ (bytes : List ℕ) (job : Job (List ℕ)) (l : Layout) (are : IsBytes bytes) (formed : form bytes ≡ good job) (laid : layout (topOf job) (numbered job) ≡ good l) where
   abbrev own : List (ℕ × Entry ℕ ℕ)
   own = owned bytes job l are formed laid
 
@@ -101,7 +100,7 @@ module _ (bytes : List ℕ) (job : Job (List ℕ)) (l : Layout) (are : IsBytes b
       (omega (
         arith,
         high,
-        wide-in highestSlot (stg bytes job l are formed laid .defined .held) (allNodes bytes job l are formed laid) (pool bytes job l are formed laid) (raw bytes job l are formed laid) (soundly bytes job l are formed laid) (raw-keys bytes job l are formed laid) (raw-wide bytes job l are formed laid) n (o .0) (o .1) (ap isWide (o .2) ∙ w),
+        wide-in (topOf job) (stg bytes job l are formed laid .defined .held) (allNodes bytes job l are formed laid) (pool bytes job l are formed laid) (raw bytes job l are formed laid) (soundly bytes job l are formed laid) (raw-keys bytes job l are formed laid) (raw-wide bytes job l are formed laid) n (o .0) (o .1) (ap isWide (o .2) ∙ w),
       )))
       (λ _ e. sym e)
 
@@ -110,7 +109,7 @@ module _ (bytes : List ℕ) (job : Job (List ℕ)) (l : Layout) (are : IsBytes b
 
   -- the count is at least 1
   some-count : 1 ≤ top
-  some-count = count-range highestSlot (pool bytes job l are formed laid .slots .gaps) (soundly bytes job l are formed laid .apart) .0
+  some-count = count-range (topOf job) (pool bytes job l are formed laid .slots .gaps) (soundly bytes job l are formed laid .apart) .0
 
   -- the text at a slot
   text-at : (u : ℕ) → classBytes (literals job) (textIn (contentOf own u)) ≡ textAt f u
@@ -206,7 +205,7 @@ module _ (bytes : List ℕ) (job : Job (List ℕ)) (l : Layout) (are : IsBytes b
       (starter .0, map-at (λ (r : ℕ × ℕ). (r .0, nodeAt ready (r .1))) (starters held) (starter .0) (n, e) (starter .1)) in
       let back = raw-node bytes job l are formed laid n k there in
       let found : (e : ℕ) → Among (n, starts e) held → lookup n held ≡ some (starts e) =
-      λ e a. rising-lookup 1 highestSlot held n (starts e) (rising bytes job l are formed laid .0) a in
+      λ e a. rising-lookup 1 (topOf job) held n (starts e) (rising bytes job l are formed laid .0) a in
       let one = found e (facts′ .startHeld n e a) in
       let two = found (back .0) (starters-start held n (back .0) (back .1)) in
       let same : back .0 ≡ e = starts-inj (some-inj (sym two ∙ one)) in
@@ -273,7 +272,7 @@ module _ (bytes : List ℕ) (job : Job (List ℕ)) (l : Layout) (are : IsBytes b
       ⊎ ((nameWanted (numbered job .build .nameByte) (length (rows bytes job l are formed laid)) ≡ true) × (lookup (stg bytes job l are formed laid .named .0) own ≡ some attributeText))
 
   -- all of it
-  pub held-by : HeldBy f (job .requests) (job .build) (render (literals job) (layoutOf highestSlot (stg bytes job l are formed laid .answers) (stg bytes job l are formed laid .asked .origins) (stg bytes job l are formed laid .asked .resolved .visits) (numbered job .build .class) (rows bytes job l are formed laid) (stg bytes job l are formed laid .named)))
+  pub held-by : HeldBy f (job .requests) (job .build) (render (literals job) (layoutOf (topOf job) (stg bytes job l are formed laid .answers) (stg bytes job l are formed laid .asked .origins) (stg bytes job l are formed laid .asked .resolved .visits) (numbered job .build .class) (rows bytes job l are formed laid) (stg bytes job l are formed laid .named)))
   unfolding render layoutOf numbered nameWanted goalOf follow
   held-by =
       record {

@@ -13,9 +13,8 @@ use Rattle.definition.specs.Basics.{good, lookup, from}
 use Rattle.definition.specs.Shapes.{Entry, withKids, isWide}
 use Rattle.definition.specs.Job.{Job}
 use Rattle.definition.specs.Form.{form}
-use Rattle.definition.specs.Numbering.{Literal, literals, literalOf, numbered}
+use Rattle.definition.specs.Numbering.{topOf, Literal, literals, literalOf, numbered}
 use Rattle.definition.specs.Resolving.{Node}
-use Rattle.definition.specs.Slots.{highestSlot}
 use Rattle.definition.specs.Building.{attributeText, Content, nothing, emptyText, holds, behind, contentOf, textIn, className}
 use Rattle.definition.specs.Layout.{classSlotOf, Layout, layoutOf, layout}
 use Rattle.facts.proofs.Lists.{clash, some-inj, found-inside, found-read}
@@ -57,7 +56,7 @@ held-owned own (suc n) e h = go (lookup (suc n) own) refl
     go none t = absurd (behind-none (lookup n own) e (sym (rw (t, contentOf) refl) ∙ h))
     go (some x) t = t ∙ ap some (holds-inj (sym (rw (t, contentOf) refl) ∙ h))
 
-module _ (bytes : List ℕ) (job : Job (List ℕ)) (l : Layout) (are : IsBytes bytes) (formed : form bytes ≡ good job) (laid : layout highestSlot (numbered job) ≡ good l) where
+module _ (bytes : List ℕ) (job : Job (List ℕ)) (l : Layout) (are : IsBytes bytes) (formed : form bytes ≡ good job) (laid : layout (topOf job) (numbered job) ≡ good l) where
   abbrev own : List (ℕ × Entry ℕ ℕ)
   own = owned bytes job l are formed laid
 

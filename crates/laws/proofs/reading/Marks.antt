@@ -10,9 +10,8 @@ use lib.ListN.{getElem?, length-map}
 use Rattle.definition.specs.Basics.{good, lookup}
 use Rattle.definition.specs.Job.{Request, Job}
 use Rattle.definition.specs.Form.{form}
-use Rattle.definition.specs.Numbering.{literals, numbered}
+use Rattle.definition.specs.Numbering.{topOf, literals, numbered}
 use Rattle.definition.specs.Resolving.{Goal, rawNumber, tableEntry, goalOf, firstNode, Mark, done, childOf}
-use Rattle.definition.specs.Slots.{highestSlot}
 use Rattle.definition.specs.Building.{Origin, raw, new, old, markOf}
 use Rattle.definition.specs.Layout.{Layout, layoutOf, layout}
 use Rattle.definition.specs.Run.{Built, render}
@@ -59,7 +58,7 @@ mark-low raw = omega arith
 mark-low new = omega arith
 mark-low old = omega arith
 
-module _ (bytes : List ℕ) (job : Job (List ℕ)) (l : Layout) (are : IsBytes bytes) (formed : form bytes ≡ good job) (laid : layout highestSlot (numbered job) ≡ good l) where
+module _ (bytes : List ℕ) (job : Job (List ℕ)) (l : Layout) (are : IsBytes bytes) (formed : form bytes ≡ good job) (laid : layout (topOf job) (numbered job) ≡ good l) where
   -- the marks of entries, once all requests are answered
   abbrev became : List Mark
   became = BuiltJob.marks bytes job l are formed laid
@@ -103,7 +102,7 @@ module _ (bytes : List ℕ) (job : Job (List ℕ)) (l : Layout) (are : IsBytes b
   unfolding lookup
   none-given child (n, at) =
       let s = st bytes job l are formed laid in
-      let none = ended highestSlot _ _ (s .defined) (s .ready) (s .isReady) .1 in
+      let none = ended (topOf job) _ _ (s .defined) (s .ready) (s .isReady) .1 in
       none≢some (subst (λ given. lookup (child - firstNode) given ≡ some n) none at)
 
   -- so an origin goes by what earlier requests became
@@ -116,11 +115,11 @@ module _ (bytes : List ℕ) (job : Job (List ℕ)) (l : Layout) (are : IsBytes b
   request-told i q o at there =
       let s = st bytes job l are formed laid in
       let (all, is, told) =
-      answers-told (table bytes job l are formed laid) (good-job-table bytes job l are formed laid .cited) highestSlot (s .defined .held) (raws bytes job l are formed laid) (jobNames (numbered job)) (jobConstants (numbered job)) _ (job .requests) (s .ready) (s .answers, s .asked)
+      answers-told (table bytes job l are formed laid) (good-job-table bytes job l are formed laid .cited) (topOf job) (s .defined .held) (raws bytes job l are formed laid) (jobNames (numbered job)) (jobConstants (numbered job)) _ (job .requests) (s .ready) (s .answers, s .asked)
       (begun-asks bytes job are formed (s .defined) (s .isDefined) (s .ready) (s .isReady))
       (is-asked bytes job l are formed laid)
       (started bytes job l are formed laid .0) in
-      let same : origins ≡ all = is ∙ ap (λ before. before ++ all) (none-yet highestSlot _ _ (s .defined) (s .ready) (s .isReady)) in
+      let same : origins ≡ all = is ∙ ap (λ before. before ++ all) (none-yet (topOf job) _ _ (s .defined) (s .ready) (s .isReady)) in
       told-same _ _ (childOf became (goes q)) o (λ _ h. ways h) (λ _ h. inr h) (told i q o at (subst (λ l. getElem? l i ≡ some o) same there))
     where
       ways : HasSlot (st bytes job l are formed laid .ready .pool) (childOf became (goes q)) ⊎ Earlier goes became (job .requests) i (childOf became (goes q)) → Earlier goes became (job .requests) i (childOf became (goes q))
@@ -223,7 +222,7 @@ marks-laid :
     (bytes : List ℕ) (job : Job (List ℕ)) (l : Layout) →
     IsBytes bytes →
     form bytes ≡ good job →
-    layout highestSlot (numbered job) ≡ good l →
+    layout (topOf job) (numbered job) ≡ good l →
     MarkedBy (job .definitions) (job .requests) (render (literals job) l .marks)
 unfolding layoutOf render
 marks-laid bytes job l are formed laid =

@@ -11,8 +11,7 @@ use Rattle.definition.specs.Bytes.{be2}
 use Rattle.definition.specs.Shapes.{Entry, withLiteral}
 use Rattle.definition.specs.Job.{Job}
 use Rattle.definition.specs.Form.{form}
-use Rattle.definition.specs.Numbering.{Literal, literals, numbered}
-use Rattle.definition.specs.Slots.{highestSlot}
+use Rattle.definition.specs.Numbering.{topOf, Literal, literals, numbered}
 use Rattle.definition.specs.Building.{Content, nothing, emptyText, holds}
 use Rattle.definition.specs.Layout.{Layout, layout}
 use Rattle.definition.specs.Run.{shown, classBytes, Built, render, Lent, run}
@@ -22,6 +21,7 @@ use Rattle.jvms.specs.Pool.{Slot, read-pool}
 use Rattle.laws.specs.AsEntries.{asShown}
 use Rattle.laws.specs.Statements.{IsBytes}
 use Rattle.laws.specs.ShapeStatement.{SlotsAlike, PoolsAlike, ClassesAlike, Shape}
+use Rattle.laws.proofs.form.HighestSlots.{top-numbered}
 use Rattle.laws.proofs.numbering.AlikeJobs.{same-numbered}
 use Rattle.laws.proofs.numbering.RunsLaidOut.{room-run, build-layout, laid-or-refused}
 use Rattle.laws.proofs.reading.Reads.{reads}
@@ -33,7 +33,7 @@ pool-read :
     IsBytes bytes →
     form bytes ≡ good job →
     run lent bytes ≡ good b →
-    layout highestSlot (numbered job) ≡ good l →
+    layout (topOf job) (numbered job) ≡ good l →
     (pool : List Slot) × (read-pool (b .pool) ≡ some pool) × (map asShown pool ≡ map (shown (literals job)) (l .contents))
 pool-read bytes job lent b l are formed ran laid =
     let (l′, laid′, is, readsPool, readsRows) = reads bytes job lent b are formed ran in
@@ -90,7 +90,7 @@ pub shape : Shape
 unfolding render be2
 shape bytes₁ bytes₂ j₁ j₂ lent₁ lent₂ formed₁ formed₂ alike room₁ room₂ =
     laid-or-refused
-    (layout highestSlot (numbered j₁))
+    (layout (topOf j₁) (numbered j₁))
     (λ l e.
     inr (
       l,
@@ -117,21 +117,23 @@ shape bytes₁ bytes₂ j₁ j₂ lent₁ lent₂ formed₁ formed₂ alike room
     shown₂ : Result Refusal Layout → Result Refusal Built
     shown₂ o = o >>= λ l. good (render (literals j₂) l)
 
-    p₁ : run lent₁ bytes₁ ≡ shown₁ (layout highestSlot (numbered j₁))
+    p₁ : run lent₁ bytes₁ ≡ shown₁ (layout (topOf j₁) (numbered j₁))
     p₁ = room-run lent₁ bytes₁ room₁ ∙ build-layout bytes₁ j₁ formed₁
 
-    p₂ : run lent₂ bytes₂ ≡ shown₂ (layout highestSlot (numbered j₂))
+    p₂ : run lent₂ bytes₂ ≡ shown₂ (layout (topOf j₂) (numbered j₂))
     p₂ = room-run lent₂ bytes₂ room₂ ∙ build-layout bytes₂ j₂ formed₂
 
-    q : layout highestSlot (numbered j₁) ≡ layout highestSlot (numbered j₂)
-    q = ap (layout highestSlot) (same-numbered bytes₁ bytes₂ j₁ j₂ formed₁ formed₂ alike)
+    q : layout (topOf j₁) (numbered j₁) ≡ layout (topOf j₂) (numbered j₂)
+    q =
+        let same = same-numbered bytes₁ bytes₂ j₁ j₂ formed₁ formed₂ alike in
+        ap (λ top. layout top (numbered j₁)) (sym (top-numbered j₁) ∙ ap topOf same ∙ top-numbered j₂) ∙ ap (layout (topOf j₂)) same
 
     read-alike :
         (l : Layout) →
         IsBytes bytes₁ →
         IsBytes bytes₂ →
-        layout highestSlot (numbered j₁) ≡ good l →
-        layout highestSlot (numbered j₂) ≡ good l →
+        layout (topOf j₁) (numbered j₁) ≡ good l →
+        layout (topOf j₂) (numbered j₂) ≡ good l →
         PoolsAlike j₁ j₂ (render (literals j₁) l .pool) (render (literals j₂) l .pool)
         × ClassesAlike j₁ j₂ (render (literals j₁) l .class) (render (literals j₂) l .class)
     read-alike l are₁ are₂ laid₁ laid₂ =

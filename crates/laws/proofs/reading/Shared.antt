@@ -12,10 +12,9 @@ use Rattle.definition.specs.Basics.{good, lookup}
 use Rattle.definition.specs.Shapes.{constant, bootstrapTag, Entry, isWide}
 use Rattle.definition.specs.Job.{Reference, placed, Job}
 use Rattle.definition.specs.Form.{form}
-use Rattle.definition.specs.Numbering.{constantsOf, literals, numbered}
+use Rattle.definition.specs.Numbering.{topOf, constantsOf, literals, numbered}
 use Rattle.definition.specs.Definitions.{starts, half, tagAt}
 use Rattle.definition.specs.Resolving.{Goal, tableEntry, firstNode, done, childOf}
-use Rattle.definition.specs.Slots.{highestSlot}
 use Rattle.definition.specs.Building.{Row, indexOf, kidsOf}
 use Rattle.definition.specs.Layout.{Layout, layoutOf, layout}
 use Rattle.definition.specs.Run.{render}
@@ -42,7 +41,7 @@ use Rattle.laws.proofs.reading.JobHeld.{placed-there, constant-held}
 use Rattle.laws.proofs.reading.Holds.{shownOf, as-read}
 use Rattle.laws.proofs.reading.GivenNumbers.{NumberIs, node-of, answer-slot, leads-to, given-number}
 
-module _ (bytes : List ℕ) (job : Job (List ℕ)) (l : Layout) (are : IsBytes bytes) (formed : form bytes ≡ good job) (laid : layout highestSlot (numbered job) ≡ good l) where
+module _ (bytes : List ℕ) (job : Job (List ℕ)) (l : Layout) (are : IsBytes bytes) (formed : form bytes ≡ good job) (laid : layout (topOf job) (numbered job) ≡ good l) where
   abbrev f : Finished
   f = finished bytes job l are formed laid
 
@@ -112,7 +111,7 @@ module _ (bytes : List ℕ) (job : Job (List ℕ)) (l : Layout) (are : IsBytes b
           let a₂ = given-held k₂ n₂ given (raw bytes job l are formed laid) at₂ in
           let one : k₁ ≡ k₂ =
           once-same (toHold given (raw bytes job l are formed laid)) n₂ k₁ k₂
-          (starts-once highestSlot (stg bytes job l are formed laid .defined .held) (allNodes bytes job l are formed laid) (pool bytes job l are formed laid) (raw bytes job l are formed laid) (soundly bytes job l are formed laid) (raw-keys bytes job l are formed laid) (raw-wide bytes job l are formed laid) n₂)
+          (starts-once (topOf job) (stg bytes job l are formed laid .defined .held) (allNodes bytes job l are formed laid) (pool bytes job l are formed laid) (raw bytes job l are formed laid) (soundly bytes job l are formed laid) (raw-keys bytes job l are formed laid) (raw-wide bytes job l are formed laid) n₂)
           (subst (λ n. Among (n, k₁) (toHold given (raw bytes job l are formed laid))) same a₁)
           a₂ in
           child-same bytes job are formed (good-job-table bytes job l are formed laid) (stg bytes job l are formed laid .asked .resolved) (asked bytes job l are formed laid .0 .faithful) (nodes-apart bytes job l are formed laid) (tableEntry e₁) (tableEntry e₂)
@@ -217,7 +216,7 @@ module _ (bytes : List ℕ) (job : Job (List ℕ)) (l : Layout) (are : IsBytes b
       Takes x s t →
       ⊥
   not-raw i e n number s t x y here at-y at-x (k, mark, look) taken takes =
-      raw-not-given highestSlot (stg bytes job l are formed laid .defined .held) (allNodes bytes job l are formed laid) (pool bytes job l are formed laid) (raw bytes job l are formed laid) (soundly bytes job l are formed laid) (raw-keys bytes job l are formed laid) (raw-wide bytes job l are formed laid) k s t
+      raw-not-given (topOf job) (stg bytes job l are formed laid .defined .held) (allNodes bytes job l are formed laid) (pool bytes job l are formed laid) (raw bytes job l are formed laid) (soundly bytes job l are formed laid) (raw-keys bytes job l are formed laid) (raw-wide bytes job l are formed laid) k s t
       (raw-taken n number t y (placed-there bytes job l are formed laid i n number constant here) at-y taken)
       (lookup-at k s given look)
       (node-taken e k s t x mark at-x takes)
@@ -236,7 +235,7 @@ shared-laid :
     (bytes : List ℕ) (job : Job (List ℕ)) (l : Layout) →
     IsBytes bytes →
     form bytes ≡ good job →
-    layout highestSlot (numbered job) ≡ good l →
+    layout (topOf job) (numbered job) ≡ good l →
     SharedBy (shownOf job l) (job .requests) (render (literals job) l .answers)
 unfolding layoutOf render
 shared-laid bytes job l are formed laid =

@@ -11,10 +11,9 @@ use Rattle.definition.specs.Basics.{good, lookup, from}
 use Rattle.definition.specs.Shapes.{bootstrapTag, Entry, withKids, withLiteral}
 use Rattle.definition.specs.Job.{Reference, Job}
 use Rattle.definition.specs.Form.{form}
-use Rattle.definition.specs.Numbering.{literals, numbered}
+use Rattle.definition.specs.Numbering.{topOf, literals, numbered}
 use Rattle.definition.specs.Definitions.{tagAt}
 use Rattle.definition.specs.Resolving.{Goal, rawNumber, tableEntry, refusal, goalOf, Node, firstNode, done, childOf}
-use Rattle.definition.specs.Slots.{highestSlot}
 use Rattle.definition.specs.Building.{Row, kidsOf, contentOf}
 use Rattle.definition.specs.Layout.{Layout, layout}
 use Rattle.definition.specs.Run.{shown}
@@ -51,7 +50,7 @@ pub number-index : (f : Finished) (tag n : ℕ) → tag ≡ bootstrapTag → hel
 unfolding heldFor
 number-index f tag n h = rw (eq-eqb tag bootstrapTag h, heldFor)
 
-module _ (bytes : List ℕ) (job : Job (List ℕ)) (l : Layout) (are : IsBytes bytes) (formed : form bytes ≡ good job) (laid : layout highestSlot (numbered job) ≡ good l) where
+module _ (bytes : List ℕ) (job : Job (List ℕ)) (l : Layout) (are : IsBytes bytes) (formed : form bytes ≡ good job) (laid : layout (topOf job) (numbered job) ≡ good l) where
   -- the finished pool and bootstraps, as the reader shows them
   abbrev pub finished : Finished
   finished =
@@ -209,7 +208,7 @@ module _ (bytes : List ℕ) (job : Job (List ℕ)) (l : Layout) (are : IsBytes b
       let (k′, nd, ns, same, at, a′, nums) = end bytes job l are formed laid .ended .owner n (own .0) (own .1) in
       let one : k′ ≡ k =
       once-same (toHold (pool bytes job l are formed laid .given) (raw bytes job l are formed laid)) n k′ k
-      (starts-once highestSlot (stg bytes job l are formed laid .defined .held) (allNodes bytes job l are formed laid) (pool bytes job l are formed laid) (raw bytes job l are formed laid) (soundly bytes job l are formed laid) (raw-keys bytes job l are formed laid) (raw-wide bytes job l are formed laid) n)
+      (starts-once (topOf job) (stg bytes job l are formed laid .defined .held) (allNodes bytes job l are formed laid) (pool bytes job l are formed laid) (raw bytes job l are formed laid) (soundly bytes job l are formed laid) (raw-keys bytes job l are formed laid) (raw-wide bytes job l are formed laid) n)
       a′
       a in
       let is : nd ≡ b .node = some-inj (sym (subst (λ i. getElem? (allNodes bytes job l are formed laid) i ≡ some nd) one at) ∙ among-all e k b) in

@@ -6,7 +6,7 @@ use Prim.Native.Nat.{ℕ, zero, suc}
 use lib.ListN.{getElem?}
 use Rattle.definition.specs.Basics.{good}
 use Rattle.definition.specs.Shapes.{Entry, withKids, withLiteral}
-use Rattle.definition.specs.Job.{Reference, Definition, define, named, placed, Job}
+use Rattle.definition.specs.Job.{Reference, Definition, define, named, placed, setting, Job}
 use Rattle.definition.specs.Form.{form}
 use Rattle.definition.specs.Numbering.{entries, constantsOf, bootstrapsOf, literals, numberOf, literalOf, numberedEntry, numbered}
 use Rattle.definition.specs.Resolving.{Goal, goalOf, linked}
@@ -34,7 +34,9 @@ entry-among (define e ∷ ds) z (suc i, h) =
 entry-among (named kind s r ∷ ds) z (zero, h) = clash (cc)
 entry-among (named kind s r ∷ ds) z (suc i, h) = entry-among ds z (i, h)
 entry-among (placed kind n e ∷ ds) z (zero, h) = clash (cc)
+entry-among (setting rule ∷ ds) z (zero, h) = clash (cc)
 entry-among (placed kind n e ∷ ds) z (suc i, h) = entry-among ds z (i, h)
+entry-among (setting rule ∷ ds) z (suc i, h) = entry-among ds z (i, h)
 
 -- so its literal stands among the literals
 literal-among : (job : Job (List ℕ)) (z : Entry (List ℕ) Reference) → Among (define z) (job .definitions) → Among (z .tag, z .literal) (literals job)

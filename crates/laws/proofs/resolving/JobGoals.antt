@@ -11,7 +11,7 @@ use lib.ListN.{length, getElem?, length-append, length-map}
 use borrow.Author.Tests.{eqb-true, not-true}
 use Rattle.definition.specs.Basics.{same}
 use Rattle.definition.specs.Shapes.{Kind, bootstrapTag, Entry, withKids, constant, bootstrap}
-use Rattle.definition.specs.Job.{Reference, raw, entry, name, Definition, define, named, placed, Request, Job}
+use Rattle.definition.specs.Job.{Reference, raw, entry, name, Definition, define, named, placed, setting, Request, Job}
 use Rattle.definition.specs.Numbering.{entries, isBootstrap, constantsOf, bootstrapsOf}
 use Rattle.definition.specs.Definitions.{Naming, nameTarget}
 use Rattle.definition.specs.Resolving.{Goal, rawNumber, tableEntry, refusal, placeOf, follow, goalOf, linked}
@@ -105,6 +105,7 @@ naming-named (named kind s r ∷ ds) zero n p =
     (0, ap (λ (m : Naming). some (named (m .kind) (m .label) (m .target))) q)
 naming-named (named kind s r ∷ ds) (suc i) n p = among-later (named (n .kind) (n .label) (n .target)) (named kind s r) ds (naming-named ds i n p)
 naming-named (placed kind at m ∷ ds) i n p = among-later (named (n .kind) (n .label) (n .target)) (placed kind at m) ds (naming-named ds i n p)
+naming-named (setting rule ∷ ds) i n p = among-later (named (n .kind) (n .label) (n .target)) (setting rule) ds (naming-named ds i n p)
 
 -- constants have no bootstrap's tag, and bootstraps do
 module _ {L : Type 0} (ds : List (Definition L)) where

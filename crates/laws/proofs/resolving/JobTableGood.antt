@@ -9,7 +9,7 @@ use lib.ListN.{length, getElem?, length-append}
 use borrow.Author.Tests.{eqb-false}
 use Rattle.definition.specs.Basics.{good}
 use Rattle.definition.specs.Shapes.{Kind, bootstrapTag, Entry, constant, bootstrap}
-use Rattle.definition.specs.Job.{Reference, Definition, define, named, placed, Request, Job}
+use Rattle.definition.specs.Job.{Reference, Definition, define, named, placed, setting, Request, Job}
 use Rattle.definition.specs.Form.{form}
 use Rattle.definition.specs.Numbering.{constantsOf, bootstrapsOf, literals, numbered}
 use Rattle.definition.specs.Resolving.{Goal, rawNumber, tableEntry, refusal, placeOf, goalOf}
@@ -37,6 +37,7 @@ names-low [] h = tt
 names-low (define e ∷ ds) h = names-low ds (h .1)
 names-low (named kind s r ∷ ds) h = (h .0, names-low ds (h .1))
 names-low (placed kind n e ∷ ds) h = names-low ds (h .1)
+names-low (setting rule ∷ ds) h = names-low ds (h .1)
 
 goal-low : (g : Goal) → GoalOk (Unit {0}) g → Low g
 goal-low (rawNumber n) h = h tt

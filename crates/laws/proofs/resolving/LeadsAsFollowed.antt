@@ -9,12 +9,11 @@ use native.Mathlib.Omega.{arith}
 use lib.ListN.{length, getElem?}
 use Rattle.definition.specs.Basics.{good, unless, same}
 use Rattle.definition.specs.Shapes.{Kind, constant, bootstrap, Entry}
-use Rattle.definition.specs.Job.{Reference, raw, entry, name, Definition, define, named, placed, Job}
+use Rattle.definition.specs.Job.{Reference, raw, entry, name, Definition, define, named, placed, setting, Job}
 use Rattle.definition.specs.Form.{form}
-use Rattle.definition.specs.Numbering.{constantsOf, literals, numberedDefinition, numbered}
+use Rattle.definition.specs.Numbering.{topOf, constantsOf, literals, numberedDefinition, numbered}
 use Rattle.definition.specs.Definitions.{Naming, Defined, sameKind, nameTarget, isNone, defineOne, defineAll, nothingDefined}
 use Rattle.definition.specs.Resolving.{Goal, rawNumber, tableEntry, refusal, placeOf, follow, goalOf, Mark}
-use Rattle.definition.specs.Slots.{highestSlot}
 use Rattle.definition.specs.Layout.{Layout, layout}
 use Rattle.definition.specs.Run.{Built, Lent, run}
 use Rattle.facts.proofs.Lists.{clash, some-inj, same-refl, append-at, map-at}
@@ -36,6 +35,7 @@ namings-are [] = refl
 namings-are (define e ∷ ds) = namings-are ds
 namings-are (named kind s r ∷ ds) = ap (λ l. record { kind = kind; label = s; target = r } ∷ l) (namings-are ds)
 namings-are (placed kind n e ∷ ds) = namings-are ds
+namings-are (setting rule ∷ ds) = namings-are ds
 
 kind-same : (kind : Kind) → sameKind kind kind ≡ true
 unfolding sameKind
@@ -69,13 +69,16 @@ module _ {L : Type 0} where
   name-stands (named kind′ s′ r′ ∷ ds) (suc i) kind s r at e =
       name-stands ds i kind s r at (found-later kind s (record { kind = kind′; label = s′; target = r′ }) (namingsOf ds) e)
   name-stands (placed kind′ n m ∷ ds) zero kind s r at e = clash (cc)
+  name-stands (setting rule ∷ ds) zero kind s r at e = clash (cc)
   name-stands (placed kind′ n m ∷ ds) (suc i) kind s r at e = name-stands ds i kind s r at e
+  name-stands (setting rule ∷ ds) (suc i) kind s r at e = name-stands ds i kind s r at e
 
 -- what a record names; any other one nothing
 targetOf : Definition (List ℕ) → Option Reference
 targetOf (define e) = none
 targetOf (named kind s r) = some r
 targetOf (placed kind n e) = none
+targetOf (setting rule) = none
 
 -- what a name stands for was named
 named-there : (ds : List (Definition (List ℕ))) (kind : Kind) (s : List ℕ) (t : Reference) → nameTarget kind s (namings ds) ≡ some t → (i : ℕ) × (getElem? ds i ≡ some (named kind s t))
@@ -224,11 +227,11 @@ module _ {R : Type 0} (top : ℕ) (constants : List (Entry ℕ R)) where
   defined-once ds d e =
       defined-all top constants OnceSoFar once-more 0 [] ds nothingDefined d (nothing-facts (wideAt constants), λ i k kind s r t a b. clash (cc)) e .1
 
-pub named-once : (job : Job (List ℕ)) (l : Layout) → layout highestSlot (numbered job) ≡ good l → NamedOnce (job .definitions)
+pub named-once : (job : Job (List ℕ)) (l : Layout) → layout (topOf job) (numbered job) ≡ good l → NamedOnce (job .definitions)
 unfolding layout numbered numberedDefinition
 named-once job l laid i k kind s r t a b =
     let (d, defined, rest) = good-first {A = Defined} _ _ _ laid in
-    defined-once highestSlot (constantsOf (numbered job .definitions)) (numbered job .definitions) d defined i k kind s r t
+    defined-once (topOf job) (constantsOf (numbered job .definitions)) (numbered job .definitions) d defined i k kind s r t
     (map-at (numberedDefinition (literals job)) (job .definitions) i (named kind s r) a)
     (map-at (numberedDefinition (literals job)) (job .definitions) k (named kind s t) b)
 

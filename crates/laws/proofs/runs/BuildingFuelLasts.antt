@@ -16,7 +16,7 @@ use Rattle.definition.specs.Slots.{Slots, slotFor}
 use Rattle.definition.specs.Building.{Pool, noSlot, give, allocate, slotOf, slotsOf, Row, Rows, writeRaw, indexOf, takeIndex, rowIndex, Made, kidsOf, nodeNumber, childNumber, childNumbers, finish, withPending, drain, rawRows, buildAll, attributeText, nameSlot}
 use Rattle.facts.proofs.Tables.{lookup-hit, lookup-miss}
 use Rattle.facts.proofs.Each.{Each, each-at, each-weaker}
-use Rattle.facts.proofs.Outcomes.{Ends, well, refused, next, Anything}
+use Rattle.facts.proofs.Outcomes.{Ends, well, refused, next, Anything, unless-ends}
 use Rattle.laws.proofs.form.RefusalNumbers.{NonZero, nonZero}
 use Rattle.laws.proofs.resolving.OwedVisits.{Child}
 use Rattle.laws.proofs.runs.UpToBuilding.{allocate-ends}
@@ -237,6 +237,7 @@ drain-lasts zero nodes [] m there h = well tt
 drain-lasts zero nodes (top ∷ pending) m there h = absurd (omega arith)
 drain-lasts (suc fuel) nodes [] m there h = well tt
 drain-lasts (suc fuel) nodes (top ∷ pending) m there h =
+    next _ (unless-ends _ 24 (nonZero 24 tt)) λ _ _.
     next _ (finish-pays nodes (top .0) (top .1) (withPending pending m) (getElem? nodes (top .1)) there refl) λ m′ k.
     drain-lasts fuel nodes (m′ .pool .pending) m′ there (omega arith)
 

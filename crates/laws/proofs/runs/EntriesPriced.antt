@@ -8,7 +8,7 @@ use native.Mathlib.Omega.{arith}
 use lib.ListN.{length, length-append, length-map}
 use Rattle.definition.specs.Basics.{only, concat}
 use Rattle.definition.specs.Shapes.{Entry, withKids, withLiteral}
-use Rattle.definition.specs.Job.{Reference, Definition, define, named, placed}
+use Rattle.definition.specs.Job.{Reference, Definition, define, named, placed, setting}
 use Rattle.definition.specs.Numbering.{Literal, entries, isBootstrap, constantsOf, bootstrapsOf, numberedEntry, numberedDefinition}
 use Rattle.definition.specs.Definitions.{Naming}
 use Rattle.definition.specs.Resolving.{goalOf, fuelFor, linked}
@@ -57,6 +57,7 @@ priced-numbered all (define e ∷ l) =
     omega (arith, priced-numbered all l, length-append (e .kids) (concat (map (λ e. e .kids) (entries l))))
 priced-numbered all (named kind s r ∷ l) = priced-numbered all l
 priced-numbered all (placed kind at number ∷ l) = priced-numbered all l
+priced-numbered all (setting rule ∷ l) = priced-numbered all l
 
 pub raws-numbered : (all : List Literal) (l : List (Definition (List ℕ))) → raws (map (numberedDefinition all) l) ≡ length (only isRaw l)
 unfolding numberedDefinition rawOne raws only isRaw
@@ -64,6 +65,7 @@ raws-numbered all [] = refl
 raws-numbered all (define e ∷ l) = let ih = raws-numbered all l in omega arith
 raws-numbered all (named kind s r ∷ l) = let ih = raws-numbered all l in omega arith
 raws-numbered all (placed kind at number ∷ l) = let ih = raws-numbered all l in omega arith
+raws-numbered all (setting rule ∷ l) = let ih = raws-numbered all l in omega arith
 
 pub table-priced : (l : List (Definition ℕ)) → priced (constantsOf l ++ bootstrapsOf l) ≡ priced (entries l)
 unfolding constantsOf bootstrapsOf

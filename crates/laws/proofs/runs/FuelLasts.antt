@@ -5,8 +5,7 @@ use native.Mathlib.Omega.{arith}
 use lib.Dec.{leb}
 use lib.ListN.{length}
 use Rattle.definition.specs.Job.{Build, Job}
-use Rattle.definition.specs.Numbering.{entries, literals, numbered}
-use Rattle.definition.specs.Slots.{highestSlot}
+use Rattle.definition.specs.Numbering.{topOf, entries, literals, numbered}
 use Rattle.definition.specs.Building.{fillHoles, nameWanted}
 use Rattle.definition.specs.Layout.{Ready, buildLayout, layout}
 use Rattle.definition.specs.Run.{build, Lent, longestJob, enough, fits, run}
@@ -51,7 +50,7 @@ layout-lasts top job low =
 
 build-lasts : (bytes : List ℕ) → IsBytes bytes → Ends Coded Anything (build bytes)
 unfolding build
-build-lasts bytes are = next _ (form-ends bytes are) λ job low. next _ (layout-lasts highestSlot job low) λ l _. well tt
+build-lasts bytes are = next _ (form-ends bytes are) λ job low. next _ (layout-lasts (topOf job) job low) λ l _. well tt
 
 run-lasts : (lent : Lent) (bytes : List ℕ) → IsBytes bytes → Ends Coded Anything (run lent bytes)
 unfolding run

@@ -18,7 +18,7 @@ use Rattle.laws.proofs.runs.StepsOfBuilding.{buildAll-steps}
 pub built :
     (nodes : List Node) (indexes : List (ℕ × ℕ)) (start : Pool) →
     Ends Anything (λ m. PoolIn nodes start (m .pool) × RowsIn nodes indexes start (m .rows)) (buildAll nodes indexes start)
-built nodes indexes start = buildAll-steps nodes indexes start Anything tt (λ k c code p o a high e. tt) (λ row code rows q is e. tt)
+built nodes indexes start = buildAll-steps nodes indexes start Anything tt tt (λ k c code p o a high e. tt) (λ row code rows q is e. tt)
 
 module _
     (top : ℕ)

@@ -10,20 +10,19 @@ use lib.ListN.{length}
 use Rattle.definition.specs.Basics.{good, bad, Refusal, position}
 use Rattle.definition.specs.Job.{Request, Job}
 use Rattle.definition.specs.Form.{form}
-use Rattle.definition.specs.Numbering.{bootstrapsOf, numbered}
+use Rattle.definition.specs.Numbering.{topOf, bootstrapsOf, numbered}
 use Rattle.definition.specs.Definitions.{Defined, defineAll, nothingDefined}
 use Rattle.definition.specs.Resolving.{firstNode, sameNode, intern, childOf, resolve}
-use Rattle.definition.specs.Slots.{highestSlot}
 use Rattle.definition.specs.Building.{allocate, Made, buildAll, attributeText, nameWanted, nameSlot}
 use Rattle.definition.specs.Layout.{Ready, endDefinitions, answer, answerAll, buildLayout, layout}
 use Rattle.definition.specs.Run.{build, Lent, longestJob, enough, fits, run}
 use Rattle.facts.proofs.Outcomes.{Ends, well, next, weaker, whenBad, ended, known-good, Anything, atRecord-ends, unless-ends}
-use Rattle.laws.proofs.form.RefusalNumbers.{Early}
+use Rattle.laws.proofs.form.RefusalNumbers.{Early, Late}
 use Rattle.laws.proofs.form.FormRefusals.{form-early}
 use Rattle.laws.proofs.definitions.DefinitionRefusals.{defineAll-ends}
 use Rattle.laws.proofs.resolving.ResolvingRefusals.{TableRefused, goalOf-early, linked-early, resolve-early, endDefinitions-early}
 use Rattle.laws.proofs.building.LayoutStages.{constantsIn, tableIn, rowsIn}
-use Rattle.laws.proofs.runs.StepsOfRuns.{goalFor, Reaches, afterFifty, afterAnswer, rawsAt, forRequest, forChild, forName, LayoutRefused, early, sixteen, atSlot, atRow}
+use Rattle.laws.proofs.runs.StepsOfRuns.{goalFor, Reaches, afterFifty, afterAnswer, rawsAt, forRequest, forChild, forName, LayoutRefused, early, tooNew, sixteen, atSlot, atRow}
 use Rattle.laws.proofs.runs.StepsOfBuilding.{slotOf-by, buildAll-steps}
 
 -- ---- a layout takes these steps
@@ -92,7 +91,7 @@ module _ (top : ℕ) (job : Job ℕ) where
         let nodes = w .resolved .nodes in
         next _
         (known-good (buildAll nodes (rawsAt job d w) (w .pool))
-        (buildAll-steps nodes (rawsAt job d w) (w .pool) Z Z-empty
+        (buildAll-steps nodes (rawsAt job d w) (w .pool) Z Z-empty (tooNew refl)
         (λ k c code p o a high e. atSlot nodes false (c - firstNode) p (forChild d w k c p at o a high) e)
         (λ row code rows q is e. atRow row rows (record { defined = d; state = w; reached = at; rowsIn = q; rowOf = is }) e))) λ m k.
         next _ (nameSlot-steps (nameWanted (job .build .nameByte) (length (rowsIn m))) w m at (k .1) refl) λ s _. well tt
@@ -114,8 +113,8 @@ module _ (top : ℕ) (job : Job ℕ) where
 
 -- where a run is refused: for length, work, room or form, or in its layout
 pub data RunRefused (bytes : List ℕ) (code : ℕ) : Type 0 where
-  outside : (code < 14) ⊎ (code ≡ 18) → RunRefused bytes code
-  inLayout : (job : Job (List ℕ)) → form bytes ≡ good job → LayoutRefused highestSlot (numbered job) code → RunRefused bytes code
+  outside : (code < 14) ⊎ (17 < code) → RunRefused bytes code
+  inLayout : (job : Job (List ℕ)) → form bytes ≡ good job → LayoutRefused (topOf job) (numbered job) code → RunRefused bytes code
 
 -- RUN REFUSED: every refusal of a run is one of these
 pub runRefused : (lent : Lent) (bytes : List ℕ) (r : Refusal) → run lent bytes ≡ bad r → RunRefused bytes (r .code)
@@ -125,13 +124,16 @@ runRefused lent bytes r ran = whenBad all ran
     z : Early (RunRefused bytes)
     z code t u = outside (inl (ltb→lt code 14 u))
 
-    laid : (job : Job (List ℕ)) → form bytes ≡ good job → Ends (λ e. RunRefused bytes (e .code)) Anything (layout highestSlot (numbered job))
-    laid job formed = weaker (λ e h. inLayout job formed h) (λ l h. h) (layout-steps highestSlot (numbered job))
+    late : Late (RunRefused bytes)
+    late code t = let h = ltb→lt 21 code t in outside (inr (omega arith))
+
+    laid : (job : Job (List ℕ)) → form bytes ≡ good job → Ends (λ e. RunRefused bytes (e .code)) Anything (layout (topOf job) (numbered job))
+    laid job formed = weaker (λ e h. inLayout job formed h) (λ l h. h) (layout-steps (topOf job) (numbered job))
 
     all : Ends (λ e. RunRefused bytes (e .code)) Anything (run lent bytes)
     all =
         next _ (atRecord-ends 0 (unless-ends (leb (length bytes) longestJob) 1 (z 1 tt tt))) λ _ _.
         next _ (atRecord-ends 0 (unless-ends (enough (length bytes) lent) 2 (z 2 tt tt))) λ _ _.
         next {P = Anything} _
-        (next _ (known-good (form bytes) (form-early z (outside (inl (omega arith))) bytes)) λ job k. next _ (laid job (k .1)) λ l _. well tt) λ b _.
-        next _ (atRecord-ends (b .0) (unless-ends (fits (b .1) lent) 18 (outside (inr refl)))) λ _ _. well tt
+        (next _ (known-good (form bytes) (form-early z late (outside (inl (omega arith))) bytes)) λ job k. next _ (laid job (k .1)) λ l _. well tt) λ b _.
+        next _ (atRecord-ends (b .0) (unless-ends (fits (b .1) lent) 18 (outside (inr (omega arith))))) λ _ _. well tt

@@ -8,12 +8,11 @@ use native.Mathlib.Omega.{arith}
 use Rattle.definition.specs.Basics.{good, bad, Refusal}
 use Rattle.definition.specs.Job.{Job}
 use Rattle.definition.specs.Form.{form}
-use Rattle.definition.specs.Numbering.{numbered}
-use Rattle.definition.specs.Slots.{highestSlot}
+use Rattle.definition.specs.Numbering.{topOf, numbered}
 use Rattle.definition.specs.Building.{Row, Rows, rowIndex}
 use Rattle.definition.specs.Run.{Lent, run}
 use Rattle.laws.specs.Statements.{RowsOccur}
-use Rattle.laws.proofs.runs.StepsOfRuns.{AsksIndex, LayoutRefused, early, sixteen, atSlot, atRow}
+use Rattle.laws.proofs.runs.StepsOfRuns.{AsksIndex, LayoutRefused, early, tooNew, sixteen, atSlot, atRow}
 use Rattle.laws.proofs.runs.RunRefused.{RunRefused, outside, inLayout, runRefused}
 use Rattle.laws.proofs.runs.StepRefusals.{allocate-refused, noSlot-low}
 use Rattle.laws.proofs.runs.IndexOccurs.{indexOccurs}
@@ -24,7 +23,7 @@ pub record RowMet (bytes : List ℕ) : Type 0 where
   pub formed : form bytes ≡ good job
   pub rows : Rows
   pub row : Row
-  pub asks : AsksIndex highestSlot (numbered job) row rows
+  pub asks : AsksIndex (topOf job) (numbered job) row rows
   pub occurs : RowsOccur rows
   pub refusal : rowIndex row rows ≡ bad 17
 
@@ -32,8 +31,9 @@ pub record RowMet (bytes : List ℕ) : Type 0 where
 pub seventeenMet : (lent : Lent) (bytes : List ℕ) (r : Refusal) → run lent bytes ≡ bad r → r .code ≡ 17 → RowMet bytes
 seventeenMet lent bytes r ran is = go (runRefused lent bytes r ran)
   where
-    laid : (job : Job (List ℕ)) → form bytes ≡ good job → LayoutRefused highestSlot (numbered job) (r .code) → RowMet bytes
+    laid : (job : Job (List ℕ)) → form bytes ≡ good job → LayoutRefused (topOf job) (numbered job) (r .code) → RowMet bytes
     laid job formed (early h) = absurd (omega (arith, h, is))
+    laid job formed (tooNew h) = absurd (omega (arith, h, is))
     laid job formed (sixteen h) = absurd (omega (arith, h, is))
     laid job formed (atSlot nodes ldc k p a e) = absurd (omega (arith, is, allocate-refused nodes ldc k (r .code) p e .1, noSlot-low ldc))
     laid job formed (atRow row rows a e) =
@@ -43,7 +43,7 @@ seventeenMet lent bytes r ran is = go (runRefused lent bytes r ran)
           rows = rows;
           row = row;
           asks = a;
-          occurs = indexOccurs highestSlot (numbered job) row rows a;
+          occurs = indexOccurs (topOf job) (numbered job) row rows a;
           refusal = subst (λ c. rowIndex row rows ≡ bad c) is e;
         }
 

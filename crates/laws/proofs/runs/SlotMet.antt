@@ -11,14 +11,13 @@ use lib.ListN.{length}
 use Rattle.definition.specs.Basics.{good, bad, Refusal, lookup}
 use Rattle.definition.specs.Job.{Job}
 use Rattle.definition.specs.Form.{form}
-use Rattle.definition.specs.Numbering.{numbered}
+use Rattle.definition.specs.Numbering.{topOf, numbered}
 use Rattle.definition.specs.Definitions.{Held}
 use Rattle.definition.specs.Resolving.{Node}
-use Rattle.definition.specs.Slots.{highestSlot}
 use Rattle.definition.specs.Building.{Pool, allocate}
 use Rattle.definition.specs.Run.{Lent, run}
 use Rattle.laws.specs.Statements.{Occurs, IsBytes}
-use Rattle.laws.proofs.runs.StepsOfRuns.{AsksSlot, LayoutRefused, early, sixteen, atSlot, atRow}
+use Rattle.laws.proofs.runs.StepsOfRuns.{AsksSlot, LayoutRefused, early, tooNew, sixteen, atSlot, atRow}
 use Rattle.laws.proofs.runs.RunRefused.{RunRefused, outside, inLayout, runRefused}
 use Rattle.laws.proofs.runs.StepRefusals.{allocate-refused, rowIndex-refused}
 use Rattle.laws.proofs.runs.SlotOccurs.{slotOccurs}
@@ -31,9 +30,9 @@ pub record SlotMet (bytes : List ℕ) (code : ℕ) : Type 0 where
   pub ldc : Bool
   pub node : ℕ
   pub pool : Pool
-  pub asks : AsksSlot highestSlot (numbered job) nodes ldc node pool
+  pub asks : AsksSlot (topOf job) (numbered job) nodes ldc node pool
   pub held : List (ℕ × Held)
-  pub occurs : Occurs highestSlot held nodes pool
+  pub occurs : Occurs (topOf job) held nodes pool
   pub there : node < length nodes
   pub new : lookup node (pool .given) ≡ none
   pub refusal : allocate nodes ldc node pool ≡ bad code
@@ -47,8 +46,9 @@ slotMet lent bytes r are ran is = go (runRefused lent bytes r ran)
     low (inl h) = (omega (arith, h), omega (arith, h))
     low (inr h) = (omega (arith, h), omega (arith, h))
 
-    laid : (job : Job (List ℕ)) → form bytes ≡ good job → LayoutRefused highestSlot (numbered job) (r .code) → SlotMet bytes (r .code)
+    laid : (job : Job (List ℕ)) → form bytes ≡ good job → LayoutRefused (topOf job) (numbered job) (r .code) → SlotMet bytes (r .code)
     laid job formed (early h) = absurd (omega (arith, h, low is .0))
+    laid job formed (tooNew h) = absurd (omega (arith, h, low is .1))
     laid job formed (sixteen h) = absurd (omega (arith, h, low is .1))
     laid job formed (atSlot nodes ldc k p a e) =
         let o = slotOccurs bytes job are formed a in

@@ -9,10 +9,9 @@ use Rattle.definition.specs.Basics.{good, position}
 use Rattle.definition.specs.Shapes.{Entry}
 use Rattle.definition.specs.Job.{Request, Job}
 use Rattle.definition.specs.Form.{form}
-use Rattle.definition.specs.Numbering.{numbered}
+use Rattle.definition.specs.Numbering.{topOf, numbered}
 use Rattle.definition.specs.Definitions.{Held, Defined}
 use Rattle.definition.specs.Resolving.{Goal, goalOf, Node, firstNode, sameNode, intern, resolve}
-use Rattle.definition.specs.Slots.{highestSlot}
 use Rattle.definition.specs.Building.{Pool, attributeText}
 use Rattle.definition.specs.Layout.{Ready}
 use Rattle.facts.proofs.Lists.{found-inside}
@@ -56,10 +55,10 @@ module _ (bytes : List ℕ) (job : Job (List ℕ)) (are : IsBytes bytes) (formed
   abbrev Upto : Defined → List Request → Ready → Type 0
   Upto d left w =
       (raws : List (ℕ × ℕ))
-      × Going table highestSlot (d .held) raws w
+      × Going table (topOf job) (d .held) raws w
       × Each (λ q. InTable (length table) (goalFor (numbered job) d q) × ConstantGoal table (goalFor (numbered job) d q)) left
 
-  reaches-kept : (d : Defined) {left : List Request} {w : Ready} → Reaches highestSlot (numbered job) d left w → Upto d left w
+  reaches-kept : (d : Defined) {left : List Request} {w : Ready} → Reaches (topOf job) (numbered job) d left w → Upto d left w
   reaches-kept d (afterFifty w defined ready) = (
     begunRaws bytes job are formed d defined w ready,
     begun bytes job are formed d defined w ready .0,
@@ -75,7 +74,7 @@ module _ (bytes : List ℕ) (job : Job (List ℕ)) (are : IsBytes bytes) (formed
   reaches-kept d (afterAnswer q left w w′ a h e) =
       let k = reaches-kept d h in (
         k .0,
-        answer-going table (fine .cited) highestSlot (d .held) (k .0) (q .ldc) (goalFor (numbered job) d q) w (a, w′) (k .2 .0 .0) (k .2 .0 .1) e (k .1) .0,
+        answer-going table (fine .cited) (topOf job) (d .held) (k .0) (q .ldc) (goalFor (numbered job) d q) w (a, w′) (k .2 .0 .0) (k .2 .0 .1) e (k .1) .0,
         k .2 .1,
       )
 
@@ -85,30 +84,30 @@ module _ (bytes : List ℕ) (job : Job (List ℕ)) (are : IsBytes bytes) (formed
   -- SLOT OCCURS: every pool that a run asks a slot of occurs, and the node is one of the list
   pub slotOccurs :
       {nodes : List Node} {ldc : Bool} {k : ℕ} {p : Pool} →
-      AsksSlot highestSlot (numbered job) nodes ldc k p →
-      (held : List (ℕ × Held)) × Occurs highestSlot held nodes p × (k < length nodes)
+      AsksSlot (topOf job) (numbered job) nodes ldc k p →
+      (held : List (ℕ × Held)) × Occurs (topOf job) held nodes p × (k < length nodes)
   slotOccurs (forRequest d q left w s at e high) =
       let (raws, h, asks) = reaches-kept d at in
       let goal = goalFor (numbered job) d q in
       let now = resolve-faithful table goal (w .resolved) s (fine .cited) (asks .0 .0) (h .faithful) (subst (λ t. resolve t goal (w .resolved) ≡ good s) (h .sameTable) e) in
       let more = now .2 .nodesKept in (
         d .held,
-        subst (λ n. Occurs highestSlot (d .held) n (w .pool)) (sym (more .1)) (moreResolved (more .0) (h .pooled .occurs)),
+        subst (λ n. Occurs (topOf job) (d .held) n (w .pool)) (sym (more .1)) (moreResolved (more .0) (h .pooled .occurs)),
         settled-child table s goal (now .0) (now .1) (asks .0 .1) high .0,
       )
   slotOccurs (forChild d w k c p at o a high) =
       let kept = reaches-kept d at in
       let kids = kids-kept d [] w kept in (
         d .held,
-        pool-occurs highestSlot (d .held) (w .resolved .nodes) (w .pool) kids (kept .1 .pooled .occurs) o,
+        pool-occurs (topOf job) (d .held) (w .resolved .nodes) (w .pool) kids (kept .1 .pooled .occurs) o,
         omega (arith, NodesAndChildren.kids-in (w .resolved .nodes) kids k c a high, high),
       )
   slotOccurs (forName d w m at e wanted) =
       let kept = reaches-kept d at in
       let nodes = w .resolved .nodes in
       let i = interned attributeText nodes in
-      let o = pool-occurs highestSlot (d .held) nodes (w .pool) (kids-kept d [] w kept) (kept .1 .pooled .occurs) (whenGood (built nodes (rawsAt (numbered job) d w) (w .pool)) e .0) in (
+      let o = pool-occurs (topOf job) (d .held) nodes (w .pool) (kids-kept d [] w kept) (kept .1 .pooled .occurs) (whenGood (built nodes (rawsAt (numbered job) d w) (w .pool)) e .0) in (
         d .held,
-        subst (λ n. Occurs highestSlot (d .held) n (m .pool)) (sym (i .kept .1)) (moreResolved (i .kept .0) o),
+        subst (λ n. Occurs (topOf job) (d .held) n (m .pool)) (sym (i .kept .1)) (moreResolved (i .kept .0) o),
         found-inside (intern attributeText nodes) (position (sameNode attributeText) nodes) attributeText (i .there),
       )

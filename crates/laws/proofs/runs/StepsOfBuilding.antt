@@ -14,7 +14,7 @@ use Rattle.definition.specs.Resolving.{Node, firstNode}
 use Rattle.definition.specs.Building.{Pool, allocate, slotOf, slotsOf, Row, Rows, rowIndex, Made, kidsOf, nodeNumber, childNumber, childNumbers, finish, withPending, drain, rawRows, buildAll}
 use Rattle.facts.specs.Lists.{Among}
 use Rattle.facts.proofs.Each.{Each, each-from}
-use Rattle.facts.proofs.Outcomes.{Ends, well, refused, next, ended, known-good}
+use Rattle.facts.proofs.Outcomes.{Ends, well, refused, next, ended, known-good, unless-ends}
 use Rattle.laws.proofs.resolving.NodesAndChildren.{kids-found}
 use Rattle.laws.proofs.runs.StepsOfRuns.{PoolIn, atStart, afterChild, afterTaken, RowOf, RowsIn, rawOnes, afterInline}
 
@@ -38,6 +38,7 @@ module _
     (start : Pool)
     (Z : ℕ → Type 0)
     (empty : Z 0)
+    (tooNew : Z 24)
     (noSlotFor :
     (k c code : ℕ) (p : Pool) →
     PoolIn nodes start p →
@@ -143,6 +144,7 @@ module _
   drain-steps zero (top ∷ pending) m o q = refused empty
   drain-steps (suc fuel) [] m o q = well {a = m} (o, q)
   drain-steps (suc fuel) (top ∷ pending) m o q =
+      next _ (unless-ends _ 24 tooNew) λ _ _.
       next _ (finish-steps (top .0) (top .1) (withPending pending m) (getElem? nodes (top .1)) refl (afterTaken pending (m .pool) o) q) λ m′ k.
       drain-steps fuel (m′ .pool .pending) m′ (k .0) (k .1)
 

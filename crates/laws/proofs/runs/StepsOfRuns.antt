@@ -27,7 +27,7 @@ pub data PoolIn (nodes : List Node) (start : Pool) : Pool → Type 0 where
   afterTaken :
       (pending : List (ℕ × ℕ)) (p : Pool) →
       PoolIn nodes start p →
-      PoolIn nodes start (record { slots = p .slots; given = p .given; pending = pending })
+      PoolIn nodes start (record { slots = p .slots; given = p .given; pending = pending; version = p .version })
 
 -- a row that building asks an index for: the slots of an inline bootstrap's children
 pub record RowOf (nodes : List Node) (start : Pool) (row : Row) : Type 0 where
@@ -105,6 +105,7 @@ pub record AsksIndex (top : ℕ) (job : Job ℕ) (row : Row) (rows : Rows) : Typ
 -- where a layout is refused: by the form, the definitions or resolving, as an ldc answer above 255, or at one of these steps
 pub data LayoutRefused (top : ℕ) (job : Job ℕ) (code : ℕ) : Type 0 where
   early : code < 14 → LayoutRefused top job code
+  tooNew : code ≡ 24 → LayoutRefused top job code
   sixteen : code ≡ 16 → LayoutRefused top job code
   atSlot :
       (nodes : List Node) (ldc : Bool) (k : ℕ) (p : Pool) →

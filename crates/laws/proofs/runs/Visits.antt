@@ -8,8 +8,7 @@ use lib.ListN.{length}
 use Rattle.definition.specs.Basics.{good, atRecord, unless, only, concat}
 use Rattle.definition.specs.Job.{Build, Job}
 use Rattle.definition.specs.Form.{form}
-use Rattle.definition.specs.Numbering.{entries, literals, numbered}
-use Rattle.definition.specs.Slots.{highestSlot}
+use Rattle.definition.specs.Numbering.{topOf, entries, literals, numbered}
 use Rattle.definition.specs.Building.{fillHoles, buildAll, nameWanted, nameSlot}
 use Rattle.definition.specs.Layout.{Ready, layoutOf, buildLayout, layout}
 use Rattle.definition.specs.Run.{render, build, longestJob, enough, fits, run}
@@ -55,7 +54,7 @@ layout-visits top job =
 build-visits :
     (bytes : List ℕ) (job : Job (List ℕ)) → form bytes ≡ good job → Ends Anything (λ r. r .1 .visits ≤ most job) (build bytes)
 unfolding build render
-build-visits bytes job formed = rw (formed, build) (next _ (layout-visits highestSlot job) λ l h. well h)
+build-visits bytes job formed = rw (formed, build) (next _ (layout-visits (topOf job) job) λ l h. well h)
 
 pub visits : Visits
 unfolding run most

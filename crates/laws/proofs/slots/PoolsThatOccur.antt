@@ -125,7 +125,7 @@ sound-met top held nodes p ldc k s p′ i h (new slots e f q) =
           omega (
             arith,
             total-all f held nodes p,
-            total-all f held nodes (record { slots = slots; given = (k, s) ∷ p .given; pending = (s, k) ∷ p .pending }),
+            total-all f held nodes (record { slots = slots; given = (k, s) ∷ p .given; pending = (s, k) ∷ p .pending; version = p .version }),
             total-set f c (t .at) (p .slots .gaps) (t .gap) (t .there) (t .enough),
             ap (λ (l : List Gap). total f (freeSlots l)) z,
             ap (total f) (given-cons nodes k s (p .given)) ∙ total-append f (run s c) (givenSlots nodes (p .given)),

@@ -319,7 +319,7 @@ pub data Met (nodes : List Node) (ldc : Bool) (k : ℕ) (p : Pool) (s : ℕ) (p�
       (slots : Slots) →
       lookup k (p .given) ≡ none →
       slotFor (isWide (tagAt nodes k)) ldc (p .slots) ≡ some (s, slots) →
-      p′ ≡ record { slots = slots; given = (k, s) ∷ p .given; pending = (s, k) ∷ p .pending } →
+      p′ ≡ record { slots = slots; given = (k, s) ∷ p .given; pending = (s, k) ∷ p .pending; version = p .version } →
       Met nodes ldc k p s p′
 
 -- a request of a node that has no slot
@@ -352,7 +352,7 @@ met nodes ldc k s p p′ h = ways (lookup k (p .given)) refl
     taken (some r) e f g =
         let q = good-inj g in
         new (r .1) e (f ∙ ap {B = Option (ℕ × Slots)} some (λ i. (q i .0, r .1)))
-        (sym (λ i. q i .1) ∙ (λ i. record { slots = r .1; given = (k, q i .0) ∷ p .given; pending = (q i .0, k) ∷ p .pending }))
+        (sym (λ i. q i .1) ∙ (λ i. record { slots = r .1; given = (k, q i .0) ∷ p .given; pending = (q i .0, k) ∷ p .pending; version = p .version }))
 
     ways : (o : Option ℕ) → lookup k (p .given) ≡ o → Met nodes ldc k p s p′
     ways none e = taken (slotFor (isWide (tagAt nodes k)) ldc (p .slots)) e refl (sym (allocate-new nodes ldc k p e) ∙ h)

@@ -1,0 +1,4 @@
+-- Texts and their units, read and written
+pub mod UnitsRead
+pub mod UnitsWritten
+pub mod TextsBack
