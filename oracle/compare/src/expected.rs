@@ -1,6 +1,8 @@
-//! What the Rust says of a job, and so what the library must say.
+//! What the library must say of a job: what the Rust says, and where that says nothing what the model does.
 
+use crate::check::line;
 use driver::end_of_definitions::AtEndOfDefinitions;
+use driver::settings::{JobWithSettings, is_of_the_module};
 use driver::{Outcome, outcome};
 use rotblossom::{Built, Mark, Refusal};
 
@@ -18,9 +20,57 @@ pub struct Expected {
     pub at_end_of_definitions: AtEndOfDefinitions,
 }
 
-/// Runs the job through one copy of the module, or through both. The error says what document 01 has no number for.
-pub fn expected(job: &[u8], both_copies: bool) -> Result<Expected, String> {
-    let expected = driver::expected::expected(job, both_copies)?;
+/// Runs the job through one copy of the module, or through both. The error says what document 01 has no number for, or where the model
+/// differs from the module, which it can only with records 47 to 49.
+pub fn expected(job: &[u8], of_model: &End, both_copies: bool) -> Result<Expected, String> {
+    match JobWithSettings::of(job) {
+        None => of_module(driver::expected::expected(job, both_copies)?),
+        Some(with_settings) => with_model(&with_settings, of_model, both_copies),
+    }
+}
+
+/// The model's end. Where 47 and 48 don't end the job, and there is no 49, it must be the module's without these records.
+fn with_model(
+    job: &JobWithSettings,
+    of_model: &End,
+    both_copies: bool,
+) -> Result<Expected, String> {
+    let theirs = match has_say(of_model) {
+        true => job.expected_without(both_copies),
+        false => None,
+    };
+    match theirs {
+        Some(theirs) => {
+            let theirs = of_module(theirs?)?;
+            hold_model(of_model, &theirs.end)
+                .map_err(|text| format!("{}\n  {text}", line(&theirs.end)))?;
+            Ok(theirs)
+        }
+        None => Ok(Expected {
+            end: of_model.clone(),
+            build_record: job.last_record(),
+            at_end_of_definitions: AtEndOfDefinitions::No,
+        }),
+    }
+}
+
+/// Whether the module can end a job in this way.
+fn has_say(end: &End) -> bool {
+    match end {
+        End::Built(_) => true,
+        End::Refused(refusal) => is_of_the_module(refusal.code),
+    }
+}
+
+/// The error tells the model's end, where it is another.
+pub fn hold_model(of_model: &End, end: &End) -> Result<(), String> {
+    match of_model == end {
+        true => Ok(()),
+        false => Err(format!("model: {}", line(of_model))),
+    }
+}
+
+fn of_module(expected: driver::expected::Expected) -> Result<Expected, String> {
     Ok(Expected {
         end: end(expected.outcome)?,
         build_record: expected.build_record,

@@ -1,4 +1,5 @@
-//! Holds the proved library and the model to Krakatau's module: the same jobs through all three, in one process.
+//! Holds the proved library and the model to Krakatau's module: the same jobs through all three, in one process. Of jobs with records 47 to
+//! 49 the module has the last word where these change nothing, and else the model.
 //!
 //! `compare` takes the whole, `compare KIND SEED COUNT`, `compare heavy` or `compare short` a part; `--threads N` comes first.
 
@@ -10,7 +11,7 @@ mod tally;
 
 use check::{Checker, hex, line};
 use driver::tally::grouped;
-use expected::{End, expected, model_end};
+use expected::{expected, hold_model, model_end};
 use parts::{Jobs, Part};
 use std::process::ExitCode;
 use std::sync::Mutex;
@@ -19,7 +20,7 @@ use std::time::{Duration, Instant};
 use tally::{HEAD, Tally, row};
 
 const USAGE: &str = "usage: compare [--threads N] [heavy | short | KIND SEED COUNT]
-       KIND is small, damaged, pairs, orders or ldcfull";
+       KIND is small, damaged, pairs, orders, ldcfull, settings, settings_damaged or settings_pairs";
 
 /// So many jobs are taken by a thread at once.
 const BATCH: usize = 16;
@@ -127,9 +128,11 @@ fn compare_job(
     tally: &mut Tally,
 ) -> Result<(), String> {
     tally.jobs += 1;
-    let expected = expected(job, is_chosen).map_err(|text| format!("the Rust: {text}"))?;
+    let of_model = model_end(job);
+    let expected =
+        expected(job, &of_model, is_chosen).map_err(|text| format!("the Rust: {text}"))?;
     tally.add_end(&expected);
-    let mut checked = hold_model(job, &expected.end);
+    let mut checked = hold_model(&of_model, &expected.end);
     if checked.is_ok() {
         checked = checker.check(job, &expected);
     }
@@ -137,15 +140,6 @@ fn compare_job(
         checked = checker.check_short_memory(job);
     }
     checked.map_err(|text| format!("expected: {}\n  {text}", line(&expected.end)))
-}
-
-/// The error tells the model's end, where it is another.
-fn hold_model(job: &[u8], end: &End) -> Result<(), String> {
-    let of_model = model_end(job);
-    match of_model == *end {
-        true => Ok(()),
-        false => Err(format!("model: {}", line(&of_model))),
-    }
 }
 
 fn tell(part: &Part, tally: &Tally, start: Instant) {
@@ -161,6 +155,7 @@ fn tell(part: &Part, tally: &Tally, start: Instant) {
 #[cfg(test)]
 mod tests {
     use super::*;
+    use expected::End;
 
     /// Among them are those that need more memory than a stack has: all 65,535 bootstrap indexes used (17), the longest job.
     #[test]
@@ -176,13 +171,43 @@ mod tests {
     #[test]
     fn a_model_that_differs_is_told() {
         let job = jobs::hex::bytes("50 60 02 00 0000");
-        let mut end = expected(&job, false).unwrap().end;
-        assert_eq!(hold_model(&job, &end), Ok(()));
-        let End::Built(built) = &mut end else {
-            panic!("case a is built");
-        };
-        built.visits += 1;
-        let told = hold_model(&job, &end).unwrap_err();
+        let of_model = model_end(&job);
+        let end = expected(&job, &of_model, false).unwrap().end;
+        assert_eq!(hold_model(&of_model, &end), Ok(()));
+        let told = hold_model(&with_another_visit(of_model), &end).unwrap_err();
         assert!(told.starts_with("model: built"), "{told}");
+    }
+
+    fn with_another_visit(end: End) -> End {
+        match end {
+            End::Built(mut built) => {
+                built.visits += 1;
+                End::Built(built)
+            }
+            End::Refused(_) => panic!("the job is built"),
+        }
+    }
+
+    /// A model that differs from the module is told of a job with 47 and 48 too, but not of one with 49.
+    #[test]
+    fn the_module_has_a_say_where_the_settings_change_nothing() {
+        let differs = |job: &str| {
+            let job = jobs::hex::bytes(job);
+            let of_model = with_another_visit(model_end(&job));
+            expected(&job, &of_model, true).is_err()
+        };
+        assert!(differs("48 47 0000 50 60 02 00 0000"));
+        assert!(differs("49 fffe 50 60 02 00 0000"));
+        assert!(!differs("49 0001 50 60 02 00 0000"));
+    }
+
+    /// Jobs with records 47 to 49, under every loan.
+    #[test]
+    fn jobs_with_settings_end_as_in_the_model() {
+        for kind in ["settings", "settings_damaged", "settings_pairs"] {
+            let part = Part::of(&[kind, "1", "2000"]).unwrap();
+            let tally = compare(&part, 1, Instant::now());
+            assert_eq!(tally.differences, Vec::<String>::new(), "{kind}");
+        }
     }
 }

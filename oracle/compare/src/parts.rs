@@ -12,13 +12,15 @@ pub struct Part {
     pub drawn: Option<(u64, usize)>,
 }
 
-/// What is compared when no part is named: ten million generated jobs, and all of the fixed ones.
-const WHOLE: [(&str, u64, usize); 5] = [
+/// What is compared when no part is named: twelve million generated jobs, and all of the fixed ones.
+const WHOLE: [(&str, u64, usize); 7] = [
     ("small", 8101, 2_000_000),
     ("pairs", 8102, 500_000),
     ("orders", 8103, 500_000),
     ("ldcfull", 8104, 100_000),
     ("damaged", 8105, 6_900_000),
+    ("settings", 8106, 1_000_000),
+    ("settings_damaged", 8107, 1_000_000),
 ];
 const FIXED: [&str; 2] = ["heavy", "short"];
 
@@ -75,7 +77,7 @@ fn short_strings() -> impl Iterator<Item = Vec<u8>> + Send {
 }
 
 fn is_kind(byte: u8) -> bool {
-    matches!(byte, 1 | 3..=12 | 15..=20 | 0x40..=0x44 | 0x50..=0x52 | 0x60)
+    matches!(byte, 1 | 3..=12 | 15..=20 | 0x40..=0x44 | 0x47..=0x49 | 0x50..=0x52 | 0x60)
 }
 
 #[cfg(test)]
@@ -84,20 +86,20 @@ mod tests {
     use std::collections::BTreeSet;
 
     #[test]
-    fn the_whole_is_ten_million_and_the_fixed_jobs() {
+    fn the_whole_is_twelve_million_and_the_fixed_jobs() {
         let drawn: usize = whole()
             .iter()
             .filter_map(|part| part.drawn)
             .map(|d| d.1)
             .sum();
-        assert_eq!(drawn, 10_000_000);
+        assert_eq!(drawn, 12_000_000);
         assert!(whole().iter().all(|part| part.jobs().is_some()));
     }
 
     #[test]
     fn short_strings_are_all_there_once() {
         let all: Vec<Vec<u8>> = short_strings().collect();
-        assert_eq!(all.len(), 1 + 256 + 65_536 + 26 * 65_536);
+        assert_eq!(all.len(), 1 + 256 + 65_536 + 29 * 65_536);
         assert_eq!(all.iter().collect::<BTreeSet<_>>().len(), all.len());
     }
 

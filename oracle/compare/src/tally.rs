@@ -6,7 +6,7 @@ use crate::parts::Part;
 use driver::end_of_definitions::AtEndOfDefinitions;
 use driver::tally::grouped;
 
-const LAST_REFUSAL: usize = 17;
+const LAST_REFUSAL: usize = 26;
 const DIFFERENCES_SHOWN: usize = 5;
 
 #[derive(Default)]

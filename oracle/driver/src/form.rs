@@ -16,31 +16,37 @@ pub struct Fault {
     pub place: usize,
 }
 
-/// The records of a well-formed job. The first faulty record decides the fault.
+/// The records of a well-formed job. The first faulty record decides the fault; 47 to 49 are kinds that document 01 doesn't know.
 pub fn decode(job: &[u8]) -> Result<Vec<Record>, Fault> {
+    let (records, fault) = decode_with_settings(job);
+    match records.iter().position(Record::is_setting) {
+        Some(place) => Err(Fault {
+            code: BAD_FORM,
+            place,
+        }),
+        None => fault.map_or(Ok(records), Err),
+    }
+}
+
+/// The records ahead of the first fault, and that fault, where records 47 to 49 may stand anywhere among the definitions.
+pub fn decode_with_settings(job: &[u8]) -> (Vec<Record>, Option<Fault>) {
     if job.len() > LONGEST_JOB {
         let (code, place) = (TOO_LONG, 0);
-        return Err(Fault { code, place });
+        return (vec![], Some(Fault { code, place }));
     }
     let mut reader = Reader { rest: job };
     let mut seen = Seen::default();
     let mut records = Vec::new();
-    while seen.phase != Phase::Finished {
-        let fault = |code| Fault {
-            code,
-            place: records.len(),
-        };
-        // A cut record, an unknown byte and a missing record are all `None` here.
-        let record = reader.record().ok_or(fault(BAD_FORM))?;
-        seen.check(&record).map_err(fault)?;
-        seen.add(&record);
-        records.push(record);
+    while seen.phase != Phase::Finished || !reader.rest.is_empty() {
+        match seen.next(&mut reader) {
+            Ok(record) => records.push(record),
+            Err(code) => {
+                let place = records.len();
+                return (records, Some(Fault { code, place }));
+            }
+        }
     }
-    if !reader.rest.is_empty() {
-        let (code, place) = (BAD_FORM, records.len());
-        return Err(Fault { code, place });
-    }
-    Ok(records)
+    (records, None)
 }
 
 /// What the form pass says of a job: its refusal, or how many there are of definitions, constants, bootstraps, references
@@ -128,6 +134,9 @@ impl Reader<'_> {
                 index: self.number()?,
                 entry: self.number()?,
             }),
+            0x47 => Some(Record::Version(self.number()?)),
+            0x48 => Some(Record::HoldTexts),
+            0x49 => Some(Record::HighestSlot(self.number()?)),
             0x50 => Some(Record::EndOfDefinitions),
             0x51 => Some(Record::Ask(self.reference()?)),
             0x52 => Some(Record::AskLdc(self.reference()?)),
@@ -189,6 +198,14 @@ struct Seen {
 }
 
 impl Seen {
+    /// The next record, if it may stand here. A cut record, an unknown byte and a missing record are all `None` to the reader.
+    fn next(&mut self, reader: &mut Reader) -> Result<Record, u8> {
+        let record = reader.record().ok_or(BAD_FORM)?;
+        self.check(&record)?;
+        self.add(&record);
+        Ok(record)
+    }
+
     /// 3, then 5, then 4: the order within a record.
     fn check(&self, record: &Record) -> Result<(), u8> {
         if place_of(record) != self.phase {
@@ -231,7 +248,7 @@ impl Seen {
                 ClassSlot::Slot(_) => true,
                 ClassSlot::Request(request) => usize::from(*request) < self.requests,
             },
-            Record::EndOfDefinitions => true,
+            _ => true,
         }
     }
 

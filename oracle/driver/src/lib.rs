@@ -8,6 +8,7 @@ pub mod frames;
 mod marks;
 pub mod outcome;
 pub mod run;
+pub mod settings;
 pub mod tally;
 
 pub use outcome::{Built, Mark, Outcome};

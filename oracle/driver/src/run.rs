@@ -324,6 +324,9 @@ fn with_hex_name(record: &Record) -> Record {
         Record::AskLdc(r) => Record::AskLdc(hex_reference(r)),
         Record::RawConstant { .. }
         | Record::RawBootstrap { .. }
+        | Record::Version(_)
+        | Record::HoldTexts
+        | Record::HighestSlot(_)
         | Record::EndOfDefinitions
         | Record::Build { .. } => record.clone(),
     }

@@ -22,7 +22,10 @@ pub fn damaged_job(random: &mut Random) -> Vec<u8> {
             random.bytes(length)
         }
         1 | 2 => known_bytes(random),
-        _ => damaged_copy(random),
+        _ => {
+            let records = small_job(random);
+            damaged_copy(records, random)
+        }
     }
 }
 
@@ -30,8 +33,8 @@ fn known_bytes(random: &mut Random) -> Vec<u8> {
     (0..random.below(48)).map(|_| *random.pick(KNOWN)).collect()
 }
 
-fn damaged_copy(random: &mut Random) -> Vec<u8> {
-    let mut records = small_job(random);
+/// The job with something wrong in its records or its bytes.
+pub fn damaged_copy(mut records: Vec<Record>, random: &mut Random) -> Vec<u8> {
     let on_records = random.chance(3, 5);
     if on_records {
         damage_records(&mut records, random);
@@ -60,7 +63,7 @@ fn damage_records(records: &mut Vec<Record>, random: &mut Random) {
 }
 
 /// Moves one entry or request number up or down by one.
-fn shift_number(records: &mut [Record], random: &mut Random) {
+pub fn shift_number(records: &mut [Record], random: &mut Random) {
     let mut numbers: Vec<&mut u16> = records.iter_mut().flat_map(cited_numbers).collect();
     if !numbers.is_empty() {
         let chosen = random.below(numbers.len());
@@ -89,6 +92,7 @@ fn cited_numbers(record: &mut Record) -> Vec<&mut u16> {
             class: ClassSlot::Request(request),
             ..
         } => return vec![request],
+        Record::Version(_) | Record::HoldTexts | Record::HighestSlot(_) => vec![],
         Record::Build { .. } | Record::EndOfDefinitions => vec![],
     };
     let number = |reference| match reference {
@@ -180,8 +184,8 @@ fn form_offsets(record: &Record) -> Vec<usize> {
         Record::NameConstant(name, _) | Record::NameBootstrap(name, _) => vec![2 + name.len()],
         Record::Ask(_) | Record::AskLdc(_) => vec![1],
         Record::Build { .. } => vec![1, 2],
-        Record::RawConstant { .. } | Record::RawBootstrap { .. } | Record::EndOfDefinitions => {
-            vec![]
-        }
+        Record::RawConstant { .. } | Record::RawBootstrap { .. } => vec![],
+        Record::Version(_) | Record::HoldTexts | Record::HighestSlot(_) => vec![],
+        Record::EndOfDefinitions => vec![],
     }
 }

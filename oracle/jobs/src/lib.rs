@@ -1,4 +1,4 @@
-//! Jobs of document 01: their records, and seeded generators of them.
+//! Jobs of document 01, and of document 02 with records 47 to 49: their records, and seeded generators of them.
 
 pub mod damaged;
 pub mod heavy;
@@ -8,6 +8,7 @@ pub mod make;
 pub mod pairs;
 pub mod random;
 pub mod record;
+pub mod settings;
 pub mod small;
 pub mod stream;
 

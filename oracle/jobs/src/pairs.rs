@@ -1,9 +1,10 @@
-//! Pairs of jobs: alike but for their literals (demand 3), and alike but for the order of records
+//! Pairs of jobs: alike but for their literals (demand 3), with and without records 47 to 49, and alike but for the order of records
 //! 41 to 44 (request No. 11).
 
 use crate::make::{NAME_TEXT, TEXT, has_literal};
 use crate::random::Random;
 use crate::record::{Record, Reference};
+use crate::settings::settings_job;
 use crate::small::small_job;
 use std::collections::{BTreeMap, BTreeSet};
 
@@ -12,8 +13,24 @@ pub type Pair = (Vec<Record>, Vec<Record>);
 /// Two small jobs, the second with other literals in the place of the first's.
 pub fn literal_pair(random: &mut Random) -> Pair {
     let first = small_job(random);
+    with_other_literals(first, some_text, random)
+}
+
+/// The same with equal settings. Where texts are held, the second's are letters.
+pub fn settings_pair(random: &mut Random) -> Pair {
+    let first = settings_job(random);
+    let text = match first.contains(&Record::HoldTexts) {
+        true => letters,
+        false => some_text,
+    };
+    with_other_literals(first, text, random)
+}
+
+type Text = fn(&mut Random) -> Vec<u8>;
+
+fn with_other_literals(first: Vec<Record>, text: Text, random: &mut Random) -> Pair {
     let mut second = first.clone();
-    let labels = new_literals(&first, random);
+    let labels = new_literals(&first, text, random);
     for record in &mut second {
         if let Record::Constant(c) = record
             && has_literal(c.tag)
@@ -27,7 +44,7 @@ pub fn literal_pair(random: &mut Random) -> Pair {
 type Labels = BTreeMap<(u8, Vec<u8>), Vec<u8>>;
 
 /// A new literal for each one in the job, no two of a kind alike.
-fn new_literals(records: &[Record], random: &mut Random) -> Labels {
+fn new_literals(records: &[Record], text: Text, random: &mut Random) -> Labels {
     let mut labels = Labels::new();
     let mut taken = BTreeSet::new();
     for record in records {
@@ -40,7 +57,7 @@ fn new_literals(records: &[Record], random: &mut Random) -> Labels {
         }
         let new = match c.literal == NAME_TEXT && c.tag == TEXT {
             true => NAME_TEXT.to_vec(),
-            false => unused_literal(c.tag, c.literal.len(), &taken, random),
+            false => unused_literal(c.tag, c.literal.len(), &taken, text, random),
         };
         taken.insert((c.tag, new.clone()));
         labels.insert(old, new);
@@ -52,11 +69,12 @@ fn unused_literal(
     tag: u8,
     length: usize,
     taken: &BTreeSet<(u8, Vec<u8>)>,
+    text: Text,
     random: &mut Random,
 ) -> Vec<u8> {
     loop {
         let new = match tag {
-            TEXT => some_text(random),
+            TEXT => text(random),
             _ => some_number(length, random),
         };
         let is_name = tag == TEXT && new == NAME_TEXT;
@@ -79,6 +97,12 @@ fn some_text(random: &mut Random) -> Vec<u8> {
         _ => 1 + random.below(6),
     };
     random.bytes(length)
+}
+
+fn letters(random: &mut Random) -> Vec<u8> {
+    let length = random.below(8);
+    let bytes = random.bytes(length);
+    bytes.into_iter().map(|byte| b'a' + byte % 26).collect()
 }
 
 fn some_number(length: usize, random: &mut Random) -> Vec<u8> {

@@ -1,4 +1,4 @@
-//! The records of a job (document 01, "A job") and their bytes.
+//! The records of a job (document 01, "A job", and 47 to 49 of document 02) and their bytes.
 
 /// A reference: byte 0 and a raw slot, 1 and an entry number, or 2 and a name.
 #[derive(Clone, Debug, PartialEq, Eq)]
@@ -40,6 +40,12 @@ pub enum Record {
         index: u16,
         entry: u16,
     },
+    /// 47: the class version (document 02, No. 5).
+    Version(u16),
+    /// 48: every text is held to JVMS 4.4.7 (No. 8).
+    HoldTexts,
+    /// 49: the highest slot (No. 10).
+    HighestSlot(u16),
     EndOfDefinitions,
     Ask(Reference),
     AskLdc(Reference),
@@ -63,6 +69,14 @@ impl Reference {
 }
 
 impl Record {
+    /// Whether this is one of the records 47 to 49, which document 01 doesn't have.
+    pub fn is_setting(&self) -> bool {
+        matches!(
+            self,
+            Record::Version(_) | Record::HoldTexts | Record::HighestSlot(_)
+        )
+    }
+
     /// Appends the record's bytes. Names longer than 255 bytes and texts longer than 65,535 panic.
     pub fn encode(&self, out: &mut Vec<u8>) {
         match self {
@@ -90,6 +104,9 @@ impl Record {
                 tagged_number(out, 0x44, *index);
                 number(out, *entry);
             }
+            Record::Version(version) => tagged_number(out, 0x47, *version),
+            Record::HoldTexts => out.push(0x48),
+            Record::HighestSlot(highest) => tagged_number(out, 0x49, *highest),
             Record::EndOfDefinitions => out.push(0x50),
             Record::Ask(r) => {
                 out.push(0x51);

@@ -2,7 +2,7 @@
 
 use crate::random::Random;
 use crate::record::encode;
-use crate::{damaged, heavy, pairs, small};
+use crate::{damaged, heavy, pairs, settings, small};
 use std::io::{self, ErrorKind, Read, Write};
 use std::iter;
 
@@ -15,6 +15,9 @@ pub fn seeded(kind: &str) -> Option<Step> {
         "ldcfull" => |random| vec![encode(&small::ldc_full_job(random))],
         "damaged" => |random| vec![damaged::damaged_job(random)],
         "pairs" => |random| both(pairs::literal_pair(random)),
+        "settings" => |random| vec![encode(&settings::settings_job(random))],
+        "settings_damaged" => |random| vec![settings::damaged_settings_job(random)],
+        "settings_pairs" => |random| both(pairs::settings_pair(random)),
         "orders" => |random| both(pairs::order_pair(random)),
         _ => return None,
     })

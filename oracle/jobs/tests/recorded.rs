@@ -6,12 +6,15 @@ use jobs::random::Random;
 use jobs::record::encode;
 use jobs::stream::{heavy_jobs, seeded};
 
-const RECORDED: [(&str, u64); 7] = [
+const RECORDED: [(&str, u64); 10] = [
     ("small", 0x9264_b943_53df_e0fd),
     ("ldcfull", 0xa876_3ac8_7897_08b0),
     ("damaged", 0xb7ab_379a_cd71_7249),
     ("pairs", 0xcbf9_1237_966f_5ab3),
     ("orders", 0x1dbc_ac22_2798_3339),
+    ("settings", 0),
+    ("settings_damaged", 0),
+    ("settings_pairs", 0),
     ("heavy", 0xae62_233d_2cf4_5a4d),
     ("large", 0xb587_779e_3f02_253b),
 ];
@@ -43,6 +46,9 @@ fn jobs_are_those_recorded() {
         of_kind("damaged"),
         of_kind("pairs"),
         of_kind("orders"),
+        of_kind("settings"),
+        of_kind("settings_damaged"),
+        of_kind("settings_pairs"),
         ("heavy", hash(heavy_jobs())),
         (
             "large",

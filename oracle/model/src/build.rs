@@ -1,14 +1,22 @@
-//! Building (document 01, "Building"), with 14 and 17.
+//! Building (document 01, "Building"), with 14, 17 and 24.
 
 use crate::bootstraps::{Bootstraps, Numbers};
 use crate::given::Given;
 use crate::job::{NameWish, TEXT};
 use crate::pool::{Pool, PoolEntry};
-use crate::refusal::{NO_INDEX, NO_SLOT};
+use crate::refusal::{NO_INDEX, NO_SLOT, TOO_NEW};
+use crate::settings::Settings;
 use crate::store::{Id, Resolved, Store, Stored};
 use std::collections::BTreeMap;
 
 const NAME: &[u8] = b"BootstrapMethods";
+
+/// What is built for, and what the build record asks.
+pub struct Wish {
+    pub settings: Settings,
+    pub name: NameWish,
+    pub class_slot: u16,
+}
 
 pub struct Made {
     pub pool: Vec<u8>,
@@ -22,18 +30,20 @@ pub fn build<'a>(
     store: &mut Store<'a>,
     mut given: Given,
     raw_bootstraps: &BTreeMap<u16, Id>,
-    name: NameWish,
-    class_slot: u16,
+    wish: Wish,
 ) -> Result<Made, u8> {
     let raw = raw_numbers(store, &mut given, raw_bootstraps)?;
     let mut bootstraps = Bootstraps::new(raw);
     let mut entries = BTreeMap::new();
     while let Some((slot, id)) = given.stack.pop() {
+        if !wish.settings.has_kind(store.get(id).tag) {
+            return Err(TOO_NEW);
+        }
         let entry = pool_entry(store, &mut given, &mut bootstraps, id)?;
         entries.insert(slot, entry);
     }
     bootstraps.finish();
-    let wanted = match name {
+    let wanted = match wish.name {
         NameWish::Always => true,
         NameWish::IfPresent => bootstraps.count > 0,
         NameWish::Never => false,
@@ -51,7 +61,7 @@ pub fn build<'a>(
         bootstrap_count: bootstraps.count.into(),
         bootstraps: bootstraps.bytes,
         name_slot,
-        class_name: pool.class_name(class_slot),
+        class_name: pool.class_name(wish.class_slot),
     })
 }
 

@@ -1,8 +1,8 @@
-//! The definitions, in turn: entries, names (11), raw constants (6, 7, 8) and raw bootstraps (9, 10).
+//! The definitions, in turn: settings, entries, names (11), raw constants (6, 7, 8) and raw bootstraps (9, 10).
 
 use crate::job::{Entry, Kind, Record, Reference, is_wide};
 use crate::refusal::*;
-use crate::slots::HIGHEST_SLOT;
+use crate::settings::Settings;
 use std::collections::{BTreeMap, HashMap};
 
 /// 65,535 indexes, from 0.
@@ -10,6 +10,7 @@ pub const BOOTSTRAP_INDEXES: u16 = 65_535;
 
 #[derive(Default)]
 pub struct Definitions<'a> {
+    pub settings: Settings,
     pub constants: Vec<&'a Entry<'a>>,
     pub bootstraps: Vec<&'a Entry<'a>>,
     pub names: HashMap<(Kind, &'a [u8]), Reference<'a>>,
@@ -42,6 +43,10 @@ impl<'a> Definitions<'a> {
                 Kind::Constant => return self.raw_constant(*at, *entry),
                 Kind::Bootstrap => return self.raw_bootstrap(*at, *entry),
             },
+            Record::Version(version) => self.settings.version = *version,
+            Record::HighestSlot(highest) => self.settings.highest = *highest,
+            // The form pass held the texts.
+            Record::HoldTexts => {}
             Record::EndOfDefinitions | Record::Ask { .. } | Record::Build { .. } => {
                 unreachable!("the form pass leaves none among the definitions")
             }
@@ -53,7 +58,7 @@ impl<'a> Definitions<'a> {
     fn raw_constant(&mut self, slot: u16, entry: u16) -> Result<(), u8> {
         let wide = self.is_wide(entry);
         let last = u32::from(slot) + u32::from(wide);
-        if slot == 0 || last > u32::from(HIGHEST_SLOT) {
+        if slot == 0 || last > u32::from(self.settings.highest) {
             return Err(RAW_OUTSIDE);
         }
         if wide && (self.starts_at(slot + 1) || self.second_half_at(slot + 1)) {

@@ -1,9 +1,11 @@
-//! The form pass: 1, then over the whole job 3, 5 and 4 within each record.
+//! The form pass: 1, then over the whole job 3, 5, 25 and 4 within each record, and 26 behind 3.
 
 mod read;
 
-use crate::job::{ClassSlot, Kind, Record, Reference};
-use crate::refusal::{FORM, NOT_THERE, Refusal, TABLE_FULL, TOO_LONG};
+use crate::job::{ClassSlot, Entry, Kind, Record, Reference, TEXT};
+use crate::refusal::{BAD_HIGHEST_SLOT, BAD_TEXT, FORM, NOT_THERE, Refusal, TABLE_FULL, TOO_LONG};
+use crate::settings::is_highest_slot;
+use crate::text::is_text;
 use read::Reader;
 
 /// "A job is at most 1,048,576 bytes."
@@ -18,18 +20,36 @@ pub fn records(job: &[u8]) -> Result<Vec<Record<'_>>, Refusal> {
         let (code, place) = (TOO_LONG, 0);
         return Err(Refusal { code, place });
     }
+    let (records, fault) = up_to_a_fault(job);
+    // Record 48 may follow the text, "but one behind the job's first other form fault doesn't count".
+    let held = records.contains(&Record::HoldTexts);
+    if let Some(place) = records.iter().position(is_bad_text).filter(|_| held) {
+        let code = BAD_TEXT;
+        return Err(Refusal { code, place });
+    }
+    fault.map_or(Ok(records), Err)
+}
+
+/// The records ahead of the first fault other than 25, and that fault.
+fn up_to_a_fault(job: &[u8]) -> (Vec<Record<'_>>, Option<Refusal>) {
     let mut reader = Reader::new(job);
     let mut seen = Seen::new();
     let mut records = vec![];
     while seen.part != Part::Over || !reader.is_at_end() {
-        // For a missing record or bytes after 60, this is the number the next record would have.
-        let place = records.len();
-        let record = seen
-            .next(&mut reader)
-            .map_err(|code| Refusal { code, place })?;
-        records.push(record);
+        match seen.next(&mut reader) {
+            Ok(record) => records.push(record),
+            Err(code) => {
+                // For a missing record or bytes after 60, this is the number the next record would have.
+                let place = records.len();
+                return (records, Some(Refusal { code, place }));
+            }
+        }
     }
-    Ok(records)
+    (records, None)
+}
+
+fn is_bad_text(record: &Record) -> bool {
+    matches!(record, Record::Entry(Entry { tag: TEXT, literal, .. }) if !is_text(literal))
 }
 
 /// "Definitions stand before 50, requests between 50 and 60, nothing after 60."
@@ -43,6 +63,9 @@ enum Part {
 /// What the records so far hold.
 struct Seen {
     part: Part,
+    records: usize,
+    version: bool,
+    hold_texts: bool,
     constants: usize,
     bootstraps: usize,
     requests: usize,
@@ -52,6 +75,9 @@ impl Seen {
     fn new() -> Self {
         Seen {
             part: Part::Definitions,
+            records: 0,
+            version: false,
+            hold_texts: false,
             constants: 0,
             bootstraps: 0,
             requests: 0,
@@ -61,6 +87,9 @@ impl Seen {
     fn next<'a>(&mut self, reader: &mut Reader<'a>) -> Result<Record<'a>, u8> {
         let record = reader.record().filter(|record| self.is_in_place(record));
         let record = record.ok_or(FORM)?;
+        if matches!(record, Record::HighestSlot(highest) if !is_highest_slot(highest)) {
+            return Err(BAD_HIGHEST_SLOT);
+        }
         if !self.has_room(&record) {
             return Err(TABLE_FULL);
         }
@@ -73,11 +102,20 @@ impl Seen {
 
     fn is_in_place(&self, record: &Record) -> bool {
         let part = match record {
-            Record::Entry(_) | Record::Name(..) | Record::Raw { .. } => Part::Definitions,
-            Record::EndOfDefinitions => Part::Definitions,
             Record::Ask { .. } | Record::Build { .. } => Part::Requests,
+            _ => Part::Definitions,
         };
-        self.part == part
+        self.part == part && self.may_come_now(record)
+    }
+
+    /// 47 and 48 come "at most once", 49 "at most once, as the first record".
+    fn may_come_now(&self, record: &Record) -> bool {
+        match record {
+            Record::Version(_) => !self.version,
+            Record::HoldTexts => !self.hold_texts,
+            Record::HighestSlot(_) => self.records == 0,
+            _ => true,
+        }
     }
 
     fn entries(&self, kind: Kind) -> usize {
@@ -111,7 +149,10 @@ impl Seen {
     }
 
     fn add(&mut self, record: &Record) {
+        self.records += 1;
         match record {
+            Record::Version(_) => self.version = true,
+            Record::HoldTexts => self.hold_texts = true,
             Record::Entry(entry) => match entry.kind() {
                 Kind::Constant => self.constants += 1,
                 Kind::Bootstrap => self.bootstraps += 1,
@@ -119,7 +160,7 @@ impl Seen {
             Record::EndOfDefinitions => self.part = Part::Requests,
             Record::Ask { .. } => self.requests += 1,
             Record::Build { .. } => self.part = Part::Over,
-            Record::Name(..) | Record::Raw { .. } => {}
+            Record::HighestSlot(_) | Record::Name(..) | Record::Raw { .. } => {}
         }
     }
 }

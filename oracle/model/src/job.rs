@@ -1,4 +1,4 @@
-//! A job (document 01, "A job"): a row of records numbered from 0.
+//! A job (document 01, "A job"): a row of records numbered from 0, those of document 02 (47, 48, 49) among them.
 
 /// Constants and bootstraps are numbered, and named, apart.
 #[derive(Clone, Copy, Debug, PartialEq, Eq, Hash)]
@@ -79,6 +79,12 @@ pub enum Record<'a> {
         at: u16,
         entry: u16,
     },
+    /// 47: the class version for which the pool is built (document 02, No. 5).
+    Version(u16),
+    /// 48: every text is held to JVMS 4.4.7 (No. 8).
+    HoldTexts,
+    /// 49: the highest slot (No. 10).
+    HighestSlot(u16),
     EndOfDefinitions,
     Ask {
         citation: Citation<'a>,
@@ -100,6 +106,7 @@ impl<'a> Record<'a> {
                 kind: *kind,
                 reference: Reference::Entry(*entry),
             }],
+            Record::Version(_) | Record::HoldTexts | Record::HighestSlot(_) => vec![],
             Record::EndOfDefinitions | Record::Build { .. } => vec![],
         }
     }

@@ -1,4 +1,4 @@
-//! Refusal numbers, in the words of document 01's table.
+//! Refusal numbers, in the words of document 01's table and of document 02.
 
 /// A refusal number, which comes with a record number.
 #[derive(Clone, Copy, Debug, PartialEq, Eq)]
@@ -15,7 +15,7 @@ pub const FORM: u8 = 3;
 pub const NOT_THERE: u8 = 4;
 /// Entry past 65,536 in a table.
 pub const TABLE_FULL: u8 = 5;
-/// Raw constant at 0 or 65535, or a wide one at 65534.
+/// Raw constant at 0 or 65535, or a wide one at 65534; "also covers a raw constant, or second half, above" the highest slot.
 pub const RAW_OUTSIDE: u8 = 6;
 /// Conflicting raw constant.
 pub const RAW_CONFLICT: u8 = 7;
@@ -39,3 +39,9 @@ pub const NO_LDC_SLOT: u8 = 15;
 pub const LDC_ABOVE_255: u8 = 16;
 /// An inline bootstrap that shares no index, with all 65,535 indexes used, raw ones included.
 pub const NO_INDEX: u8 = 17;
+/// A constant of a kind that the class version doesn't have, "met when a constant comes off the building stack, before its children".
+pub const TOO_NEW: u8 = 24;
+/// A text that JVMS 4.4.7 doesn't allow, in a job with record 48.
+pub const BAD_TEXT: u8 = 25;
+/// "A highest slot of 0 or 65535, in the form pass."
+pub const BAD_HIGHEST_SLOT: u8 = 26;

@@ -1,12 +1,13 @@
 //! The records of a well-formed job in turn: "a refusal giving the number of the record in turn".
 
-use crate::build::build;
+use crate::build::{Wish, build};
 use crate::definitions::Definitions;
 use crate::given::Given;
 use crate::job::{Citation, ClassSlot, Kind, Record, Reference};
 use crate::outcome::{Built, Mark};
 use crate::refusal::{LDC_ABOVE_255, NO_LDC_SLOT, NO_SLOT, Refusal};
 use crate::resolve::Resolver;
+use crate::settings::Settings;
 use crate::slots::{HIGHEST_LDC_SLOT, Slots};
 use crate::store::{Id, Resolved};
 use std::collections::BTreeMap;
@@ -32,6 +33,7 @@ pub fn in_turn<'a>(records: &'a [Record<'a>]) -> Result<Built, Refusal> {
 
 /// What a run is after record 50.
 struct Run<'a> {
+    settings: Settings,
     resolver: Resolver<'a>,
     raw_bootstraps: BTreeMap<u16, Id>,
     given: Given,
@@ -41,13 +43,15 @@ struct Run<'a> {
 impl<'a> Run<'a> {
     /// "Record 50 resolves raw constants by rising slot, then raw bootstraps by rising index."
     fn end_of_definitions(definitions: Definitions<'a>) -> Result<Self, u8> {
-        let slots = Slots::between(&definitions.raw_held());
+        let settings = definitions.settings;
+        let slots = Slots::between(&definitions.raw_held(), settings.highest);
         let raw_constants = definitions.raw_constants.clone();
         let raw_bootstraps = definitions.raw_bootstraps.clone();
         let mut resolver = Resolver::new(definitions);
         let raw_constants = resolve_raw(&mut resolver, Kind::Constant, raw_constants)?;
         let raw_bootstraps = resolve_raw(&mut resolver, Kind::Bootstrap, raw_bootstraps)?;
         Ok(Run {
+            settings,
             resolver,
             raw_bootstraps,
             given: Given::new(slots, raw_constants),
@@ -82,8 +86,13 @@ impl<'a> Run<'a> {
             ClassSlot::Slot(slot) => slot,
             ClassSlot::Request(request) => self.answers[usize::from(request)].0,
         };
+        let wish = Wish {
+            settings: self.settings,
+            name,
+            class_slot,
+        };
         let store = &mut self.resolver.store;
-        let made = build(store, self.given, &self.raw_bootstraps, name, class_slot)?;
+        let made = build(store, self.given, &self.raw_bootstraps, wish)?;
         Ok(Built {
             answers: self.answers,
             pool: made.pool,

@@ -1,7 +1,5 @@
 //! Slots: the gaps between raw definitions, and the three positions.
 
-pub const HIGHEST_SLOT: u16 = 65_534;
-
 /// The highest slot that an ldc instruction reaches.
 pub const HIGHEST_LDC_SLOT: u16 = 255;
 
@@ -19,6 +17,7 @@ impl Gap {
 }
 
 pub struct Slots {
+    highest: u16,
     gaps: Vec<Gap>,
     odd: usize,
     wide: usize,
@@ -27,7 +26,7 @@ pub struct Slots {
 
 impl Slots {
     /// "Gaps are the longest free runs between raw definitions, rising. Three positions start at the first gap."
-    pub fn between(raw_held: &[(u16, u16)]) -> Self {
+    pub fn between(raw_held: &[(u16, u16)], highest: u16) -> Self {
         let mut gaps = vec![];
         let mut first = 1;
         for (held_first, held_last) in raw_held {
@@ -37,11 +36,12 @@ impl Slots {
             }
             first = held_last + 1;
         }
-        if first <= HIGHEST_SLOT {
-            let last = HIGHEST_SLOT;
+        if first <= highest {
+            let last = highest;
             gaps.push(Gap { first, last });
         }
         Slots {
+            highest,
             gaps,
             odd: 0,
             wide: 0,
@@ -78,11 +78,12 @@ impl Slots {
         take(&mut self.gaps, self.wide, 2, false)
     }
 
-    /// "The count is the first free slot of the gap that ends at 65534, with 65535 if that gap is used up or never was."
+    /// "The count is the first free slot of the gap that ends at" the highest slot, with one more than that "if that gap is used up or
+    /// never was".
     pub fn count(&self) -> u16 {
         match self.gaps.last() {
-            Some(gap) if gap.last == HIGHEST_SLOT && gap.length() > 0 => gap.first,
-            _ => HIGHEST_SLOT + 1,
+            Some(gap) if gap.last == self.highest && gap.length() > 0 => gap.first,
+            _ => self.highest + 1,
         }
     }
 }
@@ -107,52 +108,77 @@ fn take(gaps: &mut [Gap], position: usize, slots: u16, ldc: bool) -> Option<u16>
 #[cfg(test)]
 mod tests {
     use super::*;
+    use crate::settings::HIGHEST_SLOT;
 
     fn free(slots: &Slots) -> u32 {
         slots.gaps.iter().map(|gap| u32::from(gap.length())).sum()
     }
 
-    /// "Raw-held, given-out and free slots come to 65,534, a wide one as two."
-    #[test]
-    fn slots_are_conserved() {
-        let mut slots = Slots::between(&[(1, 2), (4, 4), (9, 9), (300, 65_533)]);
-        let mut held = 2 + 1 + 1 + 65_234;
-        assert_eq!(held + free(&slots), 65_534);
+    fn all_between(raw_held: &[(u16, u16)]) -> Slots {
+        Slots::between(raw_held, HIGHEST_SLOT)
+    }
+
+    /// "Raw-held, given-out and free slots come to 65,534", or to the highest slot, "a wide one as two".
+    fn conserved(raw_held: &[(u16, u16)], highest: u16) {
+        let mut slots = Slots::between(raw_held, highest);
+        let of_raw = raw_held.iter().map(|(first, last)| last + 1 - first);
+        let mut held: u32 = of_raw.map(u32::from).sum();
+        assert_eq!(held + free(&slots), highest.into());
         for wide in [false, true, false, false, true, true, false] {
             for ldc in [true, false] {
                 let given = slots.give(wide, ldc).is_some();
                 held += u32::from(given) * (1 + u32::from(wide));
-                assert_eq!(held + free(&slots), 65_534);
+                assert_eq!(held + free(&slots), highest.into());
             }
         }
+    }
+
+    #[test]
+    fn slots_are_conserved() {
+        conserved(&[(1, 2), (4, 4), (9, 9), (300, 65_533)], HIGHEST_SLOT);
+        for highest in 9..40 {
+            conserved(&[(1, 2), (4, 4), (9, 9)], highest);
+        }
+        conserved(&[], 1);
     }
 
     /// Gaps 1 to 4 and 6 to 65534, an even one and an odd one.
     #[test]
     fn odd_gaps_come_first() {
-        let mut slots = Slots::between(&[(5, 5)]);
+        let mut slots = all_between(&[(5, 5)]);
         let given: Vec<_> = (0..3).map(|_| slots.give(false, false)).collect();
         assert_eq!(given, [Some(6), Some(1), Some(2)]);
         assert_eq!(slots.count(), 7);
     }
 
+    /// The highest slot says whether the last gap is odd.
+    #[test]
+    fn the_last_gap_ends_at_the_highest_slot() {
+        let first = |highest| Slots::between(&[(2, 2), (5, 5)], highest).give(false, false);
+        assert_eq!(first(6), Some(1));
+        let mut slots = Slots::between(&[(3, 3), (6, 6)], 9);
+        assert_eq!(slots.give(false, false), Some(7));
+        assert_eq!(slots.count(), 8);
+        assert_eq!(Slots::between(&[(3, 3)], 3).count(), 4);
+    }
+
     /// The odd gap begins above 255, and so the plain position serves ldc, and the wide one doesn't care.
     #[test]
     fn ldc_keeps_low() {
-        let mut slots = Slots::between(&[(1, 253), (256, 256), (258, 65_534)]);
+        let mut slots = all_between(&[(1, 253), (256, 256), (258, 65_534)]);
         let given: Vec<_> = (0..3).map(|_| slots.give(false, true)).collect();
         assert_eq!(given, [Some(254), Some(255), None]);
         assert_eq!(slots.give(false, false), Some(257));
         assert_eq!(slots.give(false, false), None);
-        assert_eq!(Slots::between(&[(1, 255)]).give(true, true), Some(256));
+        assert_eq!(all_between(&[(1, 255)]).give(true, true), Some(256));
     }
 
     #[test]
     fn counts() {
-        assert_eq!(Slots::between(&[]).count(), 1);
-        assert_eq!(Slots::between(&[(1, 65_534)]).count(), 65_535);
-        assert_eq!(Slots::between(&[(65_533, 65_534)]).count(), 65_535);
-        let mut last = Slots::between(&[(1, 65_533)]);
+        assert_eq!(all_between(&[]).count(), 1);
+        assert_eq!(all_between(&[(1, 65_534)]).count(), 65_535);
+        assert_eq!(all_between(&[(65_533, 65_534)]).count(), 65_535);
+        let mut last = all_between(&[(1, 65_533)]);
         assert_eq!(last.count(), 65_534);
         assert_eq!(last.give(false, false), Some(65_534));
         assert_eq!(last.count(), 65_535);

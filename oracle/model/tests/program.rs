@@ -74,6 +74,9 @@ fn generated_jobs_end_as_in_the_module() {
     hold(&["pairs", "9103", "2000"], "2,000");
     hold(&["orders", "9104", "2000"], "2,000");
     hold(&["ldcfull", "9105", "2000"], "2,000");
+    hold(&["settings", "9106", "4000"], "4,000");
+    hold(&["settings_damaged", "9107", "4000"], "4,000");
+    hold(&["settings_pairs", "9108", "2000"], "2,000");
 }
 
 #[test]

@@ -53,7 +53,7 @@ impl Seen {
                 *name <= 2
                     && !matches!(class, ClassSlot::Request(n) if *n as usize >= self.requests)
             }
-            Record::EndOfDefinitions => true,
+            _ => true,
         }
     }
 

@@ -1,0 +1,61 @@
+//! Generated jobs with records 47 to 49: which refusals they meet, and what two of a pair share.
+
+use jobs::stream::endless;
+use model::{Outcome, run};
+use std::collections::BTreeSet;
+
+/// The refusal numbers that so many jobs of a kind meet, with 0 for a built one.
+fn codes(kind: &str, count: usize) -> BTreeSet<u8> {
+    let jobs = endless(kind, 9).unwrap().take(count);
+    jobs.map(|job| match run(&job) {
+        Outcome::Built(_) => 0,
+        Outcome::Refused(refusal) => refusal.code,
+    })
+    .collect()
+}
+
+#[test]
+fn settings_meet_their_refusals() {
+    let met = codes("settings", 4_000);
+    let wanted = [0, 6, 7, 8, 9, 10, 11, 12, 13, 14, 15, 16, 24, 25];
+    assert_eq!(met, BTreeSet::from(wanted));
+    let met = codes("settings_damaged", 4_000);
+    let wanted = [0, 3, 4, 6, 7, 8, 9, 10, 11, 12, 13, 14, 15, 16, 24, 25, 26];
+    assert_eq!(met, BTreeSet::from(wanted));
+}
+
+/// Demand 3 "holds for two jobs with the same highest slot", and "has the premise that neither job is refused 25".
+#[test]
+fn layout_depends_on_shape_and_settings_alone() {
+    let jobs: Vec<Vec<u8>> = endless("settings_pairs", 10).unwrap().take(4_000).collect();
+    let mut equal = 0;
+    for pair in jobs.chunks(2) {
+        let (first, second) = (run(&pair[0]), run(&pair[1]));
+        if !is_bad_text(&first) && !is_bad_text(&second) {
+            assert_eq!(shape(&first), shape(&second), "{pair:02x?}");
+            equal += 1;
+        }
+    }
+    assert!(equal > 1_500, "{equal}");
+}
+
+fn is_bad_text(outcome: &Outcome) -> bool {
+    matches!(outcome, Outcome::Refused(refusal) if refusal.code == 25)
+}
+
+/// What two jobs alike but for their literals share.
+fn shape(outcome: &Outcome) -> String {
+    match outcome {
+        Outcome::Built(b) => format!(
+            "{:?} {:?} {} {:?} {} {} {}",
+            b.answers,
+            &b.pool[..2],
+            b.bootstrap_count,
+            b.bootstraps,
+            b.name_slot,
+            b.class_name.is_some(),
+            b.visits
+        ),
+        refused => refused.to_string(),
+    }
+}
