@@ -22,12 +22,13 @@ ghost use Prim.Native.Nat.{_+_, _<_};
 ghost use lib.Dec.{ltb};
 ghost use lib.ListN.{length};
 ghost use Rattle.definition.specs.Settings.{known};
+ghost use Rattle.definition.specs.Definitions.{tagAt};
 ghost use Rattle.store.specs.Store.{store, On};
 ghost use Rattle.store.specs.Regions.{Work};
 ghost use Rattle.store.specs.Words.{ENTRY};
-ghost use Rattle.interner.specs.Nodes.{nodeCount};
+ghost use Rattle.interner.specs.Nodes.{nodeCount, nodesIn};
 ghost use Rattle.rows.specs.Rowed.{RowRoom, KidsIn, indexWord, IsBootstrapIn};
-ghost use Rattle.pool.specs.Pooled.{LiveIn};
+ghost use Rattle.pool.specs.Pooled.{LiveIn, NodesThere};
 ghost use Rattle.building.specs.Built.{CanBuild, BuiltAll};
 ghost use Rattle.building.specs.Working.{Standing, Working, Owners, RawsSlotted, RowNumbered, Numbered, Finished, Judged, Drained};
 
@@ -117,6 +118,20 @@ fn is_known(version: usize, tag: u8) -> bool
     }
 }
 
+// A version that has every kind of constant.
+const NEWEST: usize = 55;
+
+// The version has the kind of node k. Under the newest, which has every kind, no tag is looked at.
+fn has_kind(job: &[u8], w: &[u32], p: &[usize], version: usize, k: usize) -> bool
+    requires { ⌜ On (now p) (length (now w)) × NodesThere (now job) (now p) (store (now p) (now w)) × (k < nodeCount (store (now p) (now w))) ⌝ }
+    ensures { λ r. ⌜ r ≡ known version (tagAt (nodesIn (now (job .entry)) (store (now (p .entry)) (now (w .entry)))) k) ⌝ }
+{
+    if NEWEST <= version {
+        return true;
+    }
+    is_known(version, node_tag(job, w, p, k))
+}
+
 // Node k, which came off the stack: 24 unless the version has its kind, then `finish`.
 fn judge(
     job: &[u8],
@@ -129,7 +144,7 @@ fn judge(
     requires { ⌜ On (now p) (length (now w)) × Work (now job) (now p) × Working (now job) (now p) (store (now p) (now w)) (now gaps) × (k < nodeCount (store (now p) (now w))) ⌝ }
     ensures { λ r. ⌜ Judged (now (job .entry)) (now (p .entry)) version k (store (now (p .entry)) (now (w .entry))) (store (now (p .entry)) (now (w .exit))) (now (gaps .entry)) (now (gaps .exit)) r ⌝ }
 {
-    if is_known(version, node_tag(job, w, p, k)) {
+    if has_kind(job, w, p, version, k) {
         return finish(job, w, p, gaps, k);
     }
     24
