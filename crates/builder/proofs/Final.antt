@@ -6,6 +6,7 @@ use Prim.Native.Nat.{ℕ, suc, _+_, _≤_, _<_}
 use lib.ListN.{length, getD, drop}
 use Rattle.definition.specs.Basics.{good, lookup}
 use Rattle.definition.specs.Job.{readBuild}
+use Rattle.definition.specs.Numbering.{topOf}
 use Rattle.definition.specs.Definitions.{Defined}
 use Rattle.definition.specs.Slots.{highestSlot, countFrom}
 use Rattle.definition.specs.Building.{markOf, Made, buildAll}
@@ -29,8 +30,8 @@ use Rattle.ending.specs.Ended.{nameIn, countIn, nameOf, Named}
 -- v are the words, h the gap table
 pub record Final (s p : List ℕ) (v : Store) (h : GapTable) (d : Defined) (ready asked : Ready) (m after : Made) : Type 0 where
   -- the definition's stages
-  pub isDefined : definedIn highestSlot s ≡ good d
-  pub isReady : endDefinitions highestSlot (linkedIn s) (constantsIn s) d ≡ good ready
+  pub isDefined : definedIn (topOf (jobIn s)) s ≡ good d
+  pub isReady : endDefinitions (topOf (jobIn s)) (linkedIn s) (constantsIn s) d ≡ good ready
   pub isAsked : answerAll (d .names) (constantsIn s) (suc (length (definitionsIn s))) (jobIn s .requests) ready ≡ good (v ANSWERS, asked)
   pub isMade : buildAll (asked .resolved .nodes) (indexNodes (constantsIn s) (asked .resolved .marks) (d .indexes)) (asked .pool) ≡ good m
   pub isNamed : nameOf s v m ≡ good (nameIn v, after)
@@ -39,8 +40,8 @@ pub record Final (s p : List ℕ) (v : Store) (h : GapTable) (d : Defined) (read
   pub resolved : asked .resolved ≡ resolvedIn s v
   pub table : Table s v
   pub rests : AtRest (size p NODE-HEADS) s v
-  pub raws : RawsIn p (constantsIn s) highestSlot (d .held) (d .indexes) v
-  pub ordered : Ordered (constantsIn s) highestSlot (d .held) (d .indexes) (v RAW-KEYS) (v RAW-ENTRIES) (v ORDER) (rawCount v)
+  pub raws : RawsIn p (constantsIn s) (topOf (jobIn s)) (d .held) (d .indexes) v
+  pub ordered : Ordered (constantsIn s) (topOf (jobIn s)) (d .held) (d .indexes) (v RAW-KEYS) (v RAW-ENTRIES) (v ORDER) (rawCount v)
   pub room : rawCount v ≤ size p RAW-KEYS
   pub rawsDone : (i : ℕ) → i < rawCount v → RawDone s v i
   -- slots and rows
@@ -48,10 +49,11 @@ pub record Final (s p : List ℕ) (v : Store) (h : GapTable) (d : Defined) (read
   pub rowed : RowedIn p (m .rows) v
   pub done : (k : ℕ) → k < nodeCount v → IsOwner v k → KidsDone s p v k
   -- the name and the count
+  pub few : topOf (jobIn s) ≤ highestSlot
   pub named : Named m after v h
-  pub nameLow : nameIn v ≤ highestSlot
-  pub apart : Apart highestSlot 1 (gapsIn (v COUNTS) h)
-  pub count : countIn v ≡ countFrom highestSlot (gapsIn (v COUNTS) h)
+  pub nameLow : nameIn v ≤ topOf (jobIn s)
+  pub apart : Apart (topOf (jobIn s)) 1 (gapsIn (v COUNTS) h)
+  pub count : countIn v ≡ countFrom (topOf (jobIn s)) (gapsIn (v COUNTS) h)
   -- the build record is in turn
   pub place : placeCount v ≡ suc (length (definitionsIn s) + length (jobIn s .requests))
   pub build : readBuild (drop (getD (v COUNTS) AT 0 + 1) s) ≡ some (jobIn s .build, [])

@@ -6,8 +6,8 @@ use Prim.Native.Nat.{ℕ, _+_, _-_, _≤_, _<_}
 use native.Mathlib.Omega.{arith}
 use lib.ListN.{length, getD}
 use Rattle.definition.specs.Job.{ClassSlot, slot, request}
+use Rattle.definition.specs.Numbering.{topOf}
 use Rattle.definition.specs.Definitions.{Defined}
-use Rattle.definition.specs.Slots.{highestSlot}
 use Rattle.definition.specs.Building.{Made}
 use Rattle.definition.specs.Layout.{Ready, classSlotOf}
 use Rattle.facts.proofs.Lists.{clash}
@@ -78,7 +78,7 @@ module _
       let low : k < nodeCount v = omega (arith, y .1, y .2) in (
         y .2,
         ⊎-elim
-            (λ (x : SlotItem highestSlot (d .held) (getD (v RAW-KEYS) i 0) (getD (v RAW-ENTRIES) i 0)).
+            (λ (x : SlotItem (topOf (jobIn s)) (d .held) (getD (v RAW-KEYS) i 0) (getD (v RAW-ENTRIES) i 0)).
             let key : getD (v RAW-KEYS) i 0 < ENTRY = omega (arith, x .high) in
             owner-numbered k low (inr (i, held.raw-owner s p v h d ready asked m after are work f i l key whole)))
             (λ (x : IndexItem (constantsIn s) (d .indexes) (getD (v RAW-KEYS) i 0) (getD (v RAW-ENTRIES) i 0)).
@@ -100,17 +100,17 @@ module _
   pub order-here : HeldOrder p v
   order-here =
       let c = room s p work in
-      held-order p (constantsIn s) highestSlot (d .held) (d .indexes) v (f .raws) (f .ordered) (omega (arith, c .counts)) (f .room)
+      held-order p (constantsIn s) (topOf (jobIn s)) (d .held) (d .indexes) v (f .raws) (f .ordered) (omega (arith, c .counts)) (f .room)
       (omega (arith, f .room, c .raws .entries)) (omega (arith, f .room, c .raws .order))
 
   pub count-here : (1 ≤ poolCount v) × (poolCount v < 65536)
   count-here =
-      let r = count-range highestSlot (gapsIn (v COUNTS) h) (f .apart) in
+      let r = count-range (topOf (jobIn s)) (gapsIn (v COUNTS) h) (f .apart) in
       (omega (arith, r, f .count), omega (arith, r, f .count))
 
   pub finished-here : (u : Store) → OwnersMade p v u → Finished s p u
   finished-here u made =
-      all-finished s p (constantsIn s) highestSlot (d .held) (d .indexes) v u work made (f .raws) (f .room) raw-done given-alone owned-here order-here
+      all-finished s p (constantsIn s) (topOf (jobIn s)) (d .held) (d .indexes) v u work made (f .raws) (f .room) raw-done given-alone owned-here order-here
       (count-here .0) (count-here .1)
     where
       raw-done :

@@ -5,9 +5,10 @@ use mathlib.Core.Logic.{_⊎_, inl, inr}
 use mathlib.Core.Path.{_≡_, refl, sym, subst}
 use Prim.Native.Nat.{ℕ, suc}
 use Rattle.definition.specs.Basics.{good, unless, insert}
+use Rattle.definition.specs.Settings.{version, texts, highest}
 use Rattle.definition.specs.Shapes.{constant, bootstrap, isWide, Entry}
-use Rattle.definition.specs.Job.{Definition, define, named, placed}
-use Rattle.definition.specs.Definitions.{Held, starts, half, Defined, nameTarget, isNone, tagAt, hold, placeConstant, placeBootstrap, defineOne, defineAll, nothingDefined}
+use Rattle.definition.specs.Job.{Definition, define, named, placed, setting}
+use Rattle.definition.specs.Definitions.{Held, starts, half, Defined, nameTarget, isNone, tagAt, hold, placeConstant, placeBootstrap, withSetting, defineOne, defineAll, nothingDefined}
 use Rattle.facts.specs.Lists.{Among}
 use Rattle.facts.proofs.Lists.{clash, among-nil}
 use Rattle.facts.proofs.Tables.{insert-new, insert-old, insert-among}
@@ -52,7 +53,7 @@ module _ {R : Type 0} (top : ℕ) (constants : List (Entry ℕ R)) where
   wide e = isWide (tagAt constants e)
 
   one-halves : (x : Definition ℕ) (d d′ : Defined) → Halves wide (d .held) → defineOne top constants x d ≡ good d′ → Halves wide (d′ .held)
-  unfolding defineOne
+  unfolding defineOne withSetting
   one-halves (define x) d d′ h q = subst (λ (y : Defined). Halves wide (y .held)) (good-inj q) h
   one-halves (named kind s r) d d′ h q =
       good-then (unless (isNone (nameTarget kind s (d .names))) 11) _ d′ q λ _ _ g. subst (λ (y : Defined). Halves wide (y .held)) (good-inj g) h
@@ -62,6 +63,9 @@ module _ {R : Type 0} (top : ℕ) (constants : List (Entry ℕ R)) where
       (subst (Halves wide) (placed-constant top (wide e) n e (d .held) held p .now) (hold-halves wide (wide e) n e (d .held) refl h))
   one-halves (placed bootstrap n e) d d′ h q =
       good-then (placeBootstrap n e (d .indexes)) _ d′ q λ indexes p g. subst (λ (y : Defined). Halves wide (y .held)) (good-inj g) h
+  one-halves (setting (version v)) d d′ h q = subst (λ (y : Defined). Halves wide (y .held)) (good-inj q) h
+  one-halves (setting texts) d d′ h q = subst (λ (y : Defined). Halves wide (y .held)) (good-inj q) h
+  one-halves (setting (highest n)) d d′ h q = subst (λ (y : Defined). Halves wide (y .held)) (good-inj q) h
 
   pub defined-halves : (ds : List (Definition ℕ)) (d : Defined) → defineAll top constants 0 ds nothingDefined ≡ good d → Halves wide (d .held)
   unfolding nothingDefined

@@ -8,9 +8,9 @@ use native.Mathlib.Omega.{arith}
 use lib.ListN.{getD, getElem?}
 use borrow.Author.Tests.{eq-eqb, ne-eqb}
 use Rattle.definition.specs.Basics.{lookup}
+use Rattle.definition.specs.Numbering.{topOf}
 use Rattle.definition.specs.Definitions.{Held, starts, half, Defined}
 use Rattle.definition.specs.Resolving.{done}
-use Rattle.definition.specs.Slots.{highestSlot}
 use Rattle.definition.specs.Building.{Made}
 use Rattle.definition.specs.Layout.{Ready, starters, nodeAt}
 use Rattle.facts.specs.Lists.{Among}
@@ -22,7 +22,7 @@ use Rattle.laws.proofs.building.ChildNumbers.{given-held}
 use Rattle.laws.proofs.slots.SlotsToHold.{toHold, toHold-among}
 use Rattle.slots.specs.Gaps.{GapTable}
 use Rattle.store.specs.Store.{Store}
-use Rattle.store.specs.JobIn.{constantsIn, entriesIn}
+use Rattle.store.specs.JobIn.{jobIn, constantsIn, entriesIn}
 use Rattle.store.specs.Regions.{MARKS, GIVEN, RAW-KEYS, RAW-ENTRIES, Work}
 use Rattle.store.specs.Words.{ENTRY, HALF, markWord}
 use Rattle.interner.specs.Nodes.{nodeCount, nodesIn}
@@ -90,13 +90,13 @@ module _
   -- RAW ONES
 
   found-held : (n : ℕ) (x : Held) → Among (n, x) (d .held) → lookup n (d .held) ≡ some x
-  found-held n x a = rising-lookup 1 highestSlot (d .held) n x (f .raws .heldRise) a
+  found-held n x a = rising-lookup 1 (topOf (jobIn s)) (d .held) n x (f .raws .heldRise) a
 
   -- a raw slot below 65,536 is the definition's
-  pub slot-item : (i : ℕ) → i < rawCount v → getD (v RAW-KEYS) i 0 < ENTRY → SlotItem highestSlot (d .held) (getD (v RAW-KEYS) i 0) (getD (v RAW-ENTRIES) i 0)
+  pub slot-item : (i : ℕ) → i < rawCount v → getD (v RAW-KEYS) i 0 < ENTRY → SlotItem (topOf (jobIn s)) (d .held) (getD (v RAW-KEYS) i 0) (getD (v RAW-ENTRIES) i 0)
   slot-item i l low =
       ⊎-elim
-      (λ (x : SlotItem highestSlot (d .held) (getD (v RAW-KEYS) i 0) (getD (v RAW-ENTRIES) i 0)). x)
+      (λ (x : SlotItem (topOf (jobIn s)) (d .held) (getD (v RAW-KEYS) i 0) (getD (v RAW-ENTRIES) i 0)). x)
       (λ (x : IndexItem (constantsIn s) (d .indexes) (getD (v RAW-KEYS) i 0) (getD (v RAW-ENTRIES) i 0)). absurd (omega (arith, x .low)))
       (f .raws .items i l)
 
@@ -164,7 +164,7 @@ module _
   half-apart n k b a =
       ⊎-elim
       (λ (g : Among (k, n) (m .pool .given)).
-      given-apart highestSlot (d .held) (nodesIn s v) (m .pool) (sound-built s p v h d ready asked m after are work f) k n half g b)
+      given-apart (topOf (jobIn s)) (d .held) (nodesIn s v) (m .pool) (sound-built s p v h d ready asked m after are work f) k n half g b)
       (λ (r : Among (n, k) rawNodes).
       let (e, c, mark) = raw-node s p v h d ready asked m after are work f n k r in
       let q : starts e ≡ half = some-inj (sym (found-held n (starts e) (starters-start (d .held) n e c)) ∙ found-held n half b) in

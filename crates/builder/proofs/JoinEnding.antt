@@ -11,7 +11,7 @@ use Rattle.definition.specs.Building.{Pool, Made, buildAll}
 use Rattle.definition.specs.Layout.{Ready, indexNodes, layout}
 use Rattle.slots.specs.Gaps.{GapTable}
 use Rattle.store.specs.Store.{Store, size}
-use Rattle.store.specs.JobIn.{jobIn, definitionsIn, constantsIn}
+use Rattle.store.specs.JobIn.{jobIn, definitionsIn, countsIn, constantsIn}
 use Rattle.store.specs.Regions.{MARKS, NODE-HEADS, ANSWERS, PLACE, AT, NAME-SLOT, Work}
 use Rattle.store.specs.Words.{markWord}
 use Rattle.interner.specs.Nodes.{nodesIn}
@@ -25,16 +25,17 @@ use Rattle.ending.specs.Ended.{CanEnd, PoolEnded}
 use Rattle.builder.proofs.Stages.{refused-building, refused-naming}
 use Rattle.builder.proofs.JoinKeeping.{Later, built-later, named-later, later-then, nodes-same, table-stays, rests-stay, ready-stays}
 use Rattle.builder.proofs.JoinAsking.{rows-ready, raws-are}
+use Rattle.builder.proofs.JoinVersions.{held-version}
 
 -- BUILT: t and g are behind the requests, u and h behind building, which gave r
 module _
     (p : List ℕ) (top : ℕ) (s : List ℕ) (t u : Store) (g h : GapTable) (r : ℕ) (work : Work s p) (long : (k : ℕ) → length (t k) ≡ size p k)
-    (d : Defined) (ready : Ready) (pool : Pool) (asked : Asked p top s t g d ready pool) (built : BuiltAll s p t u g h r) where
+    (d : Defined) (ready : Ready) (pool : Pool) (asked : Asked p top s t g d ready pool) (built : BuiltAll s p (countsIn s .version) t u g h r) where
   abbrev words : AskedWords p top s t g d
   words = asked .words
 
   later : Later t u
-  later = built-later s p t u g h r built
+  later = built-later s p (countsIn s .version) t u g h r built
 
   -- the record in turn is 60 from then on
   pub place-at : (v : Store) → Later t v → placeCount v ≡ suc (length (definitionsIn s) + length (jobIn s .requests))
@@ -43,7 +44,7 @@ module _
   pub built-refused : 0 < r → layout top (numbered (jobIn s)) ≡ bad (record { code = r; place = placeCount u })
   built-refused more =
       refused-building top s d ready (t ANSWERS) (readyIn s t pool) (asked .isAsked) r
-      (built .refused pool _ (asked .pooled) (raws-are p top s t g d work long words) more)
+      (built .refused pool _ (held-version p top s t g d ready pool asked) (asked .pooled) (raws-are p top s t g d work long words) more)
       ∙ ap (λ n. bad (record { code = r; place = n })) (sym (place-at u later))
 
   pub can-end : top ≤ highestSlot → CanEnd s p top u h
@@ -67,7 +68,7 @@ module _
 
   pub made : r ≡ 0 → (m : Made) × Built m
   made fine =
-      let (m, is, pooled, rowed) = built .met pool _ (asked .pooled) (raws-are p top s t g d work long words) fine in
+      let (m, is, pooled, rowed) = built .met pool _ (held-version p top s t g d ready pool asked) (asked .pooled) (raws-are p top s t g d work long words) fine in
       (m, record { is = is; pooled = pooled; rowed = rowed })
 
   -- NAMED: v and i are behind the name and the count, which gave n

@@ -38,9 +38,9 @@ pub record Later (t u : Store) : Type 0 where
   pub kept : Kept builtRegions t u
   pub counters : SameBut laterCounters (t COUNTS) (u COUNTS)
 
-pub built-later : (s p : List ℕ) (t u : Store) (g h : GapTable) (r : ℕ) → BuiltAll s p t u g h r → Later t u
+pub built-later : (s p : List ℕ) (version : ℕ) (t u : Store) (g h : GapTable) (r : ℕ) → BuiltAll s p version t u g h r → Later t u
 unfolding every
-built-later s p t u g h r b =
+built-later s p version t u g h r b =
     record { kept = b .kept; counters = same-more builtCounters laterCounters (t COUNTS) (u COUNTS) refl (b .counters) }
 
 pub named-later : (t u : Store) → Kept (COUNTS ∷ []) t u → SameBut namedCounters (t COUNTS) (u COUNTS) → Later t u

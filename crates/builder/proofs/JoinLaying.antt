@@ -1,16 +1,23 @@
 -- `lay_out` from call to call: what each call asks, and what is laid out where one refuses, or all are through. Assumes nothing.
 use mathlib.Core.List.{List}
-use mathlib.Core.Path.{_≡_}
+use mathlib.Core.Path.{_≡_, sym, ap, subst}
 use Prim.Native.Nat.{ℕ, _≤_, _<_}
 use native.Mathlib.Omega.{arith}
 use lib.ListN.{length, getD}
+use Rattle.definition.specs.Numbering.{topOf}
 use Rattle.definition.specs.Slots.{highestSlot}
 use Rattle.laws.specs.Statements.{IsBytes}
+use Rattle.laws.proofs.form.HighestSlots.{top-low}
+use Rattle.job.specs.declared.JobCounts.{JobCounts}
+use Rattle.job.specs.Forms.{countsOf}
 use Rattle.slots.specs.Gaps.{GapTable}
 use Rattle.store.specs.Store.{Store, size, store, On}
 use Rattle.store.specs.Chains.{Heads}
+use Rattle.store.specs.JobIn.{WellFormed, jobIn, definitionsIn, countsIn}
 use Rattle.store.specs.Regions.{COUNTS, GIVEN, OWNER-HEADS, OWNER-LINKS, NODE-COUNT, Work}
 use Rattle.store.proofs.Stores.{length-store}
+use Rattle.store.proofs.Laying.{work-formed}
+use Rattle.store.proofs.Bounds.{formed-job}
 use Rattle.definitions.proofs.Beginning.{on-kept}
 use Rattle.interner.specs.Nodes.{nodeCount}
 use Rattle.output.specs.Contents.{OwnersMade}
@@ -23,26 +30,49 @@ use Rattle.builder.proofs.JoinAsking.{can-build}
 use Rattle.builder.proofs.JoinEnding.{built-refused, can-end, named-refused}
 use Rattle.builder.proofs.JoinFinal.{can-own, all-through}
 
+-- THE HIGHEST SLOT that the form pass found is the job's
+module _ (s : List ℕ) (c : JobCounts) (is : c ≡ countsIn s) where
+  top-counted : c .highest ≡ topOf (jobIn s)
+  unfolding countsIn countsOf definitionsIn
+  top-counted = ap (λ (x : JobCounts). x .highest) is
+
+  -- and one that there is
+  pub top-few : WellFormed s → c .highest ≤ highestSlot
+  top-few formed = rw top-counted (top-low s (jobIn s) (formed-job s formed))
+
 -- BEHIND THE REQUESTS: w are the words
 module _
-    (p w s : List ℕ) (g : GapTable) (a : ℕ) (asked : AskedAll p (length w) highestSlot s (store p w) g a) where
+    (p w s : List ℕ) (g : GapTable) (a : ℕ) (c : JobCounts) (is : c ≡ countsIn s)
+    (asked-counted : AskedAll p (length w) (c .highest) s (store p w) g a) where
+  abbrev top : ℕ
+  top = topOf (jobIn s)
+
+  abbrev version : ℕ
+  version = countsIn s .version
+
+  asked : AskedAll p (length w) top s (store p w) g a
+  asked = subst (λ (n : ℕ). AskedAll p (length w) n s (store p w) g a) (top-counted s c is) asked-counted
+
   abbrev t : Store
   t = store p w
 
   pub laid-asked : 0 < a → LaidOut p (length w) s t a
   laid-asked more =
-      record { places = asked .places; through = λ e. absurd (omega arith); refused = λ _. refused-asking highestSlot s _ (asked .refused more) }
+      record { places = asked .places; through = λ e. absurd (omega arith); refused = λ _. refused-asking top s _ (asked .refused more) }
 
   module _ (fine : a ≡ 0) where
     abbrev work : Work s p
     work = asked .places .0
 
     pub to-build : On p (length w) × Work s p × CanBuild s p t g
-    to-build = let q = asked .through fine in (asked .places .1, work, can-build p highestSlot s t g (q .0) work (length-store p w) (q .3 .words))
+    to-build = let q = asked .through fine in (asked .places .1, work, can-build p top s t g (q .0) work (length-store p w) (q .3 .words))
 
     -- BEHIND BUILDING: x are the words
     module _
-        (x : List ℕ) (many : length x ≡ length w) (h : GapTable) (r : ℕ) (built : BuiltAll s p (store p w) (store p x) g h r) where
+        (x : List ℕ) (many : length x ≡ length w) (h : GapTable) (r : ℕ) (built-counted : BuiltAll s p (c .version) (store p w) (store p x) g h r) where
+      built : BuiltAll s p version (store p w) (store p x) g h r
+      built = subst (λ (y : JobCounts). BuiltAll s p (y .version) (store p w) (store p x) g h r) is built-counted
+
       abbrev u : Store
       u = store p x
 
@@ -55,18 +85,23 @@ module _
           record {
             places = places-built;
             through = λ e. absurd (omega arith);
-            refused = λ _. built-refused p highestSlot s t u g h r work (length-store p w) (q .0) (q .1) (q .2) (q .3) built more;
+            refused = λ _. built-refused p top s t u g h r work (length-store p w) (q .0) (q .1) (q .2) (q .3) built more;
           }
 
-      pub to-end : On p (length x) × CanEnd s p highestSlot u h
+      pub to-end : On p (length x) × CanEnd s p (c .highest) u h
       to-end =
           let q = asked .through fine in
-          (places-built .1, can-end p highestSlot s t u g h r work (length-store p w) (q .0) (q .1) (q .2) (q .3) built (omega arith))
+          let low = top-low s (jobIn s) (formed-job s (work-formed s p work)) in
+          let ready = can-end p top s t u g h r work (length-store p w) (q .0) (q .1) (q .2) (q .3) built low in
+          (places-built .1, subst (λ (n : ℕ). CanEnd s p n u h) (sym (top-counted s c is)) ready)
 
       -- BEHIND THE NAME AND THE COUNT: y are the words
       module _
           (built-fine : r ≡ 0) (y : List ℕ) (as-many : length y ≡ length x) (i : GapTable) (n : ℕ)
-          (ended : PoolEnded s p highestSlot (store p x) (store p y) h i n) where
+          (ended-counted : PoolEnded s p (c .highest) (store p x) (store p y) h i n) where
+        ended : PoolEnded s p top (store p x) (store p y) h i n
+        ended = subst (λ (z : ℕ). PoolEnded s p z (store p x) (store p y) h i n) (top-counted s c is) ended-counted
+
         abbrev v : Store
         v = store p y
 
@@ -80,7 +115,7 @@ module _
               places = places-named;
               through = λ e. absurd (omega arith);
               refused =
-                  λ _. named-refused p highestSlot s t u g h r work (length-store p w) (q .0) (q .1) (q .2) (q .3) built built-fine v i n ended more;
+                  λ _. named-refused p top s t u g h r work (length-store p w) (q .0) (q .1) (q .2) (q .3) built built-fine v i n ended more;
             }
 
         pub to-own :

@@ -10,10 +10,9 @@ use lib.ListN.{length, getElem?}
 use Rattle.definition.specs.Basics.{good, lookup}
 use Rattle.definition.specs.Shapes.{Entry, isWide}
 use Rattle.definition.specs.Form.{form}
-use Rattle.definition.specs.Numbering.{literals, numbered, constantsOf}
+use Rattle.definition.specs.Numbering.{topOf, literals, numbered, constantsOf}
 use Rattle.definition.specs.Definitions.{Defined, half, tagAt}
 use Rattle.definition.specs.Resolving.{Node, done, Resolved}
-use Rattle.definition.specs.Slots.{highestSlot}
 use Rattle.definition.specs.Building.{Made, kidsOf, buildAll, attributeText, nameWanted, nameSlot}
 use Rattle.definition.specs.Layout.{Ready, Layout, layout, starters, endDefinitions, answerAll, indexNodes}
 use Rattle.facts.specs.Lists.{Among}
@@ -64,11 +63,11 @@ module _
   abbrev l : Layout
   l = layoutIn s v asked m after
 
-  laid : layout highestSlot (numbered (jobIn s)) ≡ good l
+  laid : layout (topOf (jobIn s)) (numbered (jobIn s)) ≡ good l
   laid = laid-out s p v h d ready asked m after f
 
   -- the stages that the laws speak of
-  abbrev stg : Stages highestSlot (numbered (jobIn s)) l
+  abbrev stg : Stages (topOf (jobIn s)) (numbered (jobIn s)) l
   stg = built.st s (jobIn s) l are formed laid
 
   same-defined : stg .defined ≡ d
@@ -78,8 +77,8 @@ module _
   same-ready : stg .ready ≡ ready
   unfolding recordsIn
   same-ready =
-      let is : endDefinitions highestSlot (staged.tableIn (numbered (jobIn s)) d) (length (constantsOf (recordsIn s))) d ≡ good ready =
-      rw (linked-is highestSlot s d (f .isDefined), constants-many s) (f .isReady) in
+      let is : endDefinitions (topOf (jobIn s)) (staged.tableIn (numbered (jobIn s)) d) (length (constantsOf (recordsIn s))) d ≡ good ready =
+      rw (linked-is (topOf (jobIn s)) s d (f .isDefined), constants-many s) (f .isReady) in
       good-inj (sym (stg .isReady) ∙ (rw same-defined is))
 
   same-asked : stg .asked ≡ asked
@@ -122,13 +121,13 @@ module _
       (built.starts-here s (jobIn s) l are formed laid))
 
   -- and ends with this
-  pub ended-built : Ended highestSlot (d .held) rawsIn (nodesIn s v) (tableOf (m .rows)) m
+  pub ended-built : Ended (topOf (jobIn s)) (d .held) rawsIn (nodesIn s v) (tableOf (m .rows)) m
   ended-built =
-      subst (λ (r : Resolved). Ended highestSlot (d .held) rawsIn (r .nodes) (tableOf (m .rows)) m) (f .resolved)
+      subst (λ (r : Resolved). Ended (topOf (jobIn s)) (d .held) rawsIn (r .nodes) (tableOf (m .rows)) m) (f .resolved)
       (subst
-      (λ (x : All). Ended highestSlot (x .0 .held) (rawsOf (x .0 .held) (x .1 .resolved .marks)) (x .2 .resolved .nodes) (tableOf (x .3 .rows)) (x .3))
+      (λ (x : All). Ended (topOf (jobIn s)) (x .0 .held) (rawsOf (x .0 .held) (x .1 .resolved .marks)) (x .2 .resolved .nodes) (tableOf (x .3 .rows)) (x .3))
       same-all
-      (built-ended highestSlot (stg .defined .held) (built.raws s (jobIn s) l are formed laid) (built.nodes s (jobIn s) l are formed laid)
+      (built-ended (topOf (jobIn s)) (stg .defined .held) (built.raws s (jobIn s) l are formed laid) (built.nodes s (jobIn s) l are formed laid)
       (built.indexes s (jobIn s) l are formed laid) (stg .asked .pool) (stg .made)
       (built.asked s (jobIn s) l are formed laid .0 .pooled)
       (built.starts-here s (jobIn s) l are formed laid)
@@ -198,19 +197,19 @@ module _
       same-all
       (read.raw-keys s (jobIn s) l are formed laid)
 
-  pub sound-built : Sound highestSlot (d .held) (nodesIn s v) (m .pool)
+  pub sound-built : Sound (topOf (jobIn s)) (d .held) (nodesIn s v) (m .pool)
   sound-built = sound (ended-built .occurs)
 
   -- no slot is to hold two nodes
   pub one-node : (n j k : ℕ) → Among (n, j) (toHold (m .pool .given) rawsIn) → Among (n, k) (toHold (m .pool .given) rawsIn) → j ≡ k
   one-node n j k =
       once-same (toHold (m .pool .given) rawsIn) n j k
-      (starts-once highestSlot (d .held) (nodesIn s v) (m .pool) rawsIn sound-built raw-keys raw-wide n)
+      (starts-once (topOf (jobIn s)) (d .held) (nodesIn s v) (m .pool) rawsIn sound-built raw-keys raw-wide n)
 
   -- a slot that is to hold a node is one
-  pub held-in : (n k : ℕ) → Among (n, k) (toHold (m .pool .given) rawsIn) → (1 ≤ n) × (n ≤ highestSlot)
+  pub held-in : (n k : ℕ) → Among (n, k) (toHold (m .pool .given) rawsIn) → (1 ≤ n) × (n ≤ topOf (jobIn s))
   held-in n k a =
-      let r = start-in highestSlot (d .held) (nodesIn s v) (m .pool) rawsIn sound-built raw-keys raw-wide n k a in
+      let r = start-in (topOf (jobIn s)) (d .held) (nodesIn s v) (m .pool) rawsIn sound-built raw-keys raw-wide n k a in
       (r .0, r .1)
 
   -- the text "BootstrapMethods" doesn't stand where a wide raw constant does
@@ -223,7 +222,7 @@ module _
       let o = read.owner-tag s (jobIn s) l are formed laid n attributeText e in
       let same : o .0 ≡ k =
       once-same (toHold (read.pool s (jobIn s) l are formed laid .given) (built.raws s (jobIn s) l are formed laid)) n (o .0) k
-      (starts-once highestSlot (stg .defined .held) (read.allNodes s (jobIn s) l are formed laid) (read.pool s (jobIn s) l are formed laid)
+      (starts-once (topOf (jobIn s)) (stg .defined .held) (read.allNodes s (jobIn s) l are formed laid) (read.pool s (jobIn s) l are formed laid)
       (built.raws s (jobIn s) l are formed laid) (read.soundly s (jobIn s) l are formed laid) (read.raw-keys s (jobIn s) l are formed laid)
       (read.raw-wide s (jobIn s) l are formed laid) n)
       (o .1)

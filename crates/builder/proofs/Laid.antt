@@ -4,9 +4,8 @@ use mathlib.Core.Path.{_≡_, ap, _∙_}
 use Prim.Native.Nat.{ℕ}
 use lib.ListN.{length}
 use Rattle.definition.specs.Basics.{Result, good, _>>=_, Refusal, atRecord}
-use Rattle.definition.specs.Numbering.{numbered}
+use Rattle.definition.specs.Numbering.{topOf, numbered}
 use Rattle.definition.specs.Definitions.{Defined}
-use Rattle.definition.specs.Slots.{highestSlot}
 use Rattle.definition.specs.Building.{Made, nameWanted, nameSlot}
 use Rattle.definition.specs.Layout.{Ready, Layout, layoutOf, buildLayout, indexNodes, layout}
 use Rattle.slots.specs.Gaps.{GapTable}
@@ -32,12 +31,12 @@ at-record place r a f e = ap (λ x. atRecord place x >>= f) e
 -- what the definition lays out, by the name's slot and what is made when it has one
 abbrev pub layoutIn : List ℕ → Store → Ready → Made → Made → Layout
 layoutIn s v asked m after =
-    layoutOf highestSlot (v ANSWERS) (asked .origins) (asked .resolved .visits) (jobIn s .build .class) (rowed.tableOf (m .rows)) (nameIn v, after)
+    layoutOf (topOf (jobIn s)) (v ANSWERS) (asked .origins) (asked .resolved .visits) (jobIn s .build .class) (rowed.tableOf (m .rows)) (nameIn v, after)
 
 module _ (s p : List ℕ) (v : Store) (h : GapTable) (d : Defined) (ready asked : Ready) (m after : Made) (f : Final s p v h d ready asked m after) where
   -- record 60
   built-out :
-      buildLayout highestSlot (indexNodes (constantsIn s) (asked .resolved .marks) (d .indexes)) (jobIn s .build) (v ANSWERS) asked
+      buildLayout (topOf (jobIn s)) (indexNodes (constantsIn s) (asked .resolved .marks) (d .indexes)) (jobIn s .build) (v ANSWERS) asked
       ≡ good (layoutIn s v asked m after)
   unfolding buildLayout
   built-out =
@@ -48,11 +47,11 @@ module _ (s p : List ℕ) (v : Store) (h : GapTable) (d : Defined) (ready asked 
       _
       (rw (f .resolved) (f .isNamed))
 
-  pub laid-out : layout highestSlot (numbered (jobIn s)) ≡ good (layoutIn s v asked m after)
+  pub laid-out : layout (topOf (jobIn s)) (numbered (jobIn s)) ≡ good (layoutIn s v asked m after)
   unfolding layout recordsIn numbered definitionsIn atRecord
   laid-out =
-      then (definedIn highestSlot s) d _ (f .isDefined)
-      ∙ rw (linked-is highestSlot s d (f .isDefined), constants-many s, records-many s)
+      then (definedIn (topOf (jobIn s)) s) d _ (f .isDefined)
+      ∙ rw (linked-is (topOf (jobIn s)) s d (f .isDefined), constants-many s, records-many s)
       (at-record (length (definitionsIn s)) _ ready _ (f .isReady)
       ∙ then _ (v ANSWERS, asked) _ (f .isAsked)
       ∙ ap (atRecord _) built-out)

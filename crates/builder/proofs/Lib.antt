@@ -16,6 +16,7 @@ pub mod Finishing
 pub mod Showing
 pub mod JoinKeeping
 pub mod JoinAsking
+pub mod JoinVersions
 pub mod JoinNaming
 pub mod JoinEnding
 pub mod JoinFinal

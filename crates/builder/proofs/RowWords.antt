@@ -8,15 +8,15 @@ use native.Mathlib.Omega.{arith}
 use lib.ListN.{length, getD, getElem?}
 use borrow.Author.Tests.{lt-ltb, le-ltb, eq-eqb, ne-eqb}
 use Rattle.definition.specs.Basics.{lookup}
+use Rattle.definition.specs.Numbering.{topOf}
 use Rattle.definition.specs.Definitions.{Defined}
-use Rattle.definition.specs.Slots.{highestSlot}
 use Rattle.definition.specs.Building.{Made}
 use Rattle.definition.specs.Layout.{Ready}
 use Rattle.facts.proofs.Lists.{some-inj, equal, order, found-read}
 use Rattle.laws.specs.Statements.{IsBytes}
 use Rattle.slots.specs.Gaps.{GapTable}
 use Rattle.store.specs.Store.{Store, size}
-use Rattle.store.specs.JobIn.{constantsIn}
+use Rattle.store.specs.JobIn.{jobIn, constantsIn}
 use Rattle.store.specs.Regions.{MARKS, GIVEN, FIRSTS, SIZES, CHILDREN, RAW-KEYS, RAW-ENTRIES, ORDER, NODES, INLINE, Work}
 use Rattle.store.specs.Words.{ENTRY, childSlot}
 use Rattle.interner.specs.Nodes.{nodeCount}
@@ -84,7 +84,7 @@ module _
   index-done k e l =
       let (i, low, key) = f .raws .rows k e l in
       ⊎-elim
-      (λ (x : SlotItem highestSlot (d .held) (getD (v RAW-KEYS) i 0) (getD (v RAW-ENTRIES) i 0)). absurd (omega (arith, x .high, key)))
+      (λ (x : SlotItem (topOf (jobIn s)) (d .held) (getD (v RAW-KEYS) i 0) (getD (v RAW-ENTRIES) i 0)). absurd (omega (arith, x .high, key)))
       (λ (x : IndexItem (constantsIn s) (d .indexes) (getD (v RAW-KEYS) i 0) (getD (v RAW-ENTRIES) i 0)).
       let back : getD (v RAW-KEYS) i 0 - ENTRY ≡ k = omega (arith, key) in
       let same : getD (v RAW-ENTRIES) i 0 - constantsIn s ≡ e = some-inj (sym (x .row) ∙ ap (λ n. lookup n (d .indexes)) back ∙ l) in
@@ -96,7 +96,7 @@ module _
 
   pub raws-there : RawsReadyIn p v
   raws-there =
-      raws-ready p (constantsIn s) highestSlot (d .held) (d .indexes) v (f .raws) (f .ordered) (room s p work .raws) (f .room) (f .long ORDER) index-done
+      raws-ready p (constantsIn s) (topOf (jobIn s)) (d .held) (d .indexes) v (f .raws) (f .ordered) (room s p work .raws) (f .room) (f .long ORDER) index-done
 
   -- THE WALK
 

@@ -11,10 +11,10 @@ use borrow.Author.Tests.{eqb-true}
 use Rattle.definition.specs.Basics.{good, lookup, from, concat}
 use Rattle.definition.specs.Bytes.{be2}
 use Rattle.definition.specs.Shapes.{Entry, isWide, withLiteral}
-use Rattle.definition.specs.Numbering.{Literal, literals, numbered}
+use Rattle.definition.specs.Numbering.{topOf, Literal, literals, numbered}
 use Rattle.definition.specs.Definitions.{Defined}
 use Rattle.definition.specs.Resolving.{Resolved}
-use Rattle.definition.specs.Slots.{Slots, highestSlot, countFrom}
+use Rattle.definition.specs.Slots.{Slots, countFrom}
 use Rattle.definition.specs.Building.{Origin, raw, new, old, markOf, Made, contentOf, behind, nothing, emptyText, holds}
 use Rattle.definition.specs.Layout.{Ready, Layout, layoutOf, layout}
 use Rattle.definition.specs.Run.{render, shown, slotBytes}
@@ -106,9 +106,9 @@ module _
   shows : (n : ℕ) → n < 65536 → shownAt s v n ≡ shown all (contentOf (after .owned) n)
   shows = shown-same s p v h d ready asked m after are work f
 
-  counted : poolCount v ≡ countFrom highestSlot (after .pool .slots .gaps)
+  counted : poolCount v ≡ countFrom (topOf (jobIn s)) (after .pool .slots .gaps)
   unfolding slotsAt
-  counted = f .count ∙ ap (λ (x : Slots). countFrom highestSlot (x .gaps)) (f .named .slots)
+  counted = f .count ∙ ap (λ (x : Slots). countFrom (topOf (jobIn s)) (x .gaps)) (f .named .slots)
 
   pool-is : poolIn s v ≡ render all (layoutIn s v asked m after) .pool
   unfolding render layoutOf
@@ -147,7 +147,7 @@ marks-small (o ∷ so) (suc i) = marks-small so i
 pub rendered :
     (s p : List ℕ) (v u : Store) (h : GapTable) (d : Defined) (ready asked : Ready) (m after : Made) →
     IsBytes s → Work s p → Final s p v h d ready asked m after → OwnersMade p v u →
-    (l : Layout) × (layout highestSlot (numbered (jobIn s)) ≡ good l) × Rendered s p u (render (literals (jobIn s)) l)
+    (l : Layout) × (layout (topOf (jobIn s)) (numbered (jobIn s)) ≡ good l) × Rendered s p u (render (literals (jobIn s)) l)
 unfolding render layoutOf definitionsIn
 rendered s p v u h d ready asked m after are work f made =
     let k = made .kept in (

@@ -12,10 +12,9 @@ use borrow.Author.Tests.{eq-eqb}
 use Rattle.definition.specs.Basics.{good, lookup}
 use Rattle.definition.specs.Shapes.{Entry, isWide, withKids, withLiteral}
 use Rattle.definition.specs.Job.{Reference}
-use Rattle.definition.specs.Numbering.{bootstrapsOf, literals, literalOf, constantsOf}
+use Rattle.definition.specs.Numbering.{topOf, bootstrapsOf, literals, literalOf, constantsOf}
 use Rattle.definition.specs.Definitions.{half, Defined, tagAt}
 use Rattle.definition.specs.Resolving.{Node, done}
-use Rattle.definition.specs.Slots.{highestSlot}
 use Rattle.definition.specs.Building.{Made, attributeText, buildAll, kidsOf, behind, contentOf, nothing, emptyText, holds}
 use Rattle.definition.specs.Layout.{Ready, indexNodes}
 use Rattle.definition.specs.Run.{shown}
@@ -239,7 +238,7 @@ module _
 
   half-way : (n : ℕ) → (n ≡ nameIn v → ⊥) → Among (n, half) (d .held) → ((wide : Bool) → ownerIn v n wide ≡ NOTHING) → Second n
   half-way n other a words =
-      let (j, e, is, b, wide) = defined-halves highestSlot (constantsOf (recordsIn s)) (recordsIn s) d (f .isDefined) n a in
+      let (j, e, is, b, wide) = defined-halves (topOf (jobIn s)) (constantsOf (recordsIn s)) (recordsIn s) d (f .isDefined) n a in
       let (k, r, mark) = held.starts-raw s p v h d ready asked m after are work f j e b in
       let (x, l, w) = wide-owned j k r (wide-tag e k mark wide) in
       (none-owned n other (λ i c. held.half-apart s p v h d ready asked m after are work f n i a c), words, j, is, x, l, w)

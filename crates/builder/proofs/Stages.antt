@@ -5,7 +5,7 @@ use Prim.Native.Nat.{ℕ, suc, _+_}
 use native.Mathlib.Omega.{arith}
 use lib.ListN.{length, length-map}
 use Rattle.definition.specs.Basics.{Result, good, bad, _>>=_, Refusal, atRecord}
-use Rattle.definition.specs.Job.{Definition, define, named, placed}
+use Rattle.definition.specs.Job.{Definition, define, named, placed, setting}
 use Rattle.definition.specs.Numbering.{constantsOf, bootstrapsOf, literals, numberedDefinition, numbered}
 use Rattle.definition.specs.Definitions.{Defined}
 use Rattle.definition.specs.Resolving.{linked}
@@ -59,6 +59,7 @@ all-namings [] = refl
 all-namings (define e ∷ ds) = all-namings ds
 all-namings (named kind l r ∷ ds) = ap (λ rest. record { kind = kind; label = l; target = r } ∷ rest) (all-namings ds)
 all-namings (placed kind at n ∷ ds) = all-namings ds
+all-namings (setting rule ∷ ds) = all-namings ds
 
 pub records-many : (s : List ℕ) → length (recordsIn s) ≡ length (definitionsIn s)
 unfolding recordsIn numbered definitionsIn

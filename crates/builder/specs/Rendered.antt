@@ -4,8 +4,7 @@ use mathlib.Core.Path.{_≡_}
 use Prim.Native.Nat.{ℕ, suc, _+_, _<_}
 use lib.ListN.{length, getD}
 use Rattle.definition.specs.Basics.{good, bad}
-use Rattle.definition.specs.Numbering.{literals, numbered}
-use Rattle.definition.specs.Slots.{highestSlot}
+use Rattle.definition.specs.Numbering.{topOf, literals, numbered}
 use Rattle.definition.specs.Layout.{Layout, layout}
 use Rattle.definition.specs.Run.{Built, render}
 use Rattle.store.specs.Store.{Store, size, On}
@@ -39,5 +38,5 @@ pub record Rendered (s p : List ℕ) (u : Store) (b : Built) : Type 0 where
 -- r is 0 and the words give what the definition renders, or the job is refused with r, at the record in turn; the places are the job's
 pub record LaidOut (p : List ℕ) (words : ℕ) (s : List ℕ) (u : Store) (r : ℕ) : Type 0 where
   pub places : Work s p × On p words
-  pub through : r ≡ 0 → (l : Layout) × (layout highestSlot (numbered (jobIn s)) ≡ good l) × Rendered s p u (render (literals (jobIn s)) l)
-  pub refused : 0 < r → layout highestSlot (numbered (jobIn s)) ≡ bad (record { code = r; place = placeCount u })
+  pub through : r ≡ 0 → (l : Layout) × (layout (topOf (jobIn s)) (numbered (jobIn s)) ≡ good l) × Rendered s p u (render (literals (jobIn s)) l)
+  pub refused : 0 < r → layout (topOf (jobIn s)) (numbered (jobIn s)) ≡ bad (record { code = r; place = placeCount u })

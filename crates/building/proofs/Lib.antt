@@ -1,4 +1,5 @@
 pub mod Paying
+pub mod Versions
 pub mod Tagging
 pub mod Lasting
 pub mod Kids

@@ -242,6 +242,7 @@ somePool t g =
       slots = slotsIn (t COUNTS) g;
       given = listed (t GIVEN) (length (t GIVEN));
       pending = map (λ k. (0, k)) (reverse (take (pendingCount t) (t PENDING)));
+      version = 0;
     }
 
 seconds : (l : List ℕ) → map (λ (r : ℕ × ℕ). r .1) (map (λ k. (0, k)) l) ≡ l

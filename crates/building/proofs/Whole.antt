@@ -10,6 +10,7 @@ use Rattle.definition.specs.Resolving.{Node}
 use Rattle.definition.specs.Building.{Pool, Row, Made, drain, rawRows as rowsOfRaws, buildAll}
 use Rattle.facts.proofs.Chunks.{from-same}
 use Rattle.laws.proofs.building.ChildNumbers.{startMade}
+use Rattle.laws.proofs.building.VersionsKept.{rawRows-version}
 use Rattle.slots.specs.Gaps.{GapTable}
 use Rattle.store.specs.Store.{Store, size}
 use Rattle.store.specs.Regions.{COUNTS, GIVEN, INDEXES, ROW-HEADS, NODES, INLINE, ROW-COUNT, WRITTEN-COUNT, INLINE-COUNT, Work}
@@ -42,7 +43,7 @@ module _ (s p : List ℕ) (t : Store) (g : GapTable) (work : Work s p) (w : Work
 
 -- AS THE CODE HAS IT
 
-module _ (s p : List ℕ) (t : Store) (g : GapTable) (work : Work s p) (can : CanBuild s p t g) where
+module _ (s p : List ℕ) (version : ℕ) (t : Store) (g : GapTable) (work : Work s p) (can : CanBuild s p t g) where
   pub standing-first : Standing s p t
   standing-first = record { entered = can .table .entered; nodes = can .rests .nodes; kids = can .kids; raws = can .raws }
 
@@ -73,11 +74,11 @@ module _ (s p : List ℕ) (t : Store) (g : GapTable) (work : Work s p) (can : Ca
         (x .goes .counters WRITTEN-COUNT refl ∙ can .written)
         (x .goes .counters INLINE-COUNT refl ∙ can .inline)
 
-    pub raws-refused : (r ≡ 0 → ⊥) → BuiltAll s p t u g h r
+    pub raws-refused : (r ≡ 0 → ⊥) → BuiltAll s p version t u g h r
     raws-refused f =
         record {
-          met = λ pool indexes q are z. absurd (f z);
-          refused = λ pool indexes q are z. let e = x .refused pool q z in build-is indexes pool are ∙ rw e;
+          met = λ pool indexes held q are z. absurd (f z);
+          refused = λ pool indexes held q are z. let e = x .refused pool q z in build-is indexes pool are ∙ rw e;
           done = λ z. absurd (f z);
           rawSlots = λ z. absurd (f z);
           inlineSlots = λ z. absurd (f z);
@@ -131,7 +132,7 @@ module _ (s p : List ℕ) (t : Store) (g : GapTable) (work : Work s p) (can : Ca
               made-same s p t u (grown .kept) (grown .counters),
             )
 
-        module _ (v : Store) (o : GapTable) (c : ℕ) (d : Drained s p u v h o c) (long′ : length (v NODES) ≡ size p NODES) where
+        module _ (v : Store) (o : GapTable) (c : ℕ) (d : Drained s p version u v h o c) (long′ : length (v NODES) ≡ size p NODES) where
           abbrev all : Grows t v g o
           all = grows-then t u v g h o grown (d .grows)
 
@@ -141,20 +142,22 @@ module _ (s p : List ℕ) (t : Store) (g : GapTable) (work : Work s p) (can : Ca
           start-rowed : (pool : Pool) → RowedIn p (startMade (from (rawRow t u) 0 (rawRows t), pool) .rows) u
           start-rowed pool = subst (λ (rows : List (ℕ × Row)). RowedIn p (startMade (rows, pool) .rows) u) (sym rows-are) begun
 
-          pub built : BuiltAll s p t v g o c
+          pub built : BuiltAll s p version t v g o c
           built =
               record {
                 met =
-                    λ pool indexes q are zero.
+                    λ pool indexes held q are zero.
                     let (pool′, e, q′) = x .met pool q z in
+                    let held′ = rawRows-version nodes _ pool [] _ e ∙ held in
                     let m = startMade (from (rawRow t u) 0 (rawRows t), pool′) in
-                    let (m′, f, q″, rowed″) = d .met (length (pool′ .pending) + length nodes) m (stack pool′ q′) q′ (start-rowed pool′) zero in
+                    let (m′, f, q″, rowed″) = d .met (length (pool′ .pending) + length nodes) m (stack pool′ q′) held′ q′ (start-rowed pool′) zero in
                     (m′, build-is indexes pool are ∙ rw e (rw nodes-are at f), q″, rowed″);
                 refused =
-                    λ pool indexes q are more.
+                    λ pool indexes held q are more.
                     let (pool′, e, q′) = x .met pool q z in
+                    let held′ = rawRows-version nodes _ pool [] _ e ∙ held in
                     let m = startMade (from (rawRow t u) 0 (rawRows t), pool′) in
-                    let f = d .refused (length (pool′ .pending) + length nodes) m (stack pool′ q′) q′ (start-rowed pool′) more in
+                    let f = d .refused (length (pool′ .pending) + length nodes) m (stack pool′ q′) held′ q′ (start-rowed pool′) more in
                     build-is indexes pool are ∙ rw e (rw nodes-are at f);
                 done = λ zero k low owner. d .done zero k owner;
                 rawSlots = λ zero. raw-slots s p v o work (d .again zero) long′;

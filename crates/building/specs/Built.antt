@@ -41,13 +41,15 @@ builtCounters = ODD ∷ WIDE ∷ PLAIN ∷ PENDING-COUNT ∷ ROW-COUNT ∷ WRITT
 abbrev pub builtRegions : List ℕ
 builtRegions = COUNTS ∷ GIVEN ∷ INDEXES ∷ ROW-HEADS ∷ ROW-LINKS ∷ PENDING ∷ INLINE ∷ []
 
--- all is built, or r is the refusal's number: t and the gap table g before, u and h after
-pub record BuiltAll (s p : List ℕ) (t u : Store) (g h : GapTable) (r : ℕ) : Type 0 where
+-- all is built from a pool whose constants are held to the version, or r is the refusal's number: t and the gap table g before, u and h
+-- after
+pub record BuiltAll (s p : List ℕ) (version : ℕ) (t u : Store) (g h : GapTable) (r : ℕ) : Type 0 where
   pub met :
-      (pool : Pool) (indexes : List (ℕ × ℕ)) → PooledIn pool t g → RawsAre t indexes → r ≡ 0 →
+      (pool : Pool) (indexes : List (ℕ × ℕ)) → pool .version ≡ version → PooledIn pool t g → RawsAre t indexes → r ≡ 0 →
       (m : Made) × (buildAll (nodesIn s t) indexes pool ≡ good m) × PooledIn (m .pool) u h × RowedIn p (m .rows) u
   pub refused :
-      (pool : Pool) (indexes : List (ℕ × ℕ)) → PooledIn pool t g → RawsAre t indexes → 0 < r → buildAll (nodesIn s t) indexes pool ≡ bad r
+      (pool : Pool) (indexes : List (ℕ × ℕ)) → pool .version ≡ version → PooledIn pool t g → RawsAre t indexes → 0 < r →
+      buildAll (nodesIn s t) indexes pool ≡ bad r
   -- every child of what a slot holds has its number
   pub done : r ≡ 0 → (k : ℕ) → k < nodeCount u → IsOwner u k → KidsDone s p u k
   -- and every child of a bootstrap that has a row its slot

@@ -6,7 +6,10 @@ use mathlib.Core.Option.{Option, none, some}
 use mathlib.Core.Path.{_≡_}
 use Prim.Native.Nat.{ℕ, zero, suc, _+_, _-_, _≤_, _<_}
 use lib.ListN.{length, getD}
-use Rattle.definition.specs.Basics.{Result, good, bad, from}
+use Rattle.definition.specs.Basics.{Result, good, bad, _>>=_, unless, from}
+use Rattle.definition.specs.Settings.{known}
+use Rattle.definition.specs.Definitions.{tagAt}
+use Rattle.definition.specs.Resolving.{Node}
 use Rattle.definition.specs.Building.{Pool, Rows, Made, kidsOf, nodeNumber, childNumber, childNumbers, drain, rawRows as rowsOfRaws}
 use Rattle.laws.specs.Gaps.{Apart}
 use Rattle.slots.specs.Gaps.{GapTable}
@@ -106,6 +109,16 @@ pub record Finished (s p : List ℕ) (k : ℕ) (t u : Store) (g h : GapTable) (r
   pub step : Stepped (childNumbers (nodesIn s t) (kidsOf (nodesIn s t) k)) s p t u g h r
   pub done : r ≡ 0 → KidsDone s p u k
 
+-- 24 unless the version has the kind of node k, then its children's numbers
+unfoldable pub judged : ℕ → List Node → ℕ → Pool → Rows → Result ℕ (List ℕ × Pool × Rows)
+judged version nodes k pool rows =
+    unless (known version (tagAt nodes k)) 24 >>= λ _. childNumbers nodes (kidsOf nodes k) pool rows
+
+-- node k passes, and all its children have their numbers
+pub record Judged (s p : List ℕ) (version k : ℕ) (t u : Store) (g h : GapTable) (r : ℕ) : Type 0 where
+  pub step : Stepped (judged version (nodesIn s t) k) s p t u g h r
+  pub done : r ≡ 0 → KidsDone s p u k
+
 -- raw bootstrap i by rising index, with its row as u has it
 abbrev pub rawRow : Store → Store → ℕ → ℕ × List ℕ
 rawRow t u i = (rawIndex t i, rowIn u (rawNode t i))
@@ -124,13 +137,13 @@ pub record RawsSlotted (s : List ℕ) (t u : Store) (g h : GapTable) (r : ℕ) :
   pub stacked : r ≡ 0 → Stacked t u
   pub goes : Goes t u g h
 
--- the stack is empty
-pub record Drained (s p : List ℕ) (t u : Store) (g h : GapTable) (r : ℕ) : Type 0 where
+-- the stack is empty, constants being held to the version
+pub record Drained (s p : List ℕ) (version : ℕ) (t u : Store) (g h : GapTable) (r : ℕ) : Type 0 where
   pub met :
-      (fuel : ℕ) (m : Made) → owing t ≤ fuel → PooledIn (m .pool) t g → RowedIn p (m .rows) t → r ≡ 0 →
+      (fuel : ℕ) (m : Made) → owing t ≤ fuel → m .pool .version ≡ version → PooledIn (m .pool) t g → RowedIn p (m .rows) t → r ≡ 0 →
       (m′ : Made) × (drain fuel (nodesIn s t) (m .pool .pending) m ≡ good m′) × PooledIn (m′ .pool) u h × RowedIn p (m′ .rows) u
   pub refused :
-      (fuel : ℕ) (m : Made) → owing t ≤ fuel → PooledIn (m .pool) t g → RowedIn p (m .rows) t → 0 < r →
+      (fuel : ℕ) (m : Made) → owing t ≤ fuel → m .pool .version ≡ version → PooledIn (m .pool) t g → RowedIn p (m .rows) t → 0 < r →
       drain fuel (nodesIn s t) (m .pool .pending) m ≡ bad r
   pub done : r ≡ 0 → (k : ℕ) → IsOwner u k → KidsDone s p u k
   pub again : r ≡ 0 → Working s p u h

@@ -1,9 +1,8 @@
 -- A pool's version is the one that the job's record 47 names, from record 50 on and throughout building. Assumes nothing.
-use mathlib.Core.Bool.{Bool, false, not, _||_}
-use mathlib.Core.List.{List, [], _∷_, _++_, map}
+use mathlib.Core.Bool.{false}
+use mathlib.Core.List.{List, [], _∷_, _++_}
 use mathlib.Core.Path.{_≡_, refl, sym, ap, _∙_}
-use Prim.Native.Nat.{ℕ, _+_, _-_}
-use lib.Dec.{ltb, leb}
+use Prim.Native.Nat.{ℕ, _-_}
 use lib.ListN.{length}
 use Rattle.definition.specs.Basics.{good, unless}
 use Rattle.definition.specs.Shapes.{constant, bootstrap, isWide, Entry}
@@ -11,45 +10,22 @@ use Rattle.definition.specs.Job.{Reference, Definition, define, named, placed, 
 use Rattle.definition.specs.Settings.{Setting, version, texts, highest}
 use Rattle.definition.specs.Numbering.{settings, topOf, bootstrapsOf, literals, numbered}
 use Rattle.definition.specs.Definitions.{Defined, isNone, nameTarget, tagAt, placeConstant, placeBootstrap, withSetting, defineOne, defineAll, nothingDefined}
-use Rattle.definition.specs.Resolving.{Goal, tableEntry, Node, firstNode, childOf, resolve, resolveAll, linked, nothingResolved}
-use Rattle.definition.specs.Slots.{highestLdc}
-use Rattle.definition.specs.Building.{Pool, allocate, slotOf}
-use Rattle.definition.specs.Layout.{Ready, starters, endDefinitions, answer}
-use Rattle.facts.proofs.Results.{good-inj, good-then, decided}
+use Rattle.definition.specs.Resolving.{Node, firstNode, linked}
+use Rattle.definition.specs.Building.{Pool}
+use Rattle.definition.specs.Layout.{Ready}
+use Rattle.facts.proofs.Results.{good-inj, good-then}
 use Rattle.causes.specs.CauseStatement.{constantsNumbered, goalIn, versionFrom, versionOf, Behind, behind50, behindRequest}
 use Rattle.laws.proofs.definitions.RawSlotsRise.{defined-all}
 use Rattle.laws.proofs.form.HighestSlots.{settings-numbered}
-use Rattle.laws.proofs.slots.SlotRequest.{Met, old, new, met}
+use Rattle.laws.proofs.building.VersionsKept.{ended-version, allocate-version, answer-version}
 use Rattle.laws.proofs.runs.StepsOfRuns.{PoolIn, atStart, afterChild, afterTaken}
 
 -- ---- slots leave it
-
-allocate-version : (nodes : List Node) (ldc : Bool) (k : ℕ) (p : Pool) (r : ℕ × Pool) → allocate nodes ldc k p ≡ good r → r .1 .version ≡ p .version
-allocate-version nodes ldc k p r e = go (met nodes ldc k (r .0) p (r .1) e)
-  where
-    go : Met nodes ldc k p (r .0) (r .1) → r .1 .version ≡ p .version
-    go (old found is) = ap (λ (x : Pool). x .version) is
-    go (new slots found given is) = ap (λ (x : Pool). x .version) is
-
-slot-version : (nodes : List Node) (ldc : Bool) (c : ℕ) (p : Pool) (r : ℕ × Pool) → slotOf nodes ldc c p ≡ good r → r .1 .version ≡ p .version
-unfolding slotOf
-slot-version nodes ldc c p r e =
-    decided (ltb c firstNode) _ _ (good r) e
-    (λ t f. ap (λ (x : ℕ × Pool). x .1 .version) (sym (good-inj f)))
-    (λ t f. allocate-version nodes ldc (c - firstNode) p r f)
 
 pool-version : {nodes : List Node} {start p : Pool} → PoolIn nodes start p → p .version ≡ start .version
 pool-version atStart = refl
 pool-version {nodes} (afterChild k c s p p′ o a high e) = allocate-version nodes false (c - firstNode) p (s, p′) e ∙ pool-version o
 pool-version (afterTaken pending p o) = pool-version o
-
-answer-version : (ldc : Bool) (goal : Goal) (w w′ : Ready) (a : ℕ) → answer ldc goal w ≡ good (a, w′) → w′ .pool .version ≡ w .pool .version
-unfolding answer
-answer-version ldc goal w w′ a e =
-    good-then (resolve (w .table) goal (w .resolved)) _ (a, w′) e λ s h e₁.
-    good-then (slotOf (s .nodes) ldc (childOf (s .marks) goal) (w .pool)) _ (a, w′) e₁ λ r k e₂.
-    good-then (unless (not ldc || leb (r .0) highestLdc) 16) _ (a, w′) e₂ λ _ _ e₃.
-    sym (ap (λ (x : ℕ × Ready). x .1 .pool .version) (good-inj e₃)) ∙ slot-version (s .nodes) ldc (childOf (s .marks) goal) (w .pool) r k
 
 -- ---- the definitions set it
 
@@ -97,13 +73,6 @@ defined-version top constants ds d e =
 
 -- ---- so every pool of building has the job's
 
-end-version :
-    (top : ℕ) (table : List (Entry ℕ Goal)) (size : ℕ) (d : Defined) (w : Ready) → endDefinitions top table size d ≡ good w → w .pool .version ≡ d .version
-unfolding endDefinitions
-end-version top table size d w e =
-    let goals = map (λ (r : ℕ × ℕ). tableEntry (r .1)) (starters (d .held)) ++ map (λ (r : ℕ × ℕ). tableEntry (size + r .1)) (d .indexes) in
-    good-then (resolveAll table goals (nothingResolved table)) _ w e λ s h f. sym (ap (λ (x : Ready). x .pool .version) (good-inj f))
-
 numbered-version : (job : Job (List ℕ)) → versionFrom (settings (numbered job .definitions)) 55 ≡ versionOf job
 unfolding numbered
 numbered-version job = ap (λ l. versionFrom l 55) (settings-numbered (literals job) (job .definitions))
@@ -112,10 +81,10 @@ behind-version : (job : Job (List ℕ)) (d : Defined) {answers : List ℕ} {w : 
 behind-version job d (behind50 w defined ready) =
     let constants = constantsNumbered job in
     let table = linked (d .names) (length constants) (constants ++ bootstrapsOf (numbered job .definitions)) in
-    end-version (topOf job) table (length constants) d w ready
+    ended-version (topOf job) table (length constants) d w ready
     ∙ defined-version (topOf job) constants (numbered job .definitions) d defined
     ∙ numbered-version job
-behind-version job d (behindRequest answers q w w′ a b at e) = answer-version (q .ldc) (goalIn job d q) w w′ a e ∙ behind-version job d b
+behind-version job d (behindRequest answers q w w′ a b at e) = answer-version (q .ldc) (goalIn job d q) w (a, w′) e ∙ behind-version job d b
 
 pub building-version :
     (job : Job (List ℕ)) (d : Defined) {answers : List ℕ} {w : Ready} {p : Pool} →

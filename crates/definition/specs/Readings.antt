@@ -1,5 +1,5 @@
--- A third table of jobs under one claim (proofs/Readings.antt): the open points of document 02, each decided (docs/DECISIONS.md), at its smallest
--- job, with the text that the reading chosen gives. Assumes nothing.
+-- Tables of jobs, each under one claim (proofs/Readings.antt): the open points of document 02, each decided (docs/DECISIONS.md), at its
+-- smallest job, with the text that the reading chosen gives. Assumes nothing.
 use mathlib.Core.List.{List, [], _∷_}
 use Rattle.definition.specs.Starred.{Case, job}
 
@@ -18,4 +18,91 @@ marked =
     ∷ job "010000070100005051010001510100006002000000" "answers 2\n1 new\n2 new\npool 8\n0003070002010000\nbootstraps 0 0\n\nname 0\nclass none\nvisits 5\n"
     -- equal constants of two entries: the second is old
     ∷ job "030000000003000000005051010000510100016002000000" "answers 2\n1 new\n1 old\npool 7\n00020300000000\nbootstraps 0 0\n\nname 0\nclass none\nvisits 4\n"
+    ∷ []
+
+-- No. 10: what the highest slot limits, and what it doesn't
+unfoldable pub limited : List Case
+limited =
+    -- no slot, told ahead of the faults behind it: 26
+    job "490000" "refused 26 0\n"
+    -- nor the first record: 3
+    ∷ job "48490000" "refused 3 1\n"
+    -- behind a 48 it isn't the first record: 3
+    ∷ job "48490001506002000000" "refused 3 1\n"
+    -- a raw number above the highest slot is answered
+    ∷ job "49000150510000026002000000" "answers 1\n2 raw\npool 2\n0001\nbootstraps 0 0\n\nname 0\nclass none\nvisits 1\n"
+    -- and stands in an entry; the highest slot is given out
+    ∷ job "4900010700000250510100006002000000" "answers 1\n1 new\npool 5\n0002070002\nbootstraps 0 0\n\nname 0\nclass none\nvisits 3\n"
+    -- a class slot that names a slot above it has the empty name
+    ∷ job "4900010700000250510100006002010000" "answers 1\n1 new\npool 5\n0002070002\nbootstraps 0 0\n\nname 0\nclass 0\n\nvisits 3\n"
+    -- the last gap is used up: the count is one more than the highest slot
+    ∷ job "49000103000000004300010000506002000000" "answers 0\npool 7\n00020300000000\nbootstraps 0 0\n\nname 0\nclass none\nvisits 2\n"
+    -- the second half of a raw constant lies above it: 6
+    ∷ job "4900010500000000000000004300010000506002000000" "refused 6 2\n"
+    -- 6 is told when the record is run, behind the form's 3
+    ∷ job "49000103000000004300020000" "refused 3 3\n"
+    -- bootstrap indexes aren't limited
+    ∷ job "4900014000000000004400020000506002000000" "answers 0\npool 2\n0001\nbootstraps 3 12\n000000000000000000000000\nname 0\nclass none\nvisits 3\n"
+    -- the name finds no slot: 14 at the build record
+    ∷ job "49000103000000004300010000506000000000" "refused 14 4\n"
+    ∷ []
+
+-- No. 5: which constants a version is asked of, and when
+unfoldable pub dated : List Case
+dated =
+    -- any two bytes are a version
+    job "470000506002000000" "answers 0\npool 2\n0001\nbootstraps 0 0\n\nname 0\nclass none\nvisits 0\n"
+    -- 24 comes ahead of the 14 of the constant's own child
+    ∷ job "4900014700000100001001000050510100016002000000" "refused 24 6\n"
+    -- and behind that of a raw bootstrap's child
+    ∷ job "4900014700001000000040010000000043000100004400000000506002000000" "refused 14 7\n"
+    -- two constants are too new
+    ∷ job "47000010000000100000015051010000510100016002000000" "refused 24 6\n"
+    -- a raw constant that nobody asks for is judged
+    ∷ job "470000100000004300010000506002000000" "refused 24 4\n"
+    -- ahead of the name's 14
+    ∷ job "490001470000100000004300010000506000000000" "refused 24 5\n"
+    -- 50 lacks MethodHandle
+    ∷ job "4700320f0100000050510100006002000000" "refused 24 4\n"
+    -- and MethodType
+    ∷ job "4700321000000050510100006002000000" "refused 24 4\n"
+    -- and InvokeDynamic
+    ∷ job "4700321200000000000050510100006002000000" "refused 24 4\n"
+    -- 51 has them
+    ∷ job "4700330f010000001000000012000000000000505101000051010001510100026002000000" "answers 3\n1 new\n2 new\n3 new\npool 14\n00040f0100001000001200000000\nbootstraps 0 0\n\nname 0\nclass none\nvisits 10\n"
+    -- 52 lacks Module
+    ∷ job "4700341300000050510100006002000000" "refused 24 4\n"
+    -- and Package
+    ∷ job "4700341400000050510100006002000000" "refused 24 4\n"
+    -- 53 has them
+    ∷ job "47003513000000140000005051010000510100016002000000" "answers 2\n1 new\n2 new\npool 8\n0003130000140000\nbootstraps 0 0\n\nname 0\nclass none\nvisits 6\n"
+    -- 54 lacks Dynamic
+    ∷ job "4700361100000000000050510100006002000000" "refused 24 4\n"
+    -- 55 has it
+    ∷ job "4700371100000000000050510100006002000000" "answers 1\n1 new\npool 7\n00021100000000\nbootstraps 0 0\n\nname 0\nclass none\nvisits 4\n"
+    ∷ []
+
+-- No. 8: which texts a 48 holds, and which 48
+unfoldable pub spelled : List Case
+spelled =
+    -- a 48 behind a bad text counts: 25 at the text
+    job "0100010048506002000000" "refused 25 0\n"
+    -- but not behind a fault 4
+    ∷ job "010001000701000148" "refused 4 1\n"
+    -- a fault behind both is told later
+    ∷ job "0100010048" "refused 25 0\n"
+    -- a 48 behind 50 is a fault itself: 3
+    ∷ job "010001005048" "refused 3 2\n"
+    -- a second 48 is one behind the first
+    ∷ job "010001004848" "refused 25 0\n"
+    -- names are any bytes
+    ∷ job "48410100000000506002000000" "answers 0\npool 2\n0001\nbootstraps 0 0\n\nname 0\nclass none\nvisits 0\n"
+    -- a cut text is 3
+    ∷ job "4801000200" "refused 3 1\n"
+    -- half a pair passes
+    ∷ job "48010003eda080506002000000" "answers 0\npool 2\n0001\nbootstraps 0 0\n\nname 0\nclass none\nvisits 0\n"
+    -- overlong forms pass
+    ∷ job "48010005c181e08181506002000000" "answers 0\npool 2\n0001\nbootstraps 0 0\n\nname 0\nclass none\nvisits 0\n"
+    -- a text nobody uses is held too
+    ∷ job "4801000100506002000000" "refused 25 1\n"
     ∷ []

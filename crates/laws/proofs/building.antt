@@ -17,3 +17,4 @@ pub mod AfterName
 pub mod BuiltJob
 pub mod JobNodesApart
 pub mod MarksOfAnswers
+pub mod VersionsKept

@@ -6,7 +6,7 @@ use Prim.Native.Nat.{ℕ, _+_, _≤_, _<_}
 use native.Mathlib.Omega.{arith}
 use lib.ListN.{length, getD, getElem?, take, length-take}
 use lib.Seq.{getD-take}
-use Rattle.definition.specs.Shapes.{isWide, withKids, withLiteral}
+use Rattle.definition.specs.Shapes.{withKids, withLiteral}
 use Rattle.definition.specs.Numbering.{numberedEntry}
 use Rattle.definition.specs.Definitions.{tagAt}
 use Rattle.definition.specs.Building.{kidsOf}
@@ -54,7 +54,7 @@ module _ (s p : List ℕ) (t : Store) (there : NodesThere s p t) (k : ℕ) (low 
         map-at (nodeIn s t) (take (nodeCount t) (t NODES)) k entryOf
         (read-found (take (nodeCount t) (t NODES)) k 0 h ∙ ap some (getD-take (nodeCount t) (t NODES) k 0 low))
 
-    pub node-tag : (at tag : ℕ) → at ≡ getD (t OFFSETS) entryOf 0 → WhatEntry s at (λ x. tag ≡ x .tag) → isWide tag ≡ isWide (tagAt (nodesIn s t) k)
+    pub node-tag : (at tag : ℕ) → at ≡ getD (t OFFSETS) entryOf 0 → WhatEntry s at (λ x. tag ≡ x .tag) → tag ≡ tagAt (nodesIn s t) k
     unfolding tagAt withKids numberedEntry withLiteral
     node-tag at tag is h =
         rw (

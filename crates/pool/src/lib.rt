@@ -81,12 +81,20 @@ fn node_at(w: &[u32], p: &[usize], k: usize) -> usize
     load(w, p, OFFSETS, load(w, p, NODES, k))
 }
 
-// The tag of a node is that of a wide constant.
+// The tag of a node.
+pub fn node_tag(job: &[u8], w: &[u32], p: &[usize], k: usize) -> u8
+    requires { ⌜ On (now p) (length (now w)) × NodesThere (now job) (now p) (store (now p) (now w)) × (k < nodeCount (store (now p) (now w))) ⌝ }
+    ensures { λ r. ⌜ r ≡ tagAt (nodesIn (now (job .entry)) (store (now (p .entry)) (now (w .entry)))) k ⌝ }
+{
+    job::tag_at(job, node_at(w, p, k))
+}
+
+// It is that of a wide constant.
 pub fn node_is_wide(job: &[u8], w: &[u32], p: &[usize], k: usize) -> bool
     requires { ⌜ On (now p) (length (now w)) × NodesThere (now job) (now p) (store (now p) (now w)) × (k < nodeCount (store (now p) (now w))) ⌝ }
     ensures { λ r. ⌜ r ≡ isWide (tagAt (nodesIn (now (job .entry)) (store (now (p .entry)) (now (w .entry)))) k) ⌝ }
 {
-    raw_const::is_long(job::tag_at(job, node_at(w, p, k)))
+    raw_const::is_long(node_tag(job, w, p, k))
 }
 
 // How many children a node has.

@@ -1,24 +1,18 @@
--- `pool::node_is_wide` meets its contract. The tag that stands in the job is the node's. Assumes nothing.
-use mathlib.Core.Path.{_∙_}
-use Rattle.store.specs.Store.{store}
-use Rattle.store.proofs.Stores.{length-store}
-use Rattle.store.specs.Regions.{NODES}
-use Rattle.pool.proofs.Nodal.{node-place, entry-places, node-stands, node-tag}
+-- `pool::node_is_wide` meets its contract. Assumes nothing.
+use mathlib.Core.Path.{ap, _∙_}
+use Rattle.definition.specs.Shapes.{isWide}
 use borrow.Author.Needs.{needs}
 use Rattle.pool.proofs.node_is_wide.Statement.{statement}
 use Rattle.pool.proofs.node_is_wide.Tie as tie
 
-node-at-requires : tie.Need-node-at-requires
-node-at-requires c κs = let a = c .before .before .before .args in let q = c .before .before .before .pre in let t = store (a .p .now) (a .w .now) in (q .0, node-place (a .job .now) (a .p .now) t (q .1) (a .k) (q .2), entry-places (a .job .now) (a .p .now) t (q .1) (a .k) (q .2) .offsets)
-
-tag-at-requires : tie.Need-tag-at-requires
-tag-at-requires c κs = let a = c .before .before .before .before .args in let q = c .before .before .before .before .pre in let t = store (a .p .now) (a .w .now) in node-stands (a .job .now) (a .p .now) t (q .1) (a .k) (q .2) (c .node-at .result) (c .node-at .ensures .word)
+node-tag-requires : tie.Need-node-tag-requires
+node-tag-requires c κs = search needs
 
 is-long-requires : tie.Need-is-long-requires
 is-long-requires c κs = search needs
 
 returns : tie.Need-returns
-returns c = let a = c .before .before .before .before .before .before .args in let q = c .before .before .before .before .before .before .pre in let t = store (a .p .now) (a .w .now) in c .is-long .ensures ∙ node-tag (a .job .now) (a .p .now) t (q .1) (a .k) (q .2) (length-store (a .p .now) (a .w .now) NODES) (c .before .before .node-at .result) (c .before .tag-at .result) (c .before .before .node-at .ensures .word) (c .before .tag-at .ensures)
+returns c = c .is-long .ensures ∙ ap isWide (c .before .node-tag .ensures)
 
 pub node-is-wide-spec : {M : Type 1} → statement M
-node-is-wide-spec = tie.close (tie.spec node-at-requires tag-at-requires is-long-requires returns)
+node-is-wide-spec = tie.close (tie.spec node-tag-requires is-long-requires returns)

@@ -25,8 +25,9 @@ use borrow.Rule.Slice.Relend
 use borrow.Rule.Slice.Reshare
 use borrow.Rule.Slice.Shared
 use borrow.Rule.Yields
+use borrow.Struct.Reads
 use borrow.Table.Copies
-use borrow.Table.Reads
+use borrow.Table.Reads as Reads'
 use borrow.Table.Referent as Rf
 use borrow.Table.Row as Ro
 use borrow.Table.Rows
@@ -115,58 +116,58 @@ abbrev row·13 : Ro.Row
 row·13 = Mut.mslice Gap_.row ty·37 3
 
 abbrev row·14 : Ro.Row
-row·14 = Rows.any-gone Sy.tyBool
+row·14 = Rows.whole (Declared.row JobCounts.the-type)
 
 abbrev row·15 : Ro.Row
-row·15 = Mut.mslice (Rf.rtF (Rf.fInt Sy.w32)) ty·32 4
+row·15 = Rows.any-gone Sy.tyBool
 
 abbrev row·16 : Ro.Row
-row·16 = Mut.msleft (Rf.rtF (Rf.fInt Sy.w32)) ty·32
+row·16 = Mut.mslice (Rf.rtF (Rf.fInt Sy.w32)) ty·32 4
 
 abbrev row·17 : Ro.Row
-row·17 = Mut.msleft Gap_.row ty·36
+row·17 = Relend.mslice-owed (Rf.rtF (Rf.fInt Sy.w32)) ty·33 1 10 Ro.off
 
 abbrev row·18 : Ro.Row
-row·18 = Reshare.mslice-owedS (Rf.rtF (Rf.fInt Sy.w64)) ty·35 2 11 Ro.off
+row·18 = Mut.msleft Gap_.row ty·36
 
 abbrev row·19 : Ro.Row
-row·19 = Reshare.mslice-owedS (Rf.rtF (Rf.fInt Sy.w64)) ty·35 2 8 Ro.off
+row·19 = Mut.msleft (Rf.rtF (Rf.fInt Sy.w32)) ty·32
 
 abbrev row·20 : Ro.Row
-row·20 = Relend.mslice-owed (Rf.rtF (Rf.fInt Sy.w32)) ty·33 1 10 Ro.off
+row·20 = Reshare.mslice-owedS (Rf.rtF (Rf.fInt Sy.w64)) ty·35 2 11 Ro.off
 
 abbrev row·21 : Ro.Row
-row·21 = Relend.mslice-owed (Rf.rtF (Rf.fInt Sy.w32)) ty·33 1 7 Ro.off
+row·21 = Reshare.mslice-owedS (Rf.rtF (Rf.fInt Sy.w64)) ty·35 2 8 Ro.off
 
 abbrev row·22 : Ro.Row
-row·22 = Mut.mslice (Rf.rtF (Rf.fInt Sy.w64)) ty·38 5
+row·22 = Relend.mslice-owed (Rf.rtF (Rf.fInt Sy.w32)) ty·33 1 7 Ro.off
 
 abbrev row·23 : Ro.Row
-row·23 = Mut.msleft (Rf.rtF (Rf.fInt Sy.w64)) ty·38
+row·23 = Mut.mslice (Rf.rtF (Rf.fInt Sy.w64)) ty·38 5
 
 abbrev row·24 : Ro.Row
-row·24 = Rows.whole (Declared.row JobCounts.the-type)
+row·24 = Rows.any-gone Sy.tyUnit
 
 abbrev row·25 : Ro.Row
-row·25 = Rows.any-gone Sy.tyUnit
+row·25 = Relend.mslice-owed Gap_.row ty·37 3 12 Ro.off
 
 abbrev row·26 : Ro.Row
-row·26 = Relend.mslice-owed Gap_.row ty·37 3 12 Ro.off
+row·26 = Relend.mslice-owed Gap_.row ty·37 3 9 Ro.off
 
 abbrev row·27 : Ro.Row
-row·27 = Relend.mslice-owed Gap_.row ty·37 3 9 Ro.off
+row·27 = Rows.sslice (Rf.rtF (Rf.fInt Sy.w64)) ty·34 11
 
 abbrev row·28 : Ro.Row
-row·28 = Rows.sslice (Rf.rtF (Rf.fInt Sy.w64)) ty·34 11
+row·28 = Rows.sslice (Rf.rtF (Rf.fInt Sy.w64)) ty·34 8
 
 abbrev row·29 : Ro.Row
-row·29 = Rows.sslice (Rf.rtF (Rf.fInt Sy.w64)) ty·34 8
+row·29 = Mut.mslice (Rf.rtF (Rf.fInt Sy.w32)) ty·32 10
 
 abbrev row·30 : Ro.Row
-row·30 = Mut.mslice (Rf.rtF (Rf.fInt Sy.w32)) ty·32 10
+row·30 = Mut.mslice (Rf.rtF (Rf.fInt Sy.w32)) ty·32 7
 
 abbrev row·31 : Ro.Row
-row·31 = Mut.mslice (Rf.rtF (Rf.fInt Sy.w32)) ty·32 7
+row·31 = Mut.msleft (Rf.rtF (Rf.fInt Sy.w64)) ty·38
 
 abbrev pub ps : Li.List (Kinds.PK 4)
 ps = Li._∷_ (ShrSlice.pShrS (Rf.rtF (Rf.fInt Sy.w8)) 0 tt) (Li._∷_ (MutSlice.pMutS (Rf.rtF (Rf.fInt Sy.w32)) 1 tt) (Li._∷_ (MutSlice.pMutS (Rf.rtF (Rf.fInt Sy.w64)) 2 tt) (Li._∷_ (MutSlice.pMutS Gap_.row 3 tt) (Li._∷_ (Value.pVal record { ty = Declared.row JobCounts.the-type; one = Pa.refl; val = Laws'.val JobCounts.the-type Laws.the-laws; tells = Laws'.tells JobCounts.the-type Laws.the-laws; still = Laws'.still JobCounts.the-type Laws.the-copy Exit.yes; row = Rows.whole (Declared.row JobCounts.the-type); rd = λ x. x; mk = λ x. x } λ M 𝓤 H A W. record { copies = Laws'.copy JobCounts.the-type Laws.the-copy 𝓤 H A W; lawful = Laws'.lawful JobCounts.the-type Laws.the-laws 𝓤 H A W; makes = Laws'.makes JobCounts.the-type Laws.the-plain 𝓤 H A; in-mem = Local.mem-whole 𝓤 H A W (Declared.row JobCounts.the-type); of-mem = Local.whole-mem 𝓤 H A W (Declared.row JobCounts.the-type) }) Li.[]))))
@@ -187,7 +188,7 @@ abbrev pub r·0 : Kinds.RK 4
 r·0 = Num.rNum Sy.w64
 
 abbrev pub ps·1 : Li.List (Kinds.PK 4)
-ps·1 = Li._∷_ (ShrSlice.pShrS (Rf.rtF (Rf.fInt Sy.w8)) 0 tt) (Li._∷_ (MutSlice.pMutS (Rf.rtF (Rf.fInt Sy.w32)) 1 tt) (Li._∷_ (ShrSlice.pShrS (Rf.rtF (Rf.fInt Sy.w64)) 2 tt) (Li._∷_ (MutSlice.pMutS Gap_.row 3 tt) Li.[])))
+ps·1 = Li._∷_ (ShrSlice.pShrS (Rf.rtF (Rf.fInt Sy.w8)) 0 tt) (Li._∷_ (MutSlice.pMutS (Rf.rtF (Rf.fInt Sy.w32)) 1 tt) (Li._∷_ (ShrSlice.pShrS (Rf.rtF (Rf.fInt Sy.w64)) 2 tt) (Li._∷_ (MutSlice.pMutS Gap_.row 3 tt) (Li._∷_ (Num.pNum Sy.w64) Li.[]))))
 
 abbrev pub r·1 : Kinds.RK 4
 r·1 = Num.rNum Sy.w64
@@ -226,7 +227,7 @@ abbrev b5 : Sy.Body
 b5 = Sy.assign (Sy.place 14 Li.[]) (Sy.aggregate (Li._∷_ (Sy.copy (Sy.place 13 Li.[])) (Li._∷_ (Sy.copy (Sy.place 4 (Li._∷_ (Sy.field 1) Li.[]))) Li.[])))
 
 abbrev b6 : Sy.Body
-b6 = Sy.call "requests::ask" (Li._∷_ (Sy.copy (Sy.place 1 Li.[])) (Li._∷_ (Sy.copy (Sy.place 10 Li.[])) (Li._∷_ (Sy.copy (Sy.place 12 Li.[])) (Li._∷_ (Sy.copy (Sy.place 14 Li.[])) (Li._∷_ (Sy.copy (Sy.place 5 Li.[])) (Li._∷_ (Sy.intBig Sy.w64 65534) Li.[])))))) (Sy.place 6 Li.[])
+b6 = Sy.call "requests::ask" (Li._∷_ (Sy.copy (Sy.place 1 Li.[])) (Li._∷_ (Sy.copy (Sy.place 10 Li.[])) (Li._∷_ (Sy.copy (Sy.place 12 Li.[])) (Li._∷_ (Sy.copy (Sy.place 14 Li.[])) (Li._∷_ (Sy.copy (Sy.place 5 Li.[])) (Li._∷_ (Sy.copy (Sy.place 5 (Li._∷_ (Sy.field 12) Li.[]))) Li.[])))))) (Sy.place 6 Li.[])
 
 abbrev b7 : Sy.Body
 b7 = Sy.assign (Sy.place 15 Li.[]) (Sy.op2 Sy.ne (Sy.copy (Sy.place 6 Li.[])) (Sy.int Sy.w64 0))
@@ -265,7 +266,7 @@ abbrev b18 : Sy.Body
 b18 = Sy.assign (Sy.place 21 Li.[]) (Sy.aggregate (Li._∷_ (Sy.copy (Sy.place 20 Li.[])) (Li._∷_ (Sy.copy (Sy.place 4 (Li._∷_ (Sy.field 1) Li.[]))) Li.[])))
 
 abbrev b19 : Sy.Body
-b19 = Sy.call "building::build_all" (Li._∷_ (Sy.copy (Sy.place 1 Li.[])) (Li._∷_ (Sy.copy (Sy.place 17 Li.[])) (Li._∷_ (Sy.copy (Sy.place 19 Li.[])) (Li._∷_ (Sy.copy (Sy.place 21 Li.[])) Li.[])))) (Sy.place 7 Li.[])
+b19 = Sy.call "building::build_all" (Li._∷_ (Sy.copy (Sy.place 1 Li.[])) (Li._∷_ (Sy.copy (Sy.place 17 Li.[])) (Li._∷_ (Sy.copy (Sy.place 19 Li.[])) (Li._∷_ (Sy.copy (Sy.place 21 Li.[])) (Li._∷_ (Sy.copy (Sy.place 5 (Li._∷_ (Sy.field 9) Li.[]))) Li.[]))))) (Sy.place 7 Li.[])
 
 abbrev b20 : Sy.Body
 b20 = Sy.assign (Sy.place 15 Li.[]) (Sy.op2 Sy.ne (Sy.copy (Sy.place 7 Li.[])) (Sy.int Sy.w64 0))
@@ -298,7 +299,7 @@ abbrev b31 : Sy.Body
 b31 = Sy.assign (Sy.place 27 Li.[]) (Sy.aggregate (Li._∷_ (Sy.copy (Sy.place 26 Li.[])) (Li._∷_ (Sy.copy (Sy.place 4 (Li._∷_ (Sy.field 1) Li.[]))) Li.[])))
 
 abbrev b32 : Sy.Body
-b32 = Sy.call "ending::end_pool" (Li._∷_ (Sy.copy (Sy.place 1 Li.[])) (Li._∷_ (Sy.copy (Sy.place 23 Li.[])) (Li._∷_ (Sy.copy (Sy.place 25 Li.[])) (Li._∷_ (Sy.copy (Sy.place 27 Li.[])) (Li._∷_ (Sy.intBig Sy.w64 65534) Li.[]))))) (Sy.place 8 Li.[])
+b32 = Sy.call "ending::end_pool" (Li._∷_ (Sy.copy (Sy.place 1 Li.[])) (Li._∷_ (Sy.copy (Sy.place 23 Li.[])) (Li._∷_ (Sy.copy (Sy.place 25 Li.[])) (Li._∷_ (Sy.copy (Sy.place 27 Li.[])) (Li._∷_ (Sy.copy (Sy.place 5 (Li._∷_ (Sy.field 12) Li.[]))) Li.[]))))) (Sy.place 8 Li.[])
 
 abbrev b33 : Sy.Body
 b33 = Sy.assign (Sy.place 15 Li.[]) (Sy.op2 Sy.ne (Sy.copy (Sy.place 8 Li.[])) (Sy.int Sy.w64 0))
@@ -436,28 +437,28 @@ abbrev pub Claims : Type 1
 Claims = Kinds.In 4 ps·0 × Kinds.Out 4 ps·0 r·0 × Kinds.In 4 ps·1 × Kinds.Out 4 ps·1 r·1 × Kinds.In 4 ps·2 × Kinds.Out 4 ps·2 r·2 × Kinds.In 2 ps·3 × Kinds.Out 2 ps·3 r·3
 
 abbrev pub t0 : Li.List Ro.Entry
-t0 = Li._∷_ (0, row·7) (Li._∷_ (1, row·5) (Li._∷_ (2, row·11) (Li._∷_ (3, row·12) (Li._∷_ (4, row·13) (Li._∷_ (5, row·24) (Li._∷_ (6, row·7) (Li._∷_ (7, row·7) (Li._∷_ (8, row·7) (Li._∷_ (9, row·3) (Li._∷_ (10, row·0) (Li._∷_ (11, row·9) (Li._∷_ (12, row·2) (Li._∷_ (13, row·6) (Li._∷_ (14, row·1) (Li._∷_ (15, row·14) Li.[])))))))))))))))
+t0 = Li._∷_ (0, row·7) (Li._∷_ (1, row·5) (Li._∷_ (2, row·11) (Li._∷_ (3, row·12) (Li._∷_ (4, row·13) (Li._∷_ (5, row·14) (Li._∷_ (6, row·7) (Li._∷_ (7, row·7) (Li._∷_ (8, row·7) (Li._∷_ (9, row·3) (Li._∷_ (10, row·0) (Li._∷_ (11, row·9) (Li._∷_ (12, row·2) (Li._∷_ (13, row·6) (Li._∷_ (14, row·1) (Li._∷_ (15, row·15) Li.[])))))))))))))))
 
 abbrev pub t1 : Li.List Ro.Entry
-t1 = Li._∷_ (16, row·3) (Li._∷_ (17, row·0) (Li._∷_ (18, row·8) (Li._∷_ (19, row·4) (Li._∷_ (20, row·6) (Li._∷_ (21, row·1) (Li._∷_ (22, row·3) (Li._∷_ (23, row·0) (Li._∷_ (24, row·8) (Li._∷_ (25, row·4) (Li._∷_ (26, row·6) (Li._∷_ (27, row·1) (Li._∷_ (28, row·25) (Li._∷_ (29, row·3) (Li._∷_ (30, row·0) (Li._∷_ (31, row·8) Li.[])))))))))))))))
+t1 = Li._∷_ (16, row·3) (Li._∷_ (17, row·0) (Li._∷_ (18, row·8) (Li._∷_ (19, row·4) (Li._∷_ (20, row·6) (Li._∷_ (21, row·1) (Li._∷_ (22, row·3) (Li._∷_ (23, row·0) (Li._∷_ (24, row·8) (Li._∷_ (25, row·4) (Li._∷_ (26, row·6) (Li._∷_ (27, row·1) (Li._∷_ (28, row·24) (Li._∷_ (29, row·3) (Li._∷_ (30, row·0) (Li._∷_ (31, row·8) Li.[])))))))))))))))
 
 abbrev pub t2 : Li.List Ro.Entry
 t2 = Li._∷_ (32, row·4) Li.[]
 
 abbrev pub t3 : Li.List Ro.Entry
-t3 = Li._∷_ (0, row·10) (Li._∷_ (1, row·5) (Li._∷_ (2, row·11) (Li._∷_ (3, row·12) (Li._∷_ (4, row·13) (Li._∷_ (5, Rows.any-gone Laws.mir) (Li._∷_ (6, row·7) (Li._∷_ (7, row·7) (Li._∷_ (8, row·7) (Li._∷_ (9, row·3) (Li._∷_ (10, row·0) (Li._∷_ (11, row·9) (Li._∷_ (12, row·2) (Li._∷_ (13, row·6) (Li._∷_ (14, row·1) (Li._∷_ (15, row·14) Li.[])))))))))))))))
+t3 = Li._∷_ (0, row·10) (Li._∷_ (1, row·5) (Li._∷_ (2, row·11) (Li._∷_ (3, row·12) (Li._∷_ (4, row·13) (Li._∷_ (5, Rows.any-gone Laws.mir) (Li._∷_ (6, row·7) (Li._∷_ (7, row·7) (Li._∷_ (8, row·7) (Li._∷_ (9, row·3) (Li._∷_ (10, row·0) (Li._∷_ (11, row·9) (Li._∷_ (12, row·2) (Li._∷_ (13, row·6) (Li._∷_ (14, row·1) (Li._∷_ (15, row·15) Li.[])))))))))))))))
 
 abbrev pub t4 : Li.List Ro.Entry
-t4 = Ro.setRow 9 (9, Relend.msptr (Rf.rtF (Rf.fInt Sy.w32)) ty·32 4) (Ro.setRow 5 (5, row·24) (Ro.setRow 2 (2, Relend.mslice-owed (Rf.rtF (Rf.fInt Sy.w32)) ty·33 1 4 Ro.off) (Ro.setRow 0 (0, row·7) t3)))
+t4 = Ro.setRow 9 (9, Relend.msptr (Rf.rtF (Rf.fInt Sy.w32)) ty·32 4) (Ro.setRow 5 (5, row·14) (Ro.setRow 2 (2, Relend.mslice-owed (Rf.rtF (Rf.fInt Sy.w32)) ty·33 1 4 Ro.off) (Ro.setRow 0 (0, row·7) t3)))
 
 abbrev pub t5 : Li.List Ro.Entry
-t5 = Ro.setRow 10 (10, row·15) (Ro.setRow 9 (9, row·3) t4)
+t5 = Ro.setRow 10 (10, row·16) (Ro.setRow 9 (9, row·3) t4)
 
 abbrev pub t6 : Li.List Ro.Entry
 t6 = Ro.setRow 11 (11, Relend.msptr (Rf.rtF (Rf.fInt Sy.w64)) ty·38 5) (Ro.setRow 3 (3, Relend.mslice-owed (Rf.rtF (Rf.fInt Sy.w64)) ty·35 2 5 Ro.off) t5)
 
 abbrev pub t7 : Li.List Ro.Entry
-t7 = Ro.setRow 12 (12, row·22) (Ro.setRow 11 (11, row·9) t6)
+t7 = Ro.setRow 12 (12, row·23) (Ro.setRow 11 (11, row·9) t6)
 
 abbrev pub t8 : Li.List Ro.Entry
 t8 = Ro.setRow 13 (13, Relend.msptr Gap_.row ty·36 6) (Ro.setRow 4 (4, Relend.mslice-owed Gap_.row ty·37 3 6 Ro.off) t7)
@@ -466,169 +467,181 @@ abbrev pub t9 : Li.List Ro.Entry
 t9 = Ro.setRow 14 (14, Mut.mslice Gap_.row ty·36 6) (Ro.setRow 13 (13, row·6) t8)
 
 abbrev pub t10 : Li.List Ro.Entry
-t10 = Ro.setRow 14 (14, row·17) (Ro.setRow 12 (12, row·23) (Ro.setRow 10 (10, row·16) (Ro.setRow 6 (6, row·10) t9)))
+t10 = Ro.setRow 14 (14, row·18) (Ro.setRow 12 (12, row·31) (Ro.setRow 10 (10, row·19) (Ro.setRow 6 (6, row·10) t9)))
 
 abbrev pub t11 : Li.List Ro.Entry
-t11 = Ro.setRow 5 (5, Rows.any-gone Laws.mir) t10
+t11 = Ro.setRow 10 (10, row·0) (Ro.setRow 2 (2, row·11) t10)
 
 abbrev pub t12 : Li.List Ro.Entry
-t12 = Ro.setRow 10 (10, row·0) (Ro.setRow 2 (2, row·11) t11)
+t12 = Ro.setRow 12 (12, row·2) (Ro.setRow 3 (3, row·12) t11)
 
 abbrev pub t13 : Li.List Ro.Entry
-t13 = Ro.setRow 12 (12, row·2) (Ro.setRow 3 (3, row·12) t12)
+t13 = Ro.setRow 14 (14, row·1) (Ro.setRow 4 (4, row·13) t12)
 
 abbrev pub t14 : Li.List Ro.Entry
-t14 = Ro.setRow 14 (14, row·1) (Ro.setRow 4 (4, row·13) t13)
+t14 = Ro.setRow 15 (15, Rows.sc-here Ro.sBool) t13
 
 abbrev pub t15 : Li.List Ro.Entry
-t15 = Ro.setRow 15 (15, Rows.sc-here Ro.sBool) t14
+t15 = Ro.setRow 5 (5, Rows.any-gone Laws.mir) t14
 
 abbrev pub t16 : Li.List Ro.Entry
-t16 = Ro.setRow 15 (15, row·14) (Ro.setRow 0 (0, row·10) t15)
+t16 = Ro.setRow 15 (15, row·15) t15
 
 abbrev pub t17 : Li.List Ro.Entry
-t17 = Ro.setRow 2 (2, row·21) (Ro.setRow 0 (0, row·7) t16)
+t17 = Ro.setRow 0 (0, row·10) t16
 
 abbrev pub t18 : Li.List Ro.Entry
-t18 = Li._∷_ (16, Relend.msptr (Rf.rtF (Rf.fInt Sy.w32)) ty·32 7) (Li._∷_ (17, row·0) (Li._∷_ (18, row·8) (Li._∷_ (19, row·4) (Li._∷_ (20, row·6) (Li._∷_ (21, row·1) (Li._∷_ (22, row·3) (Li._∷_ (23, row·0) (Li._∷_ (24, row·8) (Li._∷_ (25, row·4) (Li._∷_ (26, row·6) (Li._∷_ (27, row·1) (Li._∷_ (28, row·25) (Li._∷_ (29, row·3) (Li._∷_ (30, row·0) (Li._∷_ (31, row·8) Li.[])))))))))))))))
+t18 = Ro.setRow 5 (5, row·14) (Ro.setRow 2 (2, row·22) (Ro.setRow 0 (0, row·7) t17))
 
 abbrev pub t19 : Li.List Ro.Entry
-t19 = Ro.setRow 1 (17, row·31) (Ro.setRow 0 (16, row·3) t18)
+t19 = Li._∷_ (16, Relend.msptr (Rf.rtF (Rf.fInt Sy.w32)) ty·32 7) (Li._∷_ (17, row·0) (Li._∷_ (18, row·8) (Li._∷_ (19, row·4) (Li._∷_ (20, row·6) (Li._∷_ (21, row·1) (Li._∷_ (22, row·3) (Li._∷_ (23, row·0) (Li._∷_ (24, row·8) (Li._∷_ (25, row·4) (Li._∷_ (26, row·6) (Li._∷_ (27, row·1) (Li._∷_ (28, row·24) (Li._∷_ (29, row·3) (Li._∷_ (30, row·0) (Li._∷_ (31, row·8) Li.[])))))))))))))))
 
 abbrev pub t20 : Li.List Ro.Entry
-t20 = Li._∷_ (0, row·7) (Li._∷_ (1, row·5) (Li._∷_ (2, row·21) (Li._∷_ (3, row·19) (Li._∷_ (4, row·13) (Li._∷_ (5, Rows.any-gone Laws.mir) (Li._∷_ (6, row·10) (Li._∷_ (7, row·7) (Li._∷_ (8, row·7) (Li._∷_ (9, row·3) (Li._∷_ (10, row·0) (Li._∷_ (11, row·9) (Li._∷_ (12, row·2) (Li._∷_ (13, row·6) (Li._∷_ (14, row·1) (Li._∷_ (15, row·14) Li.[])))))))))))))))
+t20 = Ro.setRow 1 (17, row·30) (Ro.setRow 0 (16, row·3) t19)
 
 abbrev pub t21 : Li.List Ro.Entry
-t21 = Li._∷_ (16, row·3) (Li._∷_ (17, row·31) (Li._∷_ (18, Relend.ssptr (Rf.rtF (Rf.fInt Sy.w64)) ty·34 8) (Li._∷_ (19, row·4) (Li._∷_ (20, row·6) (Li._∷_ (21, row·1) (Li._∷_ (22, row·3) (Li._∷_ (23, row·0) (Li._∷_ (24, row·8) (Li._∷_ (25, row·4) (Li._∷_ (26, row·6) (Li._∷_ (27, row·1) (Li._∷_ (28, row·25) (Li._∷_ (29, row·3) (Li._∷_ (30, row·0) (Li._∷_ (31, row·8) Li.[])))))))))))))))
+t21 = Li._∷_ (0, row·7) (Li._∷_ (1, row·5) (Li._∷_ (2, row·22) (Li._∷_ (3, row·21) (Li._∷_ (4, row·13) (Li._∷_ (5, row·14) (Li._∷_ (6, row·10) (Li._∷_ (7, row·7) (Li._∷_ (8, row·7) (Li._∷_ (9, row·3) (Li._∷_ (10, row·0) (Li._∷_ (11, row·9) (Li._∷_ (12, row·2) (Li._∷_ (13, row·6) (Li._∷_ (14, row·1) (Li._∷_ (15, row·15) Li.[])))))))))))))))
 
 abbrev pub t22 : Li.List Ro.Entry
-t22 = Ro.setRow 3 (19, row·29) (Ro.setRow 2 (18, row·8) t21)
+t22 = Li._∷_ (16, row·3) (Li._∷_ (17, row·30) (Li._∷_ (18, Relend.ssptr (Rf.rtF (Rf.fInt Sy.w64)) ty·34 8) (Li._∷_ (19, row·4) (Li._∷_ (20, row·6) (Li._∷_ (21, row·1) (Li._∷_ (22, row·3) (Li._∷_ (23, row·0) (Li._∷_ (24, row·8) (Li._∷_ (25, row·4) (Li._∷_ (26, row·6) (Li._∷_ (27, row·1) (Li._∷_ (28, row·24) (Li._∷_ (29, row·3) (Li._∷_ (30, row·0) (Li._∷_ (31, row·8) Li.[])))))))))))))))
 
 abbrev pub t23 : Li.List Ro.Entry
-t23 = Li._∷_ (0, row·7) (Li._∷_ (1, row·5) (Li._∷_ (2, row·21) (Li._∷_ (3, row·19) (Li._∷_ (4, row·27) (Li._∷_ (5, Rows.any-gone Laws.mir) (Li._∷_ (6, row·10) (Li._∷_ (7, row·7) (Li._∷_ (8, row·7) (Li._∷_ (9, row·3) (Li._∷_ (10, row·0) (Li._∷_ (11, row·9) (Li._∷_ (12, row·2) (Li._∷_ (13, row·6) (Li._∷_ (14, row·1) (Li._∷_ (15, row·14) Li.[])))))))))))))))
+t23 = Ro.setRow 3 (19, row·28) (Ro.setRow 2 (18, row·8) t22)
 
 abbrev pub t24 : Li.List Ro.Entry
-t24 = Li._∷_ (16, row·3) (Li._∷_ (17, row·31) (Li._∷_ (18, row·8) (Li._∷_ (19, row·29) (Li._∷_ (20, Relend.msptr Gap_.row ty·36 9) (Li._∷_ (21, row·1) (Li._∷_ (22, row·3) (Li._∷_ (23, row·0) (Li._∷_ (24, row·8) (Li._∷_ (25, row·4) (Li._∷_ (26, row·6) (Li._∷_ (27, row·1) (Li._∷_ (28, row·25) (Li._∷_ (29, row·3) (Li._∷_ (30, row·0) (Li._∷_ (31, row·8) Li.[])))))))))))))))
+t24 = Li._∷_ (0, row·7) (Li._∷_ (1, row·5) (Li._∷_ (2, row·22) (Li._∷_ (3, row·21) (Li._∷_ (4, row·26) (Li._∷_ (5, row·14) (Li._∷_ (6, row·10) (Li._∷_ (7, row·7) (Li._∷_ (8, row·7) (Li._∷_ (9, row·3) (Li._∷_ (10, row·0) (Li._∷_ (11, row·9) (Li._∷_ (12, row·2) (Li._∷_ (13, row·6) (Li._∷_ (14, row·1) (Li._∷_ (15, row·15) Li.[])))))))))))))))
 
 abbrev pub t25 : Li.List Ro.Entry
-t25 = Ro.setRow 5 (21, Mut.mslice Gap_.row ty·36 9) (Ro.setRow 4 (20, row·6) t24)
+t25 = Li._∷_ (16, row·3) (Li._∷_ (17, row·30) (Li._∷_ (18, row·8) (Li._∷_ (19, row·28) (Li._∷_ (20, Relend.msptr Gap_.row ty·36 9) (Li._∷_ (21, row·1) (Li._∷_ (22, row·3) (Li._∷_ (23, row·0) (Li._∷_ (24, row·8) (Li._∷_ (25, row·4) (Li._∷_ (26, row·6) (Li._∷_ (27, row·1) (Li._∷_ (28, row·24) (Li._∷_ (29, row·3) (Li._∷_ (30, row·0) (Li._∷_ (31, row·8) Li.[])))))))))))))))
 
 abbrev pub t26 : Li.List Ro.Entry
-t26 = Li._∷_ (0, row·7) (Li._∷_ (1, row·5) (Li._∷_ (2, row·21) (Li._∷_ (3, row·19) (Li._∷_ (4, row·27) (Li._∷_ (5, Rows.any-gone Laws.mir) (Li._∷_ (6, row·10) (Li._∷_ (7, row·10) (Li._∷_ (8, row·7) (Li._∷_ (9, row·3) (Li._∷_ (10, row·0) (Li._∷_ (11, row·9) (Li._∷_ (12, row·2) (Li._∷_ (13, row·6) (Li._∷_ (14, row·1) (Li._∷_ (15, row·14) Li.[])))))))))))))))
+t26 = Ro.setRow 5 (21, Mut.mslice Gap_.row ty·36 9) (Ro.setRow 4 (20, row·6) t25)
 
 abbrev pub t27 : Li.List Ro.Entry
-t27 = Li._∷_ (16, row·3) (Li._∷_ (17, row·16) (Li._∷_ (18, row·8) (Li._∷_ (19, row·29) (Li._∷_ (20, row·6) (Li._∷_ (21, row·17) (Li._∷_ (22, row·3) (Li._∷_ (23, row·0) (Li._∷_ (24, row·8) (Li._∷_ (25, row·4) (Li._∷_ (26, row·6) (Li._∷_ (27, row·1) (Li._∷_ (28, row·25) (Li._∷_ (29, row·3) (Li._∷_ (30, row·0) (Li._∷_ (31, row·8) Li.[])))))))))))))))
+t27 = Li._∷_ (0, row·7) (Li._∷_ (1, row·5) (Li._∷_ (2, row·22) (Li._∷_ (3, row·21) (Li._∷_ (4, row·26) (Li._∷_ (5, row·14) (Li._∷_ (6, row·10) (Li._∷_ (7, row·10) (Li._∷_ (8, row·7) (Li._∷_ (9, row·3) (Li._∷_ (10, row·0) (Li._∷_ (11, row·9) (Li._∷_ (12, row·2) (Li._∷_ (13, row·6) (Li._∷_ (14, row·1) (Li._∷_ (15, row·15) Li.[])))))))))))))))
 
 abbrev pub t28 : Li.List Ro.Entry
-t28 = Ro.setRow 3 (19, row·4) t27
+t28 = Li._∷_ (16, row·3) (Li._∷_ (17, row·19) (Li._∷_ (18, row·8) (Li._∷_ (19, row·28) (Li._∷_ (20, row·6) (Li._∷_ (21, row·18) (Li._∷_ (22, row·3) (Li._∷_ (23, row·0) (Li._∷_ (24, row·8) (Li._∷_ (25, row·4) (Li._∷_ (26, row·6) (Li._∷_ (27, row·1) (Li._∷_ (28, row·24) (Li._∷_ (29, row·3) (Li._∷_ (30, row·0) (Li._∷_ (31, row·8) Li.[])))))))))))))))
 
 abbrev pub t29 : Li.List Ro.Entry
-t29 = Li._∷_ (0, row·7) (Li._∷_ (1, row·5) (Li._∷_ (2, row·11) (Li._∷_ (3, row·19) (Li._∷_ (4, row·27) (Li._∷_ (5, Rows.any-gone Laws.mir) (Li._∷_ (6, row·10) (Li._∷_ (7, row·10) (Li._∷_ (8, row·7) (Li._∷_ (9, row·3) (Li._∷_ (10, row·0) (Li._∷_ (11, row·9) (Li._∷_ (12, row·2) (Li._∷_ (13, row·6) (Li._∷_ (14, row·1) (Li._∷_ (15, row·14) Li.[])))))))))))))))
+t29 = Ro.setRow 3 (19, row·4) t28
 
 abbrev pub t30 : Li.List Ro.Entry
-t30 = Li._∷_ (16, row·3) (Li._∷_ (17, row·0) (Li._∷_ (18, row·8) (Li._∷_ (19, row·4) (Li._∷_ (20, row·6) (Li._∷_ (21, row·17) (Li._∷_ (22, row·3) (Li._∷_ (23, row·0) (Li._∷_ (24, row·8) (Li._∷_ (25, row·4) (Li._∷_ (26, row·6) (Li._∷_ (27, row·1) (Li._∷_ (28, row·25) (Li._∷_ (29, row·3) (Li._∷_ (30, row·0) (Li._∷_ (31, row·8) Li.[])))))))))))))))
+t30 = Li._∷_ (0, row·7) (Li._∷_ (1, row·5) (Li._∷_ (2, row·11) (Li._∷_ (3, row·21) (Li._∷_ (4, row·26) (Li._∷_ (5, row·14) (Li._∷_ (6, row·10) (Li._∷_ (7, row·10) (Li._∷_ (8, row·7) (Li._∷_ (9, row·3) (Li._∷_ (10, row·0) (Li._∷_ (11, row·9) (Li._∷_ (12, row·2) (Li._∷_ (13, row·6) (Li._∷_ (14, row·1) (Li._∷_ (15, row·15) Li.[])))))))))))))))
 
 abbrev pub t31 : Li.List Ro.Entry
-t31 = Li._∷_ (0, row·7) (Li._∷_ (1, row·5) (Li._∷_ (2, row·11) (Li._∷_ (3, row·12) (Li._∷_ (4, row·27) (Li._∷_ (5, Rows.any-gone Laws.mir) (Li._∷_ (6, row·10) (Li._∷_ (7, row·10) (Li._∷_ (8, row·7) (Li._∷_ (9, row·3) (Li._∷_ (10, row·0) (Li._∷_ (11, row·9) (Li._∷_ (12, row·2) (Li._∷_ (13, row·6) (Li._∷_ (14, row·1) (Li._∷_ (15, row·14) Li.[])))))))))))))))
+t31 = Li._∷_ (16, row·3) (Li._∷_ (17, row·0) (Li._∷_ (18, row·8) (Li._∷_ (19, row·4) (Li._∷_ (20, row·6) (Li._∷_ (21, row·18) (Li._∷_ (22, row·3) (Li._∷_ (23, row·0) (Li._∷_ (24, row·8) (Li._∷_ (25, row·4) (Li._∷_ (26, row·6) (Li._∷_ (27, row·1) (Li._∷_ (28, row·24) (Li._∷_ (29, row·3) (Li._∷_ (30, row·0) (Li._∷_ (31, row·8) Li.[])))))))))))))))
 
 abbrev pub t32 : Li.List Ro.Entry
-t32 = Ro.setRow 4 (4, row·13) t31
+t32 = Li._∷_ (0, row·7) (Li._∷_ (1, row·5) (Li._∷_ (2, row·11) (Li._∷_ (3, row·12) (Li._∷_ (4, row·26) (Li._∷_ (5, row·14) (Li._∷_ (6, row·10) (Li._∷_ (7, row·10) (Li._∷_ (8, row·7) (Li._∷_ (9, row·3) (Li._∷_ (10, row·0) (Li._∷_ (11, row·9) (Li._∷_ (12, row·2) (Li._∷_ (13, row·6) (Li._∷_ (14, row·1) (Li._∷_ (15, row·15) Li.[])))))))))))))))
 
 abbrev pub t33 : Li.List Ro.Entry
-t33 = Ro.setRow 15 (15, Rows.sc-here Ro.sBool) t32
+t33 = Ro.setRow 4 (4, row·13) t32
 
 abbrev pub t34 : Li.List Ro.Entry
-t34 = Ro.setRow 15 (15, row·14) (Ro.setRow 0 (0, row·10) t33)
+t34 = Ro.setRow 15 (15, Rows.sc-here Ro.sBool) t33
 
 abbrev pub t35 : Li.List Ro.Entry
-t35 = Ro.setRow 6 (6, row·7) t34
+t35 = Ro.setRow 5 (5, Rows.any-gone Laws.mir) t34
 
 abbrev pub t36 : Li.List Ro.Entry
-t36 = Ro.setRow 6 (6, row·10) (Ro.setRow 2 (2, row·20) (Ro.setRow 0 (0, row·7) t35))
+t36 = Ro.setRow 15 (15, row·15) t35
 
 abbrev pub t37 : Li.List Ro.Entry
-t37 = Li._∷_ (16, row·3) (Li._∷_ (17, row·0) (Li._∷_ (18, row·8) (Li._∷_ (19, row·4) (Li._∷_ (20, row·6) (Li._∷_ (21, row·1) (Li._∷_ (22, Relend.msptr (Rf.rtF (Rf.fInt Sy.w32)) ty·32 10) (Li._∷_ (23, row·0) (Li._∷_ (24, row·8) (Li._∷_ (25, row·4) (Li._∷_ (26, row·6) (Li._∷_ (27, row·1) (Li._∷_ (28, row·25) (Li._∷_ (29, row·3) (Li._∷_ (30, row·0) (Li._∷_ (31, row·8) Li.[])))))))))))))))
+t37 = Ro.setRow 0 (0, row·10) t36
 
 abbrev pub t38 : Li.List Ro.Entry
-t38 = Ro.setRow 7 (23, row·30) (Ro.setRow 6 (22, row·3) t37)
+t38 = Ro.setRow 6 (6, row·7) t37
 
 abbrev pub t39 : Li.List Ro.Entry
-t39 = Li._∷_ (0, row·7) (Li._∷_ (1, row·5) (Li._∷_ (2, row·20) (Li._∷_ (3, row·18) (Li._∷_ (4, row·13) (Li._∷_ (5, Rows.any-gone Laws.mir) (Li._∷_ (6, row·10) (Li._∷_ (7, row·10) (Li._∷_ (8, row·7) (Li._∷_ (9, row·3) (Li._∷_ (10, row·0) (Li._∷_ (11, row·9) (Li._∷_ (12, row·2) (Li._∷_ (13, row·6) (Li._∷_ (14, row·1) (Li._∷_ (15, row·14) Li.[])))))))))))))))
+t39 = Ro.setRow 6 (6, row·10) (Ro.setRow 5 (5, row·14) (Ro.setRow 2 (2, row·17) (Ro.setRow 0 (0, row·7) t38)))
 
 abbrev pub t40 : Li.List Ro.Entry
-t40 = Li._∷_ (16, row·3) (Li._∷_ (17, row·0) (Li._∷_ (18, row·8) (Li._∷_ (19, row·4) (Li._∷_ (20, row·6) (Li._∷_ (21, row·1) (Li._∷_ (22, row·3) (Li._∷_ (23, row·30) (Li._∷_ (24, Relend.ssptr (Rf.rtF (Rf.fInt Sy.w64)) ty·34 11) (Li._∷_ (25, row·4) (Li._∷_ (26, row·6) (Li._∷_ (27, row·1) (Li._∷_ (28, row·25) (Li._∷_ (29, row·3) (Li._∷_ (30, row·0) (Li._∷_ (31, row·8) Li.[])))))))))))))))
+t40 = Li._∷_ (16, row·3) (Li._∷_ (17, row·0) (Li._∷_ (18, row·8) (Li._∷_ (19, row·4) (Li._∷_ (20, row·6) (Li._∷_ (21, row·1) (Li._∷_ (22, Relend.msptr (Rf.rtF (Rf.fInt Sy.w32)) ty·32 10) (Li._∷_ (23, row·0) (Li._∷_ (24, row·8) (Li._∷_ (25, row·4) (Li._∷_ (26, row·6) (Li._∷_ (27, row·1) (Li._∷_ (28, row·24) (Li._∷_ (29, row·3) (Li._∷_ (30, row·0) (Li._∷_ (31, row·8) Li.[])))))))))))))))
 
 abbrev pub t41 : Li.List Ro.Entry
-t41 = Ro.setRow 9 (25, row·28) (Ro.setRow 8 (24, row·8) t40)
+t41 = Ro.setRow 7 (23, row·29) (Ro.setRow 6 (22, row·3) t40)
 
 abbrev pub t42 : Li.List Ro.Entry
-t42 = Li._∷_ (0, row·7) (Li._∷_ (1, row·5) (Li._∷_ (2, row·20) (Li._∷_ (3, row·18) (Li._∷_ (4, row·26) (Li._∷_ (5, Rows.any-gone Laws.mir) (Li._∷_ (6, row·10) (Li._∷_ (7, row·10) (Li._∷_ (8, row·7) (Li._∷_ (9, row·3) (Li._∷_ (10, row·0) (Li._∷_ (11, row·9) (Li._∷_ (12, row·2) (Li._∷_ (13, row·6) (Li._∷_ (14, row·1) (Li._∷_ (15, row·14) Li.[])))))))))))))))
+t42 = Li._∷_ (0, row·7) (Li._∷_ (1, row·5) (Li._∷_ (2, row·17) (Li._∷_ (3, row·20) (Li._∷_ (4, row·13) (Li._∷_ (5, row·14) (Li._∷_ (6, row·10) (Li._∷_ (7, row·10) (Li._∷_ (8, row·7) (Li._∷_ (9, row·3) (Li._∷_ (10, row·0) (Li._∷_ (11, row·9) (Li._∷_ (12, row·2) (Li._∷_ (13, row·6) (Li._∷_ (14, row·1) (Li._∷_ (15, row·15) Li.[])))))))))))))))
 
 abbrev pub t43 : Li.List Ro.Entry
-t43 = Li._∷_ (16, row·3) (Li._∷_ (17, row·0) (Li._∷_ (18, row·8) (Li._∷_ (19, row·4) (Li._∷_ (20, row·6) (Li._∷_ (21, row·1) (Li._∷_ (22, row·3) (Li._∷_ (23, row·30) (Li._∷_ (24, row·8) (Li._∷_ (25, row·28) (Li._∷_ (26, Relend.msptr Gap_.row ty·36 12) (Li._∷_ (27, row·1) (Li._∷_ (28, row·25) (Li._∷_ (29, row·3) (Li._∷_ (30, row·0) (Li._∷_ (31, row·8) Li.[])))))))))))))))
+t43 = Li._∷_ (16, row·3) (Li._∷_ (17, row·0) (Li._∷_ (18, row·8) (Li._∷_ (19, row·4) (Li._∷_ (20, row·6) (Li._∷_ (21, row·1) (Li._∷_ (22, row·3) (Li._∷_ (23, row·29) (Li._∷_ (24, Relend.ssptr (Rf.rtF (Rf.fInt Sy.w64)) ty·34 11) (Li._∷_ (25, row·4) (Li._∷_ (26, row·6) (Li._∷_ (27, row·1) (Li._∷_ (28, row·24) (Li._∷_ (29, row·3) (Li._∷_ (30, row·0) (Li._∷_ (31, row·8) Li.[])))))))))))))))
 
 abbrev pub t44 : Li.List Ro.Entry
-t44 = Ro.setRow 11 (27, Mut.mslice Gap_.row ty·36 12) (Ro.setRow 10 (26, row·6) t43)
+t44 = Ro.setRow 9 (25, row·27) (Ro.setRow 8 (24, row·8) t43)
 
 abbrev pub t45 : Li.List Ro.Entry
-t45 = Li._∷_ (0, row·7) (Li._∷_ (1, row·5) (Li._∷_ (2, row·20) (Li._∷_ (3, row·18) (Li._∷_ (4, row·26) (Li._∷_ (5, Rows.any-gone Laws.mir) (Li._∷_ (6, row·10) (Li._∷_ (7, row·10) (Li._∷_ (8, row·10) (Li._∷_ (9, row·3) (Li._∷_ (10, row·0) (Li._∷_ (11, row·9) (Li._∷_ (12, row·2) (Li._∷_ (13, row·6) (Li._∷_ (14, row·1) (Li._∷_ (15, row·14) Li.[])))))))))))))))
+t45 = Li._∷_ (0, row·7) (Li._∷_ (1, row·5) (Li._∷_ (2, row·17) (Li._∷_ (3, row·20) (Li._∷_ (4, row·25) (Li._∷_ (5, row·14) (Li._∷_ (6, row·10) (Li._∷_ (7, row·10) (Li._∷_ (8, row·7) (Li._∷_ (9, row·3) (Li._∷_ (10, row·0) (Li._∷_ (11, row·9) (Li._∷_ (12, row·2) (Li._∷_ (13, row·6) (Li._∷_ (14, row·1) (Li._∷_ (15, row·15) Li.[])))))))))))))))
 
 abbrev pub t46 : Li.List Ro.Entry
-t46 = Li._∷_ (16, row·3) (Li._∷_ (17, row·0) (Li._∷_ (18, row·8) (Li._∷_ (19, row·4) (Li._∷_ (20, row·6) (Li._∷_ (21, row·1) (Li._∷_ (22, row·3) (Li._∷_ (23, row·16) (Li._∷_ (24, row·8) (Li._∷_ (25, row·28) (Li._∷_ (26, row·6) (Li._∷_ (27, row·17) (Li._∷_ (28, row·25) (Li._∷_ (29, row·3) (Li._∷_ (30, row·0) (Li._∷_ (31, row·8) Li.[])))))))))))))))
+t46 = Li._∷_ (16, row·3) (Li._∷_ (17, row·0) (Li._∷_ (18, row·8) (Li._∷_ (19, row·4) (Li._∷_ (20, row·6) (Li._∷_ (21, row·1) (Li._∷_ (22, row·3) (Li._∷_ (23, row·29) (Li._∷_ (24, row·8) (Li._∷_ (25, row·27) (Li._∷_ (26, Relend.msptr Gap_.row ty·36 12) (Li._∷_ (27, row·1) (Li._∷_ (28, row·24) (Li._∷_ (29, row·3) (Li._∷_ (30, row·0) (Li._∷_ (31, row·8) Li.[])))))))))))))))
 
 abbrev pub t47 : Li.List Ro.Entry
-t47 = Ro.setRow 9 (25, row·4) t46
+t47 = Ro.setRow 11 (27, Mut.mslice Gap_.row ty·36 12) (Ro.setRow 10 (26, row·6) t46)
 
 abbrev pub t48 : Li.List Ro.Entry
-t48 = Li._∷_ (0, row·7) (Li._∷_ (1, row·5) (Li._∷_ (2, row·11) (Li._∷_ (3, row·18) (Li._∷_ (4, row·26) (Li._∷_ (5, Rows.any-gone Laws.mir) (Li._∷_ (6, row·10) (Li._∷_ (7, row·10) (Li._∷_ (8, row·10) (Li._∷_ (9, row·3) (Li._∷_ (10, row·0) (Li._∷_ (11, row·9) (Li._∷_ (12, row·2) (Li._∷_ (13, row·6) (Li._∷_ (14, row·1) (Li._∷_ (15, row·14) Li.[])))))))))))))))
+t48 = Li._∷_ (0, row·7) (Li._∷_ (1, row·5) (Li._∷_ (2, row·17) (Li._∷_ (3, row·20) (Li._∷_ (4, row·25) (Li._∷_ (5, row·14) (Li._∷_ (6, row·10) (Li._∷_ (7, row·10) (Li._∷_ (8, row·10) (Li._∷_ (9, row·3) (Li._∷_ (10, row·0) (Li._∷_ (11, row·9) (Li._∷_ (12, row·2) (Li._∷_ (13, row·6) (Li._∷_ (14, row·1) (Li._∷_ (15, row·15) Li.[])))))))))))))))
 
 abbrev pub t49 : Li.List Ro.Entry
-t49 = Li._∷_ (16, row·3) (Li._∷_ (17, row·0) (Li._∷_ (18, row·8) (Li._∷_ (19, row·4) (Li._∷_ (20, row·6) (Li._∷_ (21, row·1) (Li._∷_ (22, row·3) (Li._∷_ (23, row·0) (Li._∷_ (24, row·8) (Li._∷_ (25, row·4) (Li._∷_ (26, row·6) (Li._∷_ (27, row·17) (Li._∷_ (28, row·25) (Li._∷_ (29, row·3) (Li._∷_ (30, row·0) (Li._∷_ (31, row·8) Li.[])))))))))))))))
+t49 = Li._∷_ (16, row·3) (Li._∷_ (17, row·0) (Li._∷_ (18, row·8) (Li._∷_ (19, row·4) (Li._∷_ (20, row·6) (Li._∷_ (21, row·1) (Li._∷_ (22, row·3) (Li._∷_ (23, row·19) (Li._∷_ (24, row·8) (Li._∷_ (25, row·27) (Li._∷_ (26, row·6) (Li._∷_ (27, row·18) (Li._∷_ (28, row·24) (Li._∷_ (29, row·3) (Li._∷_ (30, row·0) (Li._∷_ (31, row·8) Li.[])))))))))))))))
 
 abbrev pub t50 : Li.List Ro.Entry
-t50 = Li._∷_ (0, row·7) (Li._∷_ (1, row·5) (Li._∷_ (2, row·11) (Li._∷_ (3, row·12) (Li._∷_ (4, row·26) (Li._∷_ (5, Rows.any-gone Laws.mir) (Li._∷_ (6, row·10) (Li._∷_ (7, row·10) (Li._∷_ (8, row·10) (Li._∷_ (9, row·3) (Li._∷_ (10, row·0) (Li._∷_ (11, row·9) (Li._∷_ (12, row·2) (Li._∷_ (13, row·6) (Li._∷_ (14, row·1) (Li._∷_ (15, row·14) Li.[])))))))))))))))
+t50 = Ro.setRow 9 (25, row·4) t49
 
 abbrev pub t51 : Li.List Ro.Entry
-t51 = Ro.setRow 4 (4, row·13) t50
+t51 = Li._∷_ (0, row·7) (Li._∷_ (1, row·5) (Li._∷_ (2, row·17) (Li._∷_ (3, row·20) (Li._∷_ (4, row·25) (Li._∷_ (5, Rows.any-gone Laws.mir) (Li._∷_ (6, row·10) (Li._∷_ (7, row·10) (Li._∷_ (8, row·10) (Li._∷_ (9, row·3) (Li._∷_ (10, row·0) (Li._∷_ (11, row·9) (Li._∷_ (12, row·2) (Li._∷_ (13, row·6) (Li._∷_ (14, row·1) (Li._∷_ (15, row·15) Li.[])))))))))))))))
 
 abbrev pub t52 : Li.List Ro.Entry
-t52 = Ro.setRow 15 (15, Rows.sc-here Ro.sBool) t51
+t52 = Ro.setRow 2 (2, row·11) t51
 
 abbrev pub t53 : Li.List Ro.Entry
-t53 = Ro.setRow 15 (15, row·14) (Ro.setRow 0 (0, row·10) t52)
+t53 = Li._∷_ (16, row·3) (Li._∷_ (17, row·0) (Li._∷_ (18, row·8) (Li._∷_ (19, row·4) (Li._∷_ (20, row·6) (Li._∷_ (21, row·1) (Li._∷_ (22, row·3) (Li._∷_ (23, row·0) (Li._∷_ (24, row·8) (Li._∷_ (25, row·4) (Li._∷_ (26, row·6) (Li._∷_ (27, row·18) (Li._∷_ (28, row·24) (Li._∷_ (29, row·3) (Li._∷_ (30, row·0) (Li._∷_ (31, row·8) Li.[])))))))))))))))
 
 abbrev pub t54 : Li.List Ro.Entry
-t54 = Ro.setRow 6 (6, row·7) t53
+t54 = Li._∷_ (0, row·7) (Li._∷_ (1, row·5) (Li._∷_ (2, row·11) (Li._∷_ (3, row·12) (Li._∷_ (4, row·25) (Li._∷_ (5, Rows.any-gone Laws.mir) (Li._∷_ (6, row·10) (Li._∷_ (7, row·10) (Li._∷_ (8, row·10) (Li._∷_ (9, row·3) (Li._∷_ (10, row·0) (Li._∷_ (11, row·9) (Li._∷_ (12, row·2) (Li._∷_ (13, row·6) (Li._∷_ (14, row·1) (Li._∷_ (15, row·15) Li.[])))))))))))))))
 
 abbrev pub t55 : Li.List Ro.Entry
-t55 = Ro.setRow 7 (7, row·7) t54
+t55 = Ro.setRow 4 (4, row·13) t54
 
 abbrev pub t56 : Li.List Ro.Entry
-t56 = Ro.setRow 7 (7, row·10) (Ro.setRow 6 (6, row·10) (Ro.setRow 2 (2, Relend.mslice-owed (Rf.rtF (Rf.fInt Sy.w32)) ty·33 1 13 Ro.off) (Ro.setRow 0 (0, row·7) t55)))
+t56 = Ro.setRow 15 (15, Rows.sc-here Ro.sBool) t55
 
 abbrev pub t57 : Li.List Ro.Entry
-t57 = Li._∷_ (16, row·3) (Li._∷_ (17, row·0) (Li._∷_ (18, row·8) (Li._∷_ (19, row·4) (Li._∷_ (20, row·6) (Li._∷_ (21, row·1) (Li._∷_ (22, row·3) (Li._∷_ (23, row·0) (Li._∷_ (24, row·8) (Li._∷_ (25, row·4) (Li._∷_ (26, row·6) (Li._∷_ (27, row·1) (Li._∷_ (28, row·25) (Li._∷_ (29, Relend.msptr (Rf.rtF (Rf.fInt Sy.w32)) ty·32 13) (Li._∷_ (30, row·0) (Li._∷_ (31, row·8) Li.[])))))))))))))))
+t57 = Ro.setRow 15 (15, row·15) (Ro.setRow 0 (0, row·10) t56)
 
 abbrev pub t58 : Li.List Ro.Entry
-t58 = Ro.setRow 14 (30, Mut.mslice (Rf.rtF (Rf.fInt Sy.w32)) ty·32 13) (Ro.setRow 13 (29, row·3) t57)
+t58 = Ro.setRow 6 (6, row·7) t57
 
 abbrev pub t59 : Li.List Ro.Entry
-t59 = Li._∷_ (0, row·7) (Li._∷_ (1, row·5) (Li._∷_ (2, Relend.mslice-owed (Rf.rtF (Rf.fInt Sy.w32)) ty·33 1 13 Ro.off) (Li._∷_ (3, Reshare.mslice-owedS (Rf.rtF (Rf.fInt Sy.w64)) ty·35 2 14 Ro.off) (Li._∷_ (4, row·13) (Li._∷_ (5, Rows.any-gone Laws.mir) (Li._∷_ (6, row·10) (Li._∷_ (7, row·10) (Li._∷_ (8, row·10) (Li._∷_ (9, row·3) (Li._∷_ (10, row·0) (Li._∷_ (11, row·9) (Li._∷_ (12, row·2) (Li._∷_ (13, row·6) (Li._∷_ (14, row·1) (Li._∷_ (15, row·14) Li.[])))))))))))))))
+t59 = Ro.setRow 7 (7, row·7) t58
 
 abbrev pub t60 : Li.List Ro.Entry
-t60 = Li._∷_ (16, row·3) (Li._∷_ (17, row·0) (Li._∷_ (18, row·8) (Li._∷_ (19, row·4) (Li._∷_ (20, row·6) (Li._∷_ (21, row·1) (Li._∷_ (22, row·3) (Li._∷_ (23, row·0) (Li._∷_ (24, row·8) (Li._∷_ (25, row·4) (Li._∷_ (26, row·6) (Li._∷_ (27, row·1) (Li._∷_ (28, row·25) (Li._∷_ (29, row·3) (Li._∷_ (30, Mut.mslice (Rf.rtF (Rf.fInt Sy.w32)) ty·32 13) (Li._∷_ (31, Relend.ssptr (Rf.rtF (Rf.fInt Sy.w64)) ty·34 14) Li.[])))))))))))))))
+t60 = Ro.setRow 7 (7, row·10) (Ro.setRow 6 (6, row·10) (Ro.setRow 2 (2, Relend.mslice-owed (Rf.rtF (Rf.fInt Sy.w32)) ty·33 1 13 Ro.off) (Ro.setRow 0 (0, row·7) t59)))
 
 abbrev pub t61 : Li.List Ro.Entry
-t61 = Li._∷_ (32, Rows.sslice (Rf.rtF (Rf.fInt Sy.w64)) ty·34 14) Li.[]
+t61 = Li._∷_ (16, row·3) (Li._∷_ (17, row·0) (Li._∷_ (18, row·8) (Li._∷_ (19, row·4) (Li._∷_ (20, row·6) (Li._∷_ (21, row·1) (Li._∷_ (22, row·3) (Li._∷_ (23, row·0) (Li._∷_ (24, row·8) (Li._∷_ (25, row·4) (Li._∷_ (26, row·6) (Li._∷_ (27, row·1) (Li._∷_ (28, row·24) (Li._∷_ (29, Relend.msptr (Rf.rtF (Rf.fInt Sy.w32)) ty·32 13) (Li._∷_ (30, row·0) (Li._∷_ (31, row·8) Li.[])))))))))))))))
 
 abbrev pub t62 : Li.List Ro.Entry
-t62 = Li._∷_ (16, row·3) (Li._∷_ (17, row·0) (Li._∷_ (18, row·8) (Li._∷_ (19, row·4) (Li._∷_ (20, row·6) (Li._∷_ (21, row·1) (Li._∷_ (22, row·3) (Li._∷_ (23, row·0) (Li._∷_ (24, row·8) (Li._∷_ (25, row·4) (Li._∷_ (26, row·6) (Li._∷_ (27, row·1) (Li._∷_ (28, Rows.sc-here Ro.sUnit) (Li._∷_ (29, row·3) (Li._∷_ (30, row·16) (Li._∷_ (31, row·8) Li.[])))))))))))))))
+t62 = Ro.setRow 14 (30, Mut.mslice (Rf.rtF (Rf.fInt Sy.w32)) ty·32 13) (Ro.setRow 13 (29, row·3) t61)
 
 abbrev pub t63 : Li.List Ro.Entry
-t63 = Ro.setRow 12 (28, row·25) t62
+t63 = Li._∷_ (0, row·7) (Li._∷_ (1, row·5) (Li._∷_ (2, Relend.mslice-owed (Rf.rtF (Rf.fInt Sy.w32)) ty·33 1 13 Ro.off) (Li._∷_ (3, Reshare.mslice-owedS (Rf.rtF (Rf.fInt Sy.w64)) ty·35 2 14 Ro.off) (Li._∷_ (4, row·13) (Li._∷_ (5, Rows.any-gone Laws.mir) (Li._∷_ (6, row·10) (Li._∷_ (7, row·10) (Li._∷_ (8, row·10) (Li._∷_ (9, row·3) (Li._∷_ (10, row·0) (Li._∷_ (11, row·9) (Li._∷_ (12, row·2) (Li._∷_ (13, row·6) (Li._∷_ (14, row·1) (Li._∷_ (15, row·15) Li.[])))))))))))))))
 
 abbrev pub t64 : Li.List Ro.Entry
-t64 = Li._∷_ (0, row·7) (Li._∷_ (1, row·5) (Li._∷_ (2, row·11) (Li._∷_ (3, Reshare.mslice-owedS (Rf.rtF (Rf.fInt Sy.w64)) ty·35 2 14 Ro.off) (Li._∷_ (4, row·13) (Li._∷_ (5, Rows.any-gone Laws.mir) (Li._∷_ (6, row·10) (Li._∷_ (7, row·10) (Li._∷_ (8, row·10) (Li._∷_ (9, row·3) (Li._∷_ (10, row·0) (Li._∷_ (11, row·9) (Li._∷_ (12, row·2) (Li._∷_ (13, row·6) (Li._∷_ (14, row·1) (Li._∷_ (15, row·14) Li.[])))))))))))))))
+t64 = Li._∷_ (16, row·3) (Li._∷_ (17, row·0) (Li._∷_ (18, row·8) (Li._∷_ (19, row·4) (Li._∷_ (20, row·6) (Li._∷_ (21, row·1) (Li._∷_ (22, row·3) (Li._∷_ (23, row·0) (Li._∷_ (24, row·8) (Li._∷_ (25, row·4) (Li._∷_ (26, row·6) (Li._∷_ (27, row·1) (Li._∷_ (28, row·24) (Li._∷_ (29, row·3) (Li._∷_ (30, Mut.mslice (Rf.rtF (Rf.fInt Sy.w32)) ty·32 13) (Li._∷_ (31, Relend.ssptr (Rf.rtF (Rf.fInt Sy.w64)) ty·34 14) Li.[])))))))))))))))
+
+abbrev pub t65 : Li.List Ro.Entry
+t65 = Li._∷_ (32, Rows.sslice (Rf.rtF (Rf.fInt Sy.w64)) ty·34 14) Li.[]
+
+abbrev pub t66 : Li.List Ro.Entry
+t66 = Li._∷_ (16, row·3) (Li._∷_ (17, row·0) (Li._∷_ (18, row·8) (Li._∷_ (19, row·4) (Li._∷_ (20, row·6) (Li._∷_ (21, row·1) (Li._∷_ (22, row·3) (Li._∷_ (23, row·0) (Li._∷_ (24, row·8) (Li._∷_ (25, row·4) (Li._∷_ (26, row·6) (Li._∷_ (27, row·1) (Li._∷_ (28, Rows.sc-here Ro.sUnit) (Li._∷_ (29, row·3) (Li._∷_ (30, row·19) (Li._∷_ (31, row·8) Li.[])))))))))))))))
+
+abbrev pub t67 : Li.List Ro.Entry
+t67 = Ro.setRow 12 (28, row·24) t66
+
+abbrev pub t68 : Li.List Ro.Entry
+t68 = Li._∷_ (0, row·7) (Li._∷_ (1, row·5) (Li._∷_ (2, row·11) (Li._∷_ (3, Reshare.mslice-owedS (Rf.rtF (Rf.fInt Sy.w64)) ty·35 2 14 Ro.off) (Li._∷_ (4, row·13) (Li._∷_ (5, Rows.any-gone Laws.mir) (Li._∷_ (6, row·10) (Li._∷_ (7, row·10) (Li._∷_ (8, row·10) (Li._∷_ (9, row·3) (Li._∷_ (10, row·0) (Li._∷_ (11, row·9) (Li._∷_ (12, row·2) (Li._∷_ (13, row·6) (Li._∷_ (14, row·1) (Li._∷_ (15, row·15) Li.[])))))))))))))))
 
 abbrev pub T0 : Ro.Cx
 T0 = record { locals = Li._++_ t0 (Li._++_ t1 t2); slots = Li.[] }
@@ -657,146 +670,158 @@ T13 = record { locals = Li._++_ t9 (Li._++_ t1 t2); slots = Li.[] }
 abbrev pub T14 : Ro.Cx
 T14 = record { locals = Li._++_ t10 (Li._++_ t1 t2); slots = Li.[] }
 
-abbrev pub T15 : Ro.Cx
-T15 = record { locals = Li._++_ t11 (Li._++_ t1 t2); slots = Li.[] }
+abbrev pub T16 : Ro.Cx
+T16 = record { locals = Li._++_ t11 (Li._++_ t1 t2); slots = Li.[] }
 
-abbrev pub T17 : Ro.Cx
-T17 = record { locals = Li._++_ t12 (Li._++_ t1 t2); slots = Li.[] }
+abbrev pub T20 : Ro.Cx
+T20 = record { locals = Li._++_ t12 (Li._++_ t1 t2); slots = Li.[] }
 
-abbrev pub T21 : Ro.Cx
-T21 = record { locals = Li._++_ t13 (Li._++_ t1 t2); slots = Li.[] }
+abbrev pub T24 : Ro.Cx
+T24 = record { locals = Li._++_ t13 (Li._++_ t1 t2); slots = Li.[] }
 
-abbrev pub T25 : Ro.Cx
-T25 = record { locals = Li._++_ t14 (Li._++_ t1 t2); slots = Li.[] }
+abbrev pub T26 : Ro.Cx
+T26 = record { locals = Li._++_ t14 (Li._++_ t1 t2); slots = Li.[] }
 
-abbrev pub T27 : Ro.Cx
-T27 = record { locals = Li._++_ t15 (Li._++_ t1 t2); slots = Li.[] }
+abbrev pub T28 : Ro.Cx
+T28 = record { locals = Li._++_ t15 (Li._++_ t1 t2); slots = Li.[] }
+
+abbrev pub T29 : Ro.Cx
+T29 = record { locals = Li._++_ t16 (Li._++_ t1 t2); slots = Li.[] }
 
 abbrev pub T30 : Ro.Cx
-T30 = record { locals = Li._++_ t16 (Li._++_ t1 t2); slots = Li.[] }
+T30 = record { locals = Li._++_ t17 (Li._++_ t1 t2); slots = Li.[] }
 
 abbrev pub T34 : Ro.Cx
-T34 = record { locals = Li._++_ t17 (Li._++_ t18 t2); slots = Li.[] }
+T34 = record { locals = Li._++_ t18 (Li._++_ t19 t2); slots = Li.[] }
 
 abbrev pub T35 : Ro.Cx
-T35 = record { locals = Li._++_ t17 (Li._++_ t19 t2); slots = Li.[] }
+T35 = record { locals = Li._++_ t18 (Li._++_ t20 t2); slots = Li.[] }
 
 abbrev pub T37 : Ro.Cx
-T37 = record { locals = Li._++_ t20 (Li._++_ t21 t2); slots = Li.[] }
+T37 = record { locals = Li._++_ t21 (Li._++_ t22 t2); slots = Li.[] }
 
 abbrev pub T38 : Ro.Cx
-T38 = record { locals = Li._++_ t20 (Li._++_ t22 t2); slots = Li.[] }
+T38 = record { locals = Li._++_ t21 (Li._++_ t23 t2); slots = Li.[] }
 
 abbrev pub T40 : Ro.Cx
-T40 = record { locals = Li._++_ t23 (Li._++_ t24 t2); slots = Li.[] }
+T40 = record { locals = Li._++_ t24 (Li._++_ t25 t2); slots = Li.[] }
 
 abbrev pub T41 : Ro.Cx
-T41 = record { locals = Li._++_ t23 (Li._++_ t25 t2); slots = Li.[] }
+T41 = record { locals = Li._++_ t24 (Li._++_ t26 t2); slots = Li.[] }
 
 abbrev pub T42 : Ro.Cx
-T42 = record { locals = Li._++_ t26 (Li._++_ t27 t2); slots = Li.[] }
+T42 = record { locals = Li._++_ t27 (Li._++_ t28 t2); slots = Li.[] }
 
 abbrev pub T43 : Ro.Cx
-T43 = record { locals = Li._++_ t26 (Li._++_ t28 t2); slots = Li.[] }
+T43 = record { locals = Li._++_ t27 (Li._++_ t29 t2); slots = Li.[] }
 
 abbrev pub T45 : Ro.Cx
-T45 = record { locals = Li._++_ t29 (Li._++_ t30 t2); slots = Li.[] }
+T45 = record { locals = Li._++_ t30 (Li._++_ t31 t2); slots = Li.[] }
 
 abbrev pub T49 : Ro.Cx
-T49 = record { locals = Li._++_ t31 (Li._++_ t30 t2); slots = Li.[] }
+T49 = record { locals = Li._++_ t32 (Li._++_ t31 t2); slots = Li.[] }
 
 abbrev pub T52 : Ro.Cx
-T52 = record { locals = Li._++_ t32 (Li._++_ t1 t2); slots = Li.[] }
+T52 = record { locals = Li._++_ t33 (Li._++_ t1 t2); slots = Li.[] }
 
 abbrev pub T54 : Ro.Cx
-T54 = record { locals = Li._++_ t33 (Li._++_ t1 t2); slots = Li.[] }
+T54 = record { locals = Li._++_ t34 (Li._++_ t1 t2); slots = Li.[] }
+
+abbrev pub T56 : Ro.Cx
+T56 = record { locals = Li._++_ t35 (Li._++_ t1 t2); slots = Li.[] }
 
 abbrev pub T57 : Ro.Cx
-T57 = record { locals = Li._++_ t34 (Li._++_ t1 t2); slots = Li.[] }
+T57 = record { locals = Li._++_ t36 (Li._++_ t1 t2); slots = Li.[] }
 
 abbrev pub T58 : Ro.Cx
-T58 = record { locals = Li._++_ t35 (Li._++_ t1 t2); slots = Li.[] }
+T58 = record { locals = Li._++_ t37 (Li._++_ t1 t2); slots = Li.[] }
 
-abbrev pub T62 : Ro.Cx
-T62 = record { locals = Li._++_ t36 (Li._++_ t37 t2); slots = Li.[] }
+abbrev pub T59 : Ro.Cx
+T59 = record { locals = Li._++_ t38 (Li._++_ t1 t2); slots = Li.[] }
 
 abbrev pub T63 : Ro.Cx
-T63 = record { locals = Li._++_ t36 (Li._++_ t38 t2); slots = Li.[] }
+T63 = record { locals = Li._++_ t39 (Li._++_ t40 t2); slots = Li.[] }
 
-abbrev pub T65 : Ro.Cx
-T65 = record { locals = Li._++_ t39 (Li._++_ t40 t2); slots = Li.[] }
+abbrev pub T64 : Ro.Cx
+T64 = record { locals = Li._++_ t39 (Li._++_ t41 t2); slots = Li.[] }
 
 abbrev pub T66 : Ro.Cx
-T66 = record { locals = Li._++_ t39 (Li._++_ t41 t2); slots = Li.[] }
+T66 = record { locals = Li._++_ t42 (Li._++_ t43 t2); slots = Li.[] }
 
-abbrev pub T68 : Ro.Cx
-T68 = record { locals = Li._++_ t42 (Li._++_ t43 t2); slots = Li.[] }
+abbrev pub T67 : Ro.Cx
+T67 = record { locals = Li._++_ t42 (Li._++_ t44 t2); slots = Li.[] }
 
 abbrev pub T69 : Ro.Cx
-T69 = record { locals = Li._++_ t42 (Li._++_ t44 t2); slots = Li.[] }
+T69 = record { locals = Li._++_ t45 (Li._++_ t46 t2); slots = Li.[] }
 
 abbrev pub T70 : Ro.Cx
-T70 = record { locals = Li._++_ t45 (Li._++_ t46 t2); slots = Li.[] }
+T70 = record { locals = Li._++_ t45 (Li._++_ t47 t2); slots = Li.[] }
 
 abbrev pub T71 : Ro.Cx
-T71 = record { locals = Li._++_ t45 (Li._++_ t47 t2); slots = Li.[] }
+T71 = record { locals = Li._++_ t48 (Li._++_ t49 t2); slots = Li.[] }
+
+abbrev pub T72 : Ro.Cx
+T72 = record { locals = Li._++_ t48 (Li._++_ t50 t2); slots = Li.[] }
 
 abbrev pub T73 : Ro.Cx
-T73 = record { locals = Li._++_ t48 (Li._++_ t49 t2); slots = Li.[] }
+T73 = record { locals = Li._++_ t51 (Li._++_ t50 t2); slots = Li.[] }
 
-abbrev pub T77 : Ro.Cx
-T77 = record { locals = Li._++_ t50 (Li._++_ t49 t2); slots = Li.[] }
+abbrev pub T75 : Ro.Cx
+T75 = record { locals = Li._++_ t52 (Li._++_ t53 t2); slots = Li.[] }
 
-abbrev pub T80 : Ro.Cx
-T80 = record { locals = Li._++_ t51 (Li._++_ t1 t2); slots = Li.[] }
+abbrev pub T79 : Ro.Cx
+T79 = record { locals = Li._++_ t54 (Li._++_ t53 t2); slots = Li.[] }
 
 abbrev pub T82 : Ro.Cx
-T82 = record { locals = Li._++_ t52 (Li._++_ t1 t2); slots = Li.[] }
+T82 = record { locals = Li._++_ t55 (Li._++_ t1 t2); slots = Li.[] }
 
-abbrev pub T85 : Ro.Cx
-T85 = record { locals = Li._++_ t53 (Li._++_ t1 t2); slots = Li.[] }
-
-abbrev pub T86 : Ro.Cx
-T86 = record { locals = Li._++_ t54 (Li._++_ t1 t2); slots = Li.[] }
+abbrev pub T84 : Ro.Cx
+T84 = record { locals = Li._++_ t56 (Li._++_ t1 t2); slots = Li.[] }
 
 abbrev pub T87 : Ro.Cx
-T87 = record { locals = Li._++_ t55 (Li._++_ t1 t2); slots = Li.[] }
+T87 = record { locals = Li._++_ t57 (Li._++_ t1 t2); slots = Li.[] }
 
-abbrev pub T91 : Ro.Cx
-T91 = record { locals = Li._++_ t56 (Li._++_ t57 t2); slots = Li.[] }
+abbrev pub T88 : Ro.Cx
+T88 = record { locals = Li._++_ t58 (Li._++_ t1 t2); slots = Li.[] }
 
-abbrev pub T92 : Ro.Cx
-T92 = record { locals = Li._++_ t56 (Li._++_ t58 t2); slots = Li.[] }
+abbrev pub T89 : Ro.Cx
+T89 = record { locals = Li._++_ t59 (Li._++_ t1 t2); slots = Li.[] }
+
+abbrev pub T93 : Ro.Cx
+T93 = record { locals = Li._++_ t60 (Li._++_ t61 t2); slots = Li.[] }
 
 abbrev pub T94 : Ro.Cx
-T94 = record { locals = Li._++_ t59 (Li._++_ t60 t2); slots = Li.[] }
-
-abbrev pub T95 : Ro.Cx
-T95 = record { locals = Li._++_ t59 (Li._++_ t58 t61); slots = Li.[] }
+T94 = record { locals = Li._++_ t60 (Li._++_ t62 t2); slots = Li.[] }
 
 abbrev pub T96 : Ro.Cx
-T96 = record { locals = Li._++_ t59 (Li._++_ t62 t61); slots = Li.[] }
+T96 = record { locals = Li._++_ t63 (Li._++_ t64 t2); slots = Li.[] }
 
 abbrev pub T97 : Ro.Cx
-T97 = record { locals = Li._++_ t59 (Li._++_ t62 t2); slots = Li.[] }
+T97 = record { locals = Li._++_ t63 (Li._++_ t62 t65); slots = Li.[] }
 
 abbrev pub T98 : Ro.Cx
-T98 = record { locals = Li._++_ t59 (Li._++_ t63 t2); slots = Li.[] }
+T98 = record { locals = Li._++_ t63 (Li._++_ t66 t65); slots = Li.[] }
+
+abbrev pub T99 : Ro.Cx
+T99 = record { locals = Li._++_ t63 (Li._++_ t66 t2); slots = Li.[] }
 
 abbrev pub T100 : Ro.Cx
-T100 = record { locals = Li._++_ t64 (Li._++_ t1 t2); slots = Li.[] }
+T100 = record { locals = Li._++_ t63 (Li._++_ t67 t2); slots = Li.[] }
+
+abbrev pub T102 : Ro.Cx
+T102 = record { locals = Li._++_ t68 (Li._++_ t1 t2); slots = Li.[] }
 
 abbrev pub O0 : Ty.Outs
 O0 = record { next = Option.none; exits = Li.[]; returns = Option.some T1 }
 
 abbrev pub O1 : Ty.Outs
-O1 = Ty.withNext (Option.some T25) O0
+O1 = Ty.withNext (Option.some T24) O0
 
 abbrev pub O2 : Ty.Outs
 O2 = Ty.withNext (Option.some T52) O0
 
 abbrev pub O3 : Ty.Outs
-O3 = Ty.withNext (Option.some T80) O0
+O3 = Ty.withNext (Option.some T82) O0
 
 module _ (claims· : Claims) where
   abbrev s0 : Ty.Gives T0 T0
@@ -827,43 +852,43 @@ module _ (claims· : Claims) where
   s11 = Relend.k-sl-aggregate Gap_.row (Relend.asMut Gap_.row) T12 13 14 6 ty·36 ty·36 (λ x. x) (Sc.oFld 4 (Li._∷_ (Sy.field 1) Li.[]) (Sy.tyInt Sy.w64) 8 λ v. Shared.lenV (v .0))
 
   abbrev s12 : Ty.Both T13 T14
-  s12 = Call.callB ps·0 r·0 (claims· .0) (claims· .1) T13 (record { pos = 1; ty = Sy.tyRef (Sy.named 0) Sy.imm (Sy.tyInt Sy.w8); ref = λ x. x }, (record { pos = 10; ty = Sy.tyRef Sy.erased Sy.mut (Sy.tyInt Sy.w32); ref = λ x. x }, (record { pos = 12; ty = Sy.tyRef Sy.erased Sy.mut (Sy.tyInt Sy.w64); ref = λ x. x }, (record { pos = 14; ty = Sy.tyRef Sy.erased Sy.mut Gap_.behind; ref = λ x. x }, (record { pos = 5; st = Li.[]; d = 0; at = λ x. x }, (Num.vBig 65534, tt)))))) 6 (Li._∷_ 0 (Li._∷_ 4 (Li._∷_ 5 (Li._∷_ 6 Li.[])))) (Sy.tyInt Sy.w64)
+  s12 = Call.callB ps·0 r·0 (claims· .0) (claims· .1) T13 (record { pos = 1; ty = Sy.tyRef (Sy.named 0) Sy.imm (Sy.tyInt Sy.w8); ref = λ x. x }, (record { pos = 10; ty = Sy.tyRef Sy.erased Sy.mut (Sy.tyInt Sy.w32); ref = λ x. x }, (record { pos = 12; ty = Sy.tyRef Sy.erased Sy.mut (Sy.tyInt Sy.w64); ref = λ x. x }, (record { pos = 14; ty = Sy.tyRef Sy.erased Sy.mut Gap_.behind; ref = λ x. x }, (record { pos = 5; st = Li.[]; d = 0; at = λ x. x }, (Num.vFld 5 (Li._∷_ (Sy.field 12) Li.[]) 96 λ x. JobCounts.struct .as-values x .1 .1 .1 .1 .1 .1 .1 .1 .1 .1 .1 .1 .0, tt)))))) 6 (Li._∷_ 0 (Li._∷_ 4 (Li._∷_ 5 (Li._∷_ 6 Li.[])))) (Sy.tyInt Sy.w64)
 
-  abbrev s13 : Ty.Mo T14 → Ty.Mo T15
-  s13 = Sc.n-room T14 5 Laws.mir
+  abbrev s14 : Ty.Both T14 T16
+  s14 = Relend.k-back-sl (Rf.rtF (Rf.fInt Sy.w32)) T14 10 2 1 4 ty·33 ty·32 Ro.off (λ x. x) λ x. x
 
-  abbrev s15 : Ty.Both T15 T17
-  s15 = Relend.k-back-sl (Rf.rtF (Rf.fInt Sy.w32)) T15 10 2 1 4 ty·33 ty·32 Ro.off (λ x. x) λ x. x
+  abbrev s15 : Ty.Gives T16 T16
+  s15 = Know.k-sl-known (Rf.fInt Sy.w32) T16 2 1 ty·33 Ro.off 0 λ x. x
 
-  abbrev s16 : Ty.Gives T17 T17
-  s16 = Know.k-sl-known (Rf.fInt Sy.w32) T17 2 1 ty·33 Ro.off 0 λ x. x
+  abbrev s18 : Ty.Both T16 T20
+  s18 = Relend.k-back-sl (Rf.rtF (Rf.fInt Sy.w64)) T16 12 3 2 5 ty·35 ty·38 Ro.off (λ x. x) λ x. x
 
-  abbrev s19 : Ty.Both T17 T21
-  s19 = Relend.k-back-sl (Rf.rtF (Rf.fInt Sy.w64)) T17 12 3 2 5 ty·35 ty·38 Ro.off (λ x. x) λ x. x
+  abbrev s19 : Ty.Gives T20 T20
+  s19 = Know.k-sl-known (Rf.fInt Sy.w64) T20 3 2 ty·35 Ro.off 0 λ x. x
 
-  abbrev s20 : Ty.Gives T21 T21
-  s20 = Know.k-sl-known (Rf.fInt Sy.w64) T21 3 2 ty·35 Ro.off 0 λ x. x
+  abbrev s22 : Ty.Both T20 T24
+  s22 = Relend.k-back-sl Gap_.row T20 14 4 3 6 ty·37 ty·36 Ro.off (λ x. x) λ x. x
 
-  abbrev s23 : Ty.Both T21 T25
-  s23 = Relend.k-back-sl Gap_.row T21 14 4 3 6 ty·37 ty·36 Ro.off (λ x. x) λ x. x
+  abbrev s24 : Ty.Asks T24 T26
+  s24 = Sc.k-op2 T24 Sy.ne (Sc.oAt 6 (Sy.tyInt Sy.w64) (Ro.valS (Ro.sInt Sy.w64))) (Sc.oInt Sy.w64 0) 15 (Rows.sc-here Ro.sBool) (Ro.sBool .of)
 
-  abbrev s25 : Ty.Asks T25 T27
-  s25 = Sc.k-op2 T25 Sy.ne (Sc.oAt 6 (Sy.tyInt Sy.w64) (Ro.valS (Ro.sInt Sy.w64))) (Sc.oInt Sy.w64 0) 15 (Rows.sc-here Ro.sBool) (Ro.sBool .of)
+  abbrev s25 : Ty.Mo T26 → Ty.Mo T28
+  s25 = Sc.n-room T26 5 Laws.mir
 
-  abbrev s26 : Ty.Mo T27 → Ty.Mo T25
-  s26 = Sc.n-room T27 15 Sy.tyBool
+  abbrev s26 : Ty.Mo T28 → Ty.Mo T29
+  s26 = Sc.n-room T28 15 Sy.tyBool
 
-  abbrev s27 : Ty.Mo T25 → Ty.Mo T30
-  s27 = Sc.n-use T25 (Sc.oAt 6 (Sy.tyInt Sy.w64) (Ro.valS (Ro.sInt Sy.w64))) 0 row·10 (Ro.sInt Sy.w64 .of)
+  abbrev s27 : Ty.Mo T29 → Ty.Mo T30
+  s27 = Sc.n-use T29 (Sc.oAt 6 (Sy.tyInt Sy.w64) (Ro.valS (Ro.sInt Sy.w64))) 0 row·10 (Ro.sInt Sy.w64 .of)
 
   abbrev s28 : Ty.Mo T30 → Ty.Mo T1
   s28 = Sc.n-room T30 6 (Sy.tyInt Sy.w64)
 
-  abbrev s29 : Ty.Mo T27 → Ty.Mo T25
-  s29 = Sc.n-room T27 15 Sy.tyBool
+  abbrev s29 : Ty.Mo T26 → Ty.Mo T24
+  s29 = Sc.n-room T26 15 Sy.tyBool
 
-  abbrev s31 : Ty.Gives T25 T34
-  s31 = Relend.k-sl-relend (Rf.rtF (Rf.fInt Sy.w32)) T25 2 16 1 7 ty·33 ty·32 Ro.off λ x. x
+  abbrev s31 : Ty.Gives T24 T34
+  s31 = Relend.k-sl-relend (Rf.rtF (Rf.fInt Sy.w32)) T24 2 16 1 7 ty·33 ty·32 Ro.off λ x. x
 
   abbrev s32 : Ty.Asks T34 T35
   s32 = Relend.k-sl-aggregate (Rf.rtF (Rf.fInt Sy.w32)) (Relend.asMut (Rf.rtF (Rf.fInt Sy.w32))) T34 16 17 7 ty·32 ty·32 (λ x. x) (Sc.oFld 2 (Li._∷_ (Sy.field 1) Li.[]) (Sy.tyInt Sy.w64) 8 λ v. Shared.lenV (v .0))
@@ -881,7 +906,7 @@ module _ (claims· : Claims) where
   s38 = Relend.k-sl-aggregate Gap_.row (Relend.asMut Gap_.row) T40 20 21 9 ty·36 ty·36 (λ x. x) (Sc.oFld 4 (Li._∷_ (Sy.field 1) Li.[]) (Sy.tyInt Sy.w64) 8 λ v. Shared.lenV (v .0))
 
   abbrev s39 : Ty.Both T41 T42
-  s39 = Call.callB ps·1 r·1 (claims· .2) (claims· .3) T41 (record { pos = 1; ty = Sy.tyRef (Sy.named 0) Sy.imm (Sy.tyInt Sy.w8); ref = λ x. x }, (record { pos = 17; ty = Sy.tyRef Sy.erased Sy.mut (Sy.tyInt Sy.w32); ref = λ x. x }, (record { pos = 19; ty = Sy.tyRef Sy.erased Sy.imm (Sy.tyInt Sy.w64); ref = λ x. x }, (record { pos = 21; ty = Sy.tyRef Sy.erased Sy.mut Gap_.behind; ref = λ x. x }, tt)))) 7 (Li._∷_ 0 (Li._∷_ 7 (Li._∷_ 8 (Li._∷_ 9 Li.[])))) (Sy.tyInt Sy.w64)
+  s39 = Call.callB ps·1 r·1 (claims· .2) (claims· .3) T41 (record { pos = 1; ty = Sy.tyRef (Sy.named 0) Sy.imm (Sy.tyInt Sy.w8); ref = λ x. x }, (record { pos = 17; ty = Sy.tyRef Sy.erased Sy.mut (Sy.tyInt Sy.w32); ref = λ x. x }, (record { pos = 19; ty = Sy.tyRef Sy.erased Sy.imm (Sy.tyInt Sy.w64); ref = λ x. x }, (record { pos = 21; ty = Sy.tyRef Sy.erased Sy.mut Gap_.behind; ref = λ x. x }, (Num.vFld 5 (Li._∷_ (Sy.field 9) Li.[]) 72 λ x. JobCounts.struct .as-values x .1 .1 .1 .1 .1 .1 .1 .1 .1 .0, tt))))) 7 (Li._∷_ 0 (Li._∷_ 7 (Li._∷_ 8 (Li._∷_ 9 Li.[])))) (Sy.tyInt Sy.w64)
 
   abbrev s40 : Ty.Mo T42 → Ty.Mo T43
   s40 = Sc.n-room T42 19 (Sy.tyStruct (Li._∷_ 38 (Li._∷_ 91 (Li._∷_ 93 Li.[]))) (Sy.tcons ty·34 (Sy.tcons (Sy.tyInt Sy.w64) Sy.tnil)))
@@ -901,119 +926,125 @@ module _ (claims· : Claims) where
   abbrev s51 : Ty.Asks T52 T54
   s51 = Sc.k-op2 T52 Sy.ne (Sc.oAt 7 (Sy.tyInt Sy.w64) (Ro.valS (Ro.sInt Sy.w64))) (Sc.oInt Sy.w64 0) 15 (Rows.sc-here Ro.sBool) (Ro.sBool .of)
 
-  abbrev s52 : Ty.Mo T54 → Ty.Mo T52
-  s52 = Sc.n-room T54 15 Sy.tyBool
+  abbrev s52 : Ty.Mo T54 → Ty.Mo T56
+  s52 = Sc.n-room T54 5 Laws.mir
 
-  abbrev s53 : Ty.Mo T52 → Ty.Mo T57
-  s53 = Sc.n-use T52 (Sc.oAt 7 (Sy.tyInt Sy.w64) (Ro.valS (Ro.sInt Sy.w64))) 0 row·10 (Ro.sInt Sy.w64 .of)
+  abbrev s53 : Ty.Mo T56 → Ty.Mo T57
+  s53 = Sc.n-room T56 15 Sy.tyBool
 
   abbrev s54 : Ty.Mo T57 → Ty.Mo T58
-  s54 = Sc.n-room T57 6 (Sy.tyInt Sy.w64)
+  s54 = Sc.n-use T57 (Sc.oAt 7 (Sy.tyInt Sy.w64) (Ro.valS (Ro.sInt Sy.w64))) 0 row·10 (Ro.sInt Sy.w64 .of)
 
-  abbrev s55 : Ty.Mo T58 → Ty.Mo T1
-  s55 = Sc.n-room T58 7 (Sy.tyInt Sy.w64)
+  abbrev s55 : Ty.Mo T58 → Ty.Mo T59
+  s55 = Sc.n-room T58 6 (Sy.tyInt Sy.w64)
 
-  abbrev s56 : Ty.Mo T54 → Ty.Mo T52
-  s56 = Sc.n-room T54 15 Sy.tyBool
+  abbrev s56 : Ty.Mo T59 → Ty.Mo T1
+  s56 = Sc.n-room T59 7 (Sy.tyInt Sy.w64)
 
-  abbrev s58 : Ty.Gives T52 T62
-  s58 = Relend.k-sl-relend (Rf.rtF (Rf.fInt Sy.w32)) T52 2 22 1 10 ty·33 ty·32 Ro.off λ x. x
+  abbrev s57 : Ty.Mo T54 → Ty.Mo T52
+  s57 = Sc.n-room T54 15 Sy.tyBool
 
-  abbrev s59 : Ty.Asks T62 T63
-  s59 = Relend.k-sl-aggregate (Rf.rtF (Rf.fInt Sy.w32)) (Relend.asMut (Rf.rtF (Rf.fInt Sy.w32))) T62 22 23 10 ty·32 ty·32 (λ x. x) (Sc.oFld 2 (Li._∷_ (Sy.field 1) Li.[]) (Sy.tyInt Sy.w64) 8 λ v. Shared.lenV (v .0))
+  abbrev s59 : Ty.Gives T52 T63
+  s59 = Relend.k-sl-relend (Rf.rtF (Rf.fInt Sy.w32)) T52 2 22 1 10 ty·33 ty·32 Ro.off λ x. x
 
-  abbrev s61 : Ty.Gives T63 T65
-  s61 = Reshare.k-sl-reshare (Rf.rtF (Rf.fInt Sy.w64)) T63 3 24 2 11 ty·35 ty·34 Ro.off λ x. x
+  abbrev s60 : Ty.Asks T63 T64
+  s60 = Relend.k-sl-aggregate (Rf.rtF (Rf.fInt Sy.w32)) (Relend.asMut (Rf.rtF (Rf.fInt Sy.w32))) T63 22 23 10 ty·32 ty·32 (λ x. x) (Sc.oFld 2 (Li._∷_ (Sy.field 1) Li.[]) (Sy.tyInt Sy.w64) 8 λ v. Shared.lenV (v .0))
 
-  abbrev s62 : Ty.Asks T65 T66
-  s62 = Relend.k-sl-aggregate (Rf.rtF (Rf.fInt Sy.w64)) (Relend.asShr (Rf.rtF (Rf.fInt Sy.w64))) T65 24 25 11 ty·34 ty·34 (λ x. x) (Sc.oFld 3 (Li._∷_ (Sy.field 1) Li.[]) (Sy.tyInt Sy.w64) 8 λ v. Shared.lenV (v .0))
+  abbrev s62 : Ty.Gives T64 T66
+  s62 = Reshare.k-sl-reshare (Rf.rtF (Rf.fInt Sy.w64)) T64 3 24 2 11 ty·35 ty·34 Ro.off λ x. x
 
-  abbrev s64 : Ty.Gives T66 T68
-  s64 = Relend.k-sl-relend Gap_.row T66 4 26 3 12 ty·37 ty·36 Ro.off λ x. x
+  abbrev s63 : Ty.Asks T66 T67
+  s63 = Relend.k-sl-aggregate (Rf.rtF (Rf.fInt Sy.w64)) (Relend.asShr (Rf.rtF (Rf.fInt Sy.w64))) T66 24 25 11 ty·34 ty·34 (λ x. x) (Sc.oFld 3 (Li._∷_ (Sy.field 1) Li.[]) (Sy.tyInt Sy.w64) 8 λ v. Shared.lenV (v .0))
 
-  abbrev s65 : Ty.Asks T68 T69
-  s65 = Relend.k-sl-aggregate Gap_.row (Relend.asMut Gap_.row) T68 26 27 12 ty·36 ty·36 (λ x. x) (Sc.oFld 4 (Li._∷_ (Sy.field 1) Li.[]) (Sy.tyInt Sy.w64) 8 λ v. Shared.lenV (v .0))
+  abbrev s65 : Ty.Gives T67 T69
+  s65 = Relend.k-sl-relend Gap_.row T67 4 26 3 12 ty·37 ty·36 Ro.off λ x. x
 
-  abbrev s66 : Ty.Both T69 T70
-  s66 = Call.callB ps·2 r·2 (claims· .4) (claims· .5) T69 (record { pos = 1; ty = Sy.tyRef (Sy.named 0) Sy.imm (Sy.tyInt Sy.w8); ref = λ x. x }, (record { pos = 23; ty = Sy.tyRef Sy.erased Sy.mut (Sy.tyInt Sy.w32); ref = λ x. x }, (record { pos = 25; ty = Sy.tyRef Sy.erased Sy.imm (Sy.tyInt Sy.w64); ref = λ x. x }, (record { pos = 27; ty = Sy.tyRef Sy.erased Sy.mut Gap_.behind; ref = λ x. x }, (Num.vBig 65534, tt))))) 8 (Li._∷_ 0 (Li._∷_ 10 (Li._∷_ 11 (Li._∷_ 12 Li.[])))) (Sy.tyInt Sy.w64)
+  abbrev s66 : Ty.Asks T69 T70
+  s66 = Relend.k-sl-aggregate Gap_.row (Relend.asMut Gap_.row) T69 26 27 12 ty·36 ty·36 (λ x. x) (Sc.oFld 4 (Li._∷_ (Sy.field 1) Li.[]) (Sy.tyInt Sy.w64) 8 λ v. Shared.lenV (v .0))
 
-  abbrev s67 : Ty.Mo T70 → Ty.Mo T71
-  s67 = Sc.n-room T70 25 (Sy.tyStruct (Li._∷_ 38 (Li._∷_ 91 (Li._∷_ 93 Li.[]))) (Sy.tcons ty·34 (Sy.tcons (Sy.tyInt Sy.w64) Sy.tnil)))
+  abbrev s67 : Ty.Both T70 T71
+  s67 = Call.callB ps·2 r·2 (claims· .4) (claims· .5) T70 (record { pos = 1; ty = Sy.tyRef (Sy.named 0) Sy.imm (Sy.tyInt Sy.w8); ref = λ x. x }, (record { pos = 23; ty = Sy.tyRef Sy.erased Sy.mut (Sy.tyInt Sy.w32); ref = λ x. x }, (record { pos = 25; ty = Sy.tyRef Sy.erased Sy.imm (Sy.tyInt Sy.w64); ref = λ x. x }, (record { pos = 27; ty = Sy.tyRef Sy.erased Sy.mut Gap_.behind; ref = λ x. x }, (Num.vFld 5 (Li._∷_ (Sy.field 12) Li.[]) 96 λ x. JobCounts.struct .as-values x .1 .1 .1 .1 .1 .1 .1 .1 .1 .1 .1 .1 .0, tt))))) 8 (Li._∷_ 0 (Li._∷_ 10 (Li._∷_ 11 (Li._∷_ 12 Li.[])))) (Sy.tyInt Sy.w64)
 
-  abbrev s69 : Ty.Both T71 T73
-  s69 = Relend.k-back-sl (Rf.rtF (Rf.fInt Sy.w32)) T71 23 2 1 10 ty·33 ty·32 Ro.off (λ x. x) λ x. x
+  abbrev s68 : Ty.Mo T71 → Ty.Mo T72
+  s68 = Sc.n-room T71 25 (Sy.tyStruct (Li._∷_ 38 (Li._∷_ 91 (Li._∷_ 93 Li.[]))) (Sy.tcons ty·34 (Sy.tcons (Sy.tyInt Sy.w64) Sy.tnil)))
 
-  abbrev s70 : Ty.Gives T73 T73
-  s70 = Know.k-sl-known (Rf.fInt Sy.w32) T73 2 1 ty·33 Ro.off 0 λ x. x
+  abbrev s69 : Ty.Mo T72 → Ty.Mo T73
+  s69 = Sc.n-room T72 5 Laws.mir
 
-  abbrev s73 : Ty.Mo T73 → Ty.Mo T77
-  s73 = Reshare.n-back-sl-shr (Rf.rtF (Rf.fInt Sy.w64)) T73 3 2 11 ty·35 Ro.off λ x. x
+  abbrev s71 : Ty.Both T73 T75
+  s71 = Relend.k-back-sl (Rf.rtF (Rf.fInt Sy.w32)) T73 23 2 1 10 ty·33 ty·32 Ro.off (λ x. x) λ x. x
 
-  abbrev s76 : Ty.Both T77 T80
-  s76 = Relend.k-back-sl Gap_.row T77 27 4 3 12 ty·37 ty·36 Ro.off (λ x. x) λ x. x
+  abbrev s72 : Ty.Gives T75 T75
+  s72 = Know.k-sl-known (Rf.fInt Sy.w32) T75 2 1 ty·33 Ro.off 0 λ x. x
 
-  abbrev s78 : Ty.Asks T80 T82
-  s78 = Sc.k-op2 T80 Sy.ne (Sc.oAt 8 (Sy.tyInt Sy.w64) (Ro.valS (Ro.sInt Sy.w64))) (Sc.oInt Sy.w64 0) 15 (Rows.sc-here Ro.sBool) (Ro.sBool .of)
+  abbrev s75 : Ty.Mo T75 → Ty.Mo T79
+  s75 = Reshare.n-back-sl-shr (Rf.rtF (Rf.fInt Sy.w64)) T75 3 2 11 ty·35 Ro.off λ x. x
 
-  abbrev s79 : Ty.Mo T82 → Ty.Mo T80
-  s79 = Sc.n-room T82 15 Sy.tyBool
+  abbrev s78 : Ty.Both T79 T82
+  s78 = Relend.k-back-sl Gap_.row T79 27 4 3 12 ty·37 ty·36 Ro.off (λ x. x) λ x. x
 
-  abbrev s80 : Ty.Mo T80 → Ty.Mo T85
-  s80 = Sc.n-use T80 (Sc.oAt 8 (Sy.tyInt Sy.w64) (Ro.valS (Ro.sInt Sy.w64))) 0 row·10 (Ro.sInt Sy.w64 .of)
+  abbrev s80 : Ty.Asks T82 T84
+  s80 = Sc.k-op2 T82 Sy.ne (Sc.oAt 8 (Sy.tyInt Sy.w64) (Ro.valS (Ro.sInt Sy.w64))) (Sc.oInt Sy.w64 0) 15 (Rows.sc-here Ro.sBool) (Ro.sBool .of)
 
-  abbrev s81 : Ty.Mo T85 → Ty.Mo T86
-  s81 = Sc.n-room T85 6 (Sy.tyInt Sy.w64)
+  abbrev s81 : Ty.Mo T84 → Ty.Mo T82
+  s81 = Sc.n-room T84 15 Sy.tyBool
 
-  abbrev s82 : Ty.Mo T86 → Ty.Mo T87
-  s82 = Sc.n-room T86 7 (Sy.tyInt Sy.w64)
+  abbrev s82 : Ty.Mo T82 → Ty.Mo T87
+  s82 = Sc.n-use T82 (Sc.oAt 8 (Sy.tyInt Sy.w64) (Ro.valS (Ro.sInt Sy.w64))) 0 row·10 (Ro.sInt Sy.w64 .of)
 
-  abbrev s83 : Ty.Mo T87 → Ty.Mo T1
-  s83 = Sc.n-room T87 8 (Sy.tyInt Sy.w64)
+  abbrev s83 : Ty.Mo T87 → Ty.Mo T88
+  s83 = Sc.n-room T87 6 (Sy.tyInt Sy.w64)
 
-  abbrev s84 : Ty.Mo T82 → Ty.Mo T80
-  s84 = Sc.n-room T82 15 Sy.tyBool
+  abbrev s84 : Ty.Mo T88 → Ty.Mo T89
+  s84 = Sc.n-room T88 7 (Sy.tyInt Sy.w64)
 
-  abbrev s86 : Ty.Gives T80 T91
-  s86 = Relend.k-sl-relend (Rf.rtF (Rf.fInt Sy.w32)) T80 2 29 1 13 ty·33 ty·32 Ro.off λ x. x
+  abbrev s85 : Ty.Mo T89 → Ty.Mo T1
+  s85 = Sc.n-room T89 8 (Sy.tyInt Sy.w64)
 
-  abbrev s87 : Ty.Asks T91 T92
-  s87 = Relend.k-sl-aggregate (Rf.rtF (Rf.fInt Sy.w32)) (Relend.asMut (Rf.rtF (Rf.fInt Sy.w32))) T91 29 30 13 ty·32 ty·32 (λ x. x) (Sc.oFld 2 (Li._∷_ (Sy.field 1) Li.[]) (Sy.tyInt Sy.w64) 8 λ v. Shared.lenV (v .0))
+  abbrev s86 : Ty.Mo T84 → Ty.Mo T82
+  s86 = Sc.n-room T84 15 Sy.tyBool
 
-  abbrev s89 : Ty.Gives T92 T94
-  s89 = Reshare.k-sl-reshare (Rf.rtF (Rf.fInt Sy.w64)) T92 3 31 2 14 ty·35 ty·34 Ro.off λ x. x
+  abbrev s88 : Ty.Gives T82 T93
+  s88 = Relend.k-sl-relend (Rf.rtF (Rf.fInt Sy.w32)) T82 2 29 1 13 ty·33 ty·32 Ro.off λ x. x
 
-  abbrev s90 : Ty.Asks T94 T95
-  s90 = Relend.k-sl-aggregate (Rf.rtF (Rf.fInt Sy.w64)) (Relend.asShr (Rf.rtF (Rf.fInt Sy.w64))) T94 31 32 14 ty·34 ty·34 (λ x. x) (Sc.oFld 3 (Li._∷_ (Sy.field 1) Li.[]) (Sy.tyInt Sy.w64) 8 λ v. Shared.lenV (v .0))
+  abbrev s89 : Ty.Asks T93 T94
+  s89 = Relend.k-sl-aggregate (Rf.rtF (Rf.fInt Sy.w32)) (Relend.asMut (Rf.rtF (Rf.fInt Sy.w32))) T93 29 30 13 ty·32 ty·32 (λ x. x) (Sc.oFld 2 (Li._∷_ (Sy.field 1) Li.[]) (Sy.tyInt Sy.w64) 8 λ v. Shared.lenV (v .0))
 
-  abbrev s91 : Ty.Both T95 T96
-  s91 = Call.callB ps·3 r·3 (claims· .6) (claims· .7) T95 (record { pos = 30; ty = Sy.tyRef Sy.erased Sy.mut (Sy.tyInt Sy.w32); ref = λ x. x }, (record { pos = 32; ty = Sy.tyRef Sy.erased Sy.imm (Sy.tyInt Sy.w64); ref = λ x. x }, tt)) 28 (Li._∷_ 13 (Li._∷_ 14 Li.[])) Sy.tyUnit
+  abbrev s91 : Ty.Gives T94 T96
+  s91 = Reshare.k-sl-reshare (Rf.rtF (Rf.fInt Sy.w64)) T94 3 31 2 14 ty·35 ty·34 Ro.off λ x. x
 
-  abbrev s92 : Ty.Mo T96 → Ty.Mo T97
-  s92 = Sc.n-room T96 32 (Sy.tyStruct (Li._∷_ 38 (Li._∷_ 91 (Li._∷_ 93 Li.[]))) (Sy.tcons ty·34 (Sy.tcons (Sy.tyInt Sy.w64) Sy.tnil)))
+  abbrev s92 : Ty.Asks T96 T97
+  s92 = Relend.k-sl-aggregate (Rf.rtF (Rf.fInt Sy.w64)) (Relend.asShr (Rf.rtF (Rf.fInt Sy.w64))) T96 31 32 14 ty·34 ty·34 (λ x. x) (Sc.oFld 3 (Li._∷_ (Sy.field 1) Li.[]) (Sy.tyInt Sy.w64) 8 λ v. Shared.lenV (v .0))
 
-  abbrev s93 : Ty.Mo T97 → Ty.Mo T98
-  s93 = Sc.n-room T97 28 Sy.tyUnit
+  abbrev s93 : Ty.Both T97 T98
+  s93 = Call.callB ps·3 r·3 (claims· .6) (claims· .7) T97 (record { pos = 30; ty = Sy.tyRef Sy.erased Sy.mut (Sy.tyInt Sy.w32); ref = λ x. x }, (record { pos = 32; ty = Sy.tyRef Sy.erased Sy.imm (Sy.tyInt Sy.w64); ref = λ x. x }, tt)) 28 (Li._∷_ 13 (Li._∷_ 14 Li.[])) Sy.tyUnit
 
-  abbrev s95 : Ty.Both T98 T100
-  s95 = Relend.k-back-sl (Rf.rtF (Rf.fInt Sy.w32)) T98 30 2 1 13 ty·33 ty·32 Ro.off (λ x. x) λ x. x
+  abbrev s94 : Ty.Mo T98 → Ty.Mo T99
+  s94 = Sc.n-room T98 32 (Sy.tyStruct (Li._∷_ 38 (Li._∷_ 91 (Li._∷_ 93 Li.[]))) (Sy.tcons ty·34 (Sy.tcons (Sy.tyInt Sy.w64) Sy.tnil)))
 
-  abbrev s96 : Ty.Gives T100 T100
-  s96 = Know.k-sl-known (Rf.fInt Sy.w32) T100 2 1 ty·33 Ro.off 0 λ x. x
+  abbrev s95 : Ty.Mo T99 → Ty.Mo T100
+  s95 = Sc.n-room T99 28 Sy.tyUnit
 
-  abbrev s99 : Ty.Mo T100 → Ty.Mo T80
-  s99 = Reshare.n-back-sl-shr (Rf.rtF (Rf.fInt Sy.w64)) T100 3 2 14 ty·35 Ro.off λ x. x
+  abbrev s97 : Ty.Both T100 T102
+  s97 = Relend.k-back-sl (Rf.rtF (Rf.fInt Sy.w32)) T100 30 2 1 13 ty·33 ty·32 Ro.off (λ x. x) λ x. x
 
-  abbrev s101 : Ty.Mo T80 → Ty.Mo T85
-  s101 = Sc.n-use T80 (Sc.oInt Sy.w64 0) 0 row·10 (Ro.sInt Sy.w64 .of)
+  abbrev s98 : Ty.Gives T102 T102
+  s98 = Know.k-sl-known (Rf.fInt Sy.w32) T102 2 1 ty·33 Ro.off 0 λ x. x
 
-  abbrev s102 : Ty.Mo T85 → Ty.Mo T86
-  s102 = Sc.n-room T85 6 (Sy.tyInt Sy.w64)
+  abbrev s101 : Ty.Mo T102 → Ty.Mo T82
+  s101 = Reshare.n-back-sl-shr (Rf.rtF (Rf.fInt Sy.w64)) T102 3 2 14 ty·35 Ro.off λ x. x
 
-  abbrev s103 : Ty.Mo T86 → Ty.Mo T87
-  s103 = Sc.n-room T86 7 (Sy.tyInt Sy.w64)
+  abbrev s103 : Ty.Mo T82 → Ty.Mo T87
+  s103 = Sc.n-use T82 (Sc.oInt Sy.w64 0) 0 row·10 (Ro.sInt Sy.w64 .of)
 
-  abbrev s104 : Ty.Mo T87 → Ty.Mo T1
-  s104 = Sc.n-room T87 8 (Sy.tyInt Sy.w64)
+  abbrev s104 : Ty.Mo T87 → Ty.Mo T88
+  s104 = Sc.n-room T87 6 (Sy.tyInt Sy.w64)
+
+  abbrev s105 : Ty.Mo T88 → Ty.Mo T89
+  s105 = Sc.n-room T88 7 (Sy.tyInt Sy.w64)
+
+  abbrev s106 : Ty.Mo T89 → Ty.Mo T1
+  s106 = Sc.n-room T89 8 (Sy.tyInt Sy.w64)
 
   module _ (Pre· : (κs : Lifetimes.Lfts 4) → Kinds.Dens κs ps → Type 0) (Post· : (κs : Lifetimes.Lfts 4) → (a : Kinds.Dens κs ps) → Kinds.Plain 4 ps r κs) where
     module _ (M : Type 1) where
@@ -1027,356 +1058,362 @@ module _ (claims· : Claims) where
       abbrev at1 : Ty.TF T30 O1
       at1 = λ Ψ. Ty.pass T30 T1 s28 (at0 Ψ)
 
-      abbrev at2 : Ty.TF T25 O1
-      at2 = λ Ψ. Ty.pass T25 T30 s27 (at1 Ψ)
+      abbrev at2 : Ty.TF T29 O1
+      at2 = λ Ψ. Ty.pass T29 T30 s27 (at1 Ψ)
 
-      abbrev at3 : Ty.TF T27 O1
-      at3 = λ Ψ. Ty.pass T27 T25 s26 (at2 Ψ)
+      abbrev at3 : Ty.TF T28 O1
+      at3 = λ Ψ. Ty.pass T28 T29 s26 (at2 Ψ)
 
-      abbrev at4 : Ty.TF T25 O1
-      at4 = Ty.atNext O1
+      abbrev at4 : Ty.TF T26 O1
+      at4 = λ Ψ. Ty.pass T26 T28 s25 (at3 Ψ)
 
-      abbrev at5 : Ty.TF T27 O1
-      at5 = λ Ψ. Ty.pass T27 T25 s29 (at4 Ψ)
+      abbrev at5 : Ty.TF T24 O1
+      at5 = Ty.atNext O1
 
-      abbrev at6 : Ty.TF T27 O1
-      at6 = Sc.Φcond T27 O1 15 (λ x. x) at3 at5
+      abbrev at6 : Ty.TF T26 O1
+      at6 = λ Ψ. Ty.pass T26 T24 s29 (at5 Ψ)
 
-      abbrev at7 : Ty.TF T1 O2
-      at7 = Ty.atRet O2
+      abbrev at7 : Ty.TF T26 O1
+      at7 = Sc.Φcond T26 O1 15 (λ x. x) at4 at6
 
-      abbrev at8 : Ty.TF T58 O2
-      at8 = λ Ψ. Ty.pass T58 T1 s55 (at7 Ψ)
+      abbrev at8 : Ty.TF T1 O2
+      at8 = Ty.atRet O2
 
-      abbrev at9 : Ty.TF T57 O2
-      at9 = λ Ψ. Ty.pass T57 T58 s54 (at8 Ψ)
+      abbrev at9 : Ty.TF T59 O2
+      at9 = λ Ψ. Ty.pass T59 T1 s56 (at8 Ψ)
 
-      abbrev at10 : Ty.TF T52 O2
-      at10 = λ Ψ. Ty.pass T52 T57 s53 (at9 Ψ)
+      abbrev at10 : Ty.TF T58 O2
+      at10 = λ Ψ. Ty.pass T58 T59 s55 (at9 Ψ)
 
-      abbrev at11 : Ty.TF T54 O2
-      at11 = λ Ψ. Ty.pass T54 T52 s52 (at10 Ψ)
+      abbrev at11 : Ty.TF T57 O2
+      at11 = λ Ψ. Ty.pass T57 T58 s54 (at10 Ψ)
 
-      abbrev at12 : Ty.TF T52 O2
-      at12 = Ty.atNext O2
+      abbrev at12 : Ty.TF T56 O2
+      at12 = λ Ψ. Ty.pass T56 T57 s53 (at11 Ψ)
 
       abbrev at13 : Ty.TF T54 O2
-      at13 = λ Ψ. Ty.pass T54 T52 s56 (at12 Ψ)
+      at13 = λ Ψ. Ty.pass T54 T56 s52 (at12 Ψ)
 
-      abbrev at14 : Ty.TF T54 O2
-      at14 = Sc.Φcond T54 O2 15 (λ x. x) at11 at13
+      abbrev at14 : Ty.TF T52 O2
+      at14 = Ty.atNext O2
 
-      abbrev at15 : Ty.TF T1 O3
-      at15 = Ty.atRet O3
+      abbrev at15 : Ty.TF T54 O2
+      at15 = λ Ψ. Ty.pass T54 T52 s57 (at14 Ψ)
 
-      abbrev at16 : Ty.TF T87 O3
-      at16 = λ Ψ. Ty.pass T87 T1 s83 (at15 Ψ)
+      abbrev at16 : Ty.TF T54 O2
+      at16 = Sc.Φcond T54 O2 15 (λ x. x) at13 at15
 
-      abbrev at17 : Ty.TF T86 O3
-      at17 = λ Ψ. Ty.pass T86 T87 s82 (at16 Ψ)
+      abbrev at17 : Ty.TF T1 O3
+      at17 = Ty.atRet O3
 
-      abbrev at18 : Ty.TF T85 O3
-      at18 = λ Ψ. Ty.pass T85 T86 s81 (at17 Ψ)
+      abbrev at18 : Ty.TF T89 O3
+      at18 = λ Ψ. Ty.pass T89 T1 s85 (at17 Ψ)
 
-      abbrev at19 : Ty.TF T80 O3
-      at19 = λ Ψ. Ty.pass T80 T85 s80 (at18 Ψ)
+      abbrev at19 : Ty.TF T88 O3
+      at19 = λ Ψ. Ty.pass T88 T89 s84 (at18 Ψ)
 
-      abbrev at20 : Ty.TF T82 O3
-      at20 = λ Ψ. Ty.pass T82 T80 s79 (at19 Ψ)
+      abbrev at20 : Ty.TF T87 O3
+      at20 = λ Ψ. Ty.pass T87 T88 s83 (at19 Ψ)
 
-      abbrev at21 : Ty.TF T80 O3
-      at21 = Ty.atNext O3
+      abbrev at21 : Ty.TF T82 O3
+      at21 = λ Ψ. Ty.pass T82 T87 s82 (at20 Ψ)
 
-      abbrev at22 : Ty.TF T82 O3
-      at22 = λ Ψ. Ty.pass T82 T80 s84 (at21 Ψ)
+      abbrev at22 : Ty.TF T84 O3
+      at22 = λ Ψ. Ty.pass T84 T82 s81 (at21 Ψ)
 
       abbrev at23 : Ty.TF T82 O3
-      at23 = Sc.Φcond T82 O3 15 (λ x. x) at20 at22
+      at23 = Ty.atNext O3
 
-      abbrev at24 : Ty.TF T1 O0
-      at24 = Ty.atRet O0
+      abbrev at24 : Ty.TF T84 O3
+      at24 = λ Ψ. Ty.pass T84 T82 s86 (at23 Ψ)
 
-      abbrev at25 : Ty.TF T87 O0
-      at25 = λ Ψ. Ty.pass T87 T1 s104 (at24 Ψ)
+      abbrev at25 : Ty.TF T84 O3
+      at25 = Sc.Φcond T84 O3 15 (λ x. x) at22 at24
 
-      abbrev at26 : Ty.TF T86 O0
-      at26 = λ Ψ. Ty.pass T86 T87 s103 (at25 Ψ)
+      abbrev at26 : Ty.TF T1 O0
+      at26 = Ty.atRet O0
 
-      abbrev at27 : Ty.TF T85 O0
-      at27 = λ Ψ. Ty.pass T85 T86 s102 (at26 Ψ)
+      abbrev at27 : Ty.TF T89 O0
+      at27 = λ Ψ. Ty.pass T89 T1 s106 (at26 Ψ)
 
-      abbrev at28 : Ty.TF T80 O0
-      at28 = λ Ψ. Ty.pass T80 T85 s101 (at27 Ψ)
+      abbrev at28 : Ty.TF T88 O0
+      at28 = λ Ψ. Ty.pass T88 T89 s105 (at27 Ψ)
 
-      abbrev at29 : Ty.TF T80 O0
-      at29 = λ Ψ. at28 Ψ
+      abbrev at29 : Ty.TF T87 O0
+      at29 = λ Ψ. Ty.pass T87 T88 s104 (at28 Ψ)
 
-      abbrev at30 : Ty.TF T100 O0
-      at30 = λ Ψ. Ty.pass T100 T80 s99 (at29 Ψ)
+      abbrev at30 : Ty.TF T82 O0
+      at30 = λ Ψ. Ty.pass T82 T87 s103 (at29 Ψ)
 
-      abbrev at31 : Ty.TF T100 O0
+      abbrev at31 : Ty.TF T82 O0
       at31 = λ Ψ. at30 Ψ
 
-      abbrev at32 : Ty.TF T100 O0
-      at32 = λ Ψ. at31 Ψ
+      abbrev at32 : Ty.TF T102 O0
+      at32 = λ Ψ. Ty.pass T102 T82 s101 (at31 Ψ)
 
-      abbrev at33 : Ty.TF T100 O0
-      at33 = λ Ψ. Ty.give s96 (at32 Ψ)
+      abbrev at33 : Ty.TF T102 O0
+      at33 = λ Ψ. at32 Ψ
 
-      abbrev at34 : Ty.TF T98 O0
-      at34 = λ Ψ. Ty.both s95 (at33 Ψ)
+      abbrev at34 : Ty.TF T102 O0
+      at34 = λ Ψ. at33 Ψ
 
-      abbrev at35 : Ty.TF T98 O0
-      at35 = λ Ψ. at34 Ψ
+      abbrev at35 : Ty.TF T102 O0
+      at35 = λ Ψ. Ty.give s98 (at34 Ψ)
 
-      abbrev at36 : Ty.TF T97 O0
-      at36 = λ Ψ. Ty.pass T97 T98 s93 (at35 Ψ)
+      abbrev at36 : Ty.TF T100 O0
+      at36 = λ Ψ. Ty.both s97 (at35 Ψ)
 
-      abbrev at37 : Ty.TF T96 O0
-      at37 = λ Ψ. Ty.pass T96 T97 s92 (at36 Ψ)
+      abbrev at37 : Ty.TF T100 O0
+      at37 = λ Ψ. at36 Ψ
 
-      abbrev at38 : Ty.TF T95 O0
-      at38 = λ Ψ. Ty.both s91 (at37 Ψ)
+      abbrev at38 : Ty.TF T99 O0
+      at38 = λ Ψ. Ty.pass T99 T100 s95 (at37 Ψ)
 
-      abbrev at39 : Ty.TF T94 O0
-      at39 = λ Ψ. Ty.ask s90 (at38 Ψ)
+      abbrev at39 : Ty.TF T98 O0
+      at39 = λ Ψ. Ty.pass T98 T99 s94 (at38 Ψ)
 
-      abbrev at40 : Ty.TF T92 O0
-      at40 = λ Ψ. Ty.give s89 (at39 Ψ)
+      abbrev at40 : Ty.TF T97 O0
+      at40 = λ Ψ. Ty.both s93 (at39 Ψ)
 
-      abbrev at41 : Ty.TF T92 O0
-      at41 = λ Ψ. at40 Ψ
+      abbrev at41 : Ty.TF T96 O0
+      at41 = λ Ψ. Ty.ask s92 (at40 Ψ)
 
-      abbrev at42 : Ty.TF T91 O0
-      at42 = λ Ψ. Ty.ask s87 (at41 Ψ)
+      abbrev at42 : Ty.TF T94 O0
+      at42 = λ Ψ. Ty.give s91 (at41 Ψ)
 
-      abbrev at43 : Ty.TF T80 O0
-      at43 = λ Ψ. Ty.give s86 (at42 Ψ)
+      abbrev at43 : Ty.TF T94 O0
+      at43 = λ Ψ. at42 Ψ
 
-      abbrev at44 : Ty.TF T80 O0
-      at44 = λ Ψ. at43 Ψ
+      abbrev at44 : Ty.TF T93 O0
+      at44 = λ Ψ. Ty.ask s89 (at43 Ψ)
 
       abbrev at45 : Ty.TF T82 O0
-      at45 = λ Ψ. at23 (Ty.wantNext T80 O0 (at44 Ψ) Ψ)
+      at45 = λ Ψ. Ty.give s88 (at44 Ψ)
 
-      abbrev at46 : Ty.TF T80 O0
-      at46 = λ Ψ. Ty.ask s78 (at45 Ψ)
+      abbrev at46 : Ty.TF T82 O0
+      at46 = λ Ψ. at45 Ψ
 
-      abbrev at47 : Ty.TF T80 O0
-      at47 = λ Ψ. at46 Ψ
+      abbrev at47 : Ty.TF T84 O0
+      at47 = λ Ψ. at25 (Ty.wantNext T82 O0 (at46 Ψ) Ψ)
 
-      abbrev at48 : Ty.TF T77 O0
-      at48 = λ Ψ. Ty.both s76 (at47 Ψ)
+      abbrev at48 : Ty.TF T82 O0
+      at48 = λ Ψ. Ty.ask s80 (at47 Ψ)
 
-      abbrev at49 : Ty.TF T77 O0
+      abbrev at49 : Ty.TF T82 O0
       at49 = λ Ψ. at48 Ψ
 
-      abbrev at50 : Ty.TF T77 O0
-      at50 = λ Ψ. at49 Ψ
+      abbrev at50 : Ty.TF T79 O0
+      at50 = λ Ψ. Ty.both s78 (at49 Ψ)
 
-      abbrev at51 : Ty.TF T73 O0
-      at51 = λ Ψ. Ty.pass T73 T77 s73 (at50 Ψ)
+      abbrev at51 : Ty.TF T79 O0
+      at51 = λ Ψ. at50 Ψ
 
-      abbrev at52 : Ty.TF T73 O0
+      abbrev at52 : Ty.TF T79 O0
       at52 = λ Ψ. at51 Ψ
 
-      abbrev at53 : Ty.TF T73 O0
-      at53 = λ Ψ. at52 Ψ
+      abbrev at53 : Ty.TF T75 O0
+      at53 = λ Ψ. Ty.pass T75 T79 s75 (at52 Ψ)
 
-      abbrev at54 : Ty.TF T73 O0
-      at54 = λ Ψ. Ty.give s70 (at53 Ψ)
+      abbrev at54 : Ty.TF T75 O0
+      at54 = λ Ψ. at53 Ψ
 
-      abbrev at55 : Ty.TF T71 O0
-      at55 = λ Ψ. Ty.both s69 (at54 Ψ)
+      abbrev at55 : Ty.TF T75 O0
+      at55 = λ Ψ. at54 Ψ
 
-      abbrev at56 : Ty.TF T71 O0
-      at56 = λ Ψ. at55 Ψ
+      abbrev at56 : Ty.TF T75 O0
+      at56 = λ Ψ. Ty.give s72 (at55 Ψ)
 
-      abbrev at57 : Ty.TF T70 O0
-      at57 = λ Ψ. Ty.pass T70 T71 s67 (at56 Ψ)
+      abbrev at57 : Ty.TF T73 O0
+      at57 = λ Ψ. Ty.both s71 (at56 Ψ)
 
-      abbrev at58 : Ty.TF T69 O0
-      at58 = λ Ψ. Ty.both s66 (at57 Ψ)
+      abbrev at58 : Ty.TF T73 O0
+      at58 = λ Ψ. at57 Ψ
 
-      abbrev at59 : Ty.TF T68 O0
-      at59 = λ Ψ. Ty.ask s65 (at58 Ψ)
+      abbrev at59 : Ty.TF T72 O0
+      at59 = λ Ψ. Ty.pass T72 T73 s69 (at58 Ψ)
 
-      abbrev at60 : Ty.TF T66 O0
-      at60 = λ Ψ. Ty.give s64 (at59 Ψ)
+      abbrev at60 : Ty.TF T71 O0
+      at60 = λ Ψ. Ty.pass T71 T72 s68 (at59 Ψ)
 
-      abbrev at61 : Ty.TF T66 O0
-      at61 = λ Ψ. at60 Ψ
+      abbrev at61 : Ty.TF T70 O0
+      at61 = λ Ψ. Ty.both s67 (at60 Ψ)
 
-      abbrev at62 : Ty.TF T65 O0
-      at62 = λ Ψ. Ty.ask s62 (at61 Ψ)
+      abbrev at62 : Ty.TF T69 O0
+      at62 = λ Ψ. Ty.ask s66 (at61 Ψ)
 
-      abbrev at63 : Ty.TF T63 O0
-      at63 = λ Ψ. Ty.give s61 (at62 Ψ)
+      abbrev at63 : Ty.TF T67 O0
+      at63 = λ Ψ. Ty.give s65 (at62 Ψ)
 
-      abbrev at64 : Ty.TF T63 O0
+      abbrev at64 : Ty.TF T67 O0
       at64 = λ Ψ. at63 Ψ
 
-      abbrev at65 : Ty.TF T62 O0
-      at65 = λ Ψ. Ty.ask s59 (at64 Ψ)
+      abbrev at65 : Ty.TF T66 O0
+      at65 = λ Ψ. Ty.ask s63 (at64 Ψ)
 
-      abbrev at66 : Ty.TF T52 O0
-      at66 = λ Ψ. Ty.give s58 (at65 Ψ)
+      abbrev at66 : Ty.TF T64 O0
+      at66 = λ Ψ. Ty.give s62 (at65 Ψ)
 
-      abbrev at67 : Ty.TF T52 O0
+      abbrev at67 : Ty.TF T64 O0
       at67 = λ Ψ. at66 Ψ
 
-      abbrev at68 : Ty.TF T54 O0
-      at68 = λ Ψ. at14 (Ty.wantNext T52 O0 (at67 Ψ) Ψ)
+      abbrev at68 : Ty.TF T63 O0
+      at68 = λ Ψ. Ty.ask s60 (at67 Ψ)
 
       abbrev at69 : Ty.TF T52 O0
-      at69 = λ Ψ. Ty.ask s51 (at68 Ψ)
+      at69 = λ Ψ. Ty.give s59 (at68 Ψ)
 
       abbrev at70 : Ty.TF T52 O0
       at70 = λ Ψ. at69 Ψ
 
-      abbrev at71 : Ty.TF T49 O0
-      at71 = λ Ψ. Ty.both s49 (at70 Ψ)
+      abbrev at71 : Ty.TF T54 O0
+      at71 = λ Ψ. at16 (Ty.wantNext T52 O0 (at70 Ψ) Ψ)
 
-      abbrev at72 : Ty.TF T49 O0
-      at72 = λ Ψ. at71 Ψ
+      abbrev at72 : Ty.TF T52 O0
+      at72 = λ Ψ. Ty.ask s51 (at71 Ψ)
 
-      abbrev at73 : Ty.TF T49 O0
+      abbrev at73 : Ty.TF T52 O0
       at73 = λ Ψ. at72 Ψ
 
-      abbrev at74 : Ty.TF T45 O0
-      at74 = λ Ψ. Ty.pass T45 T49 s46 (at73 Ψ)
+      abbrev at74 : Ty.TF T49 O0
+      at74 = λ Ψ. Ty.both s49 (at73 Ψ)
 
-      abbrev at75 : Ty.TF T45 O0
+      abbrev at75 : Ty.TF T49 O0
       at75 = λ Ψ. at74 Ψ
 
-      abbrev at76 : Ty.TF T45 O0
+      abbrev at76 : Ty.TF T49 O0
       at76 = λ Ψ. at75 Ψ
 
       abbrev at77 : Ty.TF T45 O0
-      at77 = λ Ψ. Ty.give s43 (at76 Ψ)
+      at77 = λ Ψ. Ty.pass T45 T49 s46 (at76 Ψ)
 
-      abbrev at78 : Ty.TF T43 O0
-      at78 = λ Ψ. Ty.both s42 (at77 Ψ)
+      abbrev at78 : Ty.TF T45 O0
+      at78 = λ Ψ. at77 Ψ
 
-      abbrev at79 : Ty.TF T43 O0
+      abbrev at79 : Ty.TF T45 O0
       at79 = λ Ψ. at78 Ψ
 
-      abbrev at80 : Ty.TF T42 O0
-      at80 = λ Ψ. Ty.pass T42 T43 s40 (at79 Ψ)
+      abbrev at80 : Ty.TF T45 O0
+      at80 = λ Ψ. Ty.give s43 (at79 Ψ)
 
-      abbrev at81 : Ty.TF T41 O0
-      at81 = λ Ψ. Ty.both s39 (at80 Ψ)
+      abbrev at81 : Ty.TF T43 O0
+      at81 = λ Ψ. Ty.both s42 (at80 Ψ)
 
-      abbrev at82 : Ty.TF T40 O0
-      at82 = λ Ψ. Ty.ask s38 (at81 Ψ)
+      abbrev at82 : Ty.TF T43 O0
+      at82 = λ Ψ. at81 Ψ
 
-      abbrev at83 : Ty.TF T38 O0
-      at83 = λ Ψ. Ty.give s37 (at82 Ψ)
+      abbrev at83 : Ty.TF T42 O0
+      at83 = λ Ψ. Ty.pass T42 T43 s40 (at82 Ψ)
 
-      abbrev at84 : Ty.TF T38 O0
-      at84 = λ Ψ. at83 Ψ
+      abbrev at84 : Ty.TF T41 O0
+      at84 = λ Ψ. Ty.both s39 (at83 Ψ)
 
-      abbrev at85 : Ty.TF T37 O0
-      at85 = λ Ψ. Ty.ask s35 (at84 Ψ)
+      abbrev at85 : Ty.TF T40 O0
+      at85 = λ Ψ. Ty.ask s38 (at84 Ψ)
 
-      abbrev at86 : Ty.TF T35 O0
-      at86 = λ Ψ. Ty.give s34 (at85 Ψ)
+      abbrev at86 : Ty.TF T38 O0
+      at86 = λ Ψ. Ty.give s37 (at85 Ψ)
 
-      abbrev at87 : Ty.TF T35 O0
+      abbrev at87 : Ty.TF T38 O0
       at87 = λ Ψ. at86 Ψ
 
-      abbrev at88 : Ty.TF T34 O0
-      at88 = λ Ψ. Ty.ask s32 (at87 Ψ)
+      abbrev at88 : Ty.TF T37 O0
+      at88 = λ Ψ. Ty.ask s35 (at87 Ψ)
 
-      abbrev at89 : Ty.TF T25 O0
-      at89 = λ Ψ. Ty.give s31 (at88 Ψ)
+      abbrev at89 : Ty.TF T35 O0
+      at89 = λ Ψ. Ty.give s34 (at88 Ψ)
 
-      abbrev at90 : Ty.TF T25 O0
+      abbrev at90 : Ty.TF T35 O0
       at90 = λ Ψ. at89 Ψ
 
-      abbrev at91 : Ty.TF T27 O0
-      at91 = λ Ψ. at6 (Ty.wantNext T25 O0 (at90 Ψ) Ψ)
+      abbrev at91 : Ty.TF T34 O0
+      at91 = λ Ψ. Ty.ask s32 (at90 Ψ)
 
-      abbrev at92 : Ty.TF T25 O0
-      at92 = λ Ψ. Ty.ask s25 (at91 Ψ)
+      abbrev at92 : Ty.TF T24 O0
+      at92 = λ Ψ. Ty.give s31 (at91 Ψ)
 
-      abbrev at93 : Ty.TF T25 O0
+      abbrev at93 : Ty.TF T24 O0
       at93 = λ Ψ. at92 Ψ
 
-      abbrev at94 : Ty.TF T21 O0
-      at94 = λ Ψ. Ty.both s23 (at93 Ψ)
+      abbrev at94 : Ty.TF T26 O0
+      at94 = λ Ψ. at7 (Ty.wantNext T24 O0 (at93 Ψ) Ψ)
 
-      abbrev at95 : Ty.TF T21 O0
-      at95 = λ Ψ. at94 Ψ
+      abbrev at95 : Ty.TF T24 O0
+      at95 = λ Ψ. Ty.ask s24 (at94 Ψ)
 
-      abbrev at96 : Ty.TF T21 O0
+      abbrev at96 : Ty.TF T24 O0
       at96 = λ Ψ. at95 Ψ
 
-      abbrev at97 : Ty.TF T21 O0
-      at97 = λ Ψ. Ty.give s20 (at96 Ψ)
+      abbrev at97 : Ty.TF T20 O0
+      at97 = λ Ψ. Ty.both s22 (at96 Ψ)
 
-      abbrev at98 : Ty.TF T17 O0
-      at98 = λ Ψ. Ty.both s19 (at97 Ψ)
+      abbrev at98 : Ty.TF T20 O0
+      at98 = λ Ψ. at97 Ψ
 
-      abbrev at99 : Ty.TF T17 O0
+      abbrev at99 : Ty.TF T20 O0
       at99 = λ Ψ. at98 Ψ
 
-      abbrev at100 : Ty.TF T17 O0
-      at100 = λ Ψ. at99 Ψ
+      abbrev at100 : Ty.TF T20 O0
+      at100 = λ Ψ. Ty.give s19 (at99 Ψ)
 
-      abbrev at101 : Ty.TF T17 O0
-      at101 = λ Ψ. Ty.give s16 (at100 Ψ)
+      abbrev at101 : Ty.TF T16 O0
+      at101 = λ Ψ. Ty.both s18 (at100 Ψ)
 
-      abbrev at102 : Ty.TF T15 O0
-      at102 = λ Ψ. Ty.both s15 (at101 Ψ)
+      abbrev at102 : Ty.TF T16 O0
+      at102 = λ Ψ. at101 Ψ
 
-      abbrev at103 : Ty.TF T15 O0
+      abbrev at103 : Ty.TF T16 O0
       at103 = λ Ψ. at102 Ψ
 
-      abbrev at104 : Ty.TF T14 O0
-      at104 = λ Ψ. Ty.pass T14 T15 s13 (at103 Ψ)
+      abbrev at104 : Ty.TF T16 O0
+      at104 = λ Ψ. Ty.give s15 (at103 Ψ)
 
-      abbrev at105 : Ty.TF T13 O0
-      at105 = λ Ψ. Ty.both s12 (at104 Ψ)
+      abbrev at105 : Ty.TF T14 O0
+      at105 = λ Ψ. Ty.both s14 (at104 Ψ)
 
-      abbrev at106 : Ty.TF T12 O0
-      at106 = λ Ψ. Ty.ask s11 (at105 Ψ)
+      abbrev at106 : Ty.TF T14 O0
+      at106 = λ Ψ. at105 Ψ
 
-      abbrev at107 : Ty.TF T10 O0
-      at107 = λ Ψ. Ty.give s10 (at106 Ψ)
+      abbrev at107 : Ty.TF T13 O0
+      at107 = λ Ψ. Ty.both s12 (at106 Ψ)
 
-      abbrev at108 : Ty.TF T10 O0
-      at108 = λ Ψ. at107 Ψ
+      abbrev at108 : Ty.TF T12 O0
+      at108 = λ Ψ. Ty.ask s11 (at107 Ψ)
 
-      abbrev at109 : Ty.TF T9 O0
-      at109 = λ Ψ. Ty.ask s8 (at108 Ψ)
+      abbrev at109 : Ty.TF T10 O0
+      at109 = λ Ψ. Ty.give s10 (at108 Ψ)
 
-      abbrev at110 : Ty.TF T7 O0
-      at110 = λ Ψ. Ty.give s7 (at109 Ψ)
+      abbrev at110 : Ty.TF T10 O0
+      at110 = λ Ψ. at109 Ψ
 
-      abbrev at111 : Ty.TF T7 O0
-      at111 = λ Ψ. at110 Ψ
+      abbrev at111 : Ty.TF T9 O0
+      at111 = λ Ψ. Ty.ask s8 (at110 Ψ)
 
-      abbrev at112 : Ty.TF T6 O0
-      at112 = λ Ψ. Ty.ask s5 (at111 Ψ)
+      abbrev at112 : Ty.TF T7 O0
+      at112 = λ Ψ. Ty.give s7 (at111 Ψ)
 
-      abbrev at113 : Ty.TF T0 O0
-      at113 = λ Ψ. Ty.give s4 (at112 Ψ)
+      abbrev at113 : Ty.TF T7 O0
+      at113 = λ Ψ. at112 Ψ
 
-      abbrev at114 : Ty.TF T0 O0
-      at114 = λ Ψ. at113 Ψ
+      abbrev at114 : Ty.TF T6 O0
+      at114 = λ Ψ. Ty.ask s5 (at113 Ψ)
 
       abbrev at115 : Ty.TF T0 O0
-      at115 = λ Ψ. Ty.give s2 (at114 Ψ)
+      at115 = λ Ψ. Ty.give s4 (at114 Ψ)
 
       abbrev at116 : Ty.TF T0 O0
-      at116 = λ Ψ. Ty.give s1 (at115 Ψ)
+      at116 = λ Ψ. at115 Ψ
 
       abbrev at117 : Ty.TF T0 O0
-      at117 = λ Ψ. Ty.give s0 (at116 Ψ)
+      at117 = λ Ψ. Ty.give s2 (at116 Ψ)
+
+      abbrev at118 : Ty.TF T0 O0
+      at118 = λ Ψ. Ty.give s1 (at117 Ψ)
+
+      abbrev at119 : Ty.TF T0 O0
+      at119 = λ Ψ. Ty.give s0 (at118 Ψ)
 
       abbrev pub Φ : Ty.TF T0 O0
-      Φ = at117
+      Φ = at119
 
       module _ {M : Type 1} (𝓤 : URA.URA M) (H : Wp.Heap 𝓤) (A : Atoms.Atoms 𝓤) (W : Kit.Given 𝓤 H A) (𝓣 : Wp.Tables 𝓤 H) where
         abbrev Knowns : Type 1
@@ -1384,79 +1421,79 @@ module _ (claims· : Claims) where
 
       module _ (κs : Lifetimes.Lfts 4) (qs : Lifetimes.Shares 4) where
         abbrev g4 : Li.List Ro.Entry
-        g4 = Li._∷_ (0, row·7) (Li._∷_ (1, row·5) (Li._∷_ (2, Relend.mslice-owed (Rf.rtF (Rf.fInt Sy.w32)) ty·33 1 4 (Ro.lease (κs .1 .0) (qs .1 .0))) (Li._∷_ (3, row·12) (Li._∷_ (4, row·13) (Li._∷_ (5, row·24) (Li._∷_ (6, row·7) (Li._∷_ (7, row·7) (Li._∷_ (8, row·7) (Li._∷_ (9, Relend.msptr (Rf.rtF (Rf.fInt Sy.w32)) ty·32 4) (Li._∷_ (10, row·0) (Li._∷_ (11, row·9) (Li._∷_ (12, row·2) (Li._∷_ (13, row·6) (Li._∷_ (14, row·1) (Li._∷_ (15, row·14) Li.[])))))))))))))))
+        g4 = Li._∷_ (0, row·7) (Li._∷_ (1, row·5) (Li._∷_ (2, Relend.mslice-owed (Rf.rtF (Rf.fInt Sy.w32)) ty·33 1 4 (Ro.lease (κs .1 .0) (qs .1 .0))) (Li._∷_ (3, row·12) (Li._∷_ (4, row·13) (Li._∷_ (5, row·14) (Li._∷_ (6, row·7) (Li._∷_ (7, row·7) (Li._∷_ (8, row·7) (Li._∷_ (9, Relend.msptr (Rf.rtF (Rf.fInt Sy.w32)) ty·32 4) (Li._∷_ (10, row·0) (Li._∷_ (11, row·9) (Li._∷_ (12, row·2) (Li._∷_ (13, row·6) (Li._∷_ (14, row·1) (Li._∷_ (15, row·15) Li.[])))))))))))))))
 
         abbrev g5 : Li.List Ro.Entry
-        g5 = Li._∷_ (0, row·7) (Li._∷_ (1, row·5) (Li._∷_ (2, Relend.mslice-owed (Rf.rtF (Rf.fInt Sy.w32)) ty·33 1 4 (Ro.lease (κs .1 .0) (qs .1 .0))) (Li._∷_ (3, row·12) (Li._∷_ (4, row·13) (Li._∷_ (5, row·24) (Li._∷_ (6, row·7) (Li._∷_ (7, row·7) (Li._∷_ (8, row·7) (Li._∷_ (9, row·3) (Li._∷_ (10, row·15) (Li._∷_ (11, row·9) (Li._∷_ (12, row·2) (Li._∷_ (13, row·6) (Li._∷_ (14, row·1) (Li._∷_ (15, row·14) Li.[])))))))))))))))
+        g5 = Li._∷_ (0, row·7) (Li._∷_ (1, row·5) (Li._∷_ (2, Relend.mslice-owed (Rf.rtF (Rf.fInt Sy.w32)) ty·33 1 4 (Ro.lease (κs .1 .0) (qs .1 .0))) (Li._∷_ (3, row·12) (Li._∷_ (4, row·13) (Li._∷_ (5, row·14) (Li._∷_ (6, row·7) (Li._∷_ (7, row·7) (Li._∷_ (8, row·7) (Li._∷_ (9, row·3) (Li._∷_ (10, row·16) (Li._∷_ (11, row·9) (Li._∷_ (12, row·2) (Li._∷_ (13, row·6) (Li._∷_ (14, row·1) (Li._∷_ (15, row·15) Li.[])))))))))))))))
 
         abbrev g6 : Li.List Ro.Entry
-        g6 = Li._∷_ (0, row·7) (Li._∷_ (1, row·5) (Li._∷_ (2, Relend.mslice-owed (Rf.rtF (Rf.fInt Sy.w32)) ty·33 1 4 (Ro.lease (κs .1 .0) (qs .1 .0))) (Li._∷_ (3, Relend.mslice-owed (Rf.rtF (Rf.fInt Sy.w64)) ty·35 2 5 (Ro.lease (κs .1 .1 .0) (qs .1 .1 .0))) (Li._∷_ (4, row·13) (Li._∷_ (5, row·24) (Li._∷_ (6, row·7) (Li._∷_ (7, row·7) (Li._∷_ (8, row·7) (Li._∷_ (9, row·3) (Li._∷_ (10, row·15) (Li._∷_ (11, Relend.msptr (Rf.rtF (Rf.fInt Sy.w64)) ty·38 5) (Li._∷_ (12, row·2) (Li._∷_ (13, row·6) (Li._∷_ (14, row·1) (Li._∷_ (15, row·14) Li.[])))))))))))))))
+        g6 = Li._∷_ (0, row·7) (Li._∷_ (1, row·5) (Li._∷_ (2, Relend.mslice-owed (Rf.rtF (Rf.fInt Sy.w32)) ty·33 1 4 (Ro.lease (κs .1 .0) (qs .1 .0))) (Li._∷_ (3, Relend.mslice-owed (Rf.rtF (Rf.fInt Sy.w64)) ty·35 2 5 (Ro.lease (κs .1 .1 .0) (qs .1 .1 .0))) (Li._∷_ (4, row·13) (Li._∷_ (5, row·14) (Li._∷_ (6, row·7) (Li._∷_ (7, row·7) (Li._∷_ (8, row·7) (Li._∷_ (9, row·3) (Li._∷_ (10, row·16) (Li._∷_ (11, Relend.msptr (Rf.rtF (Rf.fInt Sy.w64)) ty·38 5) (Li._∷_ (12, row·2) (Li._∷_ (13, row·6) (Li._∷_ (14, row·1) (Li._∷_ (15, row·15) Li.[])))))))))))))))
 
         abbrev g7 : Li.List Ro.Entry
-        g7 = Li._∷_ (0, row·7) (Li._∷_ (1, row·5) (Li._∷_ (2, Relend.mslice-owed (Rf.rtF (Rf.fInt Sy.w32)) ty·33 1 4 (Ro.lease (κs .1 .0) (qs .1 .0))) (Li._∷_ (3, Relend.mslice-owed (Rf.rtF (Rf.fInt Sy.w64)) ty·35 2 5 (Ro.lease (κs .1 .1 .0) (qs .1 .1 .0))) (Li._∷_ (4, row·13) (Li._∷_ (5, row·24) (Li._∷_ (6, row·7) (Li._∷_ (7, row·7) (Li._∷_ (8, row·7) (Li._∷_ (9, row·3) (Li._∷_ (10, row·15) (Li._∷_ (11, row·9) (Li._∷_ (12, row·22) (Li._∷_ (13, row·6) (Li._∷_ (14, row·1) (Li._∷_ (15, row·14) Li.[])))))))))))))))
+        g7 = Li._∷_ (0, row·7) (Li._∷_ (1, row·5) (Li._∷_ (2, Relend.mslice-owed (Rf.rtF (Rf.fInt Sy.w32)) ty·33 1 4 (Ro.lease (κs .1 .0) (qs .1 .0))) (Li._∷_ (3, Relend.mslice-owed (Rf.rtF (Rf.fInt Sy.w64)) ty·35 2 5 (Ro.lease (κs .1 .1 .0) (qs .1 .1 .0))) (Li._∷_ (4, row·13) (Li._∷_ (5, row·14) (Li._∷_ (6, row·7) (Li._∷_ (7, row·7) (Li._∷_ (8, row·7) (Li._∷_ (9, row·3) (Li._∷_ (10, row·16) (Li._∷_ (11, row·9) (Li._∷_ (12, row·23) (Li._∷_ (13, row·6) (Li._∷_ (14, row·1) (Li._∷_ (15, row·15) Li.[])))))))))))))))
 
         abbrev g8 : Li.List Ro.Entry
-        g8 = Li._∷_ (0, row·7) (Li._∷_ (1, row·5) (Li._∷_ (2, Relend.mslice-owed (Rf.rtF (Rf.fInt Sy.w32)) ty·33 1 4 (Ro.lease (κs .1 .0) (qs .1 .0))) (Li._∷_ (3, Relend.mslice-owed (Rf.rtF (Rf.fInt Sy.w64)) ty·35 2 5 (Ro.lease (κs .1 .1 .0) (qs .1 .1 .0))) (Li._∷_ (4, Relend.mslice-owed Gap_.row ty·37 3 6 (Ro.lease (κs .1 .1 .1 .0) (qs .1 .1 .1 .0))) (Li._∷_ (5, row·24) (Li._∷_ (6, row·7) (Li._∷_ (7, row·7) (Li._∷_ (8, row·7) (Li._∷_ (9, row·3) (Li._∷_ (10, row·15) (Li._∷_ (11, row·9) (Li._∷_ (12, row·22) (Li._∷_ (13, Relend.msptr Gap_.row ty·36 6) (Li._∷_ (14, row·1) (Li._∷_ (15, row·14) Li.[])))))))))))))))
+        g8 = Li._∷_ (0, row·7) (Li._∷_ (1, row·5) (Li._∷_ (2, Relend.mslice-owed (Rf.rtF (Rf.fInt Sy.w32)) ty·33 1 4 (Ro.lease (κs .1 .0) (qs .1 .0))) (Li._∷_ (3, Relend.mslice-owed (Rf.rtF (Rf.fInt Sy.w64)) ty·35 2 5 (Ro.lease (κs .1 .1 .0) (qs .1 .1 .0))) (Li._∷_ (4, Relend.mslice-owed Gap_.row ty·37 3 6 (Ro.lease (κs .1 .1 .1 .0) (qs .1 .1 .1 .0))) (Li._∷_ (5, row·14) (Li._∷_ (6, row·7) (Li._∷_ (7, row·7) (Li._∷_ (8, row·7) (Li._∷_ (9, row·3) (Li._∷_ (10, row·16) (Li._∷_ (11, row·9) (Li._∷_ (12, row·23) (Li._∷_ (13, Relend.msptr Gap_.row ty·36 6) (Li._∷_ (14, row·1) (Li._∷_ (15, row·15) Li.[])))))))))))))))
 
         abbrev g9 : Li.List Ro.Entry
-        g9 = Li._∷_ (0, row·7) (Li._∷_ (1, row·5) (Li._∷_ (2, Relend.mslice-owed (Rf.rtF (Rf.fInt Sy.w32)) ty·33 1 4 (Ro.lease (κs .1 .0) (qs .1 .0))) (Li._∷_ (3, Relend.mslice-owed (Rf.rtF (Rf.fInt Sy.w64)) ty·35 2 5 (Ro.lease (κs .1 .1 .0) (qs .1 .1 .0))) (Li._∷_ (4, Relend.mslice-owed Gap_.row ty·37 3 6 (Ro.lease (κs .1 .1 .1 .0) (qs .1 .1 .1 .0))) (Li._∷_ (5, row·24) (Li._∷_ (6, row·7) (Li._∷_ (7, row·7) (Li._∷_ (8, row·7) (Li._∷_ (9, row·3) (Li._∷_ (10, row·15) (Li._∷_ (11, row·9) (Li._∷_ (12, row·22) (Li._∷_ (13, row·6) (Li._∷_ (14, Mut.mslice Gap_.row ty·36 6) (Li._∷_ (15, row·14) Li.[])))))))))))))))
+        g9 = Li._∷_ (0, row·7) (Li._∷_ (1, row·5) (Li._∷_ (2, Relend.mslice-owed (Rf.rtF (Rf.fInt Sy.w32)) ty·33 1 4 (Ro.lease (κs .1 .0) (qs .1 .0))) (Li._∷_ (3, Relend.mslice-owed (Rf.rtF (Rf.fInt Sy.w64)) ty·35 2 5 (Ro.lease (κs .1 .1 .0) (qs .1 .1 .0))) (Li._∷_ (4, Relend.mslice-owed Gap_.row ty·37 3 6 (Ro.lease (κs .1 .1 .1 .0) (qs .1 .1 .1 .0))) (Li._∷_ (5, row·14) (Li._∷_ (6, row·7) (Li._∷_ (7, row·7) (Li._∷_ (8, row·7) (Li._∷_ (9, row·3) (Li._∷_ (10, row·16) (Li._∷_ (11, row·9) (Li._∷_ (12, row·23) (Li._∷_ (13, row·6) (Li._∷_ (14, Mut.mslice Gap_.row ty·36 6) (Li._∷_ (15, row·15) Li.[])))))))))))))))
 
         abbrev g10 : Li.List Ro.Entry
-        g10 = Li._∷_ (0, row·7) (Li._∷_ (1, row·5) (Li._∷_ (2, Relend.mslice-owed (Rf.rtF (Rf.fInt Sy.w32)) ty·33 1 4 (Ro.lease (κs .1 .0) (qs .1 .0))) (Li._∷_ (3, Relend.mslice-owed (Rf.rtF (Rf.fInt Sy.w64)) ty·35 2 5 (Ro.lease (κs .1 .1 .0) (qs .1 .1 .0))) (Li._∷_ (4, Relend.mslice-owed Gap_.row ty·37 3 6 (Ro.lease (κs .1 .1 .1 .0) (qs .1 .1 .1 .0))) (Li._∷_ (5, row·24) (Li._∷_ (6, row·10) (Li._∷_ (7, row·7) (Li._∷_ (8, row·7) (Li._∷_ (9, row·3) (Li._∷_ (10, row·16) (Li._∷_ (11, row·9) (Li._∷_ (12, row·23) (Li._∷_ (13, row·6) (Li._∷_ (14, row·17) (Li._∷_ (15, row·14) Li.[])))))))))))))))
+        g10 = Li._∷_ (0, row·7) (Li._∷_ (1, row·5) (Li._∷_ (2, Relend.mslice-owed (Rf.rtF (Rf.fInt Sy.w32)) ty·33 1 4 (Ro.lease (κs .1 .0) (qs .1 .0))) (Li._∷_ (3, Relend.mslice-owed (Rf.rtF (Rf.fInt Sy.w64)) ty·35 2 5 (Ro.lease (κs .1 .1 .0) (qs .1 .1 .0))) (Li._∷_ (4, Relend.mslice-owed Gap_.row ty·37 3 6 (Ro.lease (κs .1 .1 .1 .0) (qs .1 .1 .1 .0))) (Li._∷_ (5, row·14) (Li._∷_ (6, row·10) (Li._∷_ (7, row·7) (Li._∷_ (8, row·7) (Li._∷_ (9, row·3) (Li._∷_ (10, row·19) (Li._∷_ (11, row·9) (Li._∷_ (12, row·31) (Li._∷_ (13, row·6) (Li._∷_ (14, row·18) (Li._∷_ (15, row·15) Li.[])))))))))))))))
 
         abbrev g11 : Li.List Ro.Entry
-        g11 = Li._∷_ (0, row·7) (Li._∷_ (1, row·5) (Li._∷_ (2, Relend.mslice-owed (Rf.rtF (Rf.fInt Sy.w32)) ty·33 1 4 (Ro.lease (κs .1 .0) (qs .1 .0))) (Li._∷_ (3, Relend.mslice-owed (Rf.rtF (Rf.fInt Sy.w64)) ty·35 2 5 (Ro.lease (κs .1 .1 .0) (qs .1 .1 .0))) (Li._∷_ (4, Relend.mslice-owed Gap_.row ty·37 3 6 (Ro.lease (κs .1 .1 .1 .0) (qs .1 .1 .1 .0))) (Li._∷_ (5, Rows.any-gone Laws.mir) (Li._∷_ (6, row·10) (Li._∷_ (7, row·7) (Li._∷_ (8, row·7) (Li._∷_ (9, row·3) (Li._∷_ (10, row·16) (Li._∷_ (11, row·9) (Li._∷_ (12, row·23) (Li._∷_ (13, row·6) (Li._∷_ (14, row·17) (Li._∷_ (15, row·14) Li.[])))))))))))))))
+        g11 = Li._∷_ (0, row·7) (Li._∷_ (1, row·5) (Li._∷_ (2, row·11) (Li._∷_ (3, Relend.mslice-owed (Rf.rtF (Rf.fInt Sy.w64)) ty·35 2 5 (Ro.lease (κs .1 .1 .0) (qs .1 .1 .0))) (Li._∷_ (4, Relend.mslice-owed Gap_.row ty·37 3 6 (Ro.lease (κs .1 .1 .1 .0) (qs .1 .1 .1 .0))) (Li._∷_ (5, row·14) (Li._∷_ (6, row·10) (Li._∷_ (7, row·7) (Li._∷_ (8, row·7) (Li._∷_ (9, row·3) (Li._∷_ (10, row·0) (Li._∷_ (11, row·9) (Li._∷_ (12, row·31) (Li._∷_ (13, row·6) (Li._∷_ (14, row·18) (Li._∷_ (15, row·15) Li.[])))))))))))))))
 
         abbrev g12 : Li.List Ro.Entry
-        g12 = Li._∷_ (0, row·7) (Li._∷_ (1, row·5) (Li._∷_ (2, row·11) (Li._∷_ (3, Relend.mslice-owed (Rf.rtF (Rf.fInt Sy.w64)) ty·35 2 5 (Ro.lease (κs .1 .1 .0) (qs .1 .1 .0))) (Li._∷_ (4, Relend.mslice-owed Gap_.row ty·37 3 6 (Ro.lease (κs .1 .1 .1 .0) (qs .1 .1 .1 .0))) (Li._∷_ (5, Rows.any-gone Laws.mir) (Li._∷_ (6, row·10) (Li._∷_ (7, row·7) (Li._∷_ (8, row·7) (Li._∷_ (9, row·3) (Li._∷_ (10, row·0) (Li._∷_ (11, row·9) (Li._∷_ (12, row·23) (Li._∷_ (13, row·6) (Li._∷_ (14, row·17) (Li._∷_ (15, row·14) Li.[])))))))))))))))
+        g12 = Li._∷_ (0, row·7) (Li._∷_ (1, row·5) (Li._∷_ (2, row·11) (Li._∷_ (3, row·12) (Li._∷_ (4, Relend.mslice-owed Gap_.row ty·37 3 6 (Ro.lease (κs .1 .1 .1 .0) (qs .1 .1 .1 .0))) (Li._∷_ (5, row·14) (Li._∷_ (6, row·10) (Li._∷_ (7, row·7) (Li._∷_ (8, row·7) (Li._∷_ (9, row·3) (Li._∷_ (10, row·0) (Li._∷_ (11, row·9) (Li._∷_ (12, row·2) (Li._∷_ (13, row·6) (Li._∷_ (14, row·18) (Li._∷_ (15, row·15) Li.[])))))))))))))))
 
-        abbrev g13 : Li.List Ro.Entry
-        g13 = Li._∷_ (0, row·7) (Li._∷_ (1, row·5) (Li._∷_ (2, row·11) (Li._∷_ (3, row·12) (Li._∷_ (4, Relend.mslice-owed Gap_.row ty·37 3 6 (Ro.lease (κs .1 .1 .1 .0) (qs .1 .1 .1 .0))) (Li._∷_ (5, Rows.any-gone Laws.mir) (Li._∷_ (6, row·10) (Li._∷_ (7, row·7) (Li._∷_ (8, row·7) (Li._∷_ (9, row·3) (Li._∷_ (10, row·0) (Li._∷_ (11, row·9) (Li._∷_ (12, row·2) (Li._∷_ (13, row·6) (Li._∷_ (14, row·17) (Li._∷_ (15, row·14) Li.[])))))))))))))))
+        abbrev g18 : Li.List Ro.Entry
+        g18 = Li._∷_ (0, row·7) (Li._∷_ (1, row·5) (Li._∷_ (2, Relend.mslice-owed (Rf.rtF (Rf.fInt Sy.w32)) ty·33 1 7 (Ro.lease (κs .1 .0) (qs .1 .0))) (Li._∷_ (3, row·12) (Li._∷_ (4, row·13) (Li._∷_ (5, row·14) (Li._∷_ (6, row·10) (Li._∷_ (7, row·7) (Li._∷_ (8, row·7) (Li._∷_ (9, row·3) (Li._∷_ (10, row·0) (Li._∷_ (11, row·9) (Li._∷_ (12, row·2) (Li._∷_ (13, row·6) (Li._∷_ (14, row·1) (Li._∷_ (15, row·15) Li.[])))))))))))))))
 
-        abbrev g17 : Li.List Ro.Entry
-        g17 = Li._∷_ (0, row·7) (Li._∷_ (1, row·5) (Li._∷_ (2, Relend.mslice-owed (Rf.rtF (Rf.fInt Sy.w32)) ty·33 1 7 (Ro.lease (κs .1 .0) (qs .1 .0))) (Li._∷_ (3, row·12) (Li._∷_ (4, row·13) (Li._∷_ (5, Rows.any-gone Laws.mir) (Li._∷_ (6, row·10) (Li._∷_ (7, row·7) (Li._∷_ (8, row·7) (Li._∷_ (9, row·3) (Li._∷_ (10, row·0) (Li._∷_ (11, row·9) (Li._∷_ (12, row·2) (Li._∷_ (13, row·6) (Li._∷_ (14, row·1) (Li._∷_ (15, row·14) Li.[])))))))))))))))
+        abbrev g21 : Li.List Ro.Entry
+        g21 = Li._∷_ (0, row·7) (Li._∷_ (1, row·5) (Li._∷_ (2, Relend.mslice-owed (Rf.rtF (Rf.fInt Sy.w32)) ty·33 1 7 (Ro.lease (κs .1 .0) (qs .1 .0))) (Li._∷_ (3, Reshare.mslice-owedS (Rf.rtF (Rf.fInt Sy.w64)) ty·35 2 8 (Ro.lease (κs .1 .1 .0) (qs .1 .1 .0))) (Li._∷_ (4, row·13) (Li._∷_ (5, row·14) (Li._∷_ (6, row·10) (Li._∷_ (7, row·7) (Li._∷_ (8, row·7) (Li._∷_ (9, row·3) (Li._∷_ (10, row·0) (Li._∷_ (11, row·9) (Li._∷_ (12, row·2) (Li._∷_ (13, row·6) (Li._∷_ (14, row·1) (Li._∷_ (15, row·15) Li.[])))))))))))))))
 
-        abbrev g20 : Li.List Ro.Entry
-        g20 = Li._∷_ (0, row·7) (Li._∷_ (1, row·5) (Li._∷_ (2, Relend.mslice-owed (Rf.rtF (Rf.fInt Sy.w32)) ty·33 1 7 (Ro.lease (κs .1 .0) (qs .1 .0))) (Li._∷_ (3, Reshare.mslice-owedS (Rf.rtF (Rf.fInt Sy.w64)) ty·35 2 8 (Ro.lease (κs .1 .1 .0) (qs .1 .1 .0))) (Li._∷_ (4, row·13) (Li._∷_ (5, Rows.any-gone Laws.mir) (Li._∷_ (6, row·10) (Li._∷_ (7, row·7) (Li._∷_ (8, row·7) (Li._∷_ (9, row·3) (Li._∷_ (10, row·0) (Li._∷_ (11, row·9) (Li._∷_ (12, row·2) (Li._∷_ (13, row·6) (Li._∷_ (14, row·1) (Li._∷_ (15, row·14) Li.[])))))))))))))))
+        abbrev g24 : Li.List Ro.Entry
+        g24 = Li._∷_ (0, row·7) (Li._∷_ (1, row·5) (Li._∷_ (2, Relend.mslice-owed (Rf.rtF (Rf.fInt Sy.w32)) ty·33 1 7 (Ro.lease (κs .1 .0) (qs .1 .0))) (Li._∷_ (3, Reshare.mslice-owedS (Rf.rtF (Rf.fInt Sy.w64)) ty·35 2 8 (Ro.lease (κs .1 .1 .0) (qs .1 .1 .0))) (Li._∷_ (4, Relend.mslice-owed Gap_.row ty·37 3 9 (Ro.lease (κs .1 .1 .1 .0) (qs .1 .1 .1 .0))) (Li._∷_ (5, row·14) (Li._∷_ (6, row·10) (Li._∷_ (7, row·7) (Li._∷_ (8, row·7) (Li._∷_ (9, row·3) (Li._∷_ (10, row·0) (Li._∷_ (11, row·9) (Li._∷_ (12, row·2) (Li._∷_ (13, row·6) (Li._∷_ (14, row·1) (Li._∷_ (15, row·15) Li.[])))))))))))))))
 
-        abbrev g23 : Li.List Ro.Entry
-        g23 = Li._∷_ (0, row·7) (Li._∷_ (1, row·5) (Li._∷_ (2, Relend.mslice-owed (Rf.rtF (Rf.fInt Sy.w32)) ty·33 1 7 (Ro.lease (κs .1 .0) (qs .1 .0))) (Li._∷_ (3, Reshare.mslice-owedS (Rf.rtF (Rf.fInt Sy.w64)) ty·35 2 8 (Ro.lease (κs .1 .1 .0) (qs .1 .1 .0))) (Li._∷_ (4, Relend.mslice-owed Gap_.row ty·37 3 9 (Ro.lease (κs .1 .1 .1 .0) (qs .1 .1 .1 .0))) (Li._∷_ (5, Rows.any-gone Laws.mir) (Li._∷_ (6, row·10) (Li._∷_ (7, row·7) (Li._∷_ (8, row·7) (Li._∷_ (9, row·3) (Li._∷_ (10, row·0) (Li._∷_ (11, row·9) (Li._∷_ (12, row·2) (Li._∷_ (13, row·6) (Li._∷_ (14, row·1) (Li._∷_ (15, row·14) Li.[])))))))))))))))
+        abbrev g27 : Li.List Ro.Entry
+        g27 = Li._∷_ (0, row·7) (Li._∷_ (1, row·5) (Li._∷_ (2, Relend.mslice-owed (Rf.rtF (Rf.fInt Sy.w32)) ty·33 1 7 (Ro.lease (κs .1 .0) (qs .1 .0))) (Li._∷_ (3, Reshare.mslice-owedS (Rf.rtF (Rf.fInt Sy.w64)) ty·35 2 8 (Ro.lease (κs .1 .1 .0) (qs .1 .1 .0))) (Li._∷_ (4, Relend.mslice-owed Gap_.row ty·37 3 9 (Ro.lease (κs .1 .1 .1 .0) (qs .1 .1 .1 .0))) (Li._∷_ (5, row·14) (Li._∷_ (6, row·10) (Li._∷_ (7, row·10) (Li._∷_ (8, row·7) (Li._∷_ (9, row·3) (Li._∷_ (10, row·0) (Li._∷_ (11, row·9) (Li._∷_ (12, row·2) (Li._∷_ (13, row·6) (Li._∷_ (14, row·1) (Li._∷_ (15, row·15) Li.[])))))))))))))))
 
-        abbrev g26 : Li.List Ro.Entry
-        g26 = Li._∷_ (0, row·7) (Li._∷_ (1, row·5) (Li._∷_ (2, Relend.mslice-owed (Rf.rtF (Rf.fInt Sy.w32)) ty·33 1 7 (Ro.lease (κs .1 .0) (qs .1 .0))) (Li._∷_ (3, Reshare.mslice-owedS (Rf.rtF (Rf.fInt Sy.w64)) ty·35 2 8 (Ro.lease (κs .1 .1 .0) (qs .1 .1 .0))) (Li._∷_ (4, Relend.mslice-owed Gap_.row ty·37 3 9 (Ro.lease (κs .1 .1 .1 .0) (qs .1 .1 .1 .0))) (Li._∷_ (5, Rows.any-gone Laws.mir) (Li._∷_ (6, row·10) (Li._∷_ (7, row·10) (Li._∷_ (8, row·7) (Li._∷_ (9, row·3) (Li._∷_ (10, row·0) (Li._∷_ (11, row·9) (Li._∷_ (12, row·2) (Li._∷_ (13, row·6) (Li._∷_ (14, row·1) (Li._∷_ (15, row·14) Li.[])))))))))))))))
+        abbrev g30 : Li.List Ro.Entry
+        g30 = Li._∷_ (0, row·7) (Li._∷_ (1, row·5) (Li._∷_ (2, row·11) (Li._∷_ (3, Reshare.mslice-owedS (Rf.rtF (Rf.fInt Sy.w64)) ty·35 2 8 (Ro.lease (κs .1 .1 .0) (qs .1 .1 .0))) (Li._∷_ (4, Relend.mslice-owed Gap_.row ty·37 3 9 (Ro.lease (κs .1 .1 .1 .0) (qs .1 .1 .1 .0))) (Li._∷_ (5, row·14) (Li._∷_ (6, row·10) (Li._∷_ (7, row·10) (Li._∷_ (8, row·7) (Li._∷_ (9, row·3) (Li._∷_ (10, row·0) (Li._∷_ (11, row·9) (Li._∷_ (12, row·2) (Li._∷_ (13, row·6) (Li._∷_ (14, row·1) (Li._∷_ (15, row·15) Li.[])))))))))))))))
 
-        abbrev g29 : Li.List Ro.Entry
-        g29 = Li._∷_ (0, row·7) (Li._∷_ (1, row·5) (Li._∷_ (2, row·11) (Li._∷_ (3, Reshare.mslice-owedS (Rf.rtF (Rf.fInt Sy.w64)) ty·35 2 8 (Ro.lease (κs .1 .1 .0) (qs .1 .1 .0))) (Li._∷_ (4, Relend.mslice-owed Gap_.row ty·37 3 9 (Ro.lease (κs .1 .1 .1 .0) (qs .1 .1 .1 .0))) (Li._∷_ (5, Rows.any-gone Laws.mir) (Li._∷_ (6, row·10) (Li._∷_ (7, row·10) (Li._∷_ (8, row·7) (Li._∷_ (9, row·3) (Li._∷_ (10, row·0) (Li._∷_ (11, row·9) (Li._∷_ (12, row·2) (Li._∷_ (13, row·6) (Li._∷_ (14, row·1) (Li._∷_ (15, row·14) Li.[])))))))))))))))
-
-        abbrev g31 : Li.List Ro.Entry
-        g31 = Li._∷_ (0, row·7) (Li._∷_ (1, row·5) (Li._∷_ (2, row·11) (Li._∷_ (3, row·12) (Li._∷_ (4, Relend.mslice-owed Gap_.row ty·37 3 9 (Ro.lease (κs .1 .1 .1 .0) (qs .1 .1 .1 .0))) (Li._∷_ (5, Rows.any-gone Laws.mir) (Li._∷_ (6, row·10) (Li._∷_ (7, row·10) (Li._∷_ (8, row·7) (Li._∷_ (9, row·3) (Li._∷_ (10, row·0) (Li._∷_ (11, row·9) (Li._∷_ (12, row·2) (Li._∷_ (13, row·6) (Li._∷_ (14, row·1) (Li._∷_ (15, row·14) Li.[])))))))))))))))
-
-        abbrev g36 : Li.List Ro.Entry
-        g36 = Li._∷_ (0, row·7) (Li._∷_ (1, row·5) (Li._∷_ (2, Relend.mslice-owed (Rf.rtF (Rf.fInt Sy.w32)) ty·33 1 10 (Ro.lease (κs .1 .0) (qs .1 .0))) (Li._∷_ (3, row·12) (Li._∷_ (4, row·13) (Li._∷_ (5, Rows.any-gone Laws.mir) (Li._∷_ (6, row·10) (Li._∷_ (7, row·10) (Li._∷_ (8, row·7) (Li._∷_ (9, row·3) (Li._∷_ (10, row·0) (Li._∷_ (11, row·9) (Li._∷_ (12, row·2) (Li._∷_ (13, row·6) (Li._∷_ (14, row·1) (Li._∷_ (15, row·14) Li.[])))))))))))))))
+        abbrev g32 : Li.List Ro.Entry
+        g32 = Li._∷_ (0, row·7) (Li._∷_ (1, row·5) (Li._∷_ (2, row·11) (Li._∷_ (3, row·12) (Li._∷_ (4, Relend.mslice-owed Gap_.row ty·37 3 9 (Ro.lease (κs .1 .1 .1 .0) (qs .1 .1 .1 .0))) (Li._∷_ (5, row·14) (Li._∷_ (6, row·10) (Li._∷_ (7, row·10) (Li._∷_ (8, row·7) (Li._∷_ (9, row·3) (Li._∷_ (10, row·0) (Li._∷_ (11, row·9) (Li._∷_ (12, row·2) (Li._∷_ (13, row·6) (Li._∷_ (14, row·1) (Li._∷_ (15, row·15) Li.[])))))))))))))))
 
         abbrev g39 : Li.List Ro.Entry
-        g39 = Li._∷_ (0, row·7) (Li._∷_ (1, row·5) (Li._∷_ (2, Relend.mslice-owed (Rf.rtF (Rf.fInt Sy.w32)) ty·33 1 10 (Ro.lease (κs .1 .0) (qs .1 .0))) (Li._∷_ (3, Reshare.mslice-owedS (Rf.rtF (Rf.fInt Sy.w64)) ty·35 2 11 (Ro.lease (κs .1 .1 .0) (qs .1 .1 .0))) (Li._∷_ (4, row·13) (Li._∷_ (5, Rows.any-gone Laws.mir) (Li._∷_ (6, row·10) (Li._∷_ (7, row·10) (Li._∷_ (8, row·7) (Li._∷_ (9, row·3) (Li._∷_ (10, row·0) (Li._∷_ (11, row·9) (Li._∷_ (12, row·2) (Li._∷_ (13, row·6) (Li._∷_ (14, row·1) (Li._∷_ (15, row·14) Li.[])))))))))))))))
+        g39 = Li._∷_ (0, row·7) (Li._∷_ (1, row·5) (Li._∷_ (2, Relend.mslice-owed (Rf.rtF (Rf.fInt Sy.w32)) ty·33 1 10 (Ro.lease (κs .1 .0) (qs .1 .0))) (Li._∷_ (3, row·12) (Li._∷_ (4, row·13) (Li._∷_ (5, row·14) (Li._∷_ (6, row·10) (Li._∷_ (7, row·10) (Li._∷_ (8, row·7) (Li._∷_ (9, row·3) (Li._∷_ (10, row·0) (Li._∷_ (11, row·9) (Li._∷_ (12, row·2) (Li._∷_ (13, row·6) (Li._∷_ (14, row·1) (Li._∷_ (15, row·15) Li.[])))))))))))))))
 
         abbrev g42 : Li.List Ro.Entry
-        g42 = Li._∷_ (0, row·7) (Li._∷_ (1, row·5) (Li._∷_ (2, Relend.mslice-owed (Rf.rtF (Rf.fInt Sy.w32)) ty·33 1 10 (Ro.lease (κs .1 .0) (qs .1 .0))) (Li._∷_ (3, Reshare.mslice-owedS (Rf.rtF (Rf.fInt Sy.w64)) ty·35 2 11 (Ro.lease (κs .1 .1 .0) (qs .1 .1 .0))) (Li._∷_ (4, Relend.mslice-owed Gap_.row ty·37 3 12 (Ro.lease (κs .1 .1 .1 .0) (qs .1 .1 .1 .0))) (Li._∷_ (5, Rows.any-gone Laws.mir) (Li._∷_ (6, row·10) (Li._∷_ (7, row·10) (Li._∷_ (8, row·7) (Li._∷_ (9, row·3) (Li._∷_ (10, row·0) (Li._∷_ (11, row·9) (Li._∷_ (12, row·2) (Li._∷_ (13, row·6) (Li._∷_ (14, row·1) (Li._∷_ (15, row·14) Li.[])))))))))))))))
+        g42 = Li._∷_ (0, row·7) (Li._∷_ (1, row·5) (Li._∷_ (2, Relend.mslice-owed (Rf.rtF (Rf.fInt Sy.w32)) ty·33 1 10 (Ro.lease (κs .1 .0) (qs .1 .0))) (Li._∷_ (3, Reshare.mslice-owedS (Rf.rtF (Rf.fInt Sy.w64)) ty·35 2 11 (Ro.lease (κs .1 .1 .0) (qs .1 .1 .0))) (Li._∷_ (4, row·13) (Li._∷_ (5, row·14) (Li._∷_ (6, row·10) (Li._∷_ (7, row·10) (Li._∷_ (8, row·7) (Li._∷_ (9, row·3) (Li._∷_ (10, row·0) (Li._∷_ (11, row·9) (Li._∷_ (12, row·2) (Li._∷_ (13, row·6) (Li._∷_ (14, row·1) (Li._∷_ (15, row·15) Li.[])))))))))))))))
 
         abbrev g45 : Li.List Ro.Entry
-        g45 = Li._∷_ (0, row·7) (Li._∷_ (1, row·5) (Li._∷_ (2, Relend.mslice-owed (Rf.rtF (Rf.fInt Sy.w32)) ty·33 1 10 (Ro.lease (κs .1 .0) (qs .1 .0))) (Li._∷_ (3, Reshare.mslice-owedS (Rf.rtF (Rf.fInt Sy.w64)) ty·35 2 11 (Ro.lease (κs .1 .1 .0) (qs .1 .1 .0))) (Li._∷_ (4, Relend.mslice-owed Gap_.row ty·37 3 12 (Ro.lease (κs .1 .1 .1 .0) (qs .1 .1 .1 .0))) (Li._∷_ (5, Rows.any-gone Laws.mir) (Li._∷_ (6, row·10) (Li._∷_ (7, row·10) (Li._∷_ (8, row·10) (Li._∷_ (9, row·3) (Li._∷_ (10, row·0) (Li._∷_ (11, row·9) (Li._∷_ (12, row·2) (Li._∷_ (13, row·6) (Li._∷_ (14, row·1) (Li._∷_ (15, row·14) Li.[])))))))))))))))
+        g45 = Li._∷_ (0, row·7) (Li._∷_ (1, row·5) (Li._∷_ (2, Relend.mslice-owed (Rf.rtF (Rf.fInt Sy.w32)) ty·33 1 10 (Ro.lease (κs .1 .0) (qs .1 .0))) (Li._∷_ (3, Reshare.mslice-owedS (Rf.rtF (Rf.fInt Sy.w64)) ty·35 2 11 (Ro.lease (κs .1 .1 .0) (qs .1 .1 .0))) (Li._∷_ (4, Relend.mslice-owed Gap_.row ty·37 3 12 (Ro.lease (κs .1 .1 .1 .0) (qs .1 .1 .1 .0))) (Li._∷_ (5, row·14) (Li._∷_ (6, row·10) (Li._∷_ (7, row·10) (Li._∷_ (8, row·7) (Li._∷_ (9, row·3) (Li._∷_ (10, row·0) (Li._∷_ (11, row·9) (Li._∷_ (12, row·2) (Li._∷_ (13, row·6) (Li._∷_ (14, row·1) (Li._∷_ (15, row·15) Li.[])))))))))))))))
 
         abbrev g48 : Li.List Ro.Entry
-        g48 = Li._∷_ (0, row·7) (Li._∷_ (1, row·5) (Li._∷_ (2, row·11) (Li._∷_ (3, Reshare.mslice-owedS (Rf.rtF (Rf.fInt Sy.w64)) ty·35 2 11 (Ro.lease (κs .1 .1 .0) (qs .1 .1 .0))) (Li._∷_ (4, Relend.mslice-owed Gap_.row ty·37 3 12 (Ro.lease (κs .1 .1 .1 .0) (qs .1 .1 .1 .0))) (Li._∷_ (5, Rows.any-gone Laws.mir) (Li._∷_ (6, row·10) (Li._∷_ (7, row·10) (Li._∷_ (8, row·10) (Li._∷_ (9, row·3) (Li._∷_ (10, row·0) (Li._∷_ (11, row·9) (Li._∷_ (12, row·2) (Li._∷_ (13, row·6) (Li._∷_ (14, row·1) (Li._∷_ (15, row·14) Li.[])))))))))))))))
+        g48 = Li._∷_ (0, row·7) (Li._∷_ (1, row·5) (Li._∷_ (2, Relend.mslice-owed (Rf.rtF (Rf.fInt Sy.w32)) ty·33 1 10 (Ro.lease (κs .1 .0) (qs .1 .0))) (Li._∷_ (3, Reshare.mslice-owedS (Rf.rtF (Rf.fInt Sy.w64)) ty·35 2 11 (Ro.lease (κs .1 .1 .0) (qs .1 .1 .0))) (Li._∷_ (4, Relend.mslice-owed Gap_.row ty·37 3 12 (Ro.lease (κs .1 .1 .1 .0) (qs .1 .1 .1 .0))) (Li._∷_ (5, row·14) (Li._∷_ (6, row·10) (Li._∷_ (7, row·10) (Li._∷_ (8, row·10) (Li._∷_ (9, row·3) (Li._∷_ (10, row·0) (Li._∷_ (11, row·9) (Li._∷_ (12, row·2) (Li._∷_ (13, row·6) (Li._∷_ (14, row·1) (Li._∷_ (15, row·15) Li.[])))))))))))))))
 
-        abbrev g50 : Li.List Ro.Entry
-        g50 = Li._∷_ (0, row·7) (Li._∷_ (1, row·5) (Li._∷_ (2, row·11) (Li._∷_ (3, row·12) (Li._∷_ (4, Relend.mslice-owed Gap_.row ty·37 3 12 (Ro.lease (κs .1 .1 .1 .0) (qs .1 .1 .1 .0))) (Li._∷_ (5, Rows.any-gone Laws.mir) (Li._∷_ (6, row·10) (Li._∷_ (7, row·10) (Li._∷_ (8, row·10) (Li._∷_ (9, row·3) (Li._∷_ (10, row·0) (Li._∷_ (11, row·9) (Li._∷_ (12, row·2) (Li._∷_ (13, row·6) (Li._∷_ (14, row·1) (Li._∷_ (15, row·14) Li.[])))))))))))))))
+        abbrev g51 : Li.List Ro.Entry
+        g51 = Li._∷_ (0, row·7) (Li._∷_ (1, row·5) (Li._∷_ (2, Relend.mslice-owed (Rf.rtF (Rf.fInt Sy.w32)) ty·33 1 10 (Ro.lease (κs .1 .0) (qs .1 .0))) (Li._∷_ (3, Reshare.mslice-owedS (Rf.rtF (Rf.fInt Sy.w64)) ty·35 2 11 (Ro.lease (κs .1 .1 .0) (qs .1 .1 .0))) (Li._∷_ (4, Relend.mslice-owed Gap_.row ty·37 3 12 (Ro.lease (κs .1 .1 .1 .0) (qs .1 .1 .1 .0))) (Li._∷_ (5, Rows.any-gone Laws.mir) (Li._∷_ (6, row·10) (Li._∷_ (7, row·10) (Li._∷_ (8, row·10) (Li._∷_ (9, row·3) (Li._∷_ (10, row·0) (Li._∷_ (11, row·9) (Li._∷_ (12, row·2) (Li._∷_ (13, row·6) (Li._∷_ (14, row·1) (Li._∷_ (15, row·15) Li.[])))))))))))))))
 
-        abbrev g56 : Li.List Ro.Entry
-        g56 = Li._∷_ (0, row·7) (Li._∷_ (1, row·5) (Li._∷_ (2, Relend.mslice-owed (Rf.rtF (Rf.fInt Sy.w32)) ty·33 1 13 (Ro.lease (κs .1 .0) (qs .1 .0))) (Li._∷_ (3, row·12) (Li._∷_ (4, row·13) (Li._∷_ (5, Rows.any-gone Laws.mir) (Li._∷_ (6, row·10) (Li._∷_ (7, row·10) (Li._∷_ (8, row·10) (Li._∷_ (9, row·3) (Li._∷_ (10, row·0) (Li._∷_ (11, row·9) (Li._∷_ (12, row·2) (Li._∷_ (13, row·6) (Li._∷_ (14, row·1) (Li._∷_ (15, row·14) Li.[])))))))))))))))
+        abbrev g52 : Li.List Ro.Entry
+        g52 = Li._∷_ (0, row·7) (Li._∷_ (1, row·5) (Li._∷_ (2, row·11) (Li._∷_ (3, Reshare.mslice-owedS (Rf.rtF (Rf.fInt Sy.w64)) ty·35 2 11 (Ro.lease (κs .1 .1 .0) (qs .1 .1 .0))) (Li._∷_ (4, Relend.mslice-owed Gap_.row ty·37 3 12 (Ro.lease (κs .1 .1 .1 .0) (qs .1 .1 .1 .0))) (Li._∷_ (5, Rows.any-gone Laws.mir) (Li._∷_ (6, row·10) (Li._∷_ (7, row·10) (Li._∷_ (8, row·10) (Li._∷_ (9, row·3) (Li._∷_ (10, row·0) (Li._∷_ (11, row·9) (Li._∷_ (12, row·2) (Li._∷_ (13, row·6) (Li._∷_ (14, row·1) (Li._∷_ (15, row·15) Li.[])))))))))))))))
 
-        abbrev g59 : Li.List Ro.Entry
-        g59 = Li._∷_ (0, row·7) (Li._∷_ (1, row·5) (Li._∷_ (2, Relend.mslice-owed (Rf.rtF (Rf.fInt Sy.w32)) ty·33 1 13 (Ro.lease (κs .1 .0) (qs .1 .0))) (Li._∷_ (3, Reshare.mslice-owedS (Rf.rtF (Rf.fInt Sy.w64)) ty·35 2 14 (Ro.lease (κs .1 .1 .0) (qs .1 .1 .0))) (Li._∷_ (4, row·13) (Li._∷_ (5, Rows.any-gone Laws.mir) (Li._∷_ (6, row·10) (Li._∷_ (7, row·10) (Li._∷_ (8, row·10) (Li._∷_ (9, row·3) (Li._∷_ (10, row·0) (Li._∷_ (11, row·9) (Li._∷_ (12, row·2) (Li._∷_ (13, row·6) (Li._∷_ (14, row·1) (Li._∷_ (15, row·14) Li.[])))))))))))))))
+        abbrev g54 : Li.List Ro.Entry
+        g54 = Li._∷_ (0, row·7) (Li._∷_ (1, row·5) (Li._∷_ (2, row·11) (Li._∷_ (3, row·12) (Li._∷_ (4, Relend.mslice-owed Gap_.row ty·37 3 12 (Ro.lease (κs .1 .1 .1 .0) (qs .1 .1 .1 .0))) (Li._∷_ (5, Rows.any-gone Laws.mir) (Li._∷_ (6, row·10) (Li._∷_ (7, row·10) (Li._∷_ (8, row·10) (Li._∷_ (9, row·3) (Li._∷_ (10, row·0) (Li._∷_ (11, row·9) (Li._∷_ (12, row·2) (Li._∷_ (13, row·6) (Li._∷_ (14, row·1) (Li._∷_ (15, row·15) Li.[])))))))))))))))
 
-        abbrev g64 : Li.List Ro.Entry
-        g64 = Li._∷_ (0, row·7) (Li._∷_ (1, row·5) (Li._∷_ (2, row·11) (Li._∷_ (3, Reshare.mslice-owedS (Rf.rtF (Rf.fInt Sy.w64)) ty·35 2 14 (Ro.lease (κs .1 .1 .0) (qs .1 .1 .0))) (Li._∷_ (4, row·13) (Li._∷_ (5, Rows.any-gone Laws.mir) (Li._∷_ (6, row·10) (Li._∷_ (7, row·10) (Li._∷_ (8, row·10) (Li._∷_ (9, row·3) (Li._∷_ (10, row·0) (Li._∷_ (11, row·9) (Li._∷_ (12, row·2) (Li._∷_ (13, row·6) (Li._∷_ (14, row·1) (Li._∷_ (15, row·14) Li.[])))))))))))))))
+        abbrev g60 : Li.List Ro.Entry
+        g60 = Li._∷_ (0, row·7) (Li._∷_ (1, row·5) (Li._∷_ (2, Relend.mslice-owed (Rf.rtF (Rf.fInt Sy.w32)) ty·33 1 13 (Ro.lease (κs .1 .0) (qs .1 .0))) (Li._∷_ (3, row·12) (Li._∷_ (4, row·13) (Li._∷_ (5, Rows.any-gone Laws.mir) (Li._∷_ (6, row·10) (Li._∷_ (7, row·10) (Li._∷_ (8, row·10) (Li._∷_ (9, row·3) (Li._∷_ (10, row·0) (Li._∷_ (11, row·9) (Li._∷_ (12, row·2) (Li._∷_ (13, row·6) (Li._∷_ (14, row·1) (Li._∷_ (15, row·15) Li.[])))))))))))))))
+
+        abbrev g63 : Li.List Ro.Entry
+        g63 = Li._∷_ (0, row·7) (Li._∷_ (1, row·5) (Li._∷_ (2, Relend.mslice-owed (Rf.rtF (Rf.fInt Sy.w32)) ty·33 1 13 (Ro.lease (κs .1 .0) (qs .1 .0))) (Li._∷_ (3, Reshare.mslice-owedS (Rf.rtF (Rf.fInt Sy.w64)) ty·35 2 14 (Ro.lease (κs .1 .1 .0) (qs .1 .1 .0))) (Li._∷_ (4, row·13) (Li._∷_ (5, Rows.any-gone Laws.mir) (Li._∷_ (6, row·10) (Li._∷_ (7, row·10) (Li._∷_ (8, row·10) (Li._∷_ (9, row·3) (Li._∷_ (10, row·0) (Li._∷_ (11, row·9) (Li._∷_ (12, row·2) (Li._∷_ (13, row·6) (Li._∷_ (14, row·1) (Li._∷_ (15, row·15) Li.[])))))))))))))))
+
+        abbrev g68 : Li.List Ro.Entry
+        g68 = Li._∷_ (0, row·7) (Li._∷_ (1, row·5) (Li._∷_ (2, row·11) (Li._∷_ (3, Reshare.mslice-owedS (Rf.rtF (Rf.fInt Sy.w64)) ty·35 2 14 (Ro.lease (κs .1 .1 .0) (qs .1 .1 .0))) (Li._∷_ (4, row·13) (Li._∷_ (5, Rows.any-gone Laws.mir) (Li._∷_ (6, row·10) (Li._∷_ (7, row·10) (Li._∷_ (8, row·10) (Li._∷_ (9, row·3) (Li._∷_ (10, row·0) (Li._∷_ (11, row·9) (Li._∷_ (12, row·2) (Li._∷_ (13, row·6) (Li._∷_ (14, row·1) (Li._∷_ (15, row·15) Li.[])))))))))))))))
 
         abbrev slots·0 : Li.List Ro.Life
         slots·0 = Li._∷_ (Ro.lease (κs .0) (qs .0)) (Li._∷_ (Ro.lease (κs .1 .0) (qs .1 .0)) (Li._∷_ (Ro.lease (κs .1 .1 .0) (qs .1 .1 .0)) (Li._∷_ (Ro.lease (κs .1 .1 .1 .0) (qs .1 .1 .1 .0)) (Li._∷_ Ro.off (Li._∷_ Ro.off (Li._∷_ Ro.off (Li._∷_ Ro.off (Li._∷_ Ro.off (Li._∷_ Ro.off (Li._∷_ Ro.off (Li._∷_ Ro.off (Li._∷_ Ro.off (Li._∷_ Ro.off (Li._∷_ Ro.off Li.[]))))))))))))))
@@ -1546,242 +1583,254 @@ module _ (claims· : Claims) where
         G14 = record { locals = Li._++_ g10 (Li._++_ t1 t2); slots = slots·3 }
 
         abbrev G15 : Ro.Cx
-        G15 = record { locals = Li._++_ g11 (Li._++_ t1 t2); slots = slots·3 }
+        G15 = record { locals = Li._++_ g10 (Li._++_ t1 t2); slots = Li._∷_ (Ro.lease (κs .0) (qs .0)) (Li._∷_ Ro.off (Li._∷_ Ro.off (Li._∷_ Ro.off (Li._∷_ Ro.dead (Li._∷_ Ro.alive (Li._∷_ Ro.alive (Li._∷_ Ro.off (Li._∷_ Ro.off (Li._∷_ Ro.off (Li._∷_ Ro.off (Li._∷_ Ro.off (Li._∷_ Ro.off (Li._∷_ Ro.off (Li._∷_ Ro.off Li.[])))))))))))))) }
 
         abbrev G16 : Ro.Cx
-        G16 = record { locals = Li._++_ g11 (Li._++_ t1 t2); slots = Li._∷_ (Ro.lease (κs .0) (qs .0)) (Li._∷_ Ro.off (Li._∷_ Ro.off (Li._∷_ Ro.off (Li._∷_ Ro.dead (Li._∷_ Ro.alive (Li._∷_ Ro.alive (Li._∷_ Ro.off (Li._∷_ Ro.off (Li._∷_ Ro.off (Li._∷_ Ro.off (Li._∷_ Ro.off (Li._∷_ Ro.off (Li._∷_ Ro.off (Li._∷_ Ro.off Li.[])))))))))))))) }
+        G16 = record { locals = Li._++_ g11 (Li._++_ t1 t2); slots = slots·4 }
 
-        abbrev G17 : Ro.Cx
-        G17 = record { locals = Li._++_ g12 (Li._++_ t1 t2); slots = slots·4 }
+        abbrev G18 : Ro.Cx
+        G18 = record { locals = Li._++_ g11 (Li._++_ t1 t2); slots = Li._∷_ (Ro.lease (κs .0) (qs .0)) (Li._∷_ (Ro.lease (κs .1 .0) (qs .1 .0)) (Li._∷_ Ro.off (Li._∷_ Ro.off (Li._∷_ Ro.off (Li._∷_ Ro.alive (Li._∷_ Ro.alive (Li._∷_ Ro.off (Li._∷_ Ro.off (Li._∷_ Ro.off (Li._∷_ Ro.off (Li._∷_ Ro.off (Li._∷_ Ro.off (Li._∷_ Ro.off (Li._∷_ Ro.off Li.[])))))))))))))) }
 
         abbrev G19 : Ro.Cx
-        G19 = record { locals = Li._++_ g12 (Li._++_ t1 t2); slots = Li._∷_ (Ro.lease (κs .0) (qs .0)) (Li._∷_ (Ro.lease (κs .1 .0) (qs .1 .0)) (Li._∷_ Ro.off (Li._∷_ Ro.off (Li._∷_ Ro.off (Li._∷_ Ro.alive (Li._∷_ Ro.alive (Li._∷_ Ro.off (Li._∷_ Ro.off (Li._∷_ Ro.off (Li._∷_ Ro.off (Li._∷_ Ro.off (Li._∷_ Ro.off (Li._∷_ Ro.off (Li._∷_ Ro.off Li.[])))))))))))))) }
+        G19 = record { locals = Li._++_ g11 (Li._++_ t1 t2); slots = Li._∷_ (Ro.lease (κs .0) (qs .0)) (Li._∷_ (Ro.lease (κs .1 .0) (qs .1 .0)) (Li._∷_ Ro.off (Li._∷_ Ro.off (Li._∷_ Ro.off (Li._∷_ Ro.dead (Li._∷_ Ro.alive (Li._∷_ Ro.off (Li._∷_ Ro.off (Li._∷_ Ro.off (Li._∷_ Ro.off (Li._∷_ Ro.off (Li._∷_ Ro.off (Li._∷_ Ro.off (Li._∷_ Ro.off Li.[])))))))))))))) }
 
         abbrev G20 : Ro.Cx
-        G20 = record { locals = Li._++_ g12 (Li._++_ t1 t2); slots = Li._∷_ (Ro.lease (κs .0) (qs .0)) (Li._∷_ (Ro.lease (κs .1 .0) (qs .1 .0)) (Li._∷_ Ro.off (Li._∷_ Ro.off (Li._∷_ Ro.off (Li._∷_ Ro.dead (Li._∷_ Ro.alive (Li._∷_ Ro.off (Li._∷_ Ro.off (Li._∷_ Ro.off (Li._∷_ Ro.off (Li._∷_ Ro.off (Li._∷_ Ro.off (Li._∷_ Ro.off (Li._∷_ Ro.off Li.[])))))))))))))) }
+        G20 = record { locals = Li._++_ g12 (Li._++_ t1 t2); slots = slots·5 }
 
-        abbrev G21 : Ro.Cx
-        G21 = record { locals = Li._++_ g13 (Li._++_ t1 t2); slots = slots·5 }
+        abbrev G22 : Ro.Cx
+        G22 = record { locals = Li._++_ g12 (Li._++_ t1 t2); slots = Li._∷_ (Ro.lease (κs .0) (qs .0)) (Li._∷_ (Ro.lease (κs .1 .0) (qs .1 .0)) (Li._∷_ (Ro.lease (κs .1 .1 .0) (qs .1 .1 .0)) (Li._∷_ Ro.off (Li._∷_ Ro.off (Li._∷_ Ro.off (Li._∷_ Ro.alive (Li._∷_ Ro.off (Li._∷_ Ro.off (Li._∷_ Ro.off (Li._∷_ Ro.off (Li._∷_ Ro.off (Li._∷_ Ro.off (Li._∷_ Ro.off (Li._∷_ Ro.off Li.[])))))))))))))) }
 
         abbrev G23 : Ro.Cx
-        G23 = record { locals = Li._++_ g13 (Li._++_ t1 t2); slots = Li._∷_ (Ro.lease (κs .0) (qs .0)) (Li._∷_ (Ro.lease (κs .1 .0) (qs .1 .0)) (Li._∷_ (Ro.lease (κs .1 .1 .0) (qs .1 .1 .0)) (Li._∷_ Ro.off (Li._∷_ Ro.off (Li._∷_ Ro.off (Li._∷_ Ro.alive (Li._∷_ Ro.off (Li._∷_ Ro.off (Li._∷_ Ro.off (Li._∷_ Ro.off (Li._∷_ Ro.off (Li._∷_ Ro.off (Li._∷_ Ro.off (Li._∷_ Ro.off Li.[])))))))))))))) }
+        G23 = record { locals = Li._++_ g12 (Li._++_ t1 t2); slots = Li._∷_ (Ro.lease (κs .0) (qs .0)) (Li._∷_ (Ro.lease (κs .1 .0) (qs .1 .0)) (Li._∷_ (Ro.lease (κs .1 .1 .0) (qs .1 .1 .0)) (Li._∷_ Ro.off (Li._∷_ Ro.off (Li._∷_ Ro.off (Li._∷_ Ro.dead (Li._∷_ Ro.off (Li._∷_ Ro.off (Li._∷_ Ro.off (Li._∷_ Ro.off (Li._∷_ Ro.off (Li._∷_ Ro.off (Li._∷_ Ro.off (Li._∷_ Ro.off Li.[])))))))))))))) }
 
         abbrev G24 : Ro.Cx
-        G24 = record { locals = Li._++_ g13 (Li._++_ t1 t2); slots = Li._∷_ (Ro.lease (κs .0) (qs .0)) (Li._∷_ (Ro.lease (κs .1 .0) (qs .1 .0)) (Li._∷_ (Ro.lease (κs .1 .1 .0) (qs .1 .1 .0)) (Li._∷_ Ro.off (Li._∷_ Ro.off (Li._∷_ Ro.off (Li._∷_ Ro.dead (Li._∷_ Ro.off (Li._∷_ Ro.off (Li._∷_ Ro.off (Li._∷_ Ro.off (Li._∷_ Ro.off (Li._∷_ Ro.off (Li._∷_ Ro.off (Li._∷_ Ro.off Li.[])))))))))))))) }
+        G24 = record { locals = Li._++_ t13 (Li._++_ t1 t2); slots = Li._∷_ (Ro.lease (κs .0) (qs .0)) (Li._∷_ (Ro.lease (κs .1 .0) (qs .1 .0)) (Li._∷_ (Ro.lease (κs .1 .1 .0) (qs .1 .1 .0)) (Li._∷_ (Ro.lease (κs .1 .1 .1 .0) (qs .1 .1 .1 .0)) (Li._∷_ Ro.off (Li._∷_ Ro.off (Li._∷_ Ro.dead (Li._∷_ Ro.off (Li._∷_ Ro.off (Li._∷_ Ro.off (Li._∷_ Ro.off (Li._∷_ Ro.off (Li._∷_ Ro.off (Li._∷_ Ro.off (Li._∷_ Ro.off Li.[])))))))))))))) }
 
         abbrev G25 : Ro.Cx
-        G25 = record { locals = Li._++_ t14 (Li._++_ t1 t2); slots = Li._∷_ (Ro.lease (κs .0) (qs .0)) (Li._∷_ (Ro.lease (κs .1 .0) (qs .1 .0)) (Li._∷_ (Ro.lease (κs .1 .1 .0) (qs .1 .1 .0)) (Li._∷_ (Ro.lease (κs .1 .1 .1 .0) (qs .1 .1 .1 .0)) (Li._∷_ Ro.off (Li._∷_ Ro.off (Li._∷_ Ro.dead (Li._∷_ Ro.off (Li._∷_ Ro.off (Li._∷_ Ro.off (Li._∷_ Ro.off (Li._∷_ Ro.off (Li._∷_ Ro.off (Li._∷_ Ro.off (Li._∷_ Ro.off Li.[])))))))))))))) }
+        G25 = record { locals = Li._++_ t13 (Li._++_ t1 t2); slots = slots·0 }
 
         abbrev G26 : Ro.Cx
         G26 = record { locals = Li._++_ t14 (Li._++_ t1 t2); slots = slots·0 }
 
-        abbrev G27 : Ro.Cx
-        G27 = record { locals = Li._++_ t15 (Li._++_ t1 t2); slots = slots·0 }
+        abbrev G28 : Ro.Cx
+        G28 = record { locals = Li._++_ t15 (Li._++_ t1 t2); slots = slots·0 }
+
+        abbrev G29 : Ro.Cx
+        G29 = record { locals = Li._++_ t16 (Li._++_ t1 t2); slots = slots·0 }
 
         abbrev G30 : Ro.Cx
-        G30 = record { locals = Li._++_ t16 (Li._++_ t1 t2); slots = slots·0 }
+        G30 = record { locals = Li._++_ t17 (Li._++_ t1 t2); slots = slots·0 }
 
         abbrev G33 : Ro.Cx
-        G33 = record { locals = Li._++_ t14 (Li._++_ t1 t2); slots = Li._∷_ (Ro.lease (κs .0) (qs .0)) (Li._∷_ (Ro.lease (κs .1 .0) (qs .1 .0)) (Li._∷_ (Ro.lease (κs .1 .1 .0) (qs .1 .1 .0)) (Li._∷_ (Ro.lease (κs .1 .1 .1 .0) (qs .1 .1 .1 .0)) (Li._∷_ Ro.off (Li._∷_ Ro.off (Li._∷_ Ro.off (Li._∷_ Ro.alive (Li._∷_ Ro.off (Li._∷_ Ro.off (Li._∷_ Ro.off (Li._∷_ Ro.off (Li._∷_ Ro.off (Li._∷_ Ro.off (Li._∷_ Ro.off Li.[])))))))))))))) }
+        G33 = record { locals = Li._++_ t13 (Li._++_ t1 t2); slots = Li._∷_ (Ro.lease (κs .0) (qs .0)) (Li._∷_ (Ro.lease (κs .1 .0) (qs .1 .0)) (Li._∷_ (Ro.lease (κs .1 .1 .0) (qs .1 .1 .0)) (Li._∷_ (Ro.lease (κs .1 .1 .1 .0) (qs .1 .1 .1 .0)) (Li._∷_ Ro.off (Li._∷_ Ro.off (Li._∷_ Ro.off (Li._∷_ Ro.alive (Li._∷_ Ro.off (Li._∷_ Ro.off (Li._∷_ Ro.off (Li._∷_ Ro.off (Li._∷_ Ro.off (Li._∷_ Ro.off (Li._∷_ Ro.off Li.[])))))))))))))) }
 
         abbrev G34 : Ro.Cx
-        G34 = record { locals = Li._++_ g17 (Li._++_ t18 t2); slots = slots·6 }
+        G34 = record { locals = Li._++_ g18 (Li._++_ t19 t2); slots = slots·6 }
 
         abbrev G35 : Ro.Cx
-        G35 = record { locals = Li._++_ g17 (Li._++_ t19 t2); slots = slots·6 }
+        G35 = record { locals = Li._++_ g18 (Li._++_ t20 t2); slots = slots·6 }
 
         abbrev G36 : Ro.Cx
-        G36 = record { locals = Li._++_ g17 (Li._++_ t19 t2); slots = Li._∷_ (Ro.lease (κs .0) (qs .0)) (Li._∷_ Ro.off (Li._∷_ (Ro.lease (κs .1 .1 .0) (qs .1 .1 .0)) (Li._∷_ (Ro.lease (κs .1 .1 .1 .0) (qs .1 .1 .1 .0)) (Li._∷_ Ro.off (Li._∷_ Ro.off (Li._∷_ Ro.off (Li._∷_ Ro.alive (Li._∷_ Ro.alive (Li._∷_ Ro.off (Li._∷_ Ro.off (Li._∷_ Ro.off (Li._∷_ Ro.off (Li._∷_ Ro.off (Li._∷_ Ro.off Li.[])))))))))))))) }
+        G36 = record { locals = Li._++_ g18 (Li._++_ t20 t2); slots = Li._∷_ (Ro.lease (κs .0) (qs .0)) (Li._∷_ Ro.off (Li._∷_ (Ro.lease (κs .1 .1 .0) (qs .1 .1 .0)) (Li._∷_ (Ro.lease (κs .1 .1 .1 .0) (qs .1 .1 .1 .0)) (Li._∷_ Ro.off (Li._∷_ Ro.off (Li._∷_ Ro.off (Li._∷_ Ro.alive (Li._∷_ Ro.alive (Li._∷_ Ro.off (Li._∷_ Ro.off (Li._∷_ Ro.off (Li._∷_ Ro.off (Li._∷_ Ro.off (Li._∷_ Ro.off Li.[])))))))))))))) }
 
         abbrev G37 : Ro.Cx
-        G37 = record { locals = Li._++_ g20 (Li._++_ t21 t2); slots = slots·7 }
+        G37 = record { locals = Li._++_ g21 (Li._++_ t22 t2); slots = slots·7 }
 
         abbrev G38 : Ro.Cx
-        G38 = record { locals = Li._++_ g20 (Li._++_ t22 t2); slots = slots·7 }
+        G38 = record { locals = Li._++_ g21 (Li._++_ t23 t2); slots = slots·7 }
 
         abbrev G39 : Ro.Cx
-        G39 = record { locals = Li._++_ g20 (Li._++_ t22 t2); slots = Li._∷_ (Ro.lease (κs .0) (qs .0)) (Li._∷_ Ro.off (Li._∷_ Ro.off (Li._∷_ (Ro.lease (κs .1 .1 .1 .0) (qs .1 .1 .1 .0)) (Li._∷_ Ro.off (Li._∷_ Ro.off (Li._∷_ Ro.off (Li._∷_ Ro.alive (Li._∷_ Ro.alive (Li._∷_ Ro.alive (Li._∷_ Ro.off (Li._∷_ Ro.off (Li._∷_ Ro.off (Li._∷_ Ro.off (Li._∷_ Ro.off Li.[])))))))))))))) }
+        G39 = record { locals = Li._++_ g21 (Li._++_ t23 t2); slots = Li._∷_ (Ro.lease (κs .0) (qs .0)) (Li._∷_ Ro.off (Li._∷_ Ro.off (Li._∷_ (Ro.lease (κs .1 .1 .1 .0) (qs .1 .1 .1 .0)) (Li._∷_ Ro.off (Li._∷_ Ro.off (Li._∷_ Ro.off (Li._∷_ Ro.alive (Li._∷_ Ro.alive (Li._∷_ Ro.alive (Li._∷_ Ro.off (Li._∷_ Ro.off (Li._∷_ Ro.off (Li._∷_ Ro.off (Li._∷_ Ro.off Li.[])))))))))))))) }
 
         abbrev G40 : Ro.Cx
-        G40 = record { locals = Li._++_ g23 (Li._++_ t24 t2); slots = slots·8 }
+        G40 = record { locals = Li._++_ g24 (Li._++_ t25 t2); slots = slots·8 }
 
         abbrev G41 : Ro.Cx
-        G41 = record { locals = Li._++_ g23 (Li._++_ t25 t2); slots = slots·8 }
+        G41 = record { locals = Li._++_ g24 (Li._++_ t26 t2); slots = slots·8 }
 
         abbrev G42 : Ro.Cx
-        G42 = record { locals = Li._++_ g26 (Li._++_ t27 t2); slots = slots·8 }
+        G42 = record { locals = Li._++_ g27 (Li._++_ t28 t2); slots = slots·8 }
 
         abbrev G43 : Ro.Cx
-        G43 = record { locals = Li._++_ g26 (Li._++_ t28 t2); slots = slots·8 }
+        G43 = record { locals = Li._++_ g27 (Li._++_ t29 t2); slots = slots·8 }
 
         abbrev G44 : Ro.Cx
-        G44 = record { locals = Li._++_ g26 (Li._++_ t28 t2); slots = Li._∷_ (Ro.lease (κs .0) (qs .0)) (Li._∷_ Ro.off (Li._∷_ Ro.off (Li._∷_ Ro.off (Li._∷_ Ro.off (Li._∷_ Ro.off (Li._∷_ Ro.off (Li._∷_ Ro.dead (Li._∷_ Ro.alive (Li._∷_ Ro.alive (Li._∷_ Ro.off (Li._∷_ Ro.off (Li._∷_ Ro.off (Li._∷_ Ro.off (Li._∷_ Ro.off Li.[])))))))))))))) }
+        G44 = record { locals = Li._++_ g27 (Li._++_ t29 t2); slots = Li._∷_ (Ro.lease (κs .0) (qs .0)) (Li._∷_ Ro.off (Li._∷_ Ro.off (Li._∷_ Ro.off (Li._∷_ Ro.off (Li._∷_ Ro.off (Li._∷_ Ro.off (Li._∷_ Ro.dead (Li._∷_ Ro.alive (Li._∷_ Ro.alive (Li._∷_ Ro.off (Li._∷_ Ro.off (Li._∷_ Ro.off (Li._∷_ Ro.off (Li._∷_ Ro.off Li.[])))))))))))))) }
 
         abbrev G45 : Ro.Cx
-        G45 = record { locals = Li._++_ g29 (Li._++_ t30 t2); slots = slots·9 }
+        G45 = record { locals = Li._++_ g30 (Li._++_ t31 t2); slots = slots·9 }
 
         abbrev G47 : Ro.Cx
-        G47 = record { locals = Li._++_ g29 (Li._++_ t30 t2); slots = Li._∷_ (Ro.lease (κs .0) (qs .0)) (Li._∷_ (Ro.lease (κs .1 .0) (qs .1 .0)) (Li._∷_ Ro.off (Li._∷_ Ro.off (Li._∷_ Ro.off (Li._∷_ Ro.off (Li._∷_ Ro.off (Li._∷_ Ro.off (Li._∷_ Ro.alive (Li._∷_ Ro.alive (Li._∷_ Ro.off (Li._∷_ Ro.off (Li._∷_ Ro.off (Li._∷_ Ro.off (Li._∷_ Ro.off Li.[])))))))))))))) }
+        G47 = record { locals = Li._++_ g30 (Li._++_ t31 t2); slots = Li._∷_ (Ro.lease (κs .0) (qs .0)) (Li._∷_ (Ro.lease (κs .1 .0) (qs .1 .0)) (Li._∷_ Ro.off (Li._∷_ Ro.off (Li._∷_ Ro.off (Li._∷_ Ro.off (Li._∷_ Ro.off (Li._∷_ Ro.off (Li._∷_ Ro.alive (Li._∷_ Ro.alive (Li._∷_ Ro.off (Li._∷_ Ro.off (Li._∷_ Ro.off (Li._∷_ Ro.off (Li._∷_ Ro.off Li.[])))))))))))))) }
 
         abbrev G48 : Ro.Cx
-        G48 = record { locals = Li._++_ g29 (Li._++_ t30 t2); slots = Li._∷_ (Ro.lease (κs .0) (qs .0)) (Li._∷_ (Ro.lease (κs .1 .0) (qs .1 .0)) (Li._∷_ Ro.off (Li._∷_ Ro.off (Li._∷_ Ro.off (Li._∷_ Ro.off (Li._∷_ Ro.off (Li._∷_ Ro.off (Li._∷_ Ro.dead (Li._∷_ Ro.alive (Li._∷_ Ro.off (Li._∷_ Ro.off (Li._∷_ Ro.off (Li._∷_ Ro.off (Li._∷_ Ro.off Li.[])))))))))))))) }
+        G48 = record { locals = Li._++_ g30 (Li._++_ t31 t2); slots = Li._∷_ (Ro.lease (κs .0) (qs .0)) (Li._∷_ (Ro.lease (κs .1 .0) (qs .1 .0)) (Li._∷_ Ro.off (Li._∷_ Ro.off (Li._∷_ Ro.off (Li._∷_ Ro.off (Li._∷_ Ro.off (Li._∷_ Ro.off (Li._∷_ Ro.dead (Li._∷_ Ro.alive (Li._∷_ Ro.off (Li._∷_ Ro.off (Li._∷_ Ro.off (Li._∷_ Ro.off (Li._∷_ Ro.off Li.[])))))))))))))) }
 
         abbrev G49 : Ro.Cx
-        G49 = record { locals = Li._++_ g31 (Li._++_ t30 t2); slots = Li._∷_ (Ro.lease (κs .0) (qs .0)) (Li._∷_ (Ro.lease (κs .1 .0) (qs .1 .0)) (Li._∷_ (Ro.lease (κs .1 .1 .0) (qs .1 .1 .0)) (Li._∷_ Ro.off (Li._∷_ Ro.off (Li._∷_ Ro.off (Li._∷_ Ro.off (Li._∷_ Ro.off (Li._∷_ Ro.dead (Li._∷_ Ro.alive (Li._∷_ Ro.off (Li._∷_ Ro.off (Li._∷_ Ro.off (Li._∷_ Ro.off (Li._∷_ Ro.off Li.[])))))))))))))) }
+        G49 = record { locals = Li._++_ g32 (Li._++_ t31 t2); slots = Li._∷_ (Ro.lease (κs .0) (qs .0)) (Li._∷_ (Ro.lease (κs .1 .0) (qs .1 .0)) (Li._∷_ (Ro.lease (κs .1 .1 .0) (qs .1 .1 .0)) (Li._∷_ Ro.off (Li._∷_ Ro.off (Li._∷_ Ro.off (Li._∷_ Ro.off (Li._∷_ Ro.off (Li._∷_ Ro.dead (Li._∷_ Ro.alive (Li._∷_ Ro.off (Li._∷_ Ro.off (Li._∷_ Ro.off (Li._∷_ Ro.off (Li._∷_ Ro.off Li.[])))))))))))))) }
 
         abbrev G50 : Ro.Cx
-        G50 = record { locals = Li._++_ g31 (Li._++_ t30 t2); slots = Li._∷_ (Ro.lease (κs .0) (qs .0)) (Li._∷_ (Ro.lease (κs .1 .0) (qs .1 .0)) (Li._∷_ (Ro.lease (κs .1 .1 .0) (qs .1 .1 .0)) (Li._∷_ Ro.off (Li._∷_ Ro.off (Li._∷_ Ro.off (Li._∷_ Ro.off (Li._∷_ Ro.off (Li._∷_ Ro.off (Li._∷_ Ro.alive (Li._∷_ Ro.off (Li._∷_ Ro.off (Li._∷_ Ro.off (Li._∷_ Ro.off (Li._∷_ Ro.off Li.[])))))))))))))) }
+        G50 = record { locals = Li._++_ g32 (Li._++_ t31 t2); slots = Li._∷_ (Ro.lease (κs .0) (qs .0)) (Li._∷_ (Ro.lease (κs .1 .0) (qs .1 .0)) (Li._∷_ (Ro.lease (κs .1 .1 .0) (qs .1 .1 .0)) (Li._∷_ Ro.off (Li._∷_ Ro.off (Li._∷_ Ro.off (Li._∷_ Ro.off (Li._∷_ Ro.off (Li._∷_ Ro.off (Li._∷_ Ro.alive (Li._∷_ Ro.off (Li._∷_ Ro.off (Li._∷_ Ro.off (Li._∷_ Ro.off (Li._∷_ Ro.off Li.[])))))))))))))) }
 
         abbrev G51 : Ro.Cx
-        G51 = record { locals = Li._++_ g31 (Li._++_ t30 t2); slots = Li._∷_ (Ro.lease (κs .0) (qs .0)) (Li._∷_ (Ro.lease (κs .1 .0) (qs .1 .0)) (Li._∷_ (Ro.lease (κs .1 .1 .0) (qs .1 .1 .0)) (Li._∷_ Ro.off (Li._∷_ Ro.off (Li._∷_ Ro.off (Li._∷_ Ro.off (Li._∷_ Ro.off (Li._∷_ Ro.off (Li._∷_ Ro.dead (Li._∷_ Ro.off (Li._∷_ Ro.off (Li._∷_ Ro.off (Li._∷_ Ro.off (Li._∷_ Ro.off Li.[])))))))))))))) }
+        G51 = record { locals = Li._++_ g32 (Li._++_ t31 t2); slots = Li._∷_ (Ro.lease (κs .0) (qs .0)) (Li._∷_ (Ro.lease (κs .1 .0) (qs .1 .0)) (Li._∷_ (Ro.lease (κs .1 .1 .0) (qs .1 .1 .0)) (Li._∷_ Ro.off (Li._∷_ Ro.off (Li._∷_ Ro.off (Li._∷_ Ro.off (Li._∷_ Ro.off (Li._∷_ Ro.off (Li._∷_ Ro.dead (Li._∷_ Ro.off (Li._∷_ Ro.off (Li._∷_ Ro.off (Li._∷_ Ro.off (Li._∷_ Ro.off Li.[])))))))))))))) }
 
         abbrev G52 : Ro.Cx
-        G52 = record { locals = Li._++_ t32 (Li._++_ t1 t2); slots = Li._∷_ (Ro.lease (κs .0) (qs .0)) (Li._∷_ (Ro.lease (κs .1 .0) (qs .1 .0)) (Li._∷_ (Ro.lease (κs .1 .1 .0) (qs .1 .1 .0)) (Li._∷_ (Ro.lease (κs .1 .1 .1 .0) (qs .1 .1 .1 .0)) (Li._∷_ Ro.off (Li._∷_ Ro.off (Li._∷_ Ro.off (Li._∷_ Ro.off (Li._∷_ Ro.off (Li._∷_ Ro.dead (Li._∷_ Ro.off (Li._∷_ Ro.off (Li._∷_ Ro.off (Li._∷_ Ro.off (Li._∷_ Ro.off Li.[])))))))))))))) }
+        G52 = record { locals = Li._++_ t33 (Li._++_ t1 t2); slots = Li._∷_ (Ro.lease (κs .0) (qs .0)) (Li._∷_ (Ro.lease (κs .1 .0) (qs .1 .0)) (Li._∷_ (Ro.lease (κs .1 .1 .0) (qs .1 .1 .0)) (Li._∷_ (Ro.lease (κs .1 .1 .1 .0) (qs .1 .1 .1 .0)) (Li._∷_ Ro.off (Li._∷_ Ro.off (Li._∷_ Ro.off (Li._∷_ Ro.off (Li._∷_ Ro.off (Li._∷_ Ro.dead (Li._∷_ Ro.off (Li._∷_ Ro.off (Li._∷_ Ro.off (Li._∷_ Ro.off (Li._∷_ Ro.off Li.[])))))))))))))) }
 
         abbrev G53 : Ro.Cx
-        G53 = record { locals = Li._++_ t32 (Li._++_ t1 t2); slots = slots·0 }
+        G53 = record { locals = Li._++_ t33 (Li._++_ t1 t2); slots = slots·0 }
 
         abbrev G54 : Ro.Cx
-        G54 = record { locals = Li._++_ t33 (Li._++_ t1 t2); slots = slots·0 }
+        G54 = record { locals = Li._++_ t34 (Li._++_ t1 t2); slots = slots·0 }
+
+        abbrev G56 : Ro.Cx
+        G56 = record { locals = Li._++_ t35 (Li._++_ t1 t2); slots = slots·0 }
 
         abbrev G57 : Ro.Cx
-        G57 = record { locals = Li._++_ t34 (Li._++_ t1 t2); slots = slots·0 }
+        G57 = record { locals = Li._++_ t36 (Li._++_ t1 t2); slots = slots·0 }
 
         abbrev G58 : Ro.Cx
-        G58 = record { locals = Li._++_ t35 (Li._++_ t1 t2); slots = slots·0 }
+        G58 = record { locals = Li._++_ t37 (Li._++_ t1 t2); slots = slots·0 }
 
-        abbrev G61 : Ro.Cx
-        G61 = record { locals = Li._++_ t32 (Li._++_ t1 t2); slots = Li._∷_ (Ro.lease (κs .0) (qs .0)) (Li._∷_ (Ro.lease (κs .1 .0) (qs .1 .0)) (Li._∷_ (Ro.lease (κs .1 .1 .0) (qs .1 .1 .0)) (Li._∷_ (Ro.lease (κs .1 .1 .1 .0) (qs .1 .1 .1 .0)) (Li._∷_ Ro.off (Li._∷_ Ro.off (Li._∷_ Ro.off (Li._∷_ Ro.off (Li._∷_ Ro.off (Li._∷_ Ro.off (Li._∷_ Ro.alive (Li._∷_ Ro.off (Li._∷_ Ro.off (Li._∷_ Ro.off (Li._∷_ Ro.off Li.[])))))))))))))) }
+        abbrev G59 : Ro.Cx
+        G59 = record { locals = Li._++_ t38 (Li._++_ t1 t2); slots = slots·0 }
 
         abbrev G62 : Ro.Cx
-        G62 = record { locals = Li._++_ g36 (Li._++_ t37 t2); slots = slots·10 }
+        G62 = record { locals = Li._++_ t33 (Li._++_ t1 t2); slots = Li._∷_ (Ro.lease (κs .0) (qs .0)) (Li._∷_ (Ro.lease (κs .1 .0) (qs .1 .0)) (Li._∷_ (Ro.lease (κs .1 .1 .0) (qs .1 .1 .0)) (Li._∷_ (Ro.lease (κs .1 .1 .1 .0) (qs .1 .1 .1 .0)) (Li._∷_ Ro.off (Li._∷_ Ro.off (Li._∷_ Ro.off (Li._∷_ Ro.off (Li._∷_ Ro.off (Li._∷_ Ro.off (Li._∷_ Ro.alive (Li._∷_ Ro.off (Li._∷_ Ro.off (Li._∷_ Ro.off (Li._∷_ Ro.off Li.[])))))))))))))) }
 
         abbrev G63 : Ro.Cx
-        G63 = record { locals = Li._++_ g36 (Li._++_ t38 t2); slots = slots·10 }
+        G63 = record { locals = Li._++_ g39 (Li._++_ t40 t2); slots = slots·10 }
 
         abbrev G64 : Ro.Cx
-        G64 = record { locals = Li._++_ g36 (Li._++_ t38 t2); slots = Li._∷_ (Ro.lease (κs .0) (qs .0)) (Li._∷_ Ro.off (Li._∷_ (Ro.lease (κs .1 .1 .0) (qs .1 .1 .0)) (Li._∷_ (Ro.lease (κs .1 .1 .1 .0) (qs .1 .1 .1 .0)) (Li._∷_ Ro.off (Li._∷_ Ro.off (Li._∷_ Ro.off (Li._∷_ Ro.off (Li._∷_ Ro.off (Li._∷_ Ro.off (Li._∷_ Ro.alive (Li._∷_ Ro.alive (Li._∷_ Ro.off (Li._∷_ Ro.off (Li._∷_ Ro.off Li.[])))))))))))))) }
+        G64 = record { locals = Li._++_ g39 (Li._++_ t41 t2); slots = slots·10 }
 
         abbrev G65 : Ro.Cx
-        G65 = record { locals = Li._++_ g39 (Li._++_ t40 t2); slots = slots·11 }
+        G65 = record { locals = Li._++_ g39 (Li._++_ t41 t2); slots = Li._∷_ (Ro.lease (κs .0) (qs .0)) (Li._∷_ Ro.off (Li._∷_ (Ro.lease (κs .1 .1 .0) (qs .1 .1 .0)) (Li._∷_ (Ro.lease (κs .1 .1 .1 .0) (qs .1 .1 .1 .0)) (Li._∷_ Ro.off (Li._∷_ Ro.off (Li._∷_ Ro.off (Li._∷_ Ro.off (Li._∷_ Ro.off (Li._∷_ Ro.off (Li._∷_ Ro.alive (Li._∷_ Ro.alive (Li._∷_ Ro.off (Li._∷_ Ro.off (Li._∷_ Ro.off Li.[])))))))))))))) }
 
         abbrev G66 : Ro.Cx
-        G66 = record { locals = Li._++_ g39 (Li._++_ t41 t2); slots = slots·11 }
+        G66 = record { locals = Li._++_ g42 (Li._++_ t43 t2); slots = slots·11 }
 
         abbrev G67 : Ro.Cx
-        G67 = record { locals = Li._++_ g39 (Li._++_ t41 t2); slots = Li._∷_ (Ro.lease (κs .0) (qs .0)) (Li._∷_ Ro.off (Li._∷_ Ro.off (Li._∷_ (Ro.lease (κs .1 .1 .1 .0) (qs .1 .1 .1 .0)) (Li._∷_ Ro.off (Li._∷_ Ro.off (Li._∷_ Ro.off (Li._∷_ Ro.off (Li._∷_ Ro.off (Li._∷_ Ro.off (Li._∷_ Ro.alive (Li._∷_ Ro.alive (Li._∷_ Ro.alive (Li._∷_ Ro.off (Li._∷_ Ro.off Li.[])))))))))))))) }
+        G67 = record { locals = Li._++_ g42 (Li._++_ t44 t2); slots = slots·11 }
 
         abbrev G68 : Ro.Cx
-        G68 = record { locals = Li._++_ g42 (Li._++_ t43 t2); slots = slots·12 }
+        G68 = record { locals = Li._++_ g42 (Li._++_ t44 t2); slots = Li._∷_ (Ro.lease (κs .0) (qs .0)) (Li._∷_ Ro.off (Li._∷_ Ro.off (Li._∷_ (Ro.lease (κs .1 .1 .1 .0) (qs .1 .1 .1 .0)) (Li._∷_ Ro.off (Li._∷_ Ro.off (Li._∷_ Ro.off (Li._∷_ Ro.off (Li._∷_ Ro.off (Li._∷_ Ro.off (Li._∷_ Ro.alive (Li._∷_ Ro.alive (Li._∷_ Ro.alive (Li._∷_ Ro.off (Li._∷_ Ro.off Li.[])))))))))))))) }
 
         abbrev G69 : Ro.Cx
-        G69 = record { locals = Li._++_ g42 (Li._++_ t44 t2); slots = slots·12 }
+        G69 = record { locals = Li._++_ g45 (Li._++_ t46 t2); slots = slots·12 }
 
         abbrev G70 : Ro.Cx
-        G70 = record { locals = Li._++_ g45 (Li._++_ t46 t2); slots = slots·12 }
+        G70 = record { locals = Li._++_ g45 (Li._++_ t47 t2); slots = slots·12 }
 
         abbrev G71 : Ro.Cx
-        G71 = record { locals = Li._++_ g45 (Li._++_ t47 t2); slots = slots·12 }
+        G71 = record { locals = Li._++_ g48 (Li._++_ t49 t2); slots = slots·12 }
 
         abbrev G72 : Ro.Cx
-        G72 = record { locals = Li._++_ g45 (Li._++_ t47 t2); slots = Li._∷_ (Ro.lease (κs .0) (qs .0)) (Li._∷_ Ro.off (Li._∷_ Ro.off (Li._∷_ Ro.off (Li._∷_ Ro.off (Li._∷_ Ro.off (Li._∷_ Ro.off (Li._∷_ Ro.off (Li._∷_ Ro.off (Li._∷_ Ro.off (Li._∷_ Ro.dead (Li._∷_ Ro.alive (Li._∷_ Ro.alive (Li._∷_ Ro.off (Li._∷_ Ro.off Li.[])))))))))))))) }
+        G72 = record { locals = Li._++_ g48 (Li._++_ t50 t2); slots = slots·12 }
 
         abbrev G73 : Ro.Cx
-        G73 = record { locals = Li._++_ g48 (Li._++_ t49 t2); slots = slots·13 }
+        G73 = record { locals = Li._++_ g51 (Li._++_ t50 t2); slots = slots·12 }
+
+        abbrev G74 : Ro.Cx
+        G74 = record { locals = Li._++_ g51 (Li._++_ t50 t2); slots = Li._∷_ (Ro.lease (κs .0) (qs .0)) (Li._∷_ Ro.off (Li._∷_ Ro.off (Li._∷_ Ro.off (Li._∷_ Ro.off (Li._∷_ Ro.off (Li._∷_ Ro.off (Li._∷_ Ro.off (Li._∷_ Ro.off (Li._∷_ Ro.off (Li._∷_ Ro.dead (Li._∷_ Ro.alive (Li._∷_ Ro.alive (Li._∷_ Ro.off (Li._∷_ Ro.off Li.[])))))))))))))) }
 
         abbrev G75 : Ro.Cx
-        G75 = record { locals = Li._++_ g48 (Li._++_ t49 t2); slots = Li._∷_ (Ro.lease (κs .0) (qs .0)) (Li._∷_ (Ro.lease (κs .1 .0) (qs .1 .0)) (Li._∷_ Ro.off (Li._∷_ Ro.off (Li._∷_ Ro.off (Li._∷_ Ro.off (Li._∷_ Ro.off (Li._∷_ Ro.off (Li._∷_ Ro.off (Li._∷_ Ro.off (Li._∷_ Ro.off (Li._∷_ Ro.alive (Li._∷_ Ro.alive (Li._∷_ Ro.off (Li._∷_ Ro.off Li.[])))))))))))))) }
-
-        abbrev G76 : Ro.Cx
-        G76 = record { locals = Li._++_ g48 (Li._++_ t49 t2); slots = Li._∷_ (Ro.lease (κs .0) (qs .0)) (Li._∷_ (Ro.lease (κs .1 .0) (qs .1 .0)) (Li._∷_ Ro.off (Li._∷_ Ro.off (Li._∷_ Ro.off (Li._∷_ Ro.off (Li._∷_ Ro.off (Li._∷_ Ro.off (Li._∷_ Ro.off (Li._∷_ Ro.off (Li._∷_ Ro.off (Li._∷_ Ro.dead (Li._∷_ Ro.alive (Li._∷_ Ro.off (Li._∷_ Ro.off Li.[])))))))))))))) }
+        G75 = record { locals = Li._++_ g52 (Li._++_ t53 t2); slots = slots·13 }
 
         abbrev G77 : Ro.Cx
-        G77 = record { locals = Li._++_ g50 (Li._++_ t49 t2); slots = Li._∷_ (Ro.lease (κs .0) (qs .0)) (Li._∷_ (Ro.lease (κs .1 .0) (qs .1 .0)) (Li._∷_ (Ro.lease (κs .1 .1 .0) (qs .1 .1 .0)) (Li._∷_ Ro.off (Li._∷_ Ro.off (Li._∷_ Ro.off (Li._∷_ Ro.off (Li._∷_ Ro.off (Li._∷_ Ro.off (Li._∷_ Ro.off (Li._∷_ Ro.off (Li._∷_ Ro.dead (Li._∷_ Ro.alive (Li._∷_ Ro.off (Li._∷_ Ro.off Li.[])))))))))))))) }
+        G77 = record { locals = Li._++_ g52 (Li._++_ t53 t2); slots = Li._∷_ (Ro.lease (κs .0) (qs .0)) (Li._∷_ (Ro.lease (κs .1 .0) (qs .1 .0)) (Li._∷_ Ro.off (Li._∷_ Ro.off (Li._∷_ Ro.off (Li._∷_ Ro.off (Li._∷_ Ro.off (Li._∷_ Ro.off (Li._∷_ Ro.off (Li._∷_ Ro.off (Li._∷_ Ro.off (Li._∷_ Ro.alive (Li._∷_ Ro.alive (Li._∷_ Ro.off (Li._∷_ Ro.off Li.[])))))))))))))) }
 
         abbrev G78 : Ro.Cx
-        G78 = record { locals = Li._++_ g50 (Li._++_ t49 t2); slots = Li._∷_ (Ro.lease (κs .0) (qs .0)) (Li._∷_ (Ro.lease (κs .1 .0) (qs .1 .0)) (Li._∷_ (Ro.lease (κs .1 .1 .0) (qs .1 .1 .0)) (Li._∷_ Ro.off (Li._∷_ Ro.off (Li._∷_ Ro.off (Li._∷_ Ro.off (Li._∷_ Ro.off (Li._∷_ Ro.off (Li._∷_ Ro.off (Li._∷_ Ro.off (Li._∷_ Ro.off (Li._∷_ Ro.alive (Li._∷_ Ro.off (Li._∷_ Ro.off Li.[])))))))))))))) }
+        G78 = record { locals = Li._++_ g52 (Li._++_ t53 t2); slots = Li._∷_ (Ro.lease (κs .0) (qs .0)) (Li._∷_ (Ro.lease (κs .1 .0) (qs .1 .0)) (Li._∷_ Ro.off (Li._∷_ Ro.off (Li._∷_ Ro.off (Li._∷_ Ro.off (Li._∷_ Ro.off (Li._∷_ Ro.off (Li._∷_ Ro.off (Li._∷_ Ro.off (Li._∷_ Ro.off (Li._∷_ Ro.dead (Li._∷_ Ro.alive (Li._∷_ Ro.off (Li._∷_ Ro.off Li.[])))))))))))))) }
 
         abbrev G79 : Ro.Cx
-        G79 = record { locals = Li._++_ g50 (Li._++_ t49 t2); slots = Li._∷_ (Ro.lease (κs .0) (qs .0)) (Li._∷_ (Ro.lease (κs .1 .0) (qs .1 .0)) (Li._∷_ (Ro.lease (κs .1 .1 .0) (qs .1 .1 .0)) (Li._∷_ Ro.off (Li._∷_ Ro.off (Li._∷_ Ro.off (Li._∷_ Ro.off (Li._∷_ Ro.off (Li._∷_ Ro.off (Li._∷_ Ro.off (Li._∷_ Ro.off (Li._∷_ Ro.off (Li._∷_ Ro.dead (Li._∷_ Ro.off (Li._∷_ Ro.off Li.[])))))))))))))) }
+        G79 = record { locals = Li._++_ g54 (Li._++_ t53 t2); slots = Li._∷_ (Ro.lease (κs .0) (qs .0)) (Li._∷_ (Ro.lease (κs .1 .0) (qs .1 .0)) (Li._∷_ (Ro.lease (κs .1 .1 .0) (qs .1 .1 .0)) (Li._∷_ Ro.off (Li._∷_ Ro.off (Li._∷_ Ro.off (Li._∷_ Ro.off (Li._∷_ Ro.off (Li._∷_ Ro.off (Li._∷_ Ro.off (Li._∷_ Ro.off (Li._∷_ Ro.dead (Li._∷_ Ro.alive (Li._∷_ Ro.off (Li._∷_ Ro.off Li.[])))))))))))))) }
 
         abbrev G80 : Ro.Cx
-        G80 = record { locals = Li._++_ t51 (Li._++_ t1 t2); slots = Li._∷_ (Ro.lease (κs .0) (qs .0)) (Li._∷_ (Ro.lease (κs .1 .0) (qs .1 .0)) (Li._∷_ (Ro.lease (κs .1 .1 .0) (qs .1 .1 .0)) (Li._∷_ (Ro.lease (κs .1 .1 .1 .0) (qs .1 .1 .1 .0)) (Li._∷_ Ro.off (Li._∷_ Ro.off (Li._∷_ Ro.off (Li._∷_ Ro.off (Li._∷_ Ro.off (Li._∷_ Ro.off (Li._∷_ Ro.off (Li._∷_ Ro.off (Li._∷_ Ro.dead (Li._∷_ Ro.off (Li._∷_ Ro.off Li.[])))))))))))))) }
+        G80 = record { locals = Li._++_ g54 (Li._++_ t53 t2); slots = Li._∷_ (Ro.lease (κs .0) (qs .0)) (Li._∷_ (Ro.lease (κs .1 .0) (qs .1 .0)) (Li._∷_ (Ro.lease (κs .1 .1 .0) (qs .1 .1 .0)) (Li._∷_ Ro.off (Li._∷_ Ro.off (Li._∷_ Ro.off (Li._∷_ Ro.off (Li._∷_ Ro.off (Li._∷_ Ro.off (Li._∷_ Ro.off (Li._∷_ Ro.off (Li._∷_ Ro.off (Li._∷_ Ro.alive (Li._∷_ Ro.off (Li._∷_ Ro.off Li.[])))))))))))))) }
 
         abbrev G81 : Ro.Cx
-        G81 = record { locals = Li._++_ t51 (Li._++_ t1 t2); slots = slots·0 }
+        G81 = record { locals = Li._++_ g54 (Li._++_ t53 t2); slots = Li._∷_ (Ro.lease (κs .0) (qs .0)) (Li._∷_ (Ro.lease (κs .1 .0) (qs .1 .0)) (Li._∷_ (Ro.lease (κs .1 .1 .0) (qs .1 .1 .0)) (Li._∷_ Ro.off (Li._∷_ Ro.off (Li._∷_ Ro.off (Li._∷_ Ro.off (Li._∷_ Ro.off (Li._∷_ Ro.off (Li._∷_ Ro.off (Li._∷_ Ro.off (Li._∷_ Ro.off (Li._∷_ Ro.dead (Li._∷_ Ro.off (Li._∷_ Ro.off Li.[])))))))))))))) }
 
         abbrev G82 : Ro.Cx
-        G82 = record { locals = Li._++_ t52 (Li._++_ t1 t2); slots = slots·0 }
+        G82 = record { locals = Li._++_ t55 (Li._++_ t1 t2); slots = Li._∷_ (Ro.lease (κs .0) (qs .0)) (Li._∷_ (Ro.lease (κs .1 .0) (qs .1 .0)) (Li._∷_ (Ro.lease (κs .1 .1 .0) (qs .1 .1 .0)) (Li._∷_ (Ro.lease (κs .1 .1 .1 .0) (qs .1 .1 .1 .0)) (Li._∷_ Ro.off (Li._∷_ Ro.off (Li._∷_ Ro.off (Li._∷_ Ro.off (Li._∷_ Ro.off (Li._∷_ Ro.off (Li._∷_ Ro.off (Li._∷_ Ro.off (Li._∷_ Ro.dead (Li._∷_ Ro.off (Li._∷_ Ro.off Li.[])))))))))))))) }
 
-        abbrev G85 : Ro.Cx
-        G85 = record { locals = Li._++_ t53 (Li._++_ t1 t2); slots = slots·0 }
+        abbrev G83 : Ro.Cx
+        G83 = record { locals = Li._++_ t55 (Li._++_ t1 t2); slots = slots·0 }
 
-        abbrev G86 : Ro.Cx
-        G86 = record { locals = Li._++_ t54 (Li._++_ t1 t2); slots = slots·0 }
+        abbrev G84 : Ro.Cx
+        G84 = record { locals = Li._++_ t56 (Li._++_ t1 t2); slots = slots·0 }
 
         abbrev G87 : Ro.Cx
-        G87 = record { locals = Li._++_ t55 (Li._++_ t1 t2); slots = slots·0 }
+        G87 = record { locals = Li._++_ t57 (Li._++_ t1 t2); slots = slots·0 }
 
-        abbrev G90 : Ro.Cx
-        G90 = record { locals = Li._++_ t51 (Li._++_ t1 t2); slots = Li._∷_ (Ro.lease (κs .0) (qs .0)) (Li._∷_ (Ro.lease (κs .1 .0) (qs .1 .0)) (Li._∷_ (Ro.lease (κs .1 .1 .0) (qs .1 .1 .0)) (Li._∷_ (Ro.lease (κs .1 .1 .1 .0) (qs .1 .1 .1 .0)) (Li._∷_ Ro.off (Li._∷_ Ro.off (Li._∷_ Ro.off (Li._∷_ Ro.off (Li._∷_ Ro.off (Li._∷_ Ro.off (Li._∷_ Ro.off (Li._∷_ Ro.off (Li._∷_ Ro.off (Li._∷_ Ro.alive (Li._∷_ Ro.off Li.[])))))))))))))) }
+        abbrev G88 : Ro.Cx
+        G88 = record { locals = Li._++_ t58 (Li._++_ t1 t2); slots = slots·0 }
 
-        abbrev G91 : Ro.Cx
-        G91 = record { locals = Li._++_ g56 (Li._++_ t57 t2); slots = slots·14 }
+        abbrev G89 : Ro.Cx
+        G89 = record { locals = Li._++_ t59 (Li._++_ t1 t2); slots = slots·0 }
 
         abbrev G92 : Ro.Cx
-        G92 = record { locals = Li._++_ g56 (Li._++_ t58 t2); slots = slots·14 }
+        G92 = record { locals = Li._++_ t55 (Li._++_ t1 t2); slots = Li._∷_ (Ro.lease (κs .0) (qs .0)) (Li._∷_ (Ro.lease (κs .1 .0) (qs .1 .0)) (Li._∷_ (Ro.lease (κs .1 .1 .0) (qs .1 .1 .0)) (Li._∷_ (Ro.lease (κs .1 .1 .1 .0) (qs .1 .1 .1 .0)) (Li._∷_ Ro.off (Li._∷_ Ro.off (Li._∷_ Ro.off (Li._∷_ Ro.off (Li._∷_ Ro.off (Li._∷_ Ro.off (Li._∷_ Ro.off (Li._∷_ Ro.off (Li._∷_ Ro.off (Li._∷_ Ro.alive (Li._∷_ Ro.off Li.[])))))))))))))) }
 
         abbrev G93 : Ro.Cx
-        G93 = record { locals = Li._++_ g56 (Li._++_ t58 t2); slots = Li._∷_ (Ro.lease (κs .0) (qs .0)) (Li._∷_ Ro.off (Li._∷_ (Ro.lease (κs .1 .1 .0) (qs .1 .1 .0)) (Li._∷_ (Ro.lease (κs .1 .1 .1 .0) (qs .1 .1 .1 .0)) (Li._∷_ Ro.off (Li._∷_ Ro.off (Li._∷_ Ro.off (Li._∷_ Ro.off (Li._∷_ Ro.off (Li._∷_ Ro.off (Li._∷_ Ro.off (Li._∷_ Ro.off (Li._∷_ Ro.off (Li._∷_ Ro.alive (Li._∷_ Ro.alive Li.[])))))))))))))) }
+        G93 = record { locals = Li._++_ g60 (Li._++_ t61 t2); slots = slots·14 }
 
         abbrev G94 : Ro.Cx
-        G94 = record { locals = Li._++_ g59 (Li._++_ t60 t2); slots = slots·15 }
+        G94 = record { locals = Li._++_ g60 (Li._++_ t62 t2); slots = slots·14 }
 
         abbrev G95 : Ro.Cx
-        G95 = record { locals = Li._++_ g59 (Li._++_ t58 t61); slots = slots·15 }
+        G95 = record { locals = Li._++_ g60 (Li._++_ t62 t2); slots = Li._∷_ (Ro.lease (κs .0) (qs .0)) (Li._∷_ Ro.off (Li._∷_ (Ro.lease (κs .1 .1 .0) (qs .1 .1 .0)) (Li._∷_ (Ro.lease (κs .1 .1 .1 .0) (qs .1 .1 .1 .0)) (Li._∷_ Ro.off (Li._∷_ Ro.off (Li._∷_ Ro.off (Li._∷_ Ro.off (Li._∷_ Ro.off (Li._∷_ Ro.off (Li._∷_ Ro.off (Li._∷_ Ro.off (Li._∷_ Ro.off (Li._∷_ Ro.alive (Li._∷_ Ro.alive Li.[])))))))))))))) }
 
         abbrev G96 : Ro.Cx
-        G96 = record { locals = Li._++_ g59 (Li._++_ t62 t61); slots = slots·15 }
+        G96 = record { locals = Li._++_ g63 (Li._++_ t64 t2); slots = slots·15 }
 
         abbrev G97 : Ro.Cx
-        G97 = record { locals = Li._++_ g59 (Li._++_ t62 t2); slots = slots·15 }
+        G97 = record { locals = Li._++_ g63 (Li._++_ t62 t65); slots = slots·15 }
 
         abbrev G98 : Ro.Cx
-        G98 = record { locals = Li._++_ g59 (Li._++_ t63 t2); slots = slots·15 }
+        G98 = record { locals = Li._++_ g63 (Li._++_ t66 t65); slots = slots·15 }
 
         abbrev G99 : Ro.Cx
-        G99 = record { locals = Li._++_ g59 (Li._++_ t63 t2); slots = Li._∷_ (Ro.lease (κs .0) (qs .0)) (Li._∷_ Ro.off (Li._∷_ Ro.off (Li._∷_ (Ro.lease (κs .1 .1 .1 .0) (qs .1 .1 .1 .0)) (Li._∷_ Ro.off (Li._∷_ Ro.off (Li._∷_ Ro.off (Li._∷_ Ro.off (Li._∷_ Ro.off (Li._∷_ Ro.off (Li._∷_ Ro.off (Li._∷_ Ro.off (Li._∷_ Ro.off (Li._∷_ Ro.dead (Li._∷_ Ro.alive Li.[])))))))))))))) }
+        G99 = record { locals = Li._++_ g63 (Li._++_ t66 t2); slots = slots·15 }
 
         abbrev G100 : Ro.Cx
-        G100 = record { locals = Li._++_ g64 (Li._++_ t1 t2); slots = slots·16 }
+        G100 = record { locals = Li._++_ g63 (Li._++_ t67 t2); slots = slots·15 }
+
+        abbrev G101 : Ro.Cx
+        G101 = record { locals = Li._++_ g63 (Li._++_ t67 t2); slots = Li._∷_ (Ro.lease (κs .0) (qs .0)) (Li._∷_ Ro.off (Li._∷_ Ro.off (Li._∷_ (Ro.lease (κs .1 .1 .1 .0) (qs .1 .1 .1 .0)) (Li._∷_ Ro.off (Li._∷_ Ro.off (Li._∷_ Ro.off (Li._∷_ Ro.off (Li._∷_ Ro.off (Li._∷_ Ro.off (Li._∷_ Ro.off (Li._∷_ Ro.off (Li._∷_ Ro.off (Li._∷_ Ro.dead (Li._∷_ Ro.alive Li.[])))))))))))))) }
 
         abbrev G102 : Ro.Cx
-        G102 = record { locals = Li._++_ g64 (Li._++_ t1 t2); slots = Li._∷_ (Ro.lease (κs .0) (qs .0)) (Li._∷_ (Ro.lease (κs .1 .0) (qs .1 .0)) (Li._∷_ Ro.off (Li._∷_ (Ro.lease (κs .1 .1 .1 .0) (qs .1 .1 .1 .0)) (Li._∷_ Ro.off (Li._∷_ Ro.off (Li._∷_ Ro.off (Li._∷_ Ro.off (Li._∷_ Ro.off (Li._∷_ Ro.off (Li._∷_ Ro.off (Li._∷_ Ro.off (Li._∷_ Ro.off (Li._∷_ Ro.off (Li._∷_ Ro.alive Li.[])))))))))))))) }
-
-        abbrev G103 : Ro.Cx
-        G103 = record { locals = Li._++_ g64 (Li._++_ t1 t2); slots = Li._∷_ (Ro.lease (κs .0) (qs .0)) (Li._∷_ (Ro.lease (κs .1 .0) (qs .1 .0)) (Li._∷_ Ro.off (Li._∷_ (Ro.lease (κs .1 .1 .1 .0) (qs .1 .1 .1 .0)) (Li._∷_ Ro.off (Li._∷_ Ro.off (Li._∷_ Ro.off (Li._∷_ Ro.off (Li._∷_ Ro.off (Li._∷_ Ro.off (Li._∷_ Ro.off (Li._∷_ Ro.off (Li._∷_ Ro.off (Li._∷_ Ro.off (Li._∷_ Ro.dead Li.[])))))))))))))) }
+        G102 = record { locals = Li._++_ g68 (Li._++_ t1 t2); slots = slots·16 }
 
         abbrev G104 : Ro.Cx
-        G104 = record { locals = Li._++_ t51 (Li._++_ t1 t2); slots = Li._∷_ (Ro.lease (κs .0) (qs .0)) (Li._∷_ (Ro.lease (κs .1 .0) (qs .1 .0)) (Li._∷_ (Ro.lease (κs .1 .1 .0) (qs .1 .1 .0)) (Li._∷_ (Ro.lease (κs .1 .1 .1 .0) (qs .1 .1 .1 .0)) (Li._∷_ Ro.off (Li._∷_ Ro.off (Li._∷_ Ro.off (Li._∷_ Ro.off (Li._∷_ Ro.off (Li._∷_ Ro.off (Li._∷_ Ro.off (Li._∷_ Ro.off (Li._∷_ Ro.off (Li._∷_ Ro.off (Li._∷_ Ro.dead Li.[])))))))))))))) }
+        G104 = record { locals = Li._++_ g68 (Li._++_ t1 t2); slots = Li._∷_ (Ro.lease (κs .0) (qs .0)) (Li._∷_ (Ro.lease (κs .1 .0) (qs .1 .0)) (Li._∷_ Ro.off (Li._∷_ (Ro.lease (κs .1 .1 .1 .0) (qs .1 .1 .1 .0)) (Li._∷_ Ro.off (Li._∷_ Ro.off (Li._∷_ Ro.off (Li._∷_ Ro.off (Li._∷_ Ro.off (Li._∷_ Ro.off (Li._∷_ Ro.off (Li._∷_ Ro.off (Li._∷_ Ro.off (Li._∷_ Ro.off (Li._∷_ Ro.alive Li.[])))))))))))))) }
+
+        abbrev G105 : Ro.Cx
+        G105 = record { locals = Li._++_ g68 (Li._++_ t1 t2); slots = Li._∷_ (Ro.lease (κs .0) (qs .0)) (Li._∷_ (Ro.lease (κs .1 .0) (qs .1 .0)) (Li._∷_ Ro.off (Li._∷_ (Ro.lease (κs .1 .1 .1 .0) (qs .1 .1 .1 .0)) (Li._∷_ Ro.off (Li._∷_ Ro.off (Li._∷_ Ro.off (Li._∷_ Ro.off (Li._∷_ Ro.off (Li._∷_ Ro.off (Li._∷_ Ro.off (Li._∷_ Ro.off (Li._∷_ Ro.off (Li._∷_ Ro.off (Li._∷_ Ro.dead Li.[])))))))))))))) }
+
+        abbrev G106 : Ro.Cx
+        G106 = record { locals = Li._++_ t55 (Li._++_ t1 t2); slots = Li._∷_ (Ro.lease (κs .0) (qs .0)) (Li._∷_ (Ro.lease (κs .1 .0) (qs .1 .0)) (Li._∷_ (Ro.lease (κs .1 .1 .0) (qs .1 .1 .0)) (Li._∷_ (Ro.lease (κs .1 .1 .1 .0) (qs .1 .1 .1 .0)) (Li._∷_ Ro.off (Li._∷_ Ro.off (Li._∷_ Ro.off (Li._∷_ Ro.off (Li._∷_ Ro.off (Li._∷_ Ro.off (Li._∷_ Ro.off (Li._∷_ Ro.off (Li._∷_ Ro.off (Li._∷_ Ro.off (Li._∷_ Ro.dead Li.[])))))))))))))) }
 
         abbrev Δ0 : Ty.Outs
         Δ0 = record { next = Option.none; exits = Li.[]; returns = Option.some G1 }
 
         abbrev Δ1 : Ty.Outs
-        Δ1 = Ty.withNext (Option.some G26) Δ0
+        Δ1 = Ty.withNext (Option.some G25) Δ0
 
         abbrev Δ2 : Ty.Outs
         Δ2 = Ty.withNext (Option.some G53) Δ0
 
         abbrev Δ3 : Ty.Outs
-        Δ3 = Ty.withNext (Option.some G81) Δ0
+        Δ3 = Ty.withNext (Option.some G83) Δ0
 
         module _ {M : Type 1} (𝓤 : URA.URA M) (H : Wp.Heap 𝓤) (A : Atoms.Atoms 𝓤) (W : Kit.Given 𝓤 H A) (𝓣 : Wp.Tables 𝓤 H) (known : Knowns 𝓤 H A W 𝓣) (bs : Li.List Nat.ℕ) (bd : Lifetimes.AllOutlive 4 (Kinds.osR r) κs) where
           abbrev E : Wp.Env 𝓤 H
           E = Frame.EnvOf 𝓤 H (Li._∷_ (Kinds.tyR r) (Enter.tysP ps xs)) bs
 
           pub typed : Ty.Typed 𝓤 H A 𝓣 E (Function.Γin 4 ps r xs m κs qs) b78 (Function.Δret 4 ps r xs m κs qs) Φ
-          typed = (Ty.g-pre 𝓤 H A W 𝓣 E G0 G0 b78 Δ0 (Ty.give s0) at116 (Know.g-shs-known 𝓤 H A W (Rf.fInt Sy.w8) E G0 1 0 ty·39 (Ro.lease (κs .0) (qs .0)) 0 (λ x. x) record { fits = Dec'.lit< tt } (Reads.as-is 𝓤 H A row·5) Pa.refl tt) (Ty.g-pre 𝓤 H A W 𝓣 E G0 G0 b78 Δ0 (Ty.give s1) at115 (Know.g-sl-known 𝓤 H A W (Rf.fInt Sy.w32) E G0 2 1 ty·33 (Ro.lease (κs .1 .0) (qs .1 .0)) 0 (λ x. x) record { fits = Dec'.lit< tt } (Reads.as-is 𝓤 H A row·11) Pa.refl tt) (Ty.g-pre 𝓤 H A W 𝓣 E G0 G0 b78 Δ0 (Ty.give s2) at114 (Know.g-sl-known 𝓤 H A W (Rf.fInt Sy.w64) E G0 3 2 ty·35 (Ro.lease (κs .1 .1 .0) (qs .1 .1 .0)) 0 (λ x. x) record { fits = Dec'.lit< tt } (Reads.as-is 𝓤 H A row·12) Pa.refl tt) (Ty.g-pre 𝓤 H A W 𝓣 E G0 G5 b78 Δ0 (λ Ψ. Ψ) at113 (Lifetime.g-begin 𝓤 H A W E G0 4 (tt, (tt, (tt, (tt, (tt, (tt, (tt, (tt, (tt, (tt, (tt, (tt, (tt, (tt, (tt, (tt, (tt, (tt, (tt, (tt, (tt, (tt, (tt, (tt, (tt, (tt, (tt, (tt, (tt, (tt, (tt, (tt, (tt, tt)))))))))))))))))))))))))))))))))) (Ty.s-seq 𝓤 H A W 𝓣 E G5 G6 b0 b77 Δ0 (Ty.give s4) at112 (Relend.t-sl-relend 𝓤 H A W E (Rf.rtF (Rf.fInt Sy.w32)) 𝓣 G5 2 9 1 4 ty·33 ty·32 (Ro.lease (κs .1 .0) (qs .1 .0)) 0 (λ x. x) (Reads.as-is 𝓤 H A row·11) (Reads.room-gone 𝓤 H A ty·32) Pa.refl tt Pa.refl Pa.refl Pa.refl λ b o. tt) (Ty.s-seq 𝓤 H A W 𝓣 E G6 G7 b1 b76 Δ0 (Ty.ask s5) at111 (Relend.t-sl-aggregate 𝓤 H A W E (Rf.rtF (Rf.fInt Sy.w32)) 𝓣 (Relend.asMut (Rf.rtF (Rf.fInt Sy.w32))) G6 9 10 4 ty·32 ty·32 (λ x. x) (Sc.oFld 2 (Li._∷_ (Sy.field 1) Li.[]) (Sy.tyInt Sy.w64) 8 λ v. Shared.lenV (v .0)) (Reads.as-is 𝓤 H A (Relend.msptr (Rf.rtF (Rf.fInt Sy.w32)) ty·32 4)) (Reads.room-gone 𝓤 H A (Sy.tyStruct (Li._∷_ 38 (Li._∷_ 91 (Li._∷_ 93 Li.[]))) (Sy.tcons ty·32 (Sy.tcons (Sy.tyInt Sy.w64) Sy.tnil)))) (Relend.reads-owed-len 𝓤 H A W (Rf.rtF (Rf.fInt Sy.w32)) ty·33 1 4 (Ro.lease (κs .1 .0) (qs .1 .0)) 8 Pa.refl, Pa.refl) Pa.refl Pa.refl λ b o k. tt) (Ty.g-pre 𝓤 H A W 𝓣 E G7 G8 b76 Δ0 (λ Ψ. Ψ) at110 (Lifetime.g-begin 𝓤 H A W E G7 5 (tt, (tt, ((tt, tt), (tt, (tt, (tt, (tt, (tt, (tt, (tt, (tt, (tt, (tt, (tt, (tt, (tt, (tt, (tt, (tt, (tt, (tt, (tt, (tt, (tt, (tt, (tt, (tt, (tt, (tt, (tt, (tt, (tt, (tt, tt)))))))))))))))))))))))))))))))))) (Ty.s-seq 𝓤 H A W 𝓣 E G8 G9 b2 b75 Δ0 (Ty.give s7) at109 (Relend.t-sl-relend 𝓤 H A W E (Rf.rtF (Rf.fInt Sy.w64)) 𝓣 G8 3 11 2 5 ty·35 ty·38 (Ro.lease (κs .1 .1 .0) (qs .1 .1 .0)) 0 (λ x. x) (Reads.as-is 𝓤 H A row·12) (Reads.room-gone 𝓤 H A ty·38) Pa.refl tt Pa.refl Pa.refl Pa.refl λ b o. tt) (Ty.s-seq 𝓤 H A W 𝓣 E G9 G10 b3 b74 Δ0 (Ty.ask s8) at108 (Relend.t-sl-aggregate 𝓤 H A W E (Rf.rtF (Rf.fInt Sy.w64)) 𝓣 (Relend.asMut (Rf.rtF (Rf.fInt Sy.w64))) G9 11 12 5 ty·38 ty·38 (λ x. x) (Sc.oFld 3 (Li._∷_ (Sy.field 1) Li.[]) (Sy.tyInt Sy.w64) 8 λ v. Shared.lenV (v .0)) (Reads.as-is 𝓤 H A (Relend.msptr (Rf.rtF (Rf.fInt Sy.w64)) ty·38 5)) (Reads.room-gone 𝓤 H A (Sy.tyStruct (Li._∷_ 38 (Li._∷_ 91 (Li._∷_ 93 Li.[]))) (Sy.tcons ty·38 (Sy.tcons (Sy.tyInt Sy.w64) Sy.tnil)))) (Relend.reads-owed-len 𝓤 H A W (Rf.rtF (Rf.fInt Sy.w64)) ty·35 2 5 (Ro.lease (κs .1 .1 .0) (qs .1 .1 .0)) 8 Pa.refl, Pa.refl) Pa.refl Pa.refl λ b o k. tt) (Ty.g-pre 𝓤 H A W 𝓣 E G10 G11 b74 Δ0 (λ Ψ. Ψ) at107 (Lifetime.g-begin 𝓤 H A W E G10 6 (tt, (tt, ((tt, tt), ((tt, tt), (tt, (tt, (tt, (tt, (tt, (tt, (tt, (tt, (tt, (tt, (tt, (tt, (tt, (tt, (tt, (tt, (tt, (tt, (tt, (tt, (tt, (tt, (tt, (tt, (tt, (tt, (tt, (tt, (tt, tt)))))))))))))))))))))))))))))))))) (Ty.s-seq 𝓤 H A W 𝓣 E G11 G12 b4 b73 Δ0 (Ty.give s10) at106 (Relend.t-sl-relend 𝓤 H A W E Gap_.row 𝓣 G11 4 13 3 6 ty·37 ty·36 (Ro.lease (κs .1 .1 .1 .0) (qs .1 .1 .1 .0)) 0 (λ x. x) (Reads.as-is 𝓤 H A row·13) (Reads.room-gone 𝓤 H A ty·36) Pa.refl tt Pa.refl Pa.refl Pa.refl λ b o. tt) (Ty.s-seq 𝓤 H A W 𝓣 E G12 G13 b5 b72 Δ0 (Ty.ask s11) at105 (Relend.t-sl-aggregate 𝓤 H A W E Gap_.row 𝓣 (Relend.asMut Gap_.row) G12 13 14 6 ty·36 ty·36 (λ x. x) (Sc.oFld 4 (Li._∷_ (Sy.field 1) Li.[]) (Sy.tyInt Sy.w64) 8 λ v. Shared.lenV (v .0)) (Reads.as-is 𝓤 H A (Relend.msptr Gap_.row ty·36 6)) (Reads.room-gone 𝓤 H A (Sy.tyStruct (Li._∷_ 38 (Li._∷_ 91 (Li._∷_ 93 Li.[]))) (Sy.tcons ty·36 (Sy.tcons (Sy.tyInt Sy.w64) Sy.tnil)))) (Relend.reads-owed-len 𝓤 H A W Gap_.row ty·37 3 6 (Ro.lease (κs .1 .1 .1 .0) (qs .1 .1 .1 .0)) 8 Pa.refl, Pa.refl) Pa.refl Pa.refl λ b o k. tt) (Ty.s-seq 𝓤 H A W 𝓣 E G13 G14 b6 b71 Δ0 (Ty.both s12) at104 (Plain.t-call-plain 𝓤 H A W 𝓣 4 ps·0 r·0 (claims· .0) (claims· .1) "requests::ask" (known .0) E (λ pos β. β) G13 (record { pos = 1; ty = Sy.tyRef (Sy.named 0) Sy.imm (Sy.tyInt Sy.w8); ref = λ x. x }, (record { pos = 10; ty = Sy.tyRef Sy.erased Sy.mut (Sy.tyInt Sy.w32); ref = λ x. x }, (record { pos = 12; ty = Sy.tyRef Sy.erased Sy.mut (Sy.tyInt Sy.w64); ref = λ x. x }, (record { pos = 14; ty = Sy.tyRef Sy.erased Sy.mut Gap_.behind; ref = λ x. x }, (record { pos = 5; st = Li.[]; d = 0; at = λ x. x }, (Num.vBig 65534, tt)))))) 6 (Li._∷_ 0 (Li._∷_ 4 (Li._∷_ 5 (Li._∷_ 6 Li.[])))) (Call.sub-id 𝓤 H A W (G13 .slots)) (ShrSlice.spares-sslice 𝓤 H A W (Rf.rtF (Rf.fInt Sy.w8)) ty·39 0, Shared.reads-sslice 𝓤 H A W (Rf.rtF (Rf.fInt Sy.w8)) ty·39 0, Pa.refl, (Reads.as-is 𝓤 H A row·15, Mut.reads-mslice 𝓤 H A W (Rf.rtF (Rf.fInt Sy.w32)) ty·32 4, Pa.refl, (Reads.as-is 𝓤 H A row·22, Mut.reads-mslice 𝓤 H A W (Rf.rtF (Rf.fInt Sy.w64)) ty·38 5, Pa.refl, (Reads.as-is 𝓤 H A (Mut.mslice Gap_.row ty·36 6), Mut.reads-mslice 𝓤 H A W Gap_.row ty·36 6, Pa.refl, ((Yields.yields-copy 𝓤 H A W (λ ρ. Unit) (Declared.row JobCounts.the-type) Pa.refl (Copies.cStruct JobCounts.the-type Laws.the-laws Laws.the-copy .copy 𝓤 H A W) row·24 (λ x. x) (λ x. x) (λ ρ told. Local.mem-whole 𝓤 H A W (Declared.row JobCounts.the-type) ρ) λ ρ told. Local.whole-mem 𝓤 H A W (Declared.row JobCounts.the-type) ρ, Pa.refl), (record { lower = record { fits = Dec'.lit< tt } }, tt)))))) (Reads.room-gone 𝓤 H A (Sy.tyInt Sy.w64)) (tt, (tt, (tt, (tt, tt)))) Pa.refl) (Ty.g-pre 𝓤 H A W 𝓣 E G14 G15 b71 Δ0 (Ty.pass T14 T15 s13) at103 (Sc.g-room 𝓤 H A W E G14 5 Laws.mir (Local.room-whole 𝓤 H A W (Declared.row JobCounts.the-type) Laws.mir Pa.refl)) (Ty.g-pre 𝓤 H A W 𝓣 E G15 G16 b71 Δ0 (λ Ψ. Ψ) at102 (Lifetime.g-end 𝓤 H A W E G15 4 Pa.refl) (Ty.g-pre 𝓤 H A W 𝓣 E G16 G17 b71 Δ0 (Ty.both s15) at101 (Relend.g-back-sl 𝓤 H A W E (Rf.rtF (Rf.fInt Sy.w32)) G16 10 2 1 4 ty·33 ty·32 (Ro.lease (κs .1 .0) (qs .1 .0)) (λ x. x) (λ x. x) (Reads.as-is 𝓤 H A row·16) (Reads.as-is 𝓤 H A (Relend.mslice-owed (Rf.rtF (Rf.fInt Sy.w32)) ty·33 1 4 (Ro.lease (κs .1 .0) (qs .1 .0)))) Pa.refl Pa.refl) (Ty.g-pre 𝓤 H A W 𝓣 E G17 G17 b71 Δ0 (Ty.give s16) at100 (Know.g-sl-known 𝓤 H A W (Rf.fInt Sy.w32) E G17 2 1 ty·33 (Ro.lease (κs .1 .0) (qs .1 .0)) 0 (λ x. x) record { fits = Dec'.lit< tt } (Reads.as-is 𝓤 H A row·11) Pa.refl tt) (Ty.g-pre 𝓤 H A W 𝓣 E G17 G19 b71 Δ0 (λ Ψ. Ψ) at99 (Lifetime.g-forget 𝓤 H A W E G17 4 Ro.dead Pa.refl) (Ty.g-pre 𝓤 H A W 𝓣 E G19 G20 b71 Δ0 (λ Ψ. Ψ) at98 (Lifetime.g-end 𝓤 H A W E G19 5 Pa.refl) (Ty.g-pre 𝓤 H A W 𝓣 E G20 G21 b71 Δ0 (Ty.both s19) at97 (Relend.g-back-sl 𝓤 H A W E (Rf.rtF (Rf.fInt Sy.w64)) G20 12 3 2 5 ty·35 ty·38 (Ro.lease (κs .1 .1 .0) (qs .1 .1 .0)) (λ x. x) (λ x. x) (Reads.as-is 𝓤 H A row·23) (Reads.as-is 𝓤 H A (Relend.mslice-owed (Rf.rtF (Rf.fInt Sy.w64)) ty·35 2 5 (Ro.lease (κs .1 .1 .0) (qs .1 .1 .0)))) Pa.refl Pa.refl) (Ty.g-pre 𝓤 H A W 𝓣 E G21 G21 b71 Δ0 (Ty.give s20) at96 (Know.g-sl-known 𝓤 H A W (Rf.fInt Sy.w64) E G21 3 2 ty·35 (Ro.lease (κs .1 .1 .0) (qs .1 .1 .0)) 0 (λ x. x) record { fits = Dec'.lit< tt } (Reads.as-is 𝓤 H A row·12) Pa.refl tt) (Ty.g-pre 𝓤 H A W 𝓣 E G21 G23 b71 Δ0 (λ Ψ. Ψ) at95 (Lifetime.g-forget 𝓤 H A W E G21 5 Ro.dead Pa.refl) (Ty.g-pre 𝓤 H A W 𝓣 E G23 G24 b71 Δ0 (λ Ψ. Ψ) at94 (Lifetime.g-end 𝓤 H A W E G23 6 Pa.refl) (Ty.g-pre 𝓤 H A W 𝓣 E G24 G25 b71 Δ0 (Ty.both s23) at93 (Relend.g-back-sl 𝓤 H A W E Gap_.row G24 14 4 3 6 ty·37 ty·36 (Ro.lease (κs .1 .1 .1 .0) (qs .1 .1 .1 .0)) (λ x. x) (λ x. x) (Reads.as-is 𝓤 H A row·17) (Reads.as-is 𝓤 H A (Relend.mslice-owed Gap_.row ty·37 3 6 (Ro.lease (κs .1 .1 .1 .0) (qs .1 .1 .1 .0)))) Pa.refl Pa.refl) (Ty.g-pre 𝓤 H A W 𝓣 E G25 G26 b71 Δ0 (λ Ψ. Ψ) at92 (Lifetime.g-forget 𝓤 H A W E G25 6 Ro.dead Pa.refl) (Ty.s-seq 𝓤 H A W 𝓣 E G26 G27 b7 b70 Δ0 (Ty.ask s25) at91 (Sc.t-op2 𝓤 H A W E 𝓣 G26 Sy.ne (Sc.oAt 6 (Sy.tyInt Sy.w64) (Ro.valS (Ro.sInt Sy.w64))) (Sc.oInt Sy.w64 0) 15 (Rows.sc-here Ro.sBool) Sy.tyBool (Ro.valS Ro.sBool) (Ro.sBool .of) (Sc.reads-sc 𝓤 H A W (Ro.sInt Sy.w64), Pa.refl) tt (Reads.room-gone 𝓤 H A Sy.tyBool) (Sc.holds-sc 𝓤 H A W Ro.sBool) Pa.refl (λ u. Pa.refl) λ u. tt) (Ty.t-seq 𝓤 H A W 𝓣 E G27 G26 b12 b69 Δ0 at6 at90 (Sc.t-cond 𝓤 H A W E 𝓣 G27 15 (λ x. x) b10 b11 Δ1 at3 at5 (Sc.reads-sc 𝓤 H A W Ro.sBool) Pa.refl (Ty.g-pre 𝓤 H A W 𝓣 E G27 G26 b10 Δ1 (Ty.pass T27 T25 s26) at2 (Sc.g-room 𝓤 H A W E G27 15 Sy.tyBool (Sc.room-sc 𝓤 H A W Ro.sBool)) (Ty.s-seq 𝓤 H A W 𝓣 E G26 G30 b8 b9 Δ1 (Ty.pass T25 T30 s27) at1 (Sc.t-use 𝓤 H A W E 𝓣 G26 (Sc.oAt 6 (Sy.tyInt Sy.w64) (Ro.valS (Ro.sInt Sy.w64))) 0 row·10 (Sy.tyInt Sy.w64) (Ro.valS (Ro.sInt Sy.w64)) (Ro.sInt Sy.w64 .of) (Sc.reads-sc 𝓤 H A W (Ro.sInt Sy.w64), Pa.refl) (Reads.room-gone 𝓤 H A (Sy.tyInt Sy.w64)) (Sc.holds-sc 𝓤 H A W (Ro.sInt Sy.w64)) Pa.refl (λ u. Pa.refl) λ u. tt) (Ty.g-pre 𝓤 H A W 𝓣 E G30 G1 b9 Δ1 (Ty.pass T30 T1 s28) at0 (Sc.g-room 𝓤 H A W E G30 6 (Sy.tyInt Sy.w64) (Sc.room-sc 𝓤 H A W (Ro.sInt Sy.w64))) (Ty.t-return 𝓤 H A W 𝓣 E Δ1 tt)))) (Ty.g-pre 𝓤 H A W 𝓣 E G27 G26 b11 Δ1 (Ty.pass T27 T25 s29) at4 (Sc.g-room 𝓤 H A W E G27 15 Sy.tyBool (Sc.room-sc 𝓤 H A W Ro.sBool)) (Ty.t-skip 𝓤 H A W 𝓣 E Δ1 tt))) (Ty.g-pre 𝓤 H A W 𝓣 E G26 G33 b69 Δ0 (λ Ψ. Ψ) at89 (Lifetime.g-begin 𝓤 H A W E G26 7 (tt, (tt, (tt, (tt, (tt, (tt, (tt, (tt, (tt, (tt, (tt, (tt, (tt, (tt, (tt, (tt, (tt, (tt, (tt, (tt, (tt, (tt, (tt, (tt, (tt, (tt, (tt, (tt, (tt, (tt, (tt, (tt, (tt, tt)))))))))))))))))))))))))))))))))) (Ty.s-seq 𝓤 H A W 𝓣 E G33 G34 b13 b68 Δ0 (Ty.give s31) at88 (Relend.t-sl-relend 𝓤 H A W E (Rf.rtF (Rf.fInt Sy.w32)) 𝓣 G33 2 16 1 7 ty·33 ty·32 (Ro.lease (κs .1 .0) (qs .1 .0)) 0 (λ x. x) (Reads.as-is 𝓤 H A row·11) (Reads.room-gone 𝓤 H A ty·32) Pa.refl tt Pa.refl Pa.refl Pa.refl λ b o. tt) (Ty.s-seq 𝓤 H A W 𝓣 E G34 G35 b14 b67 Δ0 (Ty.ask s32) at87 (Relend.t-sl-aggregate 𝓤 H A W E (Rf.rtF (Rf.fInt Sy.w32)) 𝓣 (Relend.asMut (Rf.rtF (Rf.fInt Sy.w32))) G34 16 17 7 ty·32 ty·32 (λ x. x) (Sc.oFld 2 (Li._∷_ (Sy.field 1) Li.[]) (Sy.tyInt Sy.w64) 8 λ v. Shared.lenV (v .0)) (Reads.as-is 𝓤 H A (Relend.msptr (Rf.rtF (Rf.fInt Sy.w32)) ty·32 7)) (Reads.room-gone 𝓤 H A (Sy.tyStruct (Li._∷_ 38 (Li._∷_ 91 (Li._∷_ 93 Li.[]))) (Sy.tcons ty·32 (Sy.tcons (Sy.tyInt Sy.w64) Sy.tnil)))) (Relend.reads-owed-len 𝓤 H A W (Rf.rtF (Rf.fInt Sy.w32)) ty·33 1 7 (Ro.lease (κs .1 .0) (qs .1 .0)) 8 Pa.refl, Pa.refl) Pa.refl Pa.refl λ b o k. tt) (Ty.g-pre 𝓤 H A W 𝓣 E G35 G36 b67 Δ0 (λ Ψ. Ψ) at86 (Lifetime.g-begin 𝓤 H A W E G35 8 (tt, (tt, ((tt, tt), (tt, (tt, (tt, (tt, (tt, (tt, (tt, (tt, (tt, (tt, (tt, (tt, (tt, (tt, (tt, (tt, (tt, (tt, (tt, (tt, (tt, (tt, (tt, (tt, (tt, (tt, (tt, (tt, (tt, (tt, tt)))))))))))))))))))))))))))))))))) (Ty.s-seq 𝓤 H A W 𝓣 E G36 G37 b15 b66 Δ0 (Ty.give s34) at85 (Reshare.t-sl-reshare 𝓤 H A W E (Rf.rtF (Rf.fInt Sy.w64)) 𝓣 G36 3 18 2 8 ty·35 ty·34 (Ro.lease (κs .1 .1 .0) (qs .1 .1 .0)) 0 (λ x. x) (Reads.as-is 𝓤 H A row·12) (Reads.room-gone 𝓤 H A ty·34) Pa.refl tt Pa.refl Pa.refl Pa.refl λ b o. tt) (Ty.s-seq 𝓤 H A W 𝓣 E G37 G38 b16 b65 Δ0 (Ty.ask s35) at84 (Relend.t-sl-aggregate 𝓤 H A W E (Rf.rtF (Rf.fInt Sy.w64)) 𝓣 (Relend.asShr (Rf.rtF (Rf.fInt Sy.w64))) G37 18 19 8 ty·34 ty·34 (λ x. x) (Sc.oFld 3 (Li._∷_ (Sy.field 1) Li.[]) (Sy.tyInt Sy.w64) 8 λ v. Shared.lenV (v .0)) (Reads.as-is 𝓤 H A (Relend.ssptr (Rf.rtF (Rf.fInt Sy.w64)) ty·34 8)) (Reads.room-gone 𝓤 H A (Sy.tyStruct (Li._∷_ 38 (Li._∷_ 91 (Li._∷_ 93 Li.[]))) (Sy.tcons ty·34 (Sy.tcons (Sy.tyInt Sy.w64) Sy.tnil)))) (Reshare.reads-owedS-len 𝓤 H A W (Rf.rtF (Rf.fInt Sy.w64)) ty·35 2 8 (Ro.lease (κs .1 .1 .0) (qs .1 .1 .0)) 8 Pa.refl, Pa.refl) Pa.refl Pa.refl λ b o k. tt) (Ty.g-pre 𝓤 H A W 𝓣 E G38 G39 b65 Δ0 (λ Ψ. Ψ) at83 (Lifetime.g-begin 𝓤 H A W E G38 9 (tt, (tt, ((tt, tt), ((tt, tt), (tt, (tt, (tt, (tt, (tt, (tt, (tt, (tt, (tt, (tt, (tt, (tt, (tt, (tt, (tt, (tt, (tt, (tt, (tt, (tt, (tt, (tt, (tt, (tt, (tt, (tt, (tt, (tt, (tt, tt)))))))))))))))))))))))))))))))))) (Ty.s-seq 𝓤 H A W 𝓣 E G39 G40 b17 b64 Δ0 (Ty.give s37) at82 (Relend.t-sl-relend 𝓤 H A W E Gap_.row 𝓣 G39 4 20 3 9 ty·37 ty·36 (Ro.lease (κs .1 .1 .1 .0) (qs .1 .1 .1 .0)) 0 (λ x. x) (Reads.as-is 𝓤 H A row·13) (Reads.room-gone 𝓤 H A ty·36) Pa.refl tt Pa.refl Pa.refl Pa.refl λ b o. tt) (Ty.s-seq 𝓤 H A W 𝓣 E G40 G41 b18 b63 Δ0 (Ty.ask s38) at81 (Relend.t-sl-aggregate 𝓤 H A W E Gap_.row 𝓣 (Relend.asMut Gap_.row) G40 20 21 9 ty·36 ty·36 (λ x. x) (Sc.oFld 4 (Li._∷_ (Sy.field 1) Li.[]) (Sy.tyInt Sy.w64) 8 λ v. Shared.lenV (v .0)) (Reads.as-is 𝓤 H A (Relend.msptr Gap_.row ty·36 9)) (Reads.room-gone 𝓤 H A (Sy.tyStruct (Li._∷_ 38 (Li._∷_ 91 (Li._∷_ 93 Li.[]))) (Sy.tcons ty·36 (Sy.tcons (Sy.tyInt Sy.w64) Sy.tnil)))) (Relend.reads-owed-len 𝓤 H A W Gap_.row ty·37 3 9 (Ro.lease (κs .1 .1 .1 .0) (qs .1 .1 .1 .0)) 8 Pa.refl, Pa.refl) Pa.refl Pa.refl λ b o k. tt) (Ty.s-seq 𝓤 H A W 𝓣 E G41 G42 b19 b62 Δ0 (Ty.both s39) at80 (Plain.t-call-plain 𝓤 H A W 𝓣 4 ps·1 r·1 (claims· .2) (claims· .3) "building::build_all" (known .1) E (λ pos β. β) G41 (record { pos = 1; ty = Sy.tyRef (Sy.named 0) Sy.imm (Sy.tyInt Sy.w8); ref = λ x. x }, (record { pos = 17; ty = Sy.tyRef Sy.erased Sy.mut (Sy.tyInt Sy.w32); ref = λ x. x }, (record { pos = 19; ty = Sy.tyRef Sy.erased Sy.imm (Sy.tyInt Sy.w64); ref = λ x. x }, (record { pos = 21; ty = Sy.tyRef Sy.erased Sy.mut Gap_.behind; ref = λ x. x }, tt)))) 7 (Li._∷_ 0 (Li._∷_ 7 (Li._∷_ 8 (Li._∷_ 9 Li.[])))) (Call.sub-id 𝓤 H A W (G41 .slots)) (ShrSlice.spares-sslice 𝓤 H A W (Rf.rtF (Rf.fInt Sy.w8)) ty·39 0, Shared.reads-sslice 𝓤 H A W (Rf.rtF (Rf.fInt Sy.w8)) ty·39 0, Pa.refl, (Reads.as-is 𝓤 H A row·31, Mut.reads-mslice 𝓤 H A W (Rf.rtF (Rf.fInt Sy.w32)) ty·32 7, Pa.refl, (ShrSlice.spares-sslice 𝓤 H A W (Rf.rtF (Rf.fInt Sy.w64)) ty·34 8, Shared.reads-sslice 𝓤 H A W (Rf.rtF (Rf.fInt Sy.w64)) ty·34 8, Pa.refl, (Reads.as-is 𝓤 H A (Mut.mslice Gap_.row ty·36 9), Mut.reads-mslice 𝓤 H A W Gap_.row ty·36 9, Pa.refl, tt)))) (Reads.room-gone 𝓤 H A (Sy.tyInt Sy.w64)) (tt, (tt, (tt, (tt, tt)))) Pa.refl) (Ty.g-pre 𝓤 H A W 𝓣 E G42 G43 b62 Δ0 (Ty.pass T42 T43 s40) at79 (Sc.g-room 𝓤 H A W E G42 19 (Sy.tyStruct (Li._∷_ 38 (Li._∷_ 91 (Li._∷_ 93 Li.[]))) (Sy.tcons ty·34 (Sy.tcons (Sy.tyInt Sy.w64) Sy.tnil))) (Shared.room-sslice 𝓤 H A W (Rf.rtF (Rf.fInt Sy.w64)) ty·34 8)) (Ty.g-pre 𝓤 H A W 𝓣 E G43 G44 b62 Δ0 (λ Ψ. Ψ) at78 (Lifetime.g-end 𝓤 H A W E G43 7 Pa.refl) (Ty.g-pre 𝓤 H A W 𝓣 E G44 G45 b62 Δ0 (Ty.both s42) at77 (Relend.g-back-sl 𝓤 H A W E (Rf.rtF (Rf.fInt Sy.w32)) G44 17 2 1 7 ty·33 ty·32 (Ro.lease (κs .1 .0) (qs .1 .0)) (λ x. x) (λ x. x) (Reads.as-is 𝓤 H A row·16) (Reads.as-is 𝓤 H A (Relend.mslice-owed (Rf.rtF (Rf.fInt Sy.w32)) ty·33 1 7 (Ro.lease (κs .1 .0) (qs .1 .0)))) Pa.refl Pa.refl) (Ty.g-pre 𝓤 H A W 𝓣 E G45 G45 b62 Δ0 (Ty.give s43) at76 (Know.g-sl-known 𝓤 H A W (Rf.fInt Sy.w32) E G45 2 1 ty·33 (Ro.lease (κs .1 .0) (qs .1 .0)) 0 (λ x. x) record { fits = Dec'.lit< tt } (Reads.as-is 𝓤 H A row·11) Pa.refl tt) (Ty.g-pre 𝓤 H A W 𝓣 E G45 G47 b62 Δ0 (λ Ψ. Ψ) at75 (Lifetime.g-forget 𝓤 H A W E G45 7 Ro.dead Pa.refl) (Ty.g-pre 𝓤 H A W 𝓣 E G47 G48 b62 Δ0 (λ Ψ. Ψ) at74 (Lifetime.g-end 𝓤 H A W E G47 8 Pa.refl) (Ty.g-pre 𝓤 H A W 𝓣 E G48 G49 b62 Δ0 (Ty.pass T45 T49 s46) at73 (Reshare.g-back-sl-shr 𝓤 H A W E (Rf.rtF (Rf.fInt Sy.w64)) G48 3 2 8 ty·35 (Ro.lease (κs .1 .1 .0) (qs .1 .1 .0)) (λ x. x) (Reads.as-is 𝓤 H A (Reshare.mslice-owedS (Rf.rtF (Rf.fInt Sy.w64)) ty·35 2 8 (Ro.lease (κs .1 .1 .0) (qs .1 .1 .0)))) Pa.refl Pa.refl) (Ty.g-pre 𝓤 H A W 𝓣 E G49 G50 b62 Δ0 (λ Ψ. Ψ) at72 (Lifetime.g-forget 𝓤 H A W E G49 8 Ro.dead Pa.refl) (Ty.g-pre 𝓤 H A W 𝓣 E G50 G51 b62 Δ0 (λ Ψ. Ψ) at71 (Lifetime.g-end 𝓤 H A W E G50 9 Pa.refl) (Ty.g-pre 𝓤 H A W 𝓣 E G51 G52 b62 Δ0 (Ty.both s49) at70 (Relend.g-back-sl 𝓤 H A W E Gap_.row G51 21 4 3 9 ty·37 ty·36 (Ro.lease (κs .1 .1 .1 .0) (qs .1 .1 .1 .0)) (λ x. x) (λ x. x) (Reads.as-is 𝓤 H A row·17) (Reads.as-is 𝓤 H A (Relend.mslice-owed Gap_.row ty·37 3 9 (Ro.lease (κs .1 .1 .1 .0) (qs .1 .1 .1 .0)))) Pa.refl Pa.refl) (Ty.g-pre 𝓤 H A W 𝓣 E G52 G53 b62 Δ0 (λ Ψ. Ψ) at69 (Lifetime.g-forget 𝓤 H A W E G52 9 Ro.dead Pa.refl) (Ty.s-seq 𝓤 H A W 𝓣 E G53 G54 b20 b61 Δ0 (Ty.ask s51) at68 (Sc.t-op2 𝓤 H A W E 𝓣 G53 Sy.ne (Sc.oAt 7 (Sy.tyInt Sy.w64) (Ro.valS (Ro.sInt Sy.w64))) (Sc.oInt Sy.w64 0) 15 (Rows.sc-here Ro.sBool) Sy.tyBool (Ro.valS Ro.sBool) (Ro.sBool .of) (Sc.reads-sc 𝓤 H A W (Ro.sInt Sy.w64), Pa.refl) tt (Reads.room-gone 𝓤 H A Sy.tyBool) (Sc.holds-sc 𝓤 H A W Ro.sBool) Pa.refl (λ u. Pa.refl) λ u. tt) (Ty.t-seq 𝓤 H A W 𝓣 E G54 G53 b25 b60 Δ0 at14 at67 (Sc.t-cond 𝓤 H A W E 𝓣 G54 15 (λ x. x) b23 b11 Δ2 at11 at13 (Sc.reads-sc 𝓤 H A W Ro.sBool) Pa.refl (Ty.g-pre 𝓤 H A W 𝓣 E G54 G53 b23 Δ2 (Ty.pass T54 T52 s52) at10 (Sc.g-room 𝓤 H A W E G54 15 Sy.tyBool (Sc.room-sc 𝓤 H A W Ro.sBool)) (Ty.s-seq 𝓤 H A W 𝓣 E G53 G57 b21 b9 Δ2 (Ty.pass T52 T57 s53) at9 (Sc.t-use 𝓤 H A W E 𝓣 G53 (Sc.oAt 7 (Sy.tyInt Sy.w64) (Ro.valS (Ro.sInt Sy.w64))) 0 row·10 (Sy.tyInt Sy.w64) (Ro.valS (Ro.sInt Sy.w64)) (Ro.sInt Sy.w64 .of) (Sc.reads-sc 𝓤 H A W (Ro.sInt Sy.w64), Pa.refl) (Reads.room-gone 𝓤 H A (Sy.tyInt Sy.w64)) (Sc.holds-sc 𝓤 H A W (Ro.sInt Sy.w64)) Pa.refl (λ u. Pa.refl) λ u. tt) (Ty.g-pre 𝓤 H A W 𝓣 E G57 G58 b9 Δ2 (Ty.pass T57 T58 s54) at8 (Sc.g-room 𝓤 H A W E G57 6 (Sy.tyInt Sy.w64) (Sc.room-sc 𝓤 H A W (Ro.sInt Sy.w64))) (Ty.g-pre 𝓤 H A W 𝓣 E G58 G1 b9 Δ2 (Ty.pass T58 T1 s55) at7 (Sc.g-room 𝓤 H A W E G58 7 (Sy.tyInt Sy.w64) (Sc.room-sc 𝓤 H A W (Ro.sInt Sy.w64))) (Ty.t-return 𝓤 H A W 𝓣 E Δ2 tt))))) (Ty.g-pre 𝓤 H A W 𝓣 E G54 G53 b11 Δ2 (Ty.pass T54 T52 s56) at12 (Sc.g-room 𝓤 H A W E G54 15 Sy.tyBool (Sc.room-sc 𝓤 H A W Ro.sBool)) (Ty.t-skip 𝓤 H A W 𝓣 E Δ2 tt))) (Ty.g-pre 𝓤 H A W 𝓣 E G53 G61 b60 Δ0 (λ Ψ. Ψ) at66 (Lifetime.g-begin 𝓤 H A W E G53 10 (tt, (tt, (tt, (tt, (tt, (tt, (tt, (tt, (tt, (tt, (tt, (tt, (tt, (tt, (tt, (tt, (tt, (tt, (tt, (tt, (tt, (tt, (tt, (tt, (tt, (tt, (tt, (tt, (tt, (tt, (tt, (tt, (tt, tt)))))))))))))))))))))))))))))))))) (Ty.s-seq 𝓤 H A W 𝓣 E G61 G62 b26 b59 Δ0 (Ty.give s58) at65 (Relend.t-sl-relend 𝓤 H A W E (Rf.rtF (Rf.fInt Sy.w32)) 𝓣 G61 2 22 1 10 ty·33 ty·32 (Ro.lease (κs .1 .0) (qs .1 .0)) 0 (λ x. x) (Reads.as-is 𝓤 H A row·11) (Reads.room-gone 𝓤 H A ty·32) Pa.refl tt Pa.refl Pa.refl Pa.refl λ b o. tt) (Ty.s-seq 𝓤 H A W 𝓣 E G62 G63 b27 b58 Δ0 (Ty.ask s59) at64 (Relend.t-sl-aggregate 𝓤 H A W E (Rf.rtF (Rf.fInt Sy.w32)) 𝓣 (Relend.asMut (Rf.rtF (Rf.fInt Sy.w32))) G62 22 23 10 ty·32 ty·32 (λ x. x) (Sc.oFld 2 (Li._∷_ (Sy.field 1) Li.[]) (Sy.tyInt Sy.w64) 8 λ v. Shared.lenV (v .0)) (Reads.as-is 𝓤 H A (Relend.msptr (Rf.rtF (Rf.fInt Sy.w32)) ty·32 10)) (Reads.room-gone 𝓤 H A (Sy.tyStruct (Li._∷_ 38 (Li._∷_ 91 (Li._∷_ 93 Li.[]))) (Sy.tcons ty·32 (Sy.tcons (Sy.tyInt Sy.w64) Sy.tnil)))) (Relend.reads-owed-len 𝓤 H A W (Rf.rtF (Rf.fInt Sy.w32)) ty·33 1 10 (Ro.lease (κs .1 .0) (qs .1 .0)) 8 Pa.refl, Pa.refl) Pa.refl Pa.refl λ b o k. tt) (Ty.g-pre 𝓤 H A W 𝓣 E G63 G64 b58 Δ0 (λ Ψ. Ψ) at63 (Lifetime.g-begin 𝓤 H A W E G63 11 (tt, (tt, ((tt, tt), (tt, (tt, (tt, (tt, (tt, (tt, (tt, (tt, (tt, (tt, (tt, (tt, (tt, (tt, (tt, (tt, (tt, (tt, (tt, (tt, (tt, (tt, (tt, (tt, (tt, (tt, (tt, (tt, (tt, (tt, tt)))))))))))))))))))))))))))))))))) (Ty.s-seq 𝓤 H A W 𝓣 E G64 G65 b28 b57 Δ0 (Ty.give s61) at62 (Reshare.t-sl-reshare 𝓤 H A W E (Rf.rtF (Rf.fInt Sy.w64)) 𝓣 G64 3 24 2 11 ty·35 ty·34 (Ro.lease (κs .1 .1 .0) (qs .1 .1 .0)) 0 (λ x. x) (Reads.as-is 𝓤 H A row·12) (Reads.room-gone 𝓤 H A ty·34) Pa.refl tt Pa.refl Pa.refl Pa.refl λ b o. tt) (Ty.s-seq 𝓤 H A W 𝓣 E G65 G66 b29 b56 Δ0 (Ty.ask s62) at61 (Relend.t-sl-aggregate 𝓤 H A W E (Rf.rtF (Rf.fInt Sy.w64)) 𝓣 (Relend.asShr (Rf.rtF (Rf.fInt Sy.w64))) G65 24 25 11 ty·34 ty·34 (λ x. x) (Sc.oFld 3 (Li._∷_ (Sy.field 1) Li.[]) (Sy.tyInt Sy.w64) 8 λ v. Shared.lenV (v .0)) (Reads.as-is 𝓤 H A (Relend.ssptr (Rf.rtF (Rf.fInt Sy.w64)) ty·34 11)) (Reads.room-gone 𝓤 H A (Sy.tyStruct (Li._∷_ 38 (Li._∷_ 91 (Li._∷_ 93 Li.[]))) (Sy.tcons ty·34 (Sy.tcons (Sy.tyInt Sy.w64) Sy.tnil)))) (Reshare.reads-owedS-len 𝓤 H A W (Rf.rtF (Rf.fInt Sy.w64)) ty·35 2 11 (Ro.lease (κs .1 .1 .0) (qs .1 .1 .0)) 8 Pa.refl, Pa.refl) Pa.refl Pa.refl λ b o k. tt) (Ty.g-pre 𝓤 H A W 𝓣 E G66 G67 b56 Δ0 (λ Ψ. Ψ) at60 (Lifetime.g-begin 𝓤 H A W E G66 12 (tt, (tt, ((tt, tt), ((tt, tt), (tt, (tt, (tt, (tt, (tt, (tt, (tt, (tt, (tt, (tt, (tt, (tt, (tt, (tt, (tt, (tt, (tt, (tt, (tt, (tt, (tt, (tt, (tt, (tt, (tt, (tt, (tt, (tt, (tt, tt)))))))))))))))))))))))))))))))))) (Ty.s-seq 𝓤 H A W 𝓣 E G67 G68 b30 b55 Δ0 (Ty.give s64) at59 (Relend.t-sl-relend 𝓤 H A W E Gap_.row 𝓣 G67 4 26 3 12 ty·37 ty·36 (Ro.lease (κs .1 .1 .1 .0) (qs .1 .1 .1 .0)) 0 (λ x. x) (Reads.as-is 𝓤 H A row·13) (Reads.room-gone 𝓤 H A ty·36) Pa.refl tt Pa.refl Pa.refl Pa.refl λ b o. tt) (Ty.s-seq 𝓤 H A W 𝓣 E G68 G69 b31 b54 Δ0 (Ty.ask s65) at58 (Relend.t-sl-aggregate 𝓤 H A W E Gap_.row 𝓣 (Relend.asMut Gap_.row) G68 26 27 12 ty·36 ty·36 (λ x. x) (Sc.oFld 4 (Li._∷_ (Sy.field 1) Li.[]) (Sy.tyInt Sy.w64) 8 λ v. Shared.lenV (v .0)) (Reads.as-is 𝓤 H A (Relend.msptr Gap_.row ty·36 12)) (Reads.room-gone 𝓤 H A (Sy.tyStruct (Li._∷_ 38 (Li._∷_ 91 (Li._∷_ 93 Li.[]))) (Sy.tcons ty·36 (Sy.tcons (Sy.tyInt Sy.w64) Sy.tnil)))) (Relend.reads-owed-len 𝓤 H A W Gap_.row ty·37 3 12 (Ro.lease (κs .1 .1 .1 .0) (qs .1 .1 .1 .0)) 8 Pa.refl, Pa.refl) Pa.refl Pa.refl λ b o k. tt) (Ty.s-seq 𝓤 H A W 𝓣 E G69 G70 b32 b53 Δ0 (Ty.both s66) at57 (Plain.t-call-plain 𝓤 H A W 𝓣 4 ps·2 r·2 (claims· .4) (claims· .5) "ending::end_pool" (known .2) E (λ pos β. β) G69 (record { pos = 1; ty = Sy.tyRef (Sy.named 0) Sy.imm (Sy.tyInt Sy.w8); ref = λ x. x }, (record { pos = 23; ty = Sy.tyRef Sy.erased Sy.mut (Sy.tyInt Sy.w32); ref = λ x. x }, (record { pos = 25; ty = Sy.tyRef Sy.erased Sy.imm (Sy.tyInt Sy.w64); ref = λ x. x }, (record { pos = 27; ty = Sy.tyRef Sy.erased Sy.mut Gap_.behind; ref = λ x. x }, (Num.vBig 65534, tt))))) 8 (Li._∷_ 0 (Li._∷_ 10 (Li._∷_ 11 (Li._∷_ 12 Li.[])))) (Call.sub-id 𝓤 H A W (G69 .slots)) (ShrSlice.spares-sslice 𝓤 H A W (Rf.rtF (Rf.fInt Sy.w8)) ty·39 0, Shared.reads-sslice 𝓤 H A W (Rf.rtF (Rf.fInt Sy.w8)) ty·39 0, Pa.refl, (Reads.as-is 𝓤 H A row·30, Mut.reads-mslice 𝓤 H A W (Rf.rtF (Rf.fInt Sy.w32)) ty·32 10, Pa.refl, (ShrSlice.spares-sslice 𝓤 H A W (Rf.rtF (Rf.fInt Sy.w64)) ty·34 11, Shared.reads-sslice 𝓤 H A W (Rf.rtF (Rf.fInt Sy.w64)) ty·34 11, Pa.refl, (Reads.as-is 𝓤 H A (Mut.mslice Gap_.row ty·36 12), Mut.reads-mslice 𝓤 H A W Gap_.row ty·36 12, Pa.refl, (record { lower = record { fits = Dec'.lit< tt } }, tt))))) (Reads.room-gone 𝓤 H A (Sy.tyInt Sy.w64)) (tt, (tt, (tt, (tt, tt)))) Pa.refl) (Ty.g-pre 𝓤 H A W 𝓣 E G70 G71 b53 Δ0 (Ty.pass T70 T71 s67) at56 (Sc.g-room 𝓤 H A W E G70 25 (Sy.tyStruct (Li._∷_ 38 (Li._∷_ 91 (Li._∷_ 93 Li.[]))) (Sy.tcons ty·34 (Sy.tcons (Sy.tyInt Sy.w64) Sy.tnil))) (Shared.room-sslice 𝓤 H A W (Rf.rtF (Rf.fInt Sy.w64)) ty·34 11)) (Ty.g-pre 𝓤 H A W 𝓣 E G71 G72 b53 Δ0 (λ Ψ. Ψ) at55 (Lifetime.g-end 𝓤 H A W E G71 10 Pa.refl) (Ty.g-pre 𝓤 H A W 𝓣 E G72 G73 b53 Δ0 (Ty.both s69) at54 (Relend.g-back-sl 𝓤 H A W E (Rf.rtF (Rf.fInt Sy.w32)) G72 23 2 1 10 ty·33 ty·32 (Ro.lease (κs .1 .0) (qs .1 .0)) (λ x. x) (λ x. x) (Reads.as-is 𝓤 H A row·16) (Reads.as-is 𝓤 H A (Relend.mslice-owed (Rf.rtF (Rf.fInt Sy.w32)) ty·33 1 10 (Ro.lease (κs .1 .0) (qs .1 .0)))) Pa.refl Pa.refl) (Ty.g-pre 𝓤 H A W 𝓣 E G73 G73 b53 Δ0 (Ty.give s70) at53 (Know.g-sl-known 𝓤 H A W (Rf.fInt Sy.w32) E G73 2 1 ty·33 (Ro.lease (κs .1 .0) (qs .1 .0)) 0 (λ x. x) record { fits = Dec'.lit< tt } (Reads.as-is 𝓤 H A row·11) Pa.refl tt) (Ty.g-pre 𝓤 H A W 𝓣 E G73 G75 b53 Δ0 (λ Ψ. Ψ) at52 (Lifetime.g-forget 𝓤 H A W E G73 10 Ro.dead Pa.refl) (Ty.g-pre 𝓤 H A W 𝓣 E G75 G76 b53 Δ0 (λ Ψ. Ψ) at51 (Lifetime.g-end 𝓤 H A W E G75 11 Pa.refl) (Ty.g-pre 𝓤 H A W 𝓣 E G76 G77 b53 Δ0 (Ty.pass T73 T77 s73) at50 (Reshare.g-back-sl-shr 𝓤 H A W E (Rf.rtF (Rf.fInt Sy.w64)) G76 3 2 11 ty·35 (Ro.lease (κs .1 .1 .0) (qs .1 .1 .0)) (λ x. x) (Reads.as-is 𝓤 H A (Reshare.mslice-owedS (Rf.rtF (Rf.fInt Sy.w64)) ty·35 2 11 (Ro.lease (κs .1 .1 .0) (qs .1 .1 .0)))) Pa.refl Pa.refl) (Ty.g-pre 𝓤 H A W 𝓣 E G77 G78 b53 Δ0 (λ Ψ. Ψ) at49 (Lifetime.g-forget 𝓤 H A W E G77 11 Ro.dead Pa.refl) (Ty.g-pre 𝓤 H A W 𝓣 E G78 G79 b53 Δ0 (λ Ψ. Ψ) at48 (Lifetime.g-end 𝓤 H A W E G78 12 Pa.refl) (Ty.g-pre 𝓤 H A W 𝓣 E G79 G80 b53 Δ0 (Ty.both s76) at47 (Relend.g-back-sl 𝓤 H A W E Gap_.row G79 27 4 3 12 ty·37 ty·36 (Ro.lease (κs .1 .1 .1 .0) (qs .1 .1 .1 .0)) (λ x. x) (λ x. x) (Reads.as-is 𝓤 H A row·17) (Reads.as-is 𝓤 H A (Relend.mslice-owed Gap_.row ty·37 3 12 (Ro.lease (κs .1 .1 .1 .0) (qs .1 .1 .1 .0)))) Pa.refl Pa.refl) (Ty.g-pre 𝓤 H A W 𝓣 E G80 G81 b53 Δ0 (λ Ψ. Ψ) at46 (Lifetime.g-forget 𝓤 H A W E G80 12 Ro.dead Pa.refl) (Ty.s-seq 𝓤 H A W 𝓣 E G81 G82 b33 b52 Δ0 (Ty.ask s78) at45 (Sc.t-op2 𝓤 H A W E 𝓣 G81 Sy.ne (Sc.oAt 8 (Sy.tyInt Sy.w64) (Ro.valS (Ro.sInt Sy.w64))) (Sc.oInt Sy.w64 0) 15 (Rows.sc-here Ro.sBool) Sy.tyBool (Ro.valS Ro.sBool) (Ro.sBool .of) (Sc.reads-sc 𝓤 H A W (Ro.sInt Sy.w64), Pa.refl) tt (Reads.room-gone 𝓤 H A Sy.tyBool) (Sc.holds-sc 𝓤 H A W Ro.sBool) Pa.refl (λ u. Pa.refl) λ u. tt) (Ty.t-seq 𝓤 H A W 𝓣 E G82 G81 b38 b51 Δ0 at23 at44 (Sc.t-cond 𝓤 H A W E 𝓣 G82 15 (λ x. x) b36 b11 Δ3 at20 at22 (Sc.reads-sc 𝓤 H A W Ro.sBool) Pa.refl (Ty.g-pre 𝓤 H A W 𝓣 E G82 G81 b36 Δ3 (Ty.pass T82 T80 s79) at19 (Sc.g-room 𝓤 H A W E G82 15 Sy.tyBool (Sc.room-sc 𝓤 H A W Ro.sBool)) (Ty.s-seq 𝓤 H A W 𝓣 E G81 G85 b34 b9 Δ3 (Ty.pass T80 T85 s80) at18 (Sc.t-use 𝓤 H A W E 𝓣 G81 (Sc.oAt 8 (Sy.tyInt Sy.w64) (Ro.valS (Ro.sInt Sy.w64))) 0 row·10 (Sy.tyInt Sy.w64) (Ro.valS (Ro.sInt Sy.w64)) (Ro.sInt Sy.w64 .of) (Sc.reads-sc 𝓤 H A W (Ro.sInt Sy.w64), Pa.refl) (Reads.room-gone 𝓤 H A (Sy.tyInt Sy.w64)) (Sc.holds-sc 𝓤 H A W (Ro.sInt Sy.w64)) Pa.refl (λ u. Pa.refl) λ u. tt) (Ty.g-pre 𝓤 H A W 𝓣 E G85 G86 b9 Δ3 (Ty.pass T85 T86 s81) at17 (Sc.g-room 𝓤 H A W E G85 6 (Sy.tyInt Sy.w64) (Sc.room-sc 𝓤 H A W (Ro.sInt Sy.w64))) (Ty.g-pre 𝓤 H A W 𝓣 E G86 G87 b9 Δ3 (Ty.pass T86 T87 s82) at16 (Sc.g-room 𝓤 H A W E G86 7 (Sy.tyInt Sy.w64) (Sc.room-sc 𝓤 H A W (Ro.sInt Sy.w64))) (Ty.g-pre 𝓤 H A W 𝓣 E G87 G1 b9 Δ3 (Ty.pass T87 T1 s83) at15 (Sc.g-room 𝓤 H A W E G87 8 (Sy.tyInt Sy.w64) (Sc.room-sc 𝓤 H A W (Ro.sInt Sy.w64))) (Ty.t-return 𝓤 H A W 𝓣 E Δ3 tt)))))) (Ty.g-pre 𝓤 H A W 𝓣 E G82 G81 b11 Δ3 (Ty.pass T82 T80 s84) at21 (Sc.g-room 𝓤 H A W E G82 15 Sy.tyBool (Sc.room-sc 𝓤 H A W Ro.sBool)) (Ty.t-skip 𝓤 H A W 𝓣 E Δ3 tt))) (Ty.g-pre 𝓤 H A W 𝓣 E G81 G90 b51 Δ0 (λ Ψ. Ψ) at43 (Lifetime.g-begin 𝓤 H A W E G81 13 (tt, (tt, (tt, (tt, (tt, (tt, (tt, (tt, (tt, (tt, (tt, (tt, (tt, (tt, (tt, (tt, (tt, (tt, (tt, (tt, (tt, (tt, (tt, (tt, (tt, (tt, (tt, (tt, (tt, (tt, (tt, (tt, (tt, tt)))))))))))))))))))))))))))))))))) (Ty.s-seq 𝓤 H A W 𝓣 E G90 G91 b39 b50 Δ0 (Ty.give s86) at42 (Relend.t-sl-relend 𝓤 H A W E (Rf.rtF (Rf.fInt Sy.w32)) 𝓣 G90 2 29 1 13 ty·33 ty·32 (Ro.lease (κs .1 .0) (qs .1 .0)) 0 (λ x. x) (Reads.as-is 𝓤 H A row·11) (Reads.room-gone 𝓤 H A ty·32) Pa.refl tt Pa.refl Pa.refl Pa.refl λ b o. tt) (Ty.s-seq 𝓤 H A W 𝓣 E G91 G92 b40 b49 Δ0 (Ty.ask s87) at41 (Relend.t-sl-aggregate 𝓤 H A W E (Rf.rtF (Rf.fInt Sy.w32)) 𝓣 (Relend.asMut (Rf.rtF (Rf.fInt Sy.w32))) G91 29 30 13 ty·32 ty·32 (λ x. x) (Sc.oFld 2 (Li._∷_ (Sy.field 1) Li.[]) (Sy.tyInt Sy.w64) 8 λ v. Shared.lenV (v .0)) (Reads.as-is 𝓤 H A (Relend.msptr (Rf.rtF (Rf.fInt Sy.w32)) ty·32 13)) (Reads.room-gone 𝓤 H A (Sy.tyStruct (Li._∷_ 38 (Li._∷_ 91 (Li._∷_ 93 Li.[]))) (Sy.tcons ty·32 (Sy.tcons (Sy.tyInt Sy.w64) Sy.tnil)))) (Relend.reads-owed-len 𝓤 H A W (Rf.rtF (Rf.fInt Sy.w32)) ty·33 1 13 (Ro.lease (κs .1 .0) (qs .1 .0)) 8 Pa.refl, Pa.refl) Pa.refl Pa.refl λ b o k. tt) (Ty.g-pre 𝓤 H A W 𝓣 E G92 G93 b49 Δ0 (λ Ψ. Ψ) at40 (Lifetime.g-begin 𝓤 H A W E G92 14 (tt, (tt, ((tt, tt), (tt, (tt, (tt, (tt, (tt, (tt, (tt, (tt, (tt, (tt, (tt, (tt, (tt, (tt, (tt, (tt, (tt, (tt, (tt, (tt, (tt, (tt, (tt, (tt, (tt, (tt, (tt, (tt, (tt, (tt, tt)))))))))))))))))))))))))))))))))) (Ty.s-seq 𝓤 H A W 𝓣 E G93 G94 b41 b48 Δ0 (Ty.give s89) at39 (Reshare.t-sl-reshare 𝓤 H A W E (Rf.rtF (Rf.fInt Sy.w64)) 𝓣 G93 3 31 2 14 ty·35 ty·34 (Ro.lease (κs .1 .1 .0) (qs .1 .1 .0)) 0 (λ x. x) (Reads.as-is 𝓤 H A row·12) (Reads.room-gone 𝓤 H A ty·34) Pa.refl tt Pa.refl Pa.refl Pa.refl λ b o. tt) (Ty.s-seq 𝓤 H A W 𝓣 E G94 G95 b42 b47 Δ0 (Ty.ask s90) at38 (Relend.t-sl-aggregate 𝓤 H A W E (Rf.rtF (Rf.fInt Sy.w64)) 𝓣 (Relend.asShr (Rf.rtF (Rf.fInt Sy.w64))) G94 31 32 14 ty·34 ty·34 (λ x. x) (Sc.oFld 3 (Li._∷_ (Sy.field 1) Li.[]) (Sy.tyInt Sy.w64) 8 λ v. Shared.lenV (v .0)) (Reads.as-is 𝓤 H A (Relend.ssptr (Rf.rtF (Rf.fInt Sy.w64)) ty·34 14)) (Reads.room-gone 𝓤 H A (Sy.tyStruct (Li._∷_ 38 (Li._∷_ 91 (Li._∷_ 93 Li.[]))) (Sy.tcons ty·34 (Sy.tcons (Sy.tyInt Sy.w64) Sy.tnil)))) (Reshare.reads-owedS-len 𝓤 H A W (Rf.rtF (Rf.fInt Sy.w64)) ty·35 2 14 (Ro.lease (κs .1 .1 .0) (qs .1 .1 .0)) 8 Pa.refl, Pa.refl) Pa.refl Pa.refl λ b o k. tt) (Ty.s-seq 𝓤 H A W 𝓣 E G95 G96 b43 b46 Δ0 (Ty.both s91) at37 (Plain.t-call-plain 𝓤 H A W 𝓣 2 ps·3 r·3 (claims· .6) (claims· .7) "output::own_slots" (known .3) E (λ pos β. β) G95 (record { pos = 30; ty = Sy.tyRef Sy.erased Sy.mut (Sy.tyInt Sy.w32); ref = λ x. x }, (record { pos = 32; ty = Sy.tyRef Sy.erased Sy.imm (Sy.tyInt Sy.w64); ref = λ x. x }, tt)) 28 (Li._∷_ 13 (Li._∷_ 14 Li.[])) (Call.sub-id 𝓤 H A W (G95 .slots)) (Reads.as-is 𝓤 H A (Mut.mslice (Rf.rtF (Rf.fInt Sy.w32)) ty·32 13), Mut.reads-mslice 𝓤 H A W (Rf.rtF (Rf.fInt Sy.w32)) ty·32 13, Pa.refl, (ShrSlice.spares-sslice 𝓤 H A W (Rf.rtF (Rf.fInt Sy.w64)) ty·34 14, Shared.reads-sslice 𝓤 H A W (Rf.rtF (Rf.fInt Sy.w64)) ty·34 14, Pa.refl, tt)) (Reads.room-gone 𝓤 H A Sy.tyUnit) (tt, (tt, tt)) Pa.refl) (Ty.g-pre 𝓤 H A W 𝓣 E G96 G97 b46 Δ0 (Ty.pass T96 T97 s92) at36 (Sc.g-room 𝓤 H A W E G96 32 (Sy.tyStruct (Li._∷_ 38 (Li._∷_ 91 (Li._∷_ 93 Li.[]))) (Sy.tcons ty·34 (Sy.tcons (Sy.tyInt Sy.w64) Sy.tnil))) (Shared.room-sslice 𝓤 H A W (Rf.rtF (Rf.fInt Sy.w64)) ty·34 14)) (Ty.g-pre 𝓤 H A W 𝓣 E G97 G98 b46 Δ0 (Ty.pass T97 T98 s93) at35 (Sc.g-room 𝓤 H A W E G97 28 Sy.tyUnit (Sc.room-sc 𝓤 H A W Ro.sUnit)) (Ty.g-pre 𝓤 H A W 𝓣 E G98 G99 b46 Δ0 (λ Ψ. Ψ) at34 (Lifetime.g-end 𝓤 H A W E G98 13 Pa.refl) (Ty.g-pre 𝓤 H A W 𝓣 E G99 G100 b46 Δ0 (Ty.both s95) at33 (Relend.g-back-sl 𝓤 H A W E (Rf.rtF (Rf.fInt Sy.w32)) G99 30 2 1 13 ty·33 ty·32 (Ro.lease (κs .1 .0) (qs .1 .0)) (λ x. x) (λ x. x) (Reads.as-is 𝓤 H A row·16) (Reads.as-is 𝓤 H A (Relend.mslice-owed (Rf.rtF (Rf.fInt Sy.w32)) ty·33 1 13 (Ro.lease (κs .1 .0) (qs .1 .0)))) Pa.refl Pa.refl) (Ty.g-pre 𝓤 H A W 𝓣 E G100 G100 b46 Δ0 (Ty.give s96) at32 (Know.g-sl-known 𝓤 H A W (Rf.fInt Sy.w32) E G100 2 1 ty·33 (Ro.lease (κs .1 .0) (qs .1 .0)) 0 (λ x. x) record { fits = Dec'.lit< tt } (Reads.as-is 𝓤 H A row·11) Pa.refl tt) (Ty.g-pre 𝓤 H A W 𝓣 E G100 G102 b46 Δ0 (λ Ψ. Ψ) at31 (Lifetime.g-forget 𝓤 H A W E G100 13 Ro.dead Pa.refl) (Ty.g-pre 𝓤 H A W 𝓣 E G102 G103 b46 Δ0 (λ Ψ. Ψ) at30 (Lifetime.g-end 𝓤 H A W E G102 14 Pa.refl) (Ty.g-pre 𝓤 H A W 𝓣 E G103 G104 b46 Δ0 (Ty.pass T100 T80 s99) at29 (Reshare.g-back-sl-shr 𝓤 H A W E (Rf.rtF (Rf.fInt Sy.w64)) G103 3 2 14 ty·35 (Ro.lease (κs .1 .1 .0) (qs .1 .1 .0)) (λ x. x) (Reads.as-is 𝓤 H A (Reshare.mslice-owedS (Rf.rtF (Rf.fInt Sy.w64)) ty·35 2 14 (Ro.lease (κs .1 .1 .0) (qs .1 .1 .0)))) Pa.refl Pa.refl) (Ty.g-pre 𝓤 H A W 𝓣 E G104 G81 b46 Δ0 (λ Ψ. Ψ) at28 (Lifetime.g-forget 𝓤 H A W E G104 14 Ro.dead Pa.refl) (Ty.s-seq 𝓤 H A W 𝓣 E G81 G85 b44 b9 Δ0 (Ty.pass T80 T85 s101) at27 (Sc.t-use 𝓤 H A W E 𝓣 G81 (Sc.oInt Sy.w64 0) 0 row·10 (Sy.tyInt Sy.w64) (Ro.valS (Ro.sInt Sy.w64)) (Ro.sInt Sy.w64 .of) tt (Reads.room-gone 𝓤 H A (Sy.tyInt Sy.w64)) (Sc.holds-sc 𝓤 H A W (Ro.sInt Sy.w64)) Pa.refl (λ u. Pa.refl) λ u. tt) (Ty.g-pre 𝓤 H A W 𝓣 E G85 G86 b9 Δ0 (Ty.pass T85 T86 s102) at26 (Sc.g-room 𝓤 H A W E G85 6 (Sy.tyInt Sy.w64) (Sc.room-sc 𝓤 H A W (Ro.sInt Sy.w64))) (Ty.g-pre 𝓤 H A W 𝓣 E G86 G87 b9 Δ0 (Ty.pass T86 T87 s103) at25 (Sc.g-room 𝓤 H A W E G86 7 (Sy.tyInt Sy.w64) (Sc.room-sc 𝓤 H A W (Ro.sInt Sy.w64))) (Ty.g-pre 𝓤 H A W 𝓣 E G87 G1 b9 Δ0 (Ty.pass T87 T1 s104) at24 (Sc.g-room 𝓤 H A W E G87 8 (Sy.tyInt Sy.w64) (Sc.room-sc 𝓤 H A W (Ro.sInt Sy.w64))) (Ty.t-return 𝓤 H A W 𝓣 E Δ0 tt))))))))))))))))))))))))))))))))))))))))))))))))))))))))))))))))))))))))))))))))))))))))))))))
+          typed = (Ty.g-pre 𝓤 H A W 𝓣 E G0 G0 b78 Δ0 (Ty.give s0) at118 (Know.g-shs-known 𝓤 H A W (Rf.fInt Sy.w8) E G0 1 0 ty·39 (Ro.lease (κs .0) (qs .0)) 0 (λ x. x) record { fits = Dec'.lit< tt } (Reads'.as-is 𝓤 H A row·5) Pa.refl tt) (Ty.g-pre 𝓤 H A W 𝓣 E G0 G0 b78 Δ0 (Ty.give s1) at117 (Know.g-sl-known 𝓤 H A W (Rf.fInt Sy.w32) E G0 2 1 ty·33 (Ro.lease (κs .1 .0) (qs .1 .0)) 0 (λ x. x) record { fits = Dec'.lit< tt } (Reads'.as-is 𝓤 H A row·11) Pa.refl tt) (Ty.g-pre 𝓤 H A W 𝓣 E G0 G0 b78 Δ0 (Ty.give s2) at116 (Know.g-sl-known 𝓤 H A W (Rf.fInt Sy.w64) E G0 3 2 ty·35 (Ro.lease (κs .1 .1 .0) (qs .1 .1 .0)) 0 (λ x. x) record { fits = Dec'.lit< tt } (Reads'.as-is 𝓤 H A row·12) Pa.refl tt) (Ty.g-pre 𝓤 H A W 𝓣 E G0 G5 b78 Δ0 (λ Ψ. Ψ) at115 (Lifetime.g-begin 𝓤 H A W E G0 4 (tt, (tt, (tt, (tt, (tt, (tt, (tt, (tt, (tt, (tt, (tt, (tt, (tt, (tt, (tt, (tt, (tt, (tt, (tt, (tt, (tt, (tt, (tt, (tt, (tt, (tt, (tt, (tt, (tt, (tt, (tt, (tt, (tt, tt)))))))))))))))))))))))))))))))))) (Ty.s-seq 𝓤 H A W 𝓣 E G5 G6 b0 b77 Δ0 (Ty.give s4) at114 (Relend.t-sl-relend 𝓤 H A W E (Rf.rtF (Rf.fInt Sy.w32)) 𝓣 G5 2 9 1 4 ty·33 ty·32 (Ro.lease (κs .1 .0) (qs .1 .0)) 0 (λ x. x) (Reads'.as-is 𝓤 H A row·11) (Reads'.room-gone 𝓤 H A ty·32) Pa.refl tt Pa.refl Pa.refl Pa.refl λ b o. tt) (Ty.s-seq 𝓤 H A W 𝓣 E G6 G7 b1 b76 Δ0 (Ty.ask s5) at113 (Relend.t-sl-aggregate 𝓤 H A W E (Rf.rtF (Rf.fInt Sy.w32)) 𝓣 (Relend.asMut (Rf.rtF (Rf.fInt Sy.w32))) G6 9 10 4 ty·32 ty·32 (λ x. x) (Sc.oFld 2 (Li._∷_ (Sy.field 1) Li.[]) (Sy.tyInt Sy.w64) 8 λ v. Shared.lenV (v .0)) (Reads'.as-is 𝓤 H A (Relend.msptr (Rf.rtF (Rf.fInt Sy.w32)) ty·32 4)) (Reads'.room-gone 𝓤 H A (Sy.tyStruct (Li._∷_ 38 (Li._∷_ 91 (Li._∷_ 93 Li.[]))) (Sy.tcons ty·32 (Sy.tcons (Sy.tyInt Sy.w64) Sy.tnil)))) (Relend.reads-owed-len 𝓤 H A W (Rf.rtF (Rf.fInt Sy.w32)) ty·33 1 4 (Ro.lease (κs .1 .0) (qs .1 .0)) 8 Pa.refl, Pa.refl) Pa.refl Pa.refl λ b o k. tt) (Ty.g-pre 𝓤 H A W 𝓣 E G7 G8 b76 Δ0 (λ Ψ. Ψ) at112 (Lifetime.g-begin 𝓤 H A W E G7 5 (tt, (tt, ((tt, tt), (tt, (tt, (tt, (tt, (tt, (tt, (tt, (tt, (tt, (tt, (tt, (tt, (tt, (tt, (tt, (tt, (tt, (tt, (tt, (tt, (tt, (tt, (tt, (tt, (tt, (tt, (tt, (tt, (tt, (tt, tt)))))))))))))))))))))))))))))))))) (Ty.s-seq 𝓤 H A W 𝓣 E G8 G9 b2 b75 Δ0 (Ty.give s7) at111 (Relend.t-sl-relend 𝓤 H A W E (Rf.rtF (Rf.fInt Sy.w64)) 𝓣 G8 3 11 2 5 ty·35 ty·38 (Ro.lease (κs .1 .1 .0) (qs .1 .1 .0)) 0 (λ x. x) (Reads'.as-is 𝓤 H A row·12) (Reads'.room-gone 𝓤 H A ty·38) Pa.refl tt Pa.refl Pa.refl Pa.refl λ b o. tt) (Ty.s-seq 𝓤 H A W 𝓣 E G9 G10 b3 b74 Δ0 (Ty.ask s8) at110 (Relend.t-sl-aggregate 𝓤 H A W E (Rf.rtF (Rf.fInt Sy.w64)) 𝓣 (Relend.asMut (Rf.rtF (Rf.fInt Sy.w64))) G9 11 12 5 ty·38 ty·38 (λ x. x) (Sc.oFld 3 (Li._∷_ (Sy.field 1) Li.[]) (Sy.tyInt Sy.w64) 8 λ v. Shared.lenV (v .0)) (Reads'.as-is 𝓤 H A (Relend.msptr (Rf.rtF (Rf.fInt Sy.w64)) ty·38 5)) (Reads'.room-gone 𝓤 H A (Sy.tyStruct (Li._∷_ 38 (Li._∷_ 91 (Li._∷_ 93 Li.[]))) (Sy.tcons ty·38 (Sy.tcons (Sy.tyInt Sy.w64) Sy.tnil)))) (Relend.reads-owed-len 𝓤 H A W (Rf.rtF (Rf.fInt Sy.w64)) ty·35 2 5 (Ro.lease (κs .1 .1 .0) (qs .1 .1 .0)) 8 Pa.refl, Pa.refl) Pa.refl Pa.refl λ b o k. tt) (Ty.g-pre 𝓤 H A W 𝓣 E G10 G11 b74 Δ0 (λ Ψ. Ψ) at109 (Lifetime.g-begin 𝓤 H A W E G10 6 (tt, (tt, ((tt, tt), ((tt, tt), (tt, (tt, (tt, (tt, (tt, (tt, (tt, (tt, (tt, (tt, (tt, (tt, (tt, (tt, (tt, (tt, (tt, (tt, (tt, (tt, (tt, (tt, (tt, (tt, (tt, (tt, (tt, (tt, (tt, tt)))))))))))))))))))))))))))))))))) (Ty.s-seq 𝓤 H A W 𝓣 E G11 G12 b4 b73 Δ0 (Ty.give s10) at108 (Relend.t-sl-relend 𝓤 H A W E Gap_.row 𝓣 G11 4 13 3 6 ty·37 ty·36 (Ro.lease (κs .1 .1 .1 .0) (qs .1 .1 .1 .0)) 0 (λ x. x) (Reads'.as-is 𝓤 H A row·13) (Reads'.room-gone 𝓤 H A ty·36) Pa.refl tt Pa.refl Pa.refl Pa.refl λ b o. tt) (Ty.s-seq 𝓤 H A W 𝓣 E G12 G13 b5 b72 Δ0 (Ty.ask s11) at107 (Relend.t-sl-aggregate 𝓤 H A W E Gap_.row 𝓣 (Relend.asMut Gap_.row) G12 13 14 6 ty·36 ty·36 (λ x. x) (Sc.oFld 4 (Li._∷_ (Sy.field 1) Li.[]) (Sy.tyInt Sy.w64) 8 λ v. Shared.lenV (v .0)) (Reads'.as-is 𝓤 H A (Relend.msptr Gap_.row ty·36 6)) (Reads'.room-gone 𝓤 H A (Sy.tyStruct (Li._∷_ 38 (Li._∷_ 91 (Li._∷_ 93 Li.[]))) (Sy.tcons ty·36 (Sy.tcons (Sy.tyInt Sy.w64) Sy.tnil)))) (Relend.reads-owed-len 𝓤 H A W Gap_.row ty·37 3 6 (Ro.lease (κs .1 .1 .1 .0) (qs .1 .1 .1 .0)) 8 Pa.refl, Pa.refl) Pa.refl Pa.refl λ b o k. tt) (Ty.s-seq 𝓤 H A W 𝓣 E G13 G14 b6 b71 Δ0 (Ty.both s12) at106 (Plain.t-call-plain 𝓤 H A W 𝓣 4 ps·0 r·0 (claims· .0) (claims· .1) "requests::ask" (known .0) E (λ pos β. β) G13 (record { pos = 1; ty = Sy.tyRef (Sy.named 0) Sy.imm (Sy.tyInt Sy.w8); ref = λ x. x }, (record { pos = 10; ty = Sy.tyRef Sy.erased Sy.mut (Sy.tyInt Sy.w32); ref = λ x. x }, (record { pos = 12; ty = Sy.tyRef Sy.erased Sy.mut (Sy.tyInt Sy.w64); ref = λ x. x }, (record { pos = 14; ty = Sy.tyRef Sy.erased Sy.mut Gap_.behind; ref = λ x. x }, (record { pos = 5; st = Li.[]; d = 0; at = λ x. x }, (Num.vFld 5 (Li._∷_ (Sy.field 12) Li.[]) 96 λ x. JobCounts.struct .as-values x .1 .1 .1 .1 .1 .1 .1 .1 .1 .1 .1 .1 .0, tt)))))) 6 (Li._∷_ 0 (Li._∷_ 4 (Li._∷_ 5 (Li._∷_ 6 Li.[])))) (Call.sub-id 𝓤 H A W (G13 .slots)) (ShrSlice.spares-sslice 𝓤 H A W (Rf.rtF (Rf.fInt Sy.w8)) ty·39 0, Shared.reads-sslice 𝓤 H A W (Rf.rtF (Rf.fInt Sy.w8)) ty·39 0, Pa.refl, (Reads'.as-is 𝓤 H A row·16, Mut.reads-mslice 𝓤 H A W (Rf.rtF (Rf.fInt Sy.w32)) ty·32 4, Pa.refl, (Reads'.as-is 𝓤 H A row·23, Mut.reads-mslice 𝓤 H A W (Rf.rtF (Rf.fInt Sy.w64)) ty·38 5, Pa.refl, (Reads'.as-is 𝓤 H A (Mut.mslice Gap_.row ty·36 6), Mut.reads-mslice 𝓤 H A W Gap_.row ty·36 6, Pa.refl, ((Yields.yields-copy 𝓤 H A W (λ ρ. Unit) (Declared.row JobCounts.the-type) Pa.refl (Copies.cStruct JobCounts.the-type Laws.the-laws Laws.the-copy .copy 𝓤 H A W) row·14 (λ x. x) (λ x. x) (λ ρ told. Local.mem-whole 𝓤 H A W (Declared.row JobCounts.the-type) ρ) λ ρ told. Local.whole-mem 𝓤 H A W (Declared.row JobCounts.the-type) ρ, Pa.refl), ((Reads.reads-field 𝓤 H A W JobCounts.the-type Laws.the-laws 12 (Sy.tyInt Sy.w64) 96 Pa.refl, Pa.refl), tt)))))) (Reads'.room-gone 𝓤 H A (Sy.tyInt Sy.w64)) (tt, (tt, (tt, (tt, tt)))) Pa.refl) (Ty.g-pre 𝓤 H A W 𝓣 E G14 G15 b71 Δ0 (λ Ψ. Ψ) at105 (Lifetime.g-end 𝓤 H A W E G14 4 Pa.refl) (Ty.g-pre 𝓤 H A W 𝓣 E G15 G16 b71 Δ0 (Ty.both s14) at104 (Relend.g-back-sl 𝓤 H A W E (Rf.rtF (Rf.fInt Sy.w32)) G15 10 2 1 4 ty·33 ty·32 (Ro.lease (κs .1 .0) (qs .1 .0)) (λ x. x) (λ x. x) (Reads'.as-is 𝓤 H A row·19) (Reads'.as-is 𝓤 H A (Relend.mslice-owed (Rf.rtF (Rf.fInt Sy.w32)) ty·33 1 4 (Ro.lease (κs .1 .0) (qs .1 .0)))) Pa.refl Pa.refl) (Ty.g-pre 𝓤 H A W 𝓣 E G16 G16 b71 Δ0 (Ty.give s15) at103 (Know.g-sl-known 𝓤 H A W (Rf.fInt Sy.w32) E G16 2 1 ty·33 (Ro.lease (κs .1 .0) (qs .1 .0)) 0 (λ x. x) record { fits = Dec'.lit< tt } (Reads'.as-is 𝓤 H A row·11) Pa.refl tt) (Ty.g-pre 𝓤 H A W 𝓣 E G16 G18 b71 Δ0 (λ Ψ. Ψ) at102 (Lifetime.g-forget 𝓤 H A W E G16 4 Ro.dead Pa.refl) (Ty.g-pre 𝓤 H A W 𝓣 E G18 G19 b71 Δ0 (λ Ψ. Ψ) at101 (Lifetime.g-end 𝓤 H A W E G18 5 Pa.refl) (Ty.g-pre 𝓤 H A W 𝓣 E G19 G20 b71 Δ0 (Ty.both s18) at100 (Relend.g-back-sl 𝓤 H A W E (Rf.rtF (Rf.fInt Sy.w64)) G19 12 3 2 5 ty·35 ty·38 (Ro.lease (κs .1 .1 .0) (qs .1 .1 .0)) (λ x. x) (λ x. x) (Reads'.as-is 𝓤 H A row·31) (Reads'.as-is 𝓤 H A (Relend.mslice-owed (Rf.rtF (Rf.fInt Sy.w64)) ty·35 2 5 (Ro.lease (κs .1 .1 .0) (qs .1 .1 .0)))) Pa.refl Pa.refl) (Ty.g-pre 𝓤 H A W 𝓣 E G20 G20 b71 Δ0 (Ty.give s19) at99 (Know.g-sl-known 𝓤 H A W (Rf.fInt Sy.w64) E G20 3 2 ty·35 (Ro.lease (κs .1 .1 .0) (qs .1 .1 .0)) 0 (λ x. x) record { fits = Dec'.lit< tt } (Reads'.as-is 𝓤 H A row·12) Pa.refl tt) (Ty.g-pre 𝓤 H A W 𝓣 E G20 G22 b71 Δ0 (λ Ψ. Ψ) at98 (Lifetime.g-forget 𝓤 H A W E G20 5 Ro.dead Pa.refl) (Ty.g-pre 𝓤 H A W 𝓣 E G22 G23 b71 Δ0 (λ Ψ. Ψ) at97 (Lifetime.g-end 𝓤 H A W E G22 6 Pa.refl) (Ty.g-pre 𝓤 H A W 𝓣 E G23 G24 b71 Δ0 (Ty.both s22) at96 (Relend.g-back-sl 𝓤 H A W E Gap_.row G23 14 4 3 6 ty·37 ty·36 (Ro.lease (κs .1 .1 .1 .0) (qs .1 .1 .1 .0)) (λ x. x) (λ x. x) (Reads'.as-is 𝓤 H A row·18) (Reads'.as-is 𝓤 H A (Relend.mslice-owed Gap_.row ty·37 3 6 (Ro.lease (κs .1 .1 .1 .0) (qs .1 .1 .1 .0)))) Pa.refl Pa.refl) (Ty.g-pre 𝓤 H A W 𝓣 E G24 G25 b71 Δ0 (λ Ψ. Ψ) at95 (Lifetime.g-forget 𝓤 H A W E G24 6 Ro.dead Pa.refl) (Ty.s-seq 𝓤 H A W 𝓣 E G25 G26 b7 b70 Δ0 (Ty.ask s24) at94 (Sc.t-op2 𝓤 H A W E 𝓣 G25 Sy.ne (Sc.oAt 6 (Sy.tyInt Sy.w64) (Ro.valS (Ro.sInt Sy.w64))) (Sc.oInt Sy.w64 0) 15 (Rows.sc-here Ro.sBool) Sy.tyBool (Ro.valS Ro.sBool) (Ro.sBool .of) (Sc.reads-sc 𝓤 H A W (Ro.sInt Sy.w64), Pa.refl) tt (Reads'.room-gone 𝓤 H A Sy.tyBool) (Sc.holds-sc 𝓤 H A W Ro.sBool) Pa.refl (λ u. Pa.refl) λ u. tt) (Ty.t-seq 𝓤 H A W 𝓣 E G26 G25 b12 b69 Δ0 at7 at93 (Sc.t-cond 𝓤 H A W E 𝓣 G26 15 (λ x. x) b10 b11 Δ1 at4 at6 (Sc.reads-sc 𝓤 H A W Ro.sBool) Pa.refl (Ty.g-pre 𝓤 H A W 𝓣 E G26 G28 b10 Δ1 (Ty.pass T26 T28 s25) at3 (Sc.g-room 𝓤 H A W E G26 5 Laws.mir (Local.room-whole 𝓤 H A W (Declared.row JobCounts.the-type) Laws.mir Pa.refl)) (Ty.g-pre 𝓤 H A W 𝓣 E G28 G29 b10 Δ1 (Ty.pass T28 T29 s26) at2 (Sc.g-room 𝓤 H A W E G28 15 Sy.tyBool (Sc.room-sc 𝓤 H A W Ro.sBool)) (Ty.s-seq 𝓤 H A W 𝓣 E G29 G30 b8 b9 Δ1 (Ty.pass T29 T30 s27) at1 (Sc.t-use 𝓤 H A W E 𝓣 G29 (Sc.oAt 6 (Sy.tyInt Sy.w64) (Ro.valS (Ro.sInt Sy.w64))) 0 row·10 (Sy.tyInt Sy.w64) (Ro.valS (Ro.sInt Sy.w64)) (Ro.sInt Sy.w64 .of) (Sc.reads-sc 𝓤 H A W (Ro.sInt Sy.w64), Pa.refl) (Reads'.room-gone 𝓤 H A (Sy.tyInt Sy.w64)) (Sc.holds-sc 𝓤 H A W (Ro.sInt Sy.w64)) Pa.refl (λ u. Pa.refl) λ u. tt) (Ty.g-pre 𝓤 H A W 𝓣 E G30 G1 b9 Δ1 (Ty.pass T30 T1 s28) at0 (Sc.g-room 𝓤 H A W E G30 6 (Sy.tyInt Sy.w64) (Sc.room-sc 𝓤 H A W (Ro.sInt Sy.w64))) (Ty.t-return 𝓤 H A W 𝓣 E Δ1 tt))))) (Ty.g-pre 𝓤 H A W 𝓣 E G26 G25 b11 Δ1 (Ty.pass T26 T24 s29) at5 (Sc.g-room 𝓤 H A W E G26 15 Sy.tyBool (Sc.room-sc 𝓤 H A W Ro.sBool)) (Ty.t-skip 𝓤 H A W 𝓣 E Δ1 tt))) (Ty.g-pre 𝓤 H A W 𝓣 E G25 G33 b69 Δ0 (λ Ψ. Ψ) at92 (Lifetime.g-begin 𝓤 H A W E G25 7 (tt, (tt, (tt, (tt, (tt, (tt, (tt, (tt, (tt, (tt, (tt, (tt, (tt, (tt, (tt, (tt, (tt, (tt, (tt, (tt, (tt, (tt, (tt, (tt, (tt, (tt, (tt, (tt, (tt, (tt, (tt, (tt, (tt, tt)))))))))))))))))))))))))))))))))) (Ty.s-seq 𝓤 H A W 𝓣 E G33 G34 b13 b68 Δ0 (Ty.give s31) at91 (Relend.t-sl-relend 𝓤 H A W E (Rf.rtF (Rf.fInt Sy.w32)) 𝓣 G33 2 16 1 7 ty·33 ty·32 (Ro.lease (κs .1 .0) (qs .1 .0)) 0 (λ x. x) (Reads'.as-is 𝓤 H A row·11) (Reads'.room-gone 𝓤 H A ty·32) Pa.refl tt Pa.refl Pa.refl Pa.refl λ b o. tt) (Ty.s-seq 𝓤 H A W 𝓣 E G34 G35 b14 b67 Δ0 (Ty.ask s32) at90 (Relend.t-sl-aggregate 𝓤 H A W E (Rf.rtF (Rf.fInt Sy.w32)) 𝓣 (Relend.asMut (Rf.rtF (Rf.fInt Sy.w32))) G34 16 17 7 ty·32 ty·32 (λ x. x) (Sc.oFld 2 (Li._∷_ (Sy.field 1) Li.[]) (Sy.tyInt Sy.w64) 8 λ v. Shared.lenV (v .0)) (Reads'.as-is 𝓤 H A (Relend.msptr (Rf.rtF (Rf.fInt Sy.w32)) ty·32 7)) (Reads'.room-gone 𝓤 H A (Sy.tyStruct (Li._∷_ 38 (Li._∷_ 91 (Li._∷_ 93 Li.[]))) (Sy.tcons ty·32 (Sy.tcons (Sy.tyInt Sy.w64) Sy.tnil)))) (Relend.reads-owed-len 𝓤 H A W (Rf.rtF (Rf.fInt Sy.w32)) ty·33 1 7 (Ro.lease (κs .1 .0) (qs .1 .0)) 8 Pa.refl, Pa.refl) Pa.refl Pa.refl λ b o k. tt) (Ty.g-pre 𝓤 H A W 𝓣 E G35 G36 b67 Δ0 (λ Ψ. Ψ) at89 (Lifetime.g-begin 𝓤 H A W E G35 8 (tt, (tt, ((tt, tt), (tt, (tt, (tt, (tt, (tt, (tt, (tt, (tt, (tt, (tt, (tt, (tt, (tt, (tt, (tt, (tt, (tt, (tt, (tt, (tt, (tt, (tt, (tt, (tt, (tt, (tt, (tt, (tt, (tt, (tt, tt)))))))))))))))))))))))))))))))))) (Ty.s-seq 𝓤 H A W 𝓣 E G36 G37 b15 b66 Δ0 (Ty.give s34) at88 (Reshare.t-sl-reshare 𝓤 H A W E (Rf.rtF (Rf.fInt Sy.w64)) 𝓣 G36 3 18 2 8 ty·35 ty·34 (Ro.lease (κs .1 .1 .0) (qs .1 .1 .0)) 0 (λ x. x) (Reads'.as-is 𝓤 H A row·12) (Reads'.room-gone 𝓤 H A ty·34) Pa.refl tt Pa.refl Pa.refl Pa.refl λ b o. tt) (Ty.s-seq 𝓤 H A W 𝓣 E G37 G38 b16 b65 Δ0 (Ty.ask s35) at87 (Relend.t-sl-aggregate 𝓤 H A W E (Rf.rtF (Rf.fInt Sy.w64)) 𝓣 (Relend.asShr (Rf.rtF (Rf.fInt Sy.w64))) G37 18 19 8 ty·34 ty·34 (λ x. x) (Sc.oFld 3 (Li._∷_ (Sy.field 1) Li.[]) (Sy.tyInt Sy.w64) 8 λ v. Shared.lenV (v .0)) (Reads'.as-is 𝓤 H A (Relend.ssptr (Rf.rtF (Rf.fInt Sy.w64)) ty·34 8)) (Reads'.room-gone 𝓤 H A (Sy.tyStruct (Li._∷_ 38 (Li._∷_ 91 (Li._∷_ 93 Li.[]))) (Sy.tcons ty·34 (Sy.tcons (Sy.tyInt Sy.w64) Sy.tnil)))) (Reshare.reads-owedS-len 𝓤 H A W (Rf.rtF (Rf.fInt Sy.w64)) ty·35 2 8 (Ro.lease (κs .1 .1 .0) (qs .1 .1 .0)) 8 Pa.refl, Pa.refl) Pa.refl Pa.refl λ b o k. tt) (Ty.g-pre 𝓤 H A W 𝓣 E G38 G39 b65 Δ0 (λ Ψ. Ψ) at86 (Lifetime.g-begin 𝓤 H A W E G38 9 (tt, (tt, ((tt, tt), ((tt, tt), (tt, (tt, (tt, (tt, (tt, (tt, (tt, (tt, (tt, (tt, (tt, (tt, (tt, (tt, (tt, (tt, (tt, (tt, (tt, (tt, (tt, (tt, (tt, (tt, (tt, (tt, (tt, (tt, (tt, tt)))))))))))))))))))))))))))))))))) (Ty.s-seq 𝓤 H A W 𝓣 E G39 G40 b17 b64 Δ0 (Ty.give s37) at85 (Relend.t-sl-relend 𝓤 H A W E Gap_.row 𝓣 G39 4 20 3 9 ty·37 ty·36 (Ro.lease (κs .1 .1 .1 .0) (qs .1 .1 .1 .0)) 0 (λ x. x) (Reads'.as-is 𝓤 H A row·13) (Reads'.room-gone 𝓤 H A ty·36) Pa.refl tt Pa.refl Pa.refl Pa.refl λ b o. tt) (Ty.s-seq 𝓤 H A W 𝓣 E G40 G41 b18 b63 Δ0 (Ty.ask s38) at84 (Relend.t-sl-aggregate 𝓤 H A W E Gap_.row 𝓣 (Relend.asMut Gap_.row) G40 20 21 9 ty·36 ty·36 (λ x. x) (Sc.oFld 4 (Li._∷_ (Sy.field 1) Li.[]) (Sy.tyInt Sy.w64) 8 λ v. Shared.lenV (v .0)) (Reads'.as-is 𝓤 H A (Relend.msptr Gap_.row ty·36 9)) (Reads'.room-gone 𝓤 H A (Sy.tyStruct (Li._∷_ 38 (Li._∷_ 91 (Li._∷_ 93 Li.[]))) (Sy.tcons ty·36 (Sy.tcons (Sy.tyInt Sy.w64) Sy.tnil)))) (Relend.reads-owed-len 𝓤 H A W Gap_.row ty·37 3 9 (Ro.lease (κs .1 .1 .1 .0) (qs .1 .1 .1 .0)) 8 Pa.refl, Pa.refl) Pa.refl Pa.refl λ b o k. tt) (Ty.s-seq 𝓤 H A W 𝓣 E G41 G42 b19 b62 Δ0 (Ty.both s39) at83 (Plain.t-call-plain 𝓤 H A W 𝓣 4 ps·1 r·1 (claims· .2) (claims· .3) "building::build_all" (known .1) E (λ pos β. β) G41 (record { pos = 1; ty = Sy.tyRef (Sy.named 0) Sy.imm (Sy.tyInt Sy.w8); ref = λ x. x }, (record { pos = 17; ty = Sy.tyRef Sy.erased Sy.mut (Sy.tyInt Sy.w32); ref = λ x. x }, (record { pos = 19; ty = Sy.tyRef Sy.erased Sy.imm (Sy.tyInt Sy.w64); ref = λ x. x }, (record { pos = 21; ty = Sy.tyRef Sy.erased Sy.mut Gap_.behind; ref = λ x. x }, (Num.vFld 5 (Li._∷_ (Sy.field 9) Li.[]) 72 λ x. JobCounts.struct .as-values x .1 .1 .1 .1 .1 .1 .1 .1 .1 .0, tt))))) 7 (Li._∷_ 0 (Li._∷_ 7 (Li._∷_ 8 (Li._∷_ 9 Li.[])))) (Call.sub-id 𝓤 H A W (G41 .slots)) (ShrSlice.spares-sslice 𝓤 H A W (Rf.rtF (Rf.fInt Sy.w8)) ty·39 0, Shared.reads-sslice 𝓤 H A W (Rf.rtF (Rf.fInt Sy.w8)) ty·39 0, Pa.refl, (Reads'.as-is 𝓤 H A row·30, Mut.reads-mslice 𝓤 H A W (Rf.rtF (Rf.fInt Sy.w32)) ty·32 7, Pa.refl, (ShrSlice.spares-sslice 𝓤 H A W (Rf.rtF (Rf.fInt Sy.w64)) ty·34 8, Shared.reads-sslice 𝓤 H A W (Rf.rtF (Rf.fInt Sy.w64)) ty·34 8, Pa.refl, (Reads'.as-is 𝓤 H A (Mut.mslice Gap_.row ty·36 9), Mut.reads-mslice 𝓤 H A W Gap_.row ty·36 9, Pa.refl, ((Reads.reads-field 𝓤 H A W JobCounts.the-type Laws.the-laws 9 (Sy.tyInt Sy.w64) 72 Pa.refl, Pa.refl), tt))))) (Reads'.room-gone 𝓤 H A (Sy.tyInt Sy.w64)) (tt, (tt, (tt, (tt, tt)))) Pa.refl) (Ty.g-pre 𝓤 H A W 𝓣 E G42 G43 b62 Δ0 (Ty.pass T42 T43 s40) at82 (Sc.g-room 𝓤 H A W E G42 19 (Sy.tyStruct (Li._∷_ 38 (Li._∷_ 91 (Li._∷_ 93 Li.[]))) (Sy.tcons ty·34 (Sy.tcons (Sy.tyInt Sy.w64) Sy.tnil))) (Shared.room-sslice 𝓤 H A W (Rf.rtF (Rf.fInt Sy.w64)) ty·34 8)) (Ty.g-pre 𝓤 H A W 𝓣 E G43 G44 b62 Δ0 (λ Ψ. Ψ) at81 (Lifetime.g-end 𝓤 H A W E G43 7 Pa.refl) (Ty.g-pre 𝓤 H A W 𝓣 E G44 G45 b62 Δ0 (Ty.both s42) at80 (Relend.g-back-sl 𝓤 H A W E (Rf.rtF (Rf.fInt Sy.w32)) G44 17 2 1 7 ty·33 ty·32 (Ro.lease (κs .1 .0) (qs .1 .0)) (λ x. x) (λ x. x) (Reads'.as-is 𝓤 H A row·19) (Reads'.as-is 𝓤 H A (Relend.mslice-owed (Rf.rtF (Rf.fInt Sy.w32)) ty·33 1 7 (Ro.lease (κs .1 .0) (qs .1 .0)))) Pa.refl Pa.refl) (Ty.g-pre 𝓤 H A W 𝓣 E G45 G45 b62 Δ0 (Ty.give s43) at79 (Know.g-sl-known 𝓤 H A W (Rf.fInt Sy.w32) E G45 2 1 ty·33 (Ro.lease (κs .1 .0) (qs .1 .0)) 0 (λ x. x) record { fits = Dec'.lit< tt } (Reads'.as-is 𝓤 H A row·11) Pa.refl tt) (Ty.g-pre 𝓤 H A W 𝓣 E G45 G47 b62 Δ0 (λ Ψ. Ψ) at78 (Lifetime.g-forget 𝓤 H A W E G45 7 Ro.dead Pa.refl) (Ty.g-pre 𝓤 H A W 𝓣 E G47 G48 b62 Δ0 (λ Ψ. Ψ) at77 (Lifetime.g-end 𝓤 H A W E G47 8 Pa.refl) (Ty.g-pre 𝓤 H A W 𝓣 E G48 G49 b62 Δ0 (Ty.pass T45 T49 s46) at76 (Reshare.g-back-sl-shr 𝓤 H A W E (Rf.rtF (Rf.fInt Sy.w64)) G48 3 2 8 ty·35 (Ro.lease (κs .1 .1 .0) (qs .1 .1 .0)) (λ x. x) (Reads'.as-is 𝓤 H A (Reshare.mslice-owedS (Rf.rtF (Rf.fInt Sy.w64)) ty·35 2 8 (Ro.lease (κs .1 .1 .0) (qs .1 .1 .0)))) Pa.refl Pa.refl) (Ty.g-pre 𝓤 H A W 𝓣 E G49 G50 b62 Δ0 (λ Ψ. Ψ) at75 (Lifetime.g-forget 𝓤 H A W E G49 8 Ro.dead Pa.refl) (Ty.g-pre 𝓤 H A W 𝓣 E G50 G51 b62 Δ0 (λ Ψ. Ψ) at74 (Lifetime.g-end 𝓤 H A W E G50 9 Pa.refl) (Ty.g-pre 𝓤 H A W 𝓣 E G51 G52 b62 Δ0 (Ty.both s49) at73 (Relend.g-back-sl 𝓤 H A W E Gap_.row G51 21 4 3 9 ty·37 ty·36 (Ro.lease (κs .1 .1 .1 .0) (qs .1 .1 .1 .0)) (λ x. x) (λ x. x) (Reads'.as-is 𝓤 H A row·18) (Reads'.as-is 𝓤 H A (Relend.mslice-owed Gap_.row ty·37 3 9 (Ro.lease (κs .1 .1 .1 .0) (qs .1 .1 .1 .0)))) Pa.refl Pa.refl) (Ty.g-pre 𝓤 H A W 𝓣 E G52 G53 b62 Δ0 (λ Ψ. Ψ) at72 (Lifetime.g-forget 𝓤 H A W E G52 9 Ro.dead Pa.refl) (Ty.s-seq 𝓤 H A W 𝓣 E G53 G54 b20 b61 Δ0 (Ty.ask s51) at71 (Sc.t-op2 𝓤 H A W E 𝓣 G53 Sy.ne (Sc.oAt 7 (Sy.tyInt Sy.w64) (Ro.valS (Ro.sInt Sy.w64))) (Sc.oInt Sy.w64 0) 15 (Rows.sc-here Ro.sBool) Sy.tyBool (Ro.valS Ro.sBool) (Ro.sBool .of) (Sc.reads-sc 𝓤 H A W (Ro.sInt Sy.w64), Pa.refl) tt (Reads'.room-gone 𝓤 H A Sy.tyBool) (Sc.holds-sc 𝓤 H A W Ro.sBool) Pa.refl (λ u. Pa.refl) λ u. tt) (Ty.t-seq 𝓤 H A W 𝓣 E G54 G53 b25 b60 Δ0 at16 at70 (Sc.t-cond 𝓤 H A W E 𝓣 G54 15 (λ x. x) b23 b11 Δ2 at13 at15 (Sc.reads-sc 𝓤 H A W Ro.sBool) Pa.refl (Ty.g-pre 𝓤 H A W 𝓣 E G54 G56 b23 Δ2 (Ty.pass T54 T56 s52) at12 (Sc.g-room 𝓤 H A W E G54 5 Laws.mir (Local.room-whole 𝓤 H A W (Declared.row JobCounts.the-type) Laws.mir Pa.refl)) (Ty.g-pre 𝓤 H A W 𝓣 E G56 G57 b23 Δ2 (Ty.pass T56 T57 s53) at11 (Sc.g-room 𝓤 H A W E G56 15 Sy.tyBool (Sc.room-sc 𝓤 H A W Ro.sBool)) (Ty.s-seq 𝓤 H A W 𝓣 E G57 G58 b21 b9 Δ2 (Ty.pass T57 T58 s54) at10 (Sc.t-use 𝓤 H A W E 𝓣 G57 (Sc.oAt 7 (Sy.tyInt Sy.w64) (Ro.valS (Ro.sInt Sy.w64))) 0 row·10 (Sy.tyInt Sy.w64) (Ro.valS (Ro.sInt Sy.w64)) (Ro.sInt Sy.w64 .of) (Sc.reads-sc 𝓤 H A W (Ro.sInt Sy.w64), Pa.refl) (Reads'.room-gone 𝓤 H A (Sy.tyInt Sy.w64)) (Sc.holds-sc 𝓤 H A W (Ro.sInt Sy.w64)) Pa.refl (λ u. Pa.refl) λ u. tt) (Ty.g-pre 𝓤 H A W 𝓣 E G58 G59 b9 Δ2 (Ty.pass T58 T59 s55) at9 (Sc.g-room 𝓤 H A W E G58 6 (Sy.tyInt Sy.w64) (Sc.room-sc 𝓤 H A W (Ro.sInt Sy.w64))) (Ty.g-pre 𝓤 H A W 𝓣 E G59 G1 b9 Δ2 (Ty.pass T59 T1 s56) at8 (Sc.g-room 𝓤 H A W E G59 7 (Sy.tyInt Sy.w64) (Sc.room-sc 𝓤 H A W (Ro.sInt Sy.w64))) (Ty.t-return 𝓤 H A W 𝓣 E Δ2 tt)))))) (Ty.g-pre 𝓤 H A W 𝓣 E G54 G53 b11 Δ2 (Ty.pass T54 T52 s57) at14 (Sc.g-room 𝓤 H A W E G54 15 Sy.tyBool (Sc.room-sc 𝓤 H A W Ro.sBool)) (Ty.t-skip 𝓤 H A W 𝓣 E Δ2 tt))) (Ty.g-pre 𝓤 H A W 𝓣 E G53 G62 b60 Δ0 (λ Ψ. Ψ) at69 (Lifetime.g-begin 𝓤 H A W E G53 10 (tt, (tt, (tt, (tt, (tt, (tt, (tt, (tt, (tt, (tt, (tt, (tt, (tt, (tt, (tt, (tt, (tt, (tt, (tt, (tt, (tt, (tt, (tt, (tt, (tt, (tt, (tt, (tt, (tt, (tt, (tt, (tt, (tt, tt)))))))))))))))))))))))))))))))))) (Ty.s-seq 𝓤 H A W 𝓣 E G62 G63 b26 b59 Δ0 (Ty.give s59) at68 (Relend.t-sl-relend 𝓤 H A W E (Rf.rtF (Rf.fInt Sy.w32)) 𝓣 G62 2 22 1 10 ty·33 ty·32 (Ro.lease (κs .1 .0) (qs .1 .0)) 0 (λ x. x) (Reads'.as-is 𝓤 H A row·11) (Reads'.room-gone 𝓤 H A ty·32) Pa.refl tt Pa.refl Pa.refl Pa.refl λ b o. tt) (Ty.s-seq 𝓤 H A W 𝓣 E G63 G64 b27 b58 Δ0 (Ty.ask s60) at67 (Relend.t-sl-aggregate 𝓤 H A W E (Rf.rtF (Rf.fInt Sy.w32)) 𝓣 (Relend.asMut (Rf.rtF (Rf.fInt Sy.w32))) G63 22 23 10 ty·32 ty·32 (λ x. x) (Sc.oFld 2 (Li._∷_ (Sy.field 1) Li.[]) (Sy.tyInt Sy.w64) 8 λ v. Shared.lenV (v .0)) (Reads'.as-is 𝓤 H A (Relend.msptr (Rf.rtF (Rf.fInt Sy.w32)) ty·32 10)) (Reads'.room-gone 𝓤 H A (Sy.tyStruct (Li._∷_ 38 (Li._∷_ 91 (Li._∷_ 93 Li.[]))) (Sy.tcons ty·32 (Sy.tcons (Sy.tyInt Sy.w64) Sy.tnil)))) (Relend.reads-owed-len 𝓤 H A W (Rf.rtF (Rf.fInt Sy.w32)) ty·33 1 10 (Ro.lease (κs .1 .0) (qs .1 .0)) 8 Pa.refl, Pa.refl) Pa.refl Pa.refl λ b o k. tt) (Ty.g-pre 𝓤 H A W 𝓣 E G64 G65 b58 Δ0 (λ Ψ. Ψ) at66 (Lifetime.g-begin 𝓤 H A W E G64 11 (tt, (tt, ((tt, tt), (tt, (tt, (tt, (tt, (tt, (tt, (tt, (tt, (tt, (tt, (tt, (tt, (tt, (tt, (tt, (tt, (tt, (tt, (tt, (tt, (tt, (tt, (tt, (tt, (tt, (tt, (tt, (tt, (tt, (tt, tt)))))))))))))))))))))))))))))))))) (Ty.s-seq 𝓤 H A W 𝓣 E G65 G66 b28 b57 Δ0 (Ty.give s62) at65 (Reshare.t-sl-reshare 𝓤 H A W E (Rf.rtF (Rf.fInt Sy.w64)) 𝓣 G65 3 24 2 11 ty·35 ty·34 (Ro.lease (κs .1 .1 .0) (qs .1 .1 .0)) 0 (λ x. x) (Reads'.as-is 𝓤 H A row·12) (Reads'.room-gone 𝓤 H A ty·34) Pa.refl tt Pa.refl Pa.refl Pa.refl λ b o. tt) (Ty.s-seq 𝓤 H A W 𝓣 E G66 G67 b29 b56 Δ0 (Ty.ask s63) at64 (Relend.t-sl-aggregate 𝓤 H A W E (Rf.rtF (Rf.fInt Sy.w64)) 𝓣 (Relend.asShr (Rf.rtF (Rf.fInt Sy.w64))) G66 24 25 11 ty·34 ty·34 (λ x. x) (Sc.oFld 3 (Li._∷_ (Sy.field 1) Li.[]) (Sy.tyInt Sy.w64) 8 λ v. Shared.lenV (v .0)) (Reads'.as-is 𝓤 H A (Relend.ssptr (Rf.rtF (Rf.fInt Sy.w64)) ty·34 11)) (Reads'.room-gone 𝓤 H A (Sy.tyStruct (Li._∷_ 38 (Li._∷_ 91 (Li._∷_ 93 Li.[]))) (Sy.tcons ty·34 (Sy.tcons (Sy.tyInt Sy.w64) Sy.tnil)))) (Reshare.reads-owedS-len 𝓤 H A W (Rf.rtF (Rf.fInt Sy.w64)) ty·35 2 11 (Ro.lease (κs .1 .1 .0) (qs .1 .1 .0)) 8 Pa.refl, Pa.refl) Pa.refl Pa.refl λ b o k. tt) (Ty.g-pre 𝓤 H A W 𝓣 E G67 G68 b56 Δ0 (λ Ψ. Ψ) at63 (Lifetime.g-begin 𝓤 H A W E G67 12 (tt, (tt, ((tt, tt), ((tt, tt), (tt, (tt, (tt, (tt, (tt, (tt, (tt, (tt, (tt, (tt, (tt, (tt, (tt, (tt, (tt, (tt, (tt, (tt, (tt, (tt, (tt, (tt, (tt, (tt, (tt, (tt, (tt, (tt, (tt, tt)))))))))))))))))))))))))))))))))) (Ty.s-seq 𝓤 H A W 𝓣 E G68 G69 b30 b55 Δ0 (Ty.give s65) at62 (Relend.t-sl-relend 𝓤 H A W E Gap_.row 𝓣 G68 4 26 3 12 ty·37 ty·36 (Ro.lease (κs .1 .1 .1 .0) (qs .1 .1 .1 .0)) 0 (λ x. x) (Reads'.as-is 𝓤 H A row·13) (Reads'.room-gone 𝓤 H A ty·36) Pa.refl tt Pa.refl Pa.refl Pa.refl λ b o. tt) (Ty.s-seq 𝓤 H A W 𝓣 E G69 G70 b31 b54 Δ0 (Ty.ask s66) at61 (Relend.t-sl-aggregate 𝓤 H A W E Gap_.row 𝓣 (Relend.asMut Gap_.row) G69 26 27 12 ty·36 ty·36 (λ x. x) (Sc.oFld 4 (Li._∷_ (Sy.field 1) Li.[]) (Sy.tyInt Sy.w64) 8 λ v. Shared.lenV (v .0)) (Reads'.as-is 𝓤 H A (Relend.msptr Gap_.row ty·36 12)) (Reads'.room-gone 𝓤 H A (Sy.tyStruct (Li._∷_ 38 (Li._∷_ 91 (Li._∷_ 93 Li.[]))) (Sy.tcons ty·36 (Sy.tcons (Sy.tyInt Sy.w64) Sy.tnil)))) (Relend.reads-owed-len 𝓤 H A W Gap_.row ty·37 3 12 (Ro.lease (κs .1 .1 .1 .0) (qs .1 .1 .1 .0)) 8 Pa.refl, Pa.refl) Pa.refl Pa.refl λ b o k. tt) (Ty.s-seq 𝓤 H A W 𝓣 E G70 G71 b32 b53 Δ0 (Ty.both s67) at60 (Plain.t-call-plain 𝓤 H A W 𝓣 4 ps·2 r·2 (claims· .4) (claims· .5) "ending::end_pool" (known .2) E (λ pos β. β) G70 (record { pos = 1; ty = Sy.tyRef (Sy.named 0) Sy.imm (Sy.tyInt Sy.w8); ref = λ x. x }, (record { pos = 23; ty = Sy.tyRef Sy.erased Sy.mut (Sy.tyInt Sy.w32); ref = λ x. x }, (record { pos = 25; ty = Sy.tyRef Sy.erased Sy.imm (Sy.tyInt Sy.w64); ref = λ x. x }, (record { pos = 27; ty = Sy.tyRef Sy.erased Sy.mut Gap_.behind; ref = λ x. x }, (Num.vFld 5 (Li._∷_ (Sy.field 12) Li.[]) 96 λ x. JobCounts.struct .as-values x .1 .1 .1 .1 .1 .1 .1 .1 .1 .1 .1 .1 .0, tt))))) 8 (Li._∷_ 0 (Li._∷_ 10 (Li._∷_ 11 (Li._∷_ 12 Li.[])))) (Call.sub-id 𝓤 H A W (G70 .slots)) (ShrSlice.spares-sslice 𝓤 H A W (Rf.rtF (Rf.fInt Sy.w8)) ty·39 0, Shared.reads-sslice 𝓤 H A W (Rf.rtF (Rf.fInt Sy.w8)) ty·39 0, Pa.refl, (Reads'.as-is 𝓤 H A row·29, Mut.reads-mslice 𝓤 H A W (Rf.rtF (Rf.fInt Sy.w32)) ty·32 10, Pa.refl, (ShrSlice.spares-sslice 𝓤 H A W (Rf.rtF (Rf.fInt Sy.w64)) ty·34 11, Shared.reads-sslice 𝓤 H A W (Rf.rtF (Rf.fInt Sy.w64)) ty·34 11, Pa.refl, (Reads'.as-is 𝓤 H A (Mut.mslice Gap_.row ty·36 12), Mut.reads-mslice 𝓤 H A W Gap_.row ty·36 12, Pa.refl, ((Reads.reads-field 𝓤 H A W JobCounts.the-type Laws.the-laws 12 (Sy.tyInt Sy.w64) 96 Pa.refl, Pa.refl), tt))))) (Reads'.room-gone 𝓤 H A (Sy.tyInt Sy.w64)) (tt, (tt, (tt, (tt, tt)))) Pa.refl) (Ty.g-pre 𝓤 H A W 𝓣 E G71 G72 b53 Δ0 (Ty.pass T71 T72 s68) at59 (Sc.g-room 𝓤 H A W E G71 25 (Sy.tyStruct (Li._∷_ 38 (Li._∷_ 91 (Li._∷_ 93 Li.[]))) (Sy.tcons ty·34 (Sy.tcons (Sy.tyInt Sy.w64) Sy.tnil))) (Shared.room-sslice 𝓤 H A W (Rf.rtF (Rf.fInt Sy.w64)) ty·34 11)) (Ty.g-pre 𝓤 H A W 𝓣 E G72 G73 b53 Δ0 (Ty.pass T72 T73 s69) at58 (Sc.g-room 𝓤 H A W E G72 5 Laws.mir (Local.room-whole 𝓤 H A W (Declared.row JobCounts.the-type) Laws.mir Pa.refl)) (Ty.g-pre 𝓤 H A W 𝓣 E G73 G74 b53 Δ0 (λ Ψ. Ψ) at57 (Lifetime.g-end 𝓤 H A W E G73 10 Pa.refl) (Ty.g-pre 𝓤 H A W 𝓣 E G74 G75 b53 Δ0 (Ty.both s71) at56 (Relend.g-back-sl 𝓤 H A W E (Rf.rtF (Rf.fInt Sy.w32)) G74 23 2 1 10 ty·33 ty·32 (Ro.lease (κs .1 .0) (qs .1 .0)) (λ x. x) (λ x. x) (Reads'.as-is 𝓤 H A row·19) (Reads'.as-is 𝓤 H A (Relend.mslice-owed (Rf.rtF (Rf.fInt Sy.w32)) ty·33 1 10 (Ro.lease (κs .1 .0) (qs .1 .0)))) Pa.refl Pa.refl) (Ty.g-pre 𝓤 H A W 𝓣 E G75 G75 b53 Δ0 (Ty.give s72) at55 (Know.g-sl-known 𝓤 H A W (Rf.fInt Sy.w32) E G75 2 1 ty·33 (Ro.lease (κs .1 .0) (qs .1 .0)) 0 (λ x. x) record { fits = Dec'.lit< tt } (Reads'.as-is 𝓤 H A row·11) Pa.refl tt) (Ty.g-pre 𝓤 H A W 𝓣 E G75 G77 b53 Δ0 (λ Ψ. Ψ) at54 (Lifetime.g-forget 𝓤 H A W E G75 10 Ro.dead Pa.refl) (Ty.g-pre 𝓤 H A W 𝓣 E G77 G78 b53 Δ0 (λ Ψ. Ψ) at53 (Lifetime.g-end 𝓤 H A W E G77 11 Pa.refl) (Ty.g-pre 𝓤 H A W 𝓣 E G78 G79 b53 Δ0 (Ty.pass T75 T79 s75) at52 (Reshare.g-back-sl-shr 𝓤 H A W E (Rf.rtF (Rf.fInt Sy.w64)) G78 3 2 11 ty·35 (Ro.lease (κs .1 .1 .0) (qs .1 .1 .0)) (λ x. x) (Reads'.as-is 𝓤 H A (Reshare.mslice-owedS (Rf.rtF (Rf.fInt Sy.w64)) ty·35 2 11 (Ro.lease (κs .1 .1 .0) (qs .1 .1 .0)))) Pa.refl Pa.refl) (Ty.g-pre 𝓤 H A W 𝓣 E G79 G80 b53 Δ0 (λ Ψ. Ψ) at51 (Lifetime.g-forget 𝓤 H A W E G79 11 Ro.dead Pa.refl) (Ty.g-pre 𝓤 H A W 𝓣 E G80 G81 b53 Δ0 (λ Ψ. Ψ) at50 (Lifetime.g-end 𝓤 H A W E G80 12 Pa.refl) (Ty.g-pre 𝓤 H A W 𝓣 E G81 G82 b53 Δ0 (Ty.both s78) at49 (Relend.g-back-sl 𝓤 H A W E Gap_.row G81 27 4 3 12 ty·37 ty·36 (Ro.lease (κs .1 .1 .1 .0) (qs .1 .1 .1 .0)) (λ x. x) (λ x. x) (Reads'.as-is 𝓤 H A row·18) (Reads'.as-is 𝓤 H A (Relend.mslice-owed Gap_.row ty·37 3 12 (Ro.lease (κs .1 .1 .1 .0) (qs .1 .1 .1 .0)))) Pa.refl Pa.refl) (Ty.g-pre 𝓤 H A W 𝓣 E G82 G83 b53 Δ0 (λ Ψ. Ψ) at48 (Lifetime.g-forget 𝓤 H A W E G82 12 Ro.dead Pa.refl) (Ty.s-seq 𝓤 H A W 𝓣 E G83 G84 b33 b52 Δ0 (Ty.ask s80) at47 (Sc.t-op2 𝓤 H A W E 𝓣 G83 Sy.ne (Sc.oAt 8 (Sy.tyInt Sy.w64) (Ro.valS (Ro.sInt Sy.w64))) (Sc.oInt Sy.w64 0) 15 (Rows.sc-here Ro.sBool) Sy.tyBool (Ro.valS Ro.sBool) (Ro.sBool .of) (Sc.reads-sc 𝓤 H A W (Ro.sInt Sy.w64), Pa.refl) tt (Reads'.room-gone 𝓤 H A Sy.tyBool) (Sc.holds-sc 𝓤 H A W Ro.sBool) Pa.refl (λ u. Pa.refl) λ u. tt) (Ty.t-seq 𝓤 H A W 𝓣 E G84 G83 b38 b51 Δ0 at25 at46 (Sc.t-cond 𝓤 H A W E 𝓣 G84 15 (λ x. x) b36 b11 Δ3 at22 at24 (Sc.reads-sc 𝓤 H A W Ro.sBool) Pa.refl (Ty.g-pre 𝓤 H A W 𝓣 E G84 G83 b36 Δ3 (Ty.pass T84 T82 s81) at21 (Sc.g-room 𝓤 H A W E G84 15 Sy.tyBool (Sc.room-sc 𝓤 H A W Ro.sBool)) (Ty.s-seq 𝓤 H A W 𝓣 E G83 G87 b34 b9 Δ3 (Ty.pass T82 T87 s82) at20 (Sc.t-use 𝓤 H A W E 𝓣 G83 (Sc.oAt 8 (Sy.tyInt Sy.w64) (Ro.valS (Ro.sInt Sy.w64))) 0 row·10 (Sy.tyInt Sy.w64) (Ro.valS (Ro.sInt Sy.w64)) (Ro.sInt Sy.w64 .of) (Sc.reads-sc 𝓤 H A W (Ro.sInt Sy.w64), Pa.refl) (Reads'.room-gone 𝓤 H A (Sy.tyInt Sy.w64)) (Sc.holds-sc 𝓤 H A W (Ro.sInt Sy.w64)) Pa.refl (λ u. Pa.refl) λ u. tt) (Ty.g-pre 𝓤 H A W 𝓣 E G87 G88 b9 Δ3 (Ty.pass T87 T88 s83) at19 (Sc.g-room 𝓤 H A W E G87 6 (Sy.tyInt Sy.w64) (Sc.room-sc 𝓤 H A W (Ro.sInt Sy.w64))) (Ty.g-pre 𝓤 H A W 𝓣 E G88 G89 b9 Δ3 (Ty.pass T88 T89 s84) at18 (Sc.g-room 𝓤 H A W E G88 7 (Sy.tyInt Sy.w64) (Sc.room-sc 𝓤 H A W (Ro.sInt Sy.w64))) (Ty.g-pre 𝓤 H A W 𝓣 E G89 G1 b9 Δ3 (Ty.pass T89 T1 s85) at17 (Sc.g-room 𝓤 H A W E G89 8 (Sy.tyInt Sy.w64) (Sc.room-sc 𝓤 H A W (Ro.sInt Sy.w64))) (Ty.t-return 𝓤 H A W 𝓣 E Δ3 tt)))))) (Ty.g-pre 𝓤 H A W 𝓣 E G84 G83 b11 Δ3 (Ty.pass T84 T82 s86) at23 (Sc.g-room 𝓤 H A W E G84 15 Sy.tyBool (Sc.room-sc 𝓤 H A W Ro.sBool)) (Ty.t-skip 𝓤 H A W 𝓣 E Δ3 tt))) (Ty.g-pre 𝓤 H A W 𝓣 E G83 G92 b51 Δ0 (λ Ψ. Ψ) at45 (Lifetime.g-begin 𝓤 H A W E G83 13 (tt, (tt, (tt, (tt, (tt, (tt, (tt, (tt, (tt, (tt, (tt, (tt, (tt, (tt, (tt, (tt, (tt, (tt, (tt, (tt, (tt, (tt, (tt, (tt, (tt, (tt, (tt, (tt, (tt, (tt, (tt, (tt, (tt, tt)))))))))))))))))))))))))))))))))) (Ty.s-seq 𝓤 H A W 𝓣 E G92 G93 b39 b50 Δ0 (Ty.give s88) at44 (Relend.t-sl-relend 𝓤 H A W E (Rf.rtF (Rf.fInt Sy.w32)) 𝓣 G92 2 29 1 13 ty·33 ty·32 (Ro.lease (κs .1 .0) (qs .1 .0)) 0 (λ x. x) (Reads'.as-is 𝓤 H A row·11) (Reads'.room-gone 𝓤 H A ty·32) Pa.refl tt Pa.refl Pa.refl Pa.refl λ b o. tt) (Ty.s-seq 𝓤 H A W 𝓣 E G93 G94 b40 b49 Δ0 (Ty.ask s89) at43 (Relend.t-sl-aggregate 𝓤 H A W E (Rf.rtF (Rf.fInt Sy.w32)) 𝓣 (Relend.asMut (Rf.rtF (Rf.fInt Sy.w32))) G93 29 30 13 ty·32 ty·32 (λ x. x) (Sc.oFld 2 (Li._∷_ (Sy.field 1) Li.[]) (Sy.tyInt Sy.w64) 8 λ v. Shared.lenV (v .0)) (Reads'.as-is 𝓤 H A (Relend.msptr (Rf.rtF (Rf.fInt Sy.w32)) ty·32 13)) (Reads'.room-gone 𝓤 H A (Sy.tyStruct (Li._∷_ 38 (Li._∷_ 91 (Li._∷_ 93 Li.[]))) (Sy.tcons ty·32 (Sy.tcons (Sy.tyInt Sy.w64) Sy.tnil)))) (Relend.reads-owed-len 𝓤 H A W (Rf.rtF (Rf.fInt Sy.w32)) ty·33 1 13 (Ro.lease (κs .1 .0) (qs .1 .0)) 8 Pa.refl, Pa.refl) Pa.refl Pa.refl λ b o k. tt) (Ty.g-pre 𝓤 H A W 𝓣 E G94 G95 b49 Δ0 (λ Ψ. Ψ) at42 (Lifetime.g-begin 𝓤 H A W E G94 14 (tt, (tt, ((tt, tt), (tt, (tt, (tt, (tt, (tt, (tt, (tt, (tt, (tt, (tt, (tt, (tt, (tt, (tt, (tt, (tt, (tt, (tt, (tt, (tt, (tt, (tt, (tt, (tt, (tt, (tt, (tt, (tt, (tt, (tt, tt)))))))))))))))))))))))))))))))))) (Ty.s-seq 𝓤 H A W 𝓣 E G95 G96 b41 b48 Δ0 (Ty.give s91) at41 (Reshare.t-sl-reshare 𝓤 H A W E (Rf.rtF (Rf.fInt Sy.w64)) 𝓣 G95 3 31 2 14 ty·35 ty·34 (Ro.lease (κs .1 .1 .0) (qs .1 .1 .0)) 0 (λ x. x) (Reads'.as-is 𝓤 H A row·12) (Reads'.room-gone 𝓤 H A ty·34) Pa.refl tt Pa.refl Pa.refl Pa.refl λ b o. tt) (Ty.s-seq 𝓤 H A W 𝓣 E G96 G97 b42 b47 Δ0 (Ty.ask s92) at40 (Relend.t-sl-aggregate 𝓤 H A W E (Rf.rtF (Rf.fInt Sy.w64)) 𝓣 (Relend.asShr (Rf.rtF (Rf.fInt Sy.w64))) G96 31 32 14 ty·34 ty·34 (λ x. x) (Sc.oFld 3 (Li._∷_ (Sy.field 1) Li.[]) (Sy.tyInt Sy.w64) 8 λ v. Shared.lenV (v .0)) (Reads'.as-is 𝓤 H A (Relend.ssptr (Rf.rtF (Rf.fInt Sy.w64)) ty·34 14)) (Reads'.room-gone 𝓤 H A (Sy.tyStruct (Li._∷_ 38 (Li._∷_ 91 (Li._∷_ 93 Li.[]))) (Sy.tcons ty·34 (Sy.tcons (Sy.tyInt Sy.w64) Sy.tnil)))) (Reshare.reads-owedS-len 𝓤 H A W (Rf.rtF (Rf.fInt Sy.w64)) ty·35 2 14 (Ro.lease (κs .1 .1 .0) (qs .1 .1 .0)) 8 Pa.refl, Pa.refl) Pa.refl Pa.refl λ b o k. tt) (Ty.s-seq 𝓤 H A W 𝓣 E G97 G98 b43 b46 Δ0 (Ty.both s93) at39 (Plain.t-call-plain 𝓤 H A W 𝓣 2 ps·3 r·3 (claims· .6) (claims· .7) "output::own_slots" (known .3) E (λ pos β. β) G97 (record { pos = 30; ty = Sy.tyRef Sy.erased Sy.mut (Sy.tyInt Sy.w32); ref = λ x. x }, (record { pos = 32; ty = Sy.tyRef Sy.erased Sy.imm (Sy.tyInt Sy.w64); ref = λ x. x }, tt)) 28 (Li._∷_ 13 (Li._∷_ 14 Li.[])) (Call.sub-id 𝓤 H A W (G97 .slots)) (Reads'.as-is 𝓤 H A (Mut.mslice (Rf.rtF (Rf.fInt Sy.w32)) ty·32 13), Mut.reads-mslice 𝓤 H A W (Rf.rtF (Rf.fInt Sy.w32)) ty·32 13, Pa.refl, (ShrSlice.spares-sslice 𝓤 H A W (Rf.rtF (Rf.fInt Sy.w64)) ty·34 14, Shared.reads-sslice 𝓤 H A W (Rf.rtF (Rf.fInt Sy.w64)) ty·34 14, Pa.refl, tt)) (Reads'.room-gone 𝓤 H A Sy.tyUnit) (tt, (tt, tt)) Pa.refl) (Ty.g-pre 𝓤 H A W 𝓣 E G98 G99 b46 Δ0 (Ty.pass T98 T99 s94) at38 (Sc.g-room 𝓤 H A W E G98 32 (Sy.tyStruct (Li._∷_ 38 (Li._∷_ 91 (Li._∷_ 93 Li.[]))) (Sy.tcons ty·34 (Sy.tcons (Sy.tyInt Sy.w64) Sy.tnil))) (Shared.room-sslice 𝓤 H A W (Rf.rtF (Rf.fInt Sy.w64)) ty·34 14)) (Ty.g-pre 𝓤 H A W 𝓣 E G99 G100 b46 Δ0 (Ty.pass T99 T100 s95) at37 (Sc.g-room 𝓤 H A W E G99 28 Sy.tyUnit (Sc.room-sc 𝓤 H A W Ro.sUnit)) (Ty.g-pre 𝓤 H A W 𝓣 E G100 G101 b46 Δ0 (λ Ψ. Ψ) at36 (Lifetime.g-end 𝓤 H A W E G100 13 Pa.refl) (Ty.g-pre 𝓤 H A W 𝓣 E G101 G102 b46 Δ0 (Ty.both s97) at35 (Relend.g-back-sl 𝓤 H A W E (Rf.rtF (Rf.fInt Sy.w32)) G101 30 2 1 13 ty·33 ty·32 (Ro.lease (κs .1 .0) (qs .1 .0)) (λ x. x) (λ x. x) (Reads'.as-is 𝓤 H A row·19) (Reads'.as-is 𝓤 H A (Relend.mslice-owed (Rf.rtF (Rf.fInt Sy.w32)) ty·33 1 13 (Ro.lease (κs .1 .0) (qs .1 .0)))) Pa.refl Pa.refl) (Ty.g-pre 𝓤 H A W 𝓣 E G102 G102 b46 Δ0 (Ty.give s98) at34 (Know.g-sl-known 𝓤 H A W (Rf.fInt Sy.w32) E G102 2 1 ty·33 (Ro.lease (κs .1 .0) (qs .1 .0)) 0 (λ x. x) record { fits = Dec'.lit< tt } (Reads'.as-is 𝓤 H A row·11) Pa.refl tt) (Ty.g-pre 𝓤 H A W 𝓣 E G102 G104 b46 Δ0 (λ Ψ. Ψ) at33 (Lifetime.g-forget 𝓤 H A W E G102 13 Ro.dead Pa.refl) (Ty.g-pre 𝓤 H A W 𝓣 E G104 G105 b46 Δ0 (λ Ψ. Ψ) at32 (Lifetime.g-end 𝓤 H A W E G104 14 Pa.refl) (Ty.g-pre 𝓤 H A W 𝓣 E G105 G106 b46 Δ0 (Ty.pass T102 T82 s101) at31 (Reshare.g-back-sl-shr 𝓤 H A W E (Rf.rtF (Rf.fInt Sy.w64)) G105 3 2 14 ty·35 (Ro.lease (κs .1 .1 .0) (qs .1 .1 .0)) (λ x. x) (Reads'.as-is 𝓤 H A (Reshare.mslice-owedS (Rf.rtF (Rf.fInt Sy.w64)) ty·35 2 14 (Ro.lease (κs .1 .1 .0) (qs .1 .1 .0)))) Pa.refl Pa.refl) (Ty.g-pre 𝓤 H A W 𝓣 E G106 G83 b46 Δ0 (λ Ψ. Ψ) at30 (Lifetime.g-forget 𝓤 H A W E G106 14 Ro.dead Pa.refl) (Ty.s-seq 𝓤 H A W 𝓣 E G83 G87 b44 b9 Δ0 (Ty.pass T82 T87 s103) at29 (Sc.t-use 𝓤 H A W E 𝓣 G83 (Sc.oInt Sy.w64 0) 0 row·10 (Sy.tyInt Sy.w64) (Ro.valS (Ro.sInt Sy.w64)) (Ro.sInt Sy.w64 .of) tt (Reads'.room-gone 𝓤 H A (Sy.tyInt Sy.w64)) (Sc.holds-sc 𝓤 H A W (Ro.sInt Sy.w64)) Pa.refl (λ u. Pa.refl) λ u. tt) (Ty.g-pre 𝓤 H A W 𝓣 E G87 G88 b9 Δ0 (Ty.pass T87 T88 s104) at28 (Sc.g-room 𝓤 H A W E G87 6 (Sy.tyInt Sy.w64) (Sc.room-sc 𝓤 H A W (Ro.sInt Sy.w64))) (Ty.g-pre 𝓤 H A W 𝓣 E G88 G89 b9 Δ0 (Ty.pass T88 T89 s105) at27 (Sc.g-room 𝓤 H A W E G88 7 (Sy.tyInt Sy.w64) (Sc.room-sc 𝓤 H A W (Ro.sInt Sy.w64))) (Ty.g-pre 𝓤 H A W 𝓣 E G89 G1 b9 Δ0 (Ty.pass T89 T1 s106) at26 (Sc.g-room 𝓤 H A W E G89 8 (Sy.tyInt Sy.w64) (Sc.room-sc 𝓤 H A W (Ro.sInt Sy.w64))) (Ty.t-return 𝓤 H A W 𝓣 E Δ0 tt))))))))))))))))))))))))))))))))))))))))))))))))))))))))))))))))))))))))))))))))))))))))))))))
 
       module _ (κs : Lifetimes.Lfts 4) where
         pub record Args : Type 0 where
@@ -1880,74 +1929,71 @@ module _ (claims· : Claims) where
 
       module _ (before· : After-ask-arg3) where
         abbrev pub After-ask·own : Type 0
-        After-ask·own = Called.Called ps·0 r·0 (claims· .1) T13 (record { pos = 1; ty = Sy.tyRef (Sy.named 0) Sy.imm (Sy.tyInt Sy.w8); ref = λ x. x }, (record { pos = 10; ty = Sy.tyRef Sy.erased Sy.mut (Sy.tyInt Sy.w32); ref = λ x. x }, (record { pos = 12; ty = Sy.tyRef Sy.erased Sy.mut (Sy.tyInt Sy.w64); ref = λ x. x }, (record { pos = 14; ty = Sy.tyRef Sy.erased Sy.mut Gap_.behind; ref = λ x. x }, (record { pos = 5; st = Li.[]; d = 0; at = λ x. x }, (Num.vBig 65534, tt)))))) (m9 (before· .before) (before· .ask-arg3 .given))
+        After-ask·own = Called.Called ps·0 r·0 (claims· .1) T13 (record { pos = 1; ty = Sy.tyRef (Sy.named 0) Sy.imm (Sy.tyInt Sy.w8); ref = λ x. x }, (record { pos = 10; ty = Sy.tyRef Sy.erased Sy.mut (Sy.tyInt Sy.w32); ref = λ x. x }, (record { pos = 12; ty = Sy.tyRef Sy.erased Sy.mut (Sy.tyInt Sy.w64); ref = λ x. x }, (record { pos = 14; ty = Sy.tyRef Sy.erased Sy.mut Gap_.behind; ref = λ x. x }, (record { pos = 5; st = Li.[]; d = 0; at = λ x. x }, (Num.vFld 5 (Li._∷_ (Sy.field 12) Li.[]) 96 λ x. JobCounts.struct .as-values x .1 .1 .1 .1 .1 .1 .1 .1 .1 .1 .1 .1 .0, tt)))))) (m9 (before· .before) (before· .ask-arg3 .given))
 
       pub record After-ask : Type 0 where
         pub before : After-ask-arg3
         pub ask : After-ask·own before
 
       abbrev pub After-ask·gave : (c : After-ask) → s12 .gives (m9 (c .before .before) (c .before .ask-arg3 .given))
-      After-ask·gave = λ c. Called.given ps·0 r·0 (claims· .1) T13 (record { pos = 1; ty = Sy.tyRef (Sy.named 0) Sy.imm (Sy.tyInt Sy.w8); ref = λ x. x }, (record { pos = 10; ty = Sy.tyRef Sy.erased Sy.mut (Sy.tyInt Sy.w32); ref = λ x. x }, (record { pos = 12; ty = Sy.tyRef Sy.erased Sy.mut (Sy.tyInt Sy.w64); ref = λ x. x }, (record { pos = 14; ty = Sy.tyRef Sy.erased Sy.mut Gap_.behind; ref = λ x. x }, (record { pos = 5; st = Li.[]; d = 0; at = λ x. x }, (Num.vBig 65534, tt)))))) (m9 (c .before .before) (c .before .ask-arg3 .given)) (c .ask)
+      After-ask·gave = λ c. Called.given ps·0 r·0 (claims· .1) T13 (record { pos = 1; ty = Sy.tyRef (Sy.named 0) Sy.imm (Sy.tyInt Sy.w8); ref = λ x. x }, (record { pos = 10; ty = Sy.tyRef Sy.erased Sy.mut (Sy.tyInt Sy.w32); ref = λ x. x }, (record { pos = 12; ty = Sy.tyRef Sy.erased Sy.mut (Sy.tyInt Sy.w64); ref = λ x. x }, (record { pos = 14; ty = Sy.tyRef Sy.erased Sy.mut Gap_.behind; ref = λ x. x }, (record { pos = 5; st = Li.[]; d = 0; at = λ x. x }, (Num.vFld 5 (Li._∷_ (Sy.field 12) Li.[]) 96 λ x. JobCounts.struct .as-values x .1 .1 .1 .1 .1 .1 .1 .1 .1 .1 .1 .1 .0, tt)))))) (m9 (c .before .before) (c .before .ask-arg3 .given)) (c .ask)
 
-      abbrev pub m11 : (before : After-ask-arg3) → (given : s12 .gives (m9 (before .before) (before .ask-arg3 .given))) → Ty.Mo T15
-      m11 = λ before given. s13 (m10 before given)
-
-      abbrev pub m12 : (before : After-ask) → (given : s15 .gives (m11 (before .before) (After-ask·gave before))) → Ty.Mo T17
-      m12 = λ before given. s15 .next (m11 (before .before) (After-ask·gave before)) given
+      abbrev pub m11 : (before : After-ask) → (given : s14 .gives (m10 (before .before) (After-ask·gave before))) → Ty.Mo T16
+      m11 = λ before given. s14 .next (m10 (before .before) (After-ask·gave before)) given
 
       module _ (before· : After-ask) where
         pub record After-w·own : Type 0 where
-          pub given : s15 .gives (m11 (before· .before) (After-ask·gave before·))
+          pub given : s14 .gives (m10 (before· .before) (After-ask·gave before·))
 
       pub record After-w : Type 0 where
         pub before : After-ask
         pub w : After-w·own before
 
-      abbrev pub m13 : (before : After-w) → (given : s16 .gives (m12 (before .before) (before .w .given))) → Ty.Mo T17
-      m13 = λ before given. s16 .next (m12 (before .before) (before .w .given)) given
+      abbrev pub m12 : (before : After-w) → (given : s15 .gives (m11 (before .before) (before .w .given))) → Ty.Mo T16
+      m12 = λ before given. s15 .next (m11 (before .before) (before .w .given)) given
 
       module _ (before· : After-w) where
         pub record After-slice-known3·own : Type 0 where
-          pub given : s16 .gives (m12 (before· .before) (before· .w .given))
+          pub given : s15 .gives (m11 (before· .before) (before· .w .given))
 
       pub record After-slice-known3 : Type 0 where
         pub before : After-w
         pub slice-known3 : After-slice-known3·own before
 
-      abbrev pub m14 : (before : After-slice-known3) → (given : s19 .gives (m13 (before .before) (before .slice-known3 .given))) → Ty.Mo T21
-      m14 = λ before given. s19 .next (m13 (before .before) (before .slice-known3 .given)) given
+      abbrev pub m13 : (before : After-slice-known3) → (given : s18 .gives (m12 (before .before) (before .slice-known3 .given))) → Ty.Mo T20
+      m13 = λ before given. s18 .next (m12 (before .before) (before .slice-known3 .given)) given
 
       module _ (before· : After-slice-known3) where
         pub record After-p·own : Type 0 where
-          pub given : s19 .gives (m13 (before· .before) (before· .slice-known3 .given))
+          pub given : s18 .gives (m12 (before· .before) (before· .slice-known3 .given))
 
       pub record After-p : Type 0 where
         pub before : After-slice-known3
         pub p : After-p·own before
 
-      abbrev pub m15 : (before : After-p) → (given : s20 .gives (m14 (before .before) (before .p .given))) → Ty.Mo T21
-      m15 = λ before given. s20 .next (m14 (before .before) (before .p .given)) given
+      abbrev pub m14 : (before : After-p) → (given : s19 .gives (m13 (before .before) (before .p .given))) → Ty.Mo T20
+      m14 = λ before given. s19 .next (m13 (before .before) (before .p .given)) given
 
       module _ (before· : After-p) where
         pub record After-slice-known4·own : Type 0 where
-          pub given : s20 .gives (m14 (before· .before) (before· .p .given))
+          pub given : s19 .gives (m13 (before· .before) (before· .p .given))
 
       pub record After-slice-known4 : Type 0 where
         pub before : After-p
         pub slice-known4 : After-slice-known4·own before
 
-      abbrev pub m16 : (before : After-slice-known4) → (given : s23 .gives (m15 (before .before) (before .slice-known4 .given))) → Ty.Mo T25
-      m16 = λ before given. s23 .next (m15 (before .before) (before .slice-known4 .given)) given
+      abbrev pub m15 : (before : After-slice-known4) → (given : s22 .gives (m14 (before .before) (before .slice-known4 .given))) → Ty.Mo T24
+      m15 = λ before given. s22 .next (m14 (before .before) (before .slice-known4 .given)) given
 
-      abbrev pub m17 : (before : After-slice-known4) → (given : s23 .gives (m15 (before .before) (before .slice-known4 .given))) → Ty.Mo T27
-      m17 = λ before given. s25 .next (m16 before given)
+      abbrev pub m16 : (before : After-slice-known4) → (given : s22 .gives (m14 (before .before) (before .slice-known4 .given))) → Ty.Mo T26
+      m16 = λ before given. s24 .next (m15 before given)
 
-      abbrev W1 : (before : After-slice-known4) → (given : s23 .gives (m15 (before .before) (before .slice-known4 .given))) → Ty.Want O1
-      W1 = λ before given. Ty.wantNext T25 O0 (at90 (W0 (before .before .before .before .before .before .before .before .before .before .before .before .κs) (before .before .before .before .before .before .before .before .before .before .before .before .args))) (W0 (before .before .before .before .before .before .before .before .before .before .before .before .κs) (before .before .before .before .before .before .before .before .before .before .before .before .args))
+      abbrev W1 : (before : After-slice-known4) → (given : s22 .gives (m14 (before .before) (before .slice-known4 .given))) → Ty.Want O1
+      W1 = λ before given. Ty.wantNext T24 O0 (at93 (W0 (before .before .before .before .before .before .before .before .before .before .before .before .κs) (before .before .before .before .before .before .before .before .before .before .before .before .args))) (W0 (before .before .before .before .before .before .before .before .before .before .before .before .κs) (before .before .before .before .before .before .before .before .before .before .before .before .args))
 
       module _ (before· : After-slice-known4) where
         pub record After-gaps·own : Type 0 where
-          pub given : s23 .gives (m15 (before· .before) (before· .slice-known4 .given))
+          pub given : s22 .gives (m14 (before· .before) (before· .slice-known4 .given))
 
       pub record After-gaps : Type 0 where
         pub before : After-slice-known4
@@ -1955,14 +2001,14 @@ module _ (claims· : Claims) where
 
       module _ (before· : After-gaps) where
         pub record Then1·own : Type 0 where
-          pub taken : Pa._≡_ {A = Nat.ℕ} (Ro.get 6 (T25 .locals) (m16 (before· .before) (before· .gaps .given))) 0 → ⊥
+          pub taken : Pa._≡_ {A = Nat.ℕ} (Ro.get 6 (T24 .locals) (m15 (before· .before) (before· .gaps .given))) 0 → ⊥
 
       pub record Then1 : Type 0 where
         pub before : After-gaps
         pub if1 : Then1·own before
 
       abbrev pub m20 : (before : After-gaps) → Ty.Mo T1
-      m20 = λ before. s28 (s27 (s26 (m17 (before .before) (before .gaps .given))))
+      m20 = λ before. s28 (s27 (s26 (s25 (m16 (before .before) (before .gaps .given)))))
 
       abbrev pub Need-same-length : Type 0
       Need-same-length = (c : Then1) → MutSlice.SameLen (Ro.get 2 (T1 .locals) (m20 (c .before))) (dens (c .before .before .before .before .before .before .before .before .before .before .before .before .before .κs) (c .before .before .before .before .before .before .before .before .before .before .before .before .before .args) .1 .0)
@@ -1978,14 +2024,14 @@ module _ (claims· : Claims) where
 
       module _ (before· : After-gaps) where
         pub record Else1·own : Type 0 where
-          pub left : Pa._≡_ {A = Nat.ℕ} (Ro.get 6 (T25 .locals) (m16 (before· .before) (before· .gaps .given))) 0
+          pub left : Pa._≡_ {A = Nat.ℕ} (Ro.get 6 (T24 .locals) (m15 (before· .before) (before· .gaps .given))) 0
 
       pub record Else1 : Type 0 where
         pub before : After-gaps
         pub if1 : Else1·own before
 
-      abbrev pub m21 : (before : After-gaps) → Ty.Mo T25
-      m21 = λ before. s29 (m17 (before .before) (before .gaps .given))
+      abbrev pub m21 : (before : After-gaps) → Ty.Mo T24
+      m21 = λ before. s29 (m16 (before .before) (before .gaps .given))
 
       abbrev pub m23 : (before : Else1) → (given : s31 .gives (m21 (before .before))) → Ty.Mo T35
       m23 = λ before given. s32 .next (s31 .next (m21 (before .before)) given)
@@ -2028,14 +2074,14 @@ module _ (claims· : Claims) where
 
       module _ (before· : After-build-all-arg3) where
         abbrev pub After-build-all·own : Type 0
-        After-build-all·own = Called.Called ps·1 r·1 (claims· .3) T41 (record { pos = 1; ty = Sy.tyRef (Sy.named 0) Sy.imm (Sy.tyInt Sy.w8); ref = λ x. x }, (record { pos = 17; ty = Sy.tyRef Sy.erased Sy.mut (Sy.tyInt Sy.w32); ref = λ x. x }, (record { pos = 19; ty = Sy.tyRef Sy.erased Sy.imm (Sy.tyInt Sy.w64); ref = λ x. x }, (record { pos = 21; ty = Sy.tyRef Sy.erased Sy.mut Gap_.behind; ref = λ x. x }, tt)))) (m27 (before· .before) (before· .build-all-arg3 .given))
+        After-build-all·own = Called.Called ps·1 r·1 (claims· .3) T41 (record { pos = 1; ty = Sy.tyRef (Sy.named 0) Sy.imm (Sy.tyInt Sy.w8); ref = λ x. x }, (record { pos = 17; ty = Sy.tyRef Sy.erased Sy.mut (Sy.tyInt Sy.w32); ref = λ x. x }, (record { pos = 19; ty = Sy.tyRef Sy.erased Sy.imm (Sy.tyInt Sy.w64); ref = λ x. x }, (record { pos = 21; ty = Sy.tyRef Sy.erased Sy.mut Gap_.behind; ref = λ x. x }, (Num.vFld 5 (Li._∷_ (Sy.field 9) Li.[]) 72 λ x. JobCounts.struct .as-values x .1 .1 .1 .1 .1 .1 .1 .1 .1 .0, tt))))) (m27 (before· .before) (before· .build-all-arg3 .given))
 
       pub record After-build-all : Type 0 where
         pub before : After-build-all-arg3
         pub build-all : After-build-all·own before
 
       abbrev pub After-build-all·gave : (c : After-build-all) → s39 .gives (m27 (c .before .before) (c .before .build-all-arg3 .given))
-      After-build-all·gave = λ c. Called.given ps·1 r·1 (claims· .3) T41 (record { pos = 1; ty = Sy.tyRef (Sy.named 0) Sy.imm (Sy.tyInt Sy.w8); ref = λ x. x }, (record { pos = 17; ty = Sy.tyRef Sy.erased Sy.mut (Sy.tyInt Sy.w32); ref = λ x. x }, (record { pos = 19; ty = Sy.tyRef Sy.erased Sy.imm (Sy.tyInt Sy.w64); ref = λ x. x }, (record { pos = 21; ty = Sy.tyRef Sy.erased Sy.mut Gap_.behind; ref = λ x. x }, tt)))) (m27 (c .before .before) (c .before .build-all-arg3 .given)) (c .build-all)
+      After-build-all·gave = λ c. Called.given ps·1 r·1 (claims· .3) T41 (record { pos = 1; ty = Sy.tyRef (Sy.named 0) Sy.imm (Sy.tyInt Sy.w8); ref = λ x. x }, (record { pos = 17; ty = Sy.tyRef Sy.erased Sy.mut (Sy.tyInt Sy.w32); ref = λ x. x }, (record { pos = 19; ty = Sy.tyRef Sy.erased Sy.imm (Sy.tyInt Sy.w64); ref = λ x. x }, (record { pos = 21; ty = Sy.tyRef Sy.erased Sy.mut Gap_.behind; ref = λ x. x }, (Num.vFld 5 (Li._∷_ (Sy.field 9) Li.[]) 72 λ x. JobCounts.struct .as-values x .1 .1 .1 .1 .1 .1 .1 .1 .1 .0, tt))))) (m27 (c .before .before) (c .before .build-all-arg3 .given)) (c .build-all)
 
       abbrev pub m29 : (before : After-build-all-arg3) → (given : s39 .gives (m27 (before .before) (before .build-all-arg3 .given))) → Ty.Mo T43
       m29 = λ before given. s40 (m28 before given)
@@ -2069,7 +2115,7 @@ module _ (claims· : Claims) where
       m34 = λ before given. s51 .next (m33 before given)
 
       abbrev W2 : (before : After-slice-known5) → (given : s49 .gives (m32 (before .before) (before .slice-known5 .given))) → Ty.Want O2
-      W2 = λ before given. Ty.wantNext T52 O0 (at67 (W0 (before .before .before .before .before .before .before .before .before .before .before .before .before .before .before .before .before .before .before .before .κs) (before .before .before .before .before .before .before .before .before .before .before .before .before .before .before .before .before .before .before .before .args))) (W0 (before .before .before .before .before .before .before .before .before .before .before .before .before .before .before .before .before .before .before .before .κs) (before .before .before .before .before .before .before .before .before .before .before .before .before .before .before .before .before .before .before .before .args))
+      W2 = λ before given. Ty.wantNext T52 O0 (at70 (W0 (before .before .before .before .before .before .before .before .before .before .before .before .before .before .before .before .before .before .before .before .κs) (before .before .before .before .before .before .before .before .before .before .before .before .before .before .before .before .before .before .before .before .args))) (W0 (before .before .before .before .before .before .before .before .before .before .before .before .before .before .before .before .before .before .before .before .κs) (before .before .before .before .before .before .before .before .before .before .before .before .before .before .before .before .before .before .before .before .args))
 
       module _ (before· : After-slice-known5) where
         pub record After-gaps2·own : Type 0 where
@@ -2087,20 +2133,20 @@ module _ (claims· : Claims) where
         pub before : After-gaps2
         pub if2 : Then2·own before
 
-      abbrev pub m38 : (before : After-gaps2) → Ty.Mo T1
-      m38 = λ before. s55 (s54 (s53 (s52 (m34 (before .before) (before .gaps2 .given)))))
+      abbrev pub m39 : (before : After-gaps2) → Ty.Mo T1
+      m39 = λ before. s56 (s55 (s54 (s53 (s52 (m34 (before .before) (before .gaps2 .given))))))
 
       abbrev pub Need-same-length-4 : Type 0
-      Need-same-length-4 = (c : Then2) → MutSlice.SameLen (Ro.get 2 (T1 .locals) (m38 (c .before))) (dens (c .before .before .before .before .before .before .before .before .before .before .before .before .before .before .before .before .before .before .before .before .before .κs) (c .before .before .before .before .before .before .before .before .before .before .before .before .before .before .before .before .before .before .before .before .before .args) .1 .0)
+      Need-same-length-4 = (c : Then2) → MutSlice.SameLen (Ro.get 2 (T1 .locals) (m39 (c .before))) (dens (c .before .before .before .before .before .before .before .before .before .before .before .before .before .before .before .before .before .before .before .before .before .κs) (c .before .before .before .before .before .before .before .before .before .before .before .before .before .before .before .before .before .before .before .before .before .args) .1 .0)
 
       abbrev pub Need-same-length-5 : Type 0
-      Need-same-length-5 = (c : Then2) → MutSlice.SameLen (Ro.get 3 (T1 .locals) (m38 (c .before))) (dens (c .before .before .before .before .before .before .before .before .before .before .before .before .before .before .before .before .before .before .before .before .before .κs) (c .before .before .before .before .before .before .before .before .before .before .before .before .before .before .before .before .before .before .before .before .before .args) .1 .1 .0)
+      Need-same-length-5 = (c : Then2) → MutSlice.SameLen (Ro.get 3 (T1 .locals) (m39 (c .before))) (dens (c .before .before .before .before .before .before .before .before .before .before .before .before .before .before .before .before .before .before .before .before .before .κs) (c .before .before .before .before .before .before .before .before .before .before .before .before .before .before .before .before .before .before .before .before .before .args) .1 .1 .0)
 
       abbrev pub Need-same-length-6 : Type 0
-      Need-same-length-6 = (c : Then2) → MutSlice.SameLen (Ro.get 4 (T1 .locals) (m38 (c .before))) (dens (c .before .before .before .before .before .before .before .before .before .before .before .before .before .before .before .before .before .before .before .before .before .κs) (c .before .before .before .before .before .before .before .before .before .before .before .before .before .before .before .before .before .before .before .before .before .args) .1 .1 .1 .0)
+      Need-same-length-6 = (c : Then2) → MutSlice.SameLen (Ro.get 4 (T1 .locals) (m39 (c .before))) (dens (c .before .before .before .before .before .before .before .before .before .before .before .before .before .before .before .before .before .before .before .before .before .κs) (c .before .before .before .before .before .before .before .before .before .before .before .before .before .before .before .before .before .before .before .before .before .args) .1 .1 .1 .0)
 
       abbrev pub Need-returns-2 : Type 0
-      Need-returns-2 = (c : Then2) → Post· (c .before .before .before .before .before .before .before .before .before .before .before .before .before .before .before .before .before .before .before .before .before .κs) (dens (c .before .before .before .before .before .before .before .before .before .before .before .before .before .before .before .before .before .before .before .before .before .κs) (c .before .before .before .before .before .before .before .before .before .before .before .before .before .before .before .before .before .before .before .before .before .args)) (Function.resV r (c .before .before .before .before .before .before .before .before .before .before .before .before .before .before .before .before .before .before .before .before .before .κs) (m38 (c .before) .0)) (Clauses.atExit (Kinds.endedOf 4 ps r) (c .before .before .before .before .before .before .before .before .before .before .before .before .before .before .before .before .before .before .before .before .before .κs) (dens (c .before .before .before .before .before .before .before .before .before .before .before .before .before .before .before .before .before .before .before .before .before .κs) (c .before .before .before .before .before .before .before .before .before .before .before .before .before .before .before .before .before .before .before .before .before .args)) (Enter.lastsP (c .before .before .before .before .before .before .before .before .before .before .before .before .before .before .before .before .before .before .before .before .before .κs) 1 ps xs (dens (c .before .before .before .before .before .before .before .before .before .before .before .before .before .before .before .before .before .before .before .before .before .κs) (c .before .before .before .before .before .before .before .before .before .before .before .before .before .before .before .before .before .before .before .before .before .args)) (m38 (c .before) .1)))
+      Need-returns-2 = (c : Then2) → Post· (c .before .before .before .before .before .before .before .before .before .before .before .before .before .before .before .before .before .before .before .before .before .κs) (dens (c .before .before .before .before .before .before .before .before .before .before .before .before .before .before .before .before .before .before .before .before .before .κs) (c .before .before .before .before .before .before .before .before .before .before .before .before .before .before .before .before .before .before .before .before .before .args)) (Function.resV r (c .before .before .before .before .before .before .before .before .before .before .before .before .before .before .before .before .before .before .before .before .before .κs) (m39 (c .before) .0)) (Clauses.atExit (Kinds.endedOf 4 ps r) (c .before .before .before .before .before .before .before .before .before .before .before .before .before .before .before .before .before .before .before .before .before .κs) (dens (c .before .before .before .before .before .before .before .before .before .before .before .before .before .before .before .before .before .before .before .before .before .κs) (c .before .before .before .before .before .before .before .before .before .before .before .before .before .before .before .before .before .before .before .before .before .args)) (Enter.lastsP (c .before .before .before .before .before .before .before .before .before .before .before .before .before .before .before .before .before .before .before .before .before .κs) 1 ps xs (dens (c .before .before .before .before .before .before .before .before .before .before .before .before .before .before .before .before .before .before .before .before .before .κs) (c .before .before .before .before .before .before .before .before .before .before .before .before .before .before .before .before .before .before .before .before .before .args)) (m39 (c .before) .1)))
 
       module _ (before· : After-gaps2) where
         pub record Else2·own : Type 0 where
@@ -2110,96 +2156,96 @@ module _ (claims· : Claims) where
         pub before : After-gaps2
         pub if2 : Else2·own before
 
-      abbrev pub m39 : (before : After-gaps2) → Ty.Mo T52
-      m39 = λ before. s56 (m34 (before .before) (before .gaps2 .given))
+      abbrev pub m40 : (before : After-gaps2) → Ty.Mo T52
+      m40 = λ before. s57 (m34 (before .before) (before .gaps2 .given))
 
-      abbrev pub m41 : (before : Else2) → (given : s58 .gives (m39 (before .before))) → Ty.Mo T63
-      m41 = λ before given. s59 .next (s58 .next (m39 (before .before)) given)
+      abbrev pub m42 : (before : Else2) → (given : s59 .gives (m40 (before .before))) → Ty.Mo T64
+      m42 = λ before given. s60 .next (s59 .next (m40 (before .before)) given)
 
       module _ (before· : Else2) where
         pub record After-end-pool-arg·own : Type 0 where
-          pub given : s58 .gives (m39 (before· .before))
+          pub given : s59 .gives (m40 (before· .before))
 
       pub record After-end-pool-arg : Type 0 where
         pub before : Else2
         pub end-pool-arg : After-end-pool-arg·own before
 
-      abbrev pub m43 : (before : After-end-pool-arg) → (given : s61 .gives (m41 (before .before) (before .end-pool-arg .given))) → Ty.Mo T66
-      m43 = λ before given. s62 .next (s61 .next (m41 (before .before) (before .end-pool-arg .given)) given)
+      abbrev pub m44 : (before : After-end-pool-arg) → (given : s62 .gives (m42 (before .before) (before .end-pool-arg .given))) → Ty.Mo T67
+      m44 = λ before given. s63 .next (s62 .next (m42 (before .before) (before .end-pool-arg .given)) given)
 
       module _ (before· : After-end-pool-arg) where
         pub record After-end-pool-arg2·own : Type 0 where
-          pub given : s61 .gives (m41 (before· .before) (before· .end-pool-arg .given))
+          pub given : s62 .gives (m42 (before· .before) (before· .end-pool-arg .given))
 
       pub record After-end-pool-arg2 : Type 0 where
         pub before : After-end-pool-arg
         pub end-pool-arg2 : After-end-pool-arg2·own before
 
-      abbrev pub m45 : (before : After-end-pool-arg2) → (given : s64 .gives (m43 (before .before) (before .end-pool-arg2 .given))) → Ty.Mo T69
-      m45 = λ before given. s65 .next (s64 .next (m43 (before .before) (before .end-pool-arg2 .given)) given)
+      abbrev pub m46 : (before : After-end-pool-arg2) → (given : s65 .gives (m44 (before .before) (before .end-pool-arg2 .given))) → Ty.Mo T70
+      m46 = λ before given. s66 .next (s65 .next (m44 (before .before) (before .end-pool-arg2 .given)) given)
 
       module _ (before· : After-end-pool-arg2) where
         pub record After-end-pool-arg3·own : Type 0 where
-          pub given : s64 .gives (m43 (before· .before) (before· .end-pool-arg2 .given))
+          pub given : s65 .gives (m44 (before· .before) (before· .end-pool-arg2 .given))
 
       pub record After-end-pool-arg3 : Type 0 where
         pub before : After-end-pool-arg2
         pub end-pool-arg3 : After-end-pool-arg3·own before
 
       abbrev pub Need-end-pool-requires : Type 0
-      Need-end-pool-requires = (c : After-end-pool-arg3) → s66 .asks (m45 (c .before) (c .end-pool-arg3 .given))
+      Need-end-pool-requires = (c : After-end-pool-arg3) → s67 .asks (m46 (c .before) (c .end-pool-arg3 .given))
 
-      abbrev pub m46 : (before : After-end-pool-arg3) → (given : s66 .gives (m45 (before .before) (before .end-pool-arg3 .given))) → Ty.Mo T70
-      m46 = λ before given. s66 .next (m45 (before .before) (before .end-pool-arg3 .given)) given
+      abbrev pub m47 : (before : After-end-pool-arg3) → (given : s67 .gives (m46 (before .before) (before .end-pool-arg3 .given))) → Ty.Mo T71
+      m47 = λ before given. s67 .next (m46 (before .before) (before .end-pool-arg3 .given)) given
 
       module _ (before· : After-end-pool-arg3) where
         abbrev pub After-end-pool·own : Type 0
-        After-end-pool·own = Called.Called ps·2 r·2 (claims· .5) T69 (record { pos = 1; ty = Sy.tyRef (Sy.named 0) Sy.imm (Sy.tyInt Sy.w8); ref = λ x. x }, (record { pos = 23; ty = Sy.tyRef Sy.erased Sy.mut (Sy.tyInt Sy.w32); ref = λ x. x }, (record { pos = 25; ty = Sy.tyRef Sy.erased Sy.imm (Sy.tyInt Sy.w64); ref = λ x. x }, (record { pos = 27; ty = Sy.tyRef Sy.erased Sy.mut Gap_.behind; ref = λ x. x }, (Num.vBig 65534, tt))))) (m45 (before· .before) (before· .end-pool-arg3 .given))
+        After-end-pool·own = Called.Called ps·2 r·2 (claims· .5) T70 (record { pos = 1; ty = Sy.tyRef (Sy.named 0) Sy.imm (Sy.tyInt Sy.w8); ref = λ x. x }, (record { pos = 23; ty = Sy.tyRef Sy.erased Sy.mut (Sy.tyInt Sy.w32); ref = λ x. x }, (record { pos = 25; ty = Sy.tyRef Sy.erased Sy.imm (Sy.tyInt Sy.w64); ref = λ x. x }, (record { pos = 27; ty = Sy.tyRef Sy.erased Sy.mut Gap_.behind; ref = λ x. x }, (Num.vFld 5 (Li._∷_ (Sy.field 12) Li.[]) 96 λ x. JobCounts.struct .as-values x .1 .1 .1 .1 .1 .1 .1 .1 .1 .1 .1 .1 .0, tt))))) (m46 (before· .before) (before· .end-pool-arg3 .given))
 
       pub record After-end-pool : Type 0 where
         pub before : After-end-pool-arg3
         pub end-pool : After-end-pool·own before
 
-      abbrev pub After-end-pool·gave : (c : After-end-pool) → s66 .gives (m45 (c .before .before) (c .before .end-pool-arg3 .given))
-      After-end-pool·gave = λ c. Called.given ps·2 r·2 (claims· .5) T69 (record { pos = 1; ty = Sy.tyRef (Sy.named 0) Sy.imm (Sy.tyInt Sy.w8); ref = λ x. x }, (record { pos = 23; ty = Sy.tyRef Sy.erased Sy.mut (Sy.tyInt Sy.w32); ref = λ x. x }, (record { pos = 25; ty = Sy.tyRef Sy.erased Sy.imm (Sy.tyInt Sy.w64); ref = λ x. x }, (record { pos = 27; ty = Sy.tyRef Sy.erased Sy.mut Gap_.behind; ref = λ x. x }, (Num.vBig 65534, tt))))) (m45 (c .before .before) (c .before .end-pool-arg3 .given)) (c .end-pool)
+      abbrev pub After-end-pool·gave : (c : After-end-pool) → s67 .gives (m46 (c .before .before) (c .before .end-pool-arg3 .given))
+      After-end-pool·gave = λ c. Called.given ps·2 r·2 (claims· .5) T70 (record { pos = 1; ty = Sy.tyRef (Sy.named 0) Sy.imm (Sy.tyInt Sy.w8); ref = λ x. x }, (record { pos = 23; ty = Sy.tyRef Sy.erased Sy.mut (Sy.tyInt Sy.w32); ref = λ x. x }, (record { pos = 25; ty = Sy.tyRef Sy.erased Sy.imm (Sy.tyInt Sy.w64); ref = λ x. x }, (record { pos = 27; ty = Sy.tyRef Sy.erased Sy.mut Gap_.behind; ref = λ x. x }, (Num.vFld 5 (Li._∷_ (Sy.field 12) Li.[]) 96 λ x. JobCounts.struct .as-values x .1 .1 .1 .1 .1 .1 .1 .1 .1 .1 .1 .1 .0, tt))))) (m46 (c .before .before) (c .before .end-pool-arg3 .given)) (c .end-pool)
 
-      abbrev pub m47 : (before : After-end-pool-arg3) → (given : s66 .gives (m45 (before .before) (before .end-pool-arg3 .given))) → Ty.Mo T71
-      m47 = λ before given. s67 (m46 before given)
+      abbrev pub m49 : (before : After-end-pool-arg3) → (given : s67 .gives (m46 (before .before) (before .end-pool-arg3 .given))) → Ty.Mo T73
+      m49 = λ before given. s69 (s68 (m47 before given))
 
-      abbrev pub m48 : (before : After-end-pool) → (given : s69 .gives (m47 (before .before) (After-end-pool·gave before))) → Ty.Mo T73
-      m48 = λ before given. s69 .next (m47 (before .before) (After-end-pool·gave before)) given
+      abbrev pub m50 : (before : After-end-pool) → (given : s71 .gives (m49 (before .before) (After-end-pool·gave before))) → Ty.Mo T75
+      m50 = λ before given. s71 .next (m49 (before .before) (After-end-pool·gave before)) given
 
       module _ (before· : After-end-pool) where
         pub record After-w3·own : Type 0 where
-          pub given : s69 .gives (m47 (before· .before) (After-end-pool·gave before·))
+          pub given : s71 .gives (m49 (before· .before) (After-end-pool·gave before·))
 
       pub record After-w3 : Type 0 where
         pub before : After-end-pool
         pub w3 : After-w3·own before
 
-      abbrev pub m50 : (before : After-w3) → (given : s70 .gives (m48 (before .before) (before .w3 .given))) → Ty.Mo T77
-      m50 = λ before given. s73 (s70 .next (m48 (before .before) (before .w3 .given)) given)
+      abbrev pub m52 : (before : After-w3) → (given : s72 .gives (m50 (before .before) (before .w3 .given))) → Ty.Mo T79
+      m52 = λ before given. s75 (s72 .next (m50 (before .before) (before .w3 .given)) given)
 
       module _ (before· : After-w3) where
         pub record After-slice-known6·own : Type 0 where
-          pub given : s70 .gives (m48 (before· .before) (before· .w3 .given))
+          pub given : s72 .gives (m50 (before· .before) (before· .w3 .given))
 
       pub record After-slice-known6 : Type 0 where
         pub before : After-w3
         pub slice-known6 : After-slice-known6·own before
 
-      abbrev pub m51 : (before : After-slice-known6) → (given : s76 .gives (m50 (before .before) (before .slice-known6 .given))) → Ty.Mo T80
-      m51 = λ before given. s76 .next (m50 (before .before) (before .slice-known6 .given)) given
+      abbrev pub m53 : (before : After-slice-known6) → (given : s78 .gives (m52 (before .before) (before .slice-known6 .given))) → Ty.Mo T82
+      m53 = λ before given. s78 .next (m52 (before .before) (before .slice-known6 .given)) given
 
-      abbrev pub m52 : (before : After-slice-known6) → (given : s76 .gives (m50 (before .before) (before .slice-known6 .given))) → Ty.Mo T82
-      m52 = λ before given. s78 .next (m51 before given)
+      abbrev pub m54 : (before : After-slice-known6) → (given : s78 .gives (m52 (before .before) (before .slice-known6 .given))) → Ty.Mo T84
+      m54 = λ before given. s80 .next (m53 before given)
 
-      abbrev W3 : (before : After-slice-known6) → (given : s76 .gives (m50 (before .before) (before .slice-known6 .given))) → Ty.Want O3
-      W3 = λ before given. Ty.wantNext T80 O0 (at44 (W0 (before .before .before .before .before .before .before .before .before .before .before .before .before .before .before .before .before .before .before .before .before .before .before .before .before .before .before .before .κs) (before .before .before .before .before .before .before .before .before .before .before .before .before .before .before .before .before .before .before .before .before .before .before .before .before .before .before .before .args))) (W0 (before .before .before .before .before .before .before .before .before .before .before .before .before .before .before .before .before .before .before .before .before .before .before .before .before .before .before .before .κs) (before .before .before .before .before .before .before .before .before .before .before .before .before .before .before .before .before .before .before .before .before .before .before .before .before .before .before .before .args))
+      abbrev W3 : (before : After-slice-known6) → (given : s78 .gives (m52 (before .before) (before .slice-known6 .given))) → Ty.Want O3
+      W3 = λ before given. Ty.wantNext T82 O0 (at46 (W0 (before .before .before .before .before .before .before .before .before .before .before .before .before .before .before .before .before .before .before .before .before .before .before .before .before .before .before .before .κs) (before .before .before .before .before .before .before .before .before .before .before .before .before .before .before .before .before .before .before .before .before .before .before .before .before .before .before .before .args))) (W0 (before .before .before .before .before .before .before .before .before .before .before .before .before .before .before .before .before .before .before .before .before .before .before .before .before .before .before .before .κs) (before .before .before .before .before .before .before .before .before .before .before .before .before .before .before .before .before .before .before .before .before .before .before .before .before .before .before .before .args))
 
       module _ (before· : After-slice-known6) where
         pub record After-gaps3·own : Type 0 where
-          pub given : s76 .gives (m50 (before· .before) (before· .slice-known6 .given))
+          pub given : s78 .gives (m52 (before· .before) (before· .slice-known6 .given))
 
       pub record After-gaps3 : Type 0 where
         pub before : After-slice-known6
@@ -2207,156 +2253,156 @@ module _ (claims· : Claims) where
 
       module _ (before· : After-gaps3) where
         pub record Then3·own : Type 0 where
-          pub taken : Pa._≡_ {A = Nat.ℕ} (Ro.get 8 (T80 .locals) (m51 (before· .before) (before· .gaps3 .given))) 0 → ⊥
+          pub taken : Pa._≡_ {A = Nat.ℕ} (Ro.get 8 (T82 .locals) (m53 (before· .before) (before· .gaps3 .given))) 0 → ⊥
 
       pub record Then3 : Type 0 where
         pub before : After-gaps3
         pub if3 : Then3·own before
 
-      abbrev pub m57 : (before : After-gaps3) → Ty.Mo T1
-      m57 = λ before. s83 (s82 (s81 (s80 (s79 (m52 (before .before) (before .gaps3 .given))))))
+      abbrev pub m59 : (before : After-gaps3) → Ty.Mo T1
+      m59 = λ before. s85 (s84 (s83 (s82 (s81 (m54 (before .before) (before .gaps3 .given))))))
 
       abbrev pub Need-same-length-7 : Type 0
-      Need-same-length-7 = (c : Then3) → MutSlice.SameLen (Ro.get 2 (T1 .locals) (m57 (c .before))) (dens (c .before .before .before .before .before .before .before .before .before .before .before .before .before .before .before .before .before .before .before .before .before .before .before .before .before .before .before .before .before .κs) (c .before .before .before .before .before .before .before .before .before .before .before .before .before .before .before .before .before .before .before .before .before .before .before .before .before .before .before .before .before .args) .1 .0)
+      Need-same-length-7 = (c : Then3) → MutSlice.SameLen (Ro.get 2 (T1 .locals) (m59 (c .before))) (dens (c .before .before .before .before .before .before .before .before .before .before .before .before .before .before .before .before .before .before .before .before .before .before .before .before .before .before .before .before .before .κs) (c .before .before .before .before .before .before .before .before .before .before .before .before .before .before .before .before .before .before .before .before .before .before .before .before .before .before .before .before .before .args) .1 .0)
 
       abbrev pub Need-same-length-8 : Type 0
-      Need-same-length-8 = (c : Then3) → MutSlice.SameLen (Ro.get 3 (T1 .locals) (m57 (c .before))) (dens (c .before .before .before .before .before .before .before .before .before .before .before .before .before .before .before .before .before .before .before .before .before .before .before .before .before .before .before .before .before .κs) (c .before .before .before .before .before .before .before .before .before .before .before .before .before .before .before .before .before .before .before .before .before .before .before .before .before .before .before .before .before .args) .1 .1 .0)
+      Need-same-length-8 = (c : Then3) → MutSlice.SameLen (Ro.get 3 (T1 .locals) (m59 (c .before))) (dens (c .before .before .before .before .before .before .before .before .before .before .before .before .before .before .before .before .before .before .before .before .before .before .before .before .before .before .before .before .before .κs) (c .before .before .before .before .before .before .before .before .before .before .before .before .before .before .before .before .before .before .before .before .before .before .before .before .before .before .before .before .before .args) .1 .1 .0)
 
       abbrev pub Need-same-length-9 : Type 0
-      Need-same-length-9 = (c : Then3) → MutSlice.SameLen (Ro.get 4 (T1 .locals) (m57 (c .before))) (dens (c .before .before .before .before .before .before .before .before .before .before .before .before .before .before .before .before .before .before .before .before .before .before .before .before .before .before .before .before .before .κs) (c .before .before .before .before .before .before .before .before .before .before .before .before .before .before .before .before .before .before .before .before .before .before .before .before .before .before .before .before .before .args) .1 .1 .1 .0)
+      Need-same-length-9 = (c : Then3) → MutSlice.SameLen (Ro.get 4 (T1 .locals) (m59 (c .before))) (dens (c .before .before .before .before .before .before .before .before .before .before .before .before .before .before .before .before .before .before .before .before .before .before .before .before .before .before .before .before .before .κs) (c .before .before .before .before .before .before .before .before .before .before .before .before .before .before .before .before .before .before .before .before .before .before .before .before .before .before .before .before .before .args) .1 .1 .1 .0)
 
       abbrev pub Need-returns-3 : Type 0
-      Need-returns-3 = (c : Then3) → Post· (c .before .before .before .before .before .before .before .before .before .before .before .before .before .before .before .before .before .before .before .before .before .before .before .before .before .before .before .before .before .κs) (dens (c .before .before .before .before .before .before .before .before .before .before .before .before .before .before .before .before .before .before .before .before .before .before .before .before .before .before .before .before .before .κs) (c .before .before .before .before .before .before .before .before .before .before .before .before .before .before .before .before .before .before .before .before .before .before .before .before .before .before .before .before .before .args)) (Function.resV r (c .before .before .before .before .before .before .before .before .before .before .before .before .before .before .before .before .before .before .before .before .before .before .before .before .before .before .before .before .before .κs) (m57 (c .before) .0)) (Clauses.atExit (Kinds.endedOf 4 ps r) (c .before .before .before .before .before .before .before .before .before .before .before .before .before .before .before .before .before .before .before .before .before .before .before .before .before .before .before .before .before .κs) (dens (c .before .before .before .before .before .before .before .before .before .before .before .before .before .before .before .before .before .before .before .before .before .before .before .before .before .before .before .before .before .κs) (c .before .before .before .before .before .before .before .before .before .before .before .before .before .before .before .before .before .before .before .before .before .before .before .before .before .before .before .before .before .args)) (Enter.lastsP (c .before .before .before .before .before .before .before .before .before .before .before .before .before .before .before .before .before .before .before .before .before .before .before .before .before .before .before .before .before .κs) 1 ps xs (dens (c .before .before .before .before .before .before .before .before .before .before .before .before .before .before .before .before .before .before .before .before .before .before .before .before .before .before .before .before .before .κs) (c .before .before .before .before .before .before .before .before .before .before .before .before .before .before .before .before .before .before .before .before .before .before .before .before .before .before .before .before .before .args)) (m57 (c .before) .1)))
+      Need-returns-3 = (c : Then3) → Post· (c .before .before .before .before .before .before .before .before .before .before .before .before .before .before .before .before .before .before .before .before .before .before .before .before .before .before .before .before .before .κs) (dens (c .before .before .before .before .before .before .before .before .before .before .before .before .before .before .before .before .before .before .before .before .before .before .before .before .before .before .before .before .before .κs) (c .before .before .before .before .before .before .before .before .before .before .before .before .before .before .before .before .before .before .before .before .before .before .before .before .before .before .before .before .before .args)) (Function.resV r (c .before .before .before .before .before .before .before .before .before .before .before .before .before .before .before .before .before .before .before .before .before .before .before .before .before .before .before .before .before .κs) (m59 (c .before) .0)) (Clauses.atExit (Kinds.endedOf 4 ps r) (c .before .before .before .before .before .before .before .before .before .before .before .before .before .before .before .before .before .before .before .before .before .before .before .before .before .before .before .before .before .κs) (dens (c .before .before .before .before .before .before .before .before .before .before .before .before .before .before .before .before .before .before .before .before .before .before .before .before .before .before .before .before .before .κs) (c .before .before .before .before .before .before .before .before .before .before .before .before .before .before .before .before .before .before .before .before .before .before .before .before .before .before .before .before .before .args)) (Enter.lastsP (c .before .before .before .before .before .before .before .before .before .before .before .before .before .before .before .before .before .before .before .before .before .before .before .before .before .before .before .before .before .κs) 1 ps xs (dens (c .before .before .before .before .before .before .before .before .before .before .before .before .before .before .before .before .before .before .before .before .before .before .before .before .before .before .before .before .before .κs) (c .before .before .before .before .before .before .before .before .before .before .before .before .before .before .before .before .before .before .before .before .before .before .before .before .before .before .before .before .before .args)) (m59 (c .before) .1)))
 
       module _ (before· : After-gaps3) where
         pub record Else3·own : Type 0 where
-          pub left : Pa._≡_ {A = Nat.ℕ} (Ro.get 8 (T80 .locals) (m51 (before· .before) (before· .gaps3 .given))) 0
+          pub left : Pa._≡_ {A = Nat.ℕ} (Ro.get 8 (T82 .locals) (m53 (before· .before) (before· .gaps3 .given))) 0
 
       pub record Else3 : Type 0 where
         pub before : After-gaps3
         pub if3 : Else3·own before
 
-      abbrev pub m58 : (before : After-gaps3) → Ty.Mo T80
-      m58 = λ before. s84 (m52 (before .before) (before .gaps3 .given))
+      abbrev pub m60 : (before : After-gaps3) → Ty.Mo T82
+      m60 = λ before. s86 (m54 (before .before) (before .gaps3 .given))
 
-      abbrev pub m60 : (before : Else3) → (given : s86 .gives (m58 (before .before))) → Ty.Mo T92
-      m60 = λ before given. s87 .next (s86 .next (m58 (before .before)) given)
+      abbrev pub m62 : (before : Else3) → (given : s88 .gives (m60 (before .before))) → Ty.Mo T94
+      m62 = λ before given. s89 .next (s88 .next (m60 (before .before)) given)
 
       module _ (before· : Else3) where
         pub record After-own-slots-arg·own : Type 0 where
-          pub given : s86 .gives (m58 (before· .before))
+          pub given : s88 .gives (m60 (before· .before))
 
       pub record After-own-slots-arg : Type 0 where
         pub before : Else3
         pub own-slots-arg : After-own-slots-arg·own before
 
-      abbrev pub m62 : (before : After-own-slots-arg) → (given : s89 .gives (m60 (before .before) (before .own-slots-arg .given))) → Ty.Mo T95
-      m62 = λ before given. s90 .next (s89 .next (m60 (before .before) (before .own-slots-arg .given)) given)
+      abbrev pub m64 : (before : After-own-slots-arg) → (given : s91 .gives (m62 (before .before) (before .own-slots-arg .given))) → Ty.Mo T97
+      m64 = λ before given. s92 .next (s91 .next (m62 (before .before) (before .own-slots-arg .given)) given)
 
       module _ (before· : After-own-slots-arg) where
         pub record After-own-slots-arg2·own : Type 0 where
-          pub given : s89 .gives (m60 (before· .before) (before· .own-slots-arg .given))
+          pub given : s91 .gives (m62 (before· .before) (before· .own-slots-arg .given))
 
       pub record After-own-slots-arg2 : Type 0 where
         pub before : After-own-slots-arg
         pub own-slots-arg2 : After-own-slots-arg2·own before
 
       abbrev pub Need-own-slots-requires : Type 0
-      Need-own-slots-requires = (c : After-own-slots-arg2) → s91 .asks (m62 (c .before) (c .own-slots-arg2 .given))
+      Need-own-slots-requires = (c : After-own-slots-arg2) → s93 .asks (m64 (c .before) (c .own-slots-arg2 .given))
 
-      abbrev pub m63 : (before : After-own-slots-arg2) → (given : s91 .gives (m62 (before .before) (before .own-slots-arg2 .given))) → Ty.Mo T96
-      m63 = λ before given. s91 .next (m62 (before .before) (before .own-slots-arg2 .given)) given
+      abbrev pub m65 : (before : After-own-slots-arg2) → (given : s93 .gives (m64 (before .before) (before .own-slots-arg2 .given))) → Ty.Mo T98
+      m65 = λ before given. s93 .next (m64 (before .before) (before .own-slots-arg2 .given)) given
 
       module _ (before· : After-own-slots-arg2) where
         abbrev pub After-own-slots·own : Type 0
-        After-own-slots·own = Called.Called ps·3 r·3 (claims· .7) T95 (record { pos = 30; ty = Sy.tyRef Sy.erased Sy.mut (Sy.tyInt Sy.w32); ref = λ x. x }, (record { pos = 32; ty = Sy.tyRef Sy.erased Sy.imm (Sy.tyInt Sy.w64); ref = λ x. x }, tt)) (m62 (before· .before) (before· .own-slots-arg2 .given))
+        After-own-slots·own = Called.Called ps·3 r·3 (claims· .7) T97 (record { pos = 30; ty = Sy.tyRef Sy.erased Sy.mut (Sy.tyInt Sy.w32); ref = λ x. x }, (record { pos = 32; ty = Sy.tyRef Sy.erased Sy.imm (Sy.tyInt Sy.w64); ref = λ x. x }, tt)) (m64 (before· .before) (before· .own-slots-arg2 .given))
 
       pub record After-own-slots : Type 0 where
         pub before : After-own-slots-arg2
         pub own-slots : After-own-slots·own before
 
-      abbrev pub After-own-slots·gave : (c : After-own-slots) → s91 .gives (m62 (c .before .before) (c .before .own-slots-arg2 .given))
-      After-own-slots·gave = λ c. Called.given ps·3 r·3 (claims· .7) T95 (record { pos = 30; ty = Sy.tyRef Sy.erased Sy.mut (Sy.tyInt Sy.w32); ref = λ x. x }, (record { pos = 32; ty = Sy.tyRef Sy.erased Sy.imm (Sy.tyInt Sy.w64); ref = λ x. x }, tt)) (m62 (c .before .before) (c .before .own-slots-arg2 .given)) (c .own-slots)
+      abbrev pub After-own-slots·gave : (c : After-own-slots) → s93 .gives (m64 (c .before .before) (c .before .own-slots-arg2 .given))
+      After-own-slots·gave = λ c. Called.given ps·3 r·3 (claims· .7) T97 (record { pos = 30; ty = Sy.tyRef Sy.erased Sy.mut (Sy.tyInt Sy.w32); ref = λ x. x }, (record { pos = 32; ty = Sy.tyRef Sy.erased Sy.imm (Sy.tyInt Sy.w64); ref = λ x. x }, tt)) (m64 (c .before .before) (c .before .own-slots-arg2 .given)) (c .own-slots)
 
-      abbrev pub m65 : (before : After-own-slots-arg2) → (given : s91 .gives (m62 (before .before) (before .own-slots-arg2 .given))) → Ty.Mo T98
-      m65 = λ before given. s93 (s92 (m63 before given))
+      abbrev pub m67 : (before : After-own-slots-arg2) → (given : s93 .gives (m64 (before .before) (before .own-slots-arg2 .given))) → Ty.Mo T100
+      m67 = λ before given. s95 (s94 (m65 before given))
 
-      abbrev pub m66 : (before : After-own-slots) → (given : s95 .gives (m65 (before .before) (After-own-slots·gave before))) → Ty.Mo T100
-      m66 = λ before given. s95 .next (m65 (before .before) (After-own-slots·gave before)) given
+      abbrev pub m68 : (before : After-own-slots) → (given : s97 .gives (m67 (before .before) (After-own-slots·gave before))) → Ty.Mo T102
+      m68 = λ before given. s97 .next (m67 (before .before) (After-own-slots·gave before)) given
 
       module _ (before· : After-own-slots) where
         pub record After-w4·own : Type 0 where
-          pub given : s95 .gives (m65 (before· .before) (After-own-slots·gave before·))
+          pub given : s97 .gives (m67 (before· .before) (After-own-slots·gave before·))
 
       pub record After-w4 : Type 0 where
         pub before : After-own-slots
         pub w4 : After-w4·own before
 
-      abbrev pub m72 : (before : After-w4) → (given : s96 .gives (m66 (before .before) (before .w4 .given))) → Ty.Mo T1
-      m72 = λ before given. s104 (s103 (s102 (s101 (s99 (s96 .next (m66 (before .before) (before .w4 .given)) given)))))
+      abbrev pub m74 : (before : After-w4) → (given : s98 .gives (m68 (before .before) (before .w4 .given))) → Ty.Mo T1
+      m74 = λ before given. s106 (s105 (s104 (s103 (s101 (s98 .next (m68 (before .before) (before .w4 .given)) given)))))
 
       module _ (before· : After-w4) where
         pub record After-slice-known7·own : Type 0 where
-          pub given : s96 .gives (m66 (before· .before) (before· .w4 .given))
+          pub given : s98 .gives (m68 (before· .before) (before· .w4 .given))
 
       pub record After-slice-known7 : Type 0 where
         pub before : After-w4
         pub slice-known7 : After-slice-known7·own before
 
       abbrev pub Need-same-length-10 : Type 0
-      Need-same-length-10 = (c : After-slice-known7) → MutSlice.SameLen (Ro.get 2 (T1 .locals) (m72 (c .before) (c .slice-known7 .given))) (dens (c .before .before .before .before .before .before .before .before .before .before .before .before .before .before .before .before .before .before .before .before .before .before .before .before .before .before .before .before .before .before .before .before .before .before .κs) (c .before .before .before .before .before .before .before .before .before .before .before .before .before .before .before .before .before .before .before .before .before .before .before .before .before .before .before .before .before .before .before .before .before .before .args) .1 .0)
+      Need-same-length-10 = (c : After-slice-known7) → MutSlice.SameLen (Ro.get 2 (T1 .locals) (m74 (c .before) (c .slice-known7 .given))) (dens (c .before .before .before .before .before .before .before .before .before .before .before .before .before .before .before .before .before .before .before .before .before .before .before .before .before .before .before .before .before .before .before .before .before .before .κs) (c .before .before .before .before .before .before .before .before .before .before .before .before .before .before .before .before .before .before .before .before .before .before .before .before .before .before .before .before .before .before .before .before .before .before .args) .1 .0)
 
       abbrev pub Need-same-length-11 : Type 0
-      Need-same-length-11 = (c : After-slice-known7) → MutSlice.SameLen (Ro.get 3 (T1 .locals) (m72 (c .before) (c .slice-known7 .given))) (dens (c .before .before .before .before .before .before .before .before .before .before .before .before .before .before .before .before .before .before .before .before .before .before .before .before .before .before .before .before .before .before .before .before .before .before .κs) (c .before .before .before .before .before .before .before .before .before .before .before .before .before .before .before .before .before .before .before .before .before .before .before .before .before .before .before .before .before .before .before .before .before .before .args) .1 .1 .0)
+      Need-same-length-11 = (c : After-slice-known7) → MutSlice.SameLen (Ro.get 3 (T1 .locals) (m74 (c .before) (c .slice-known7 .given))) (dens (c .before .before .before .before .before .before .before .before .before .before .before .before .before .before .before .before .before .before .before .before .before .before .before .before .before .before .before .before .before .before .before .before .before .before .κs) (c .before .before .before .before .before .before .before .before .before .before .before .before .before .before .before .before .before .before .before .before .before .before .before .before .before .before .before .before .before .before .before .before .before .before .args) .1 .1 .0)
 
       abbrev pub Need-same-length-12 : Type 0
-      Need-same-length-12 = (c : After-slice-known7) → MutSlice.SameLen (Ro.get 4 (T1 .locals) (m72 (c .before) (c .slice-known7 .given))) (dens (c .before .before .before .before .before .before .before .before .before .before .before .before .before .before .before .before .before .before .before .before .before .before .before .before .before .before .before .before .before .before .before .before .before .before .κs) (c .before .before .before .before .before .before .before .before .before .before .before .before .before .before .before .before .before .before .before .before .before .before .before .before .before .before .before .before .before .before .before .before .before .before .args) .1 .1 .1 .0)
+      Need-same-length-12 = (c : After-slice-known7) → MutSlice.SameLen (Ro.get 4 (T1 .locals) (m74 (c .before) (c .slice-known7 .given))) (dens (c .before .before .before .before .before .before .before .before .before .before .before .before .before .before .before .before .before .before .before .before .before .before .before .before .before .before .before .before .before .before .before .before .before .before .κs) (c .before .before .before .before .before .before .before .before .before .before .before .before .before .before .before .before .before .before .before .before .before .before .before .before .before .before .before .before .before .before .before .before .before .before .args) .1 .1 .1 .0)
 
       abbrev pub Need-returns-4 : Type 0
-      Need-returns-4 = (c : After-slice-known7) → Post· (c .before .before .before .before .before .before .before .before .before .before .before .before .before .before .before .before .before .before .before .before .before .before .before .before .before .before .before .before .before .before .before .before .before .before .κs) (dens (c .before .before .before .before .before .before .before .before .before .before .before .before .before .before .before .before .before .before .before .before .before .before .before .before .before .before .before .before .before .before .before .before .before .before .κs) (c .before .before .before .before .before .before .before .before .before .before .before .before .before .before .before .before .before .before .before .before .before .before .before .before .before .before .before .before .before .before .before .before .before .before .args)) (Function.resV r (c .before .before .before .before .before .before .before .before .before .before .before .before .before .before .before .before .before .before .before .before .before .before .before .before .before .before .before .before .before .before .before .before .before .before .κs) (m72 (c .before) (c .slice-known7 .given) .0)) (Clauses.atExit (Kinds.endedOf 4 ps r) (c .before .before .before .before .before .before .before .before .before .before .before .before .before .before .before .before .before .before .before .before .before .before .before .before .before .before .before .before .before .before .before .before .before .before .κs) (dens (c .before .before .before .before .before .before .before .before .before .before .before .before .before .before .before .before .before .before .before .before .before .before .before .before .before .before .before .before .before .before .before .before .before .before .κs) (c .before .before .before .before .before .before .before .before .before .before .before .before .before .before .before .before .before .before .before .before .before .before .before .before .before .before .before .before .before .before .before .before .before .before .args)) (Enter.lastsP (c .before .before .before .before .before .before .before .before .before .before .before .before .before .before .before .before .before .before .before .before .before .before .before .before .before .before .before .before .before .before .before .before .before .before .κs) 1 ps xs (dens (c .before .before .before .before .before .before .before .before .before .before .before .before .before .before .before .before .before .before .before .before .before .before .before .before .before .before .before .before .before .before .before .before .before .before .κs) (c .before .before .before .before .before .before .before .before .before .before .before .before .before .before .before .before .before .before .before .before .before .before .before .before .before .before .before .before .before .before .before .before .before .before .args)) (m72 (c .before) (c .slice-known7 .given) .1)))
+      Need-returns-4 = (c : After-slice-known7) → Post· (c .before .before .before .before .before .before .before .before .before .before .before .before .before .before .before .before .before .before .before .before .before .before .before .before .before .before .before .before .before .before .before .before .before .before .κs) (dens (c .before .before .before .before .before .before .before .before .before .before .before .before .before .before .before .before .before .before .before .before .before .before .before .before .before .before .before .before .before .before .before .before .before .before .κs) (c .before .before .before .before .before .before .before .before .before .before .before .before .before .before .before .before .before .before .before .before .before .before .before .before .before .before .before .before .before .before .before .before .before .before .args)) (Function.resV r (c .before .before .before .before .before .before .before .before .before .before .before .before .before .before .before .before .before .before .before .before .before .before .before .before .before .before .before .before .before .before .before .before .before .before .κs) (m74 (c .before) (c .slice-known7 .given) .0)) (Clauses.atExit (Kinds.endedOf 4 ps r) (c .before .before .before .before .before .before .before .before .before .before .before .before .before .before .before .before .before .before .before .before .before .before .before .before .before .before .before .before .before .before .before .before .before .before .κs) (dens (c .before .before .before .before .before .before .before .before .before .before .before .before .before .before .before .before .before .before .before .before .before .before .before .before .before .before .before .before .before .before .before .before .before .before .κs) (c .before .before .before .before .before .before .before .before .before .before .before .before .before .before .before .before .before .before .before .before .before .before .before .before .before .before .before .before .before .before .before .before .before .before .args)) (Enter.lastsP (c .before .before .before .before .before .before .before .before .before .before .before .before .before .before .before .before .before .before .before .before .before .before .before .before .before .before .before .before .before .before .before .before .before .before .κs) 1 ps xs (dens (c .before .before .before .before .before .before .before .before .before .before .before .before .before .before .before .before .before .before .before .before .before .before .before .before .before .before .before .before .before .before .before .before .before .before .κs) (c .before .before .before .before .before .before .before .before .before .before .before .before .before .before .before .before .before .before .before .before .before .before .before .before .before .before .before .before .before .before .before .before .before .before .args)) (m74 (c .before) (c .slice-known7 .given) .1)))
 
       module _ (ask-requires : Need-ask-requires) (same-length : Need-same-length) (same-length-2 : Need-same-length-2) (same-length-3 : Need-same-length-3) (returns : Need-returns) (build-all-requires : Need-build-all-requires) (same-length-4 : Need-same-length-4) (same-length-5 : Need-same-length-5) (same-length-6 : Need-same-length-6) (returns-2 : Need-returns-2) (end-pool-requires : Need-end-pool-requires) (same-length-7 : Need-same-length-7) (same-length-8 : Need-same-length-8) (same-length-9 : Need-same-length-9) (returns-3 : Need-returns-3) (own-slots-requires : Need-own-slots-requires) (same-length-10 : Need-same-length-10) (same-length-11 : Need-same-length-11) (same-length-12 : Need-same-length-12) (returns-4 : Need-returns-4) where
-        lay13 : (c : After-own-slots) → at37 (W0 (c .before .before .before .before .before .before .before .before .before .before .before .before .before .before .before .before .before .before .before .before .before .before .before .before .before .before .before .before .before .before .before .before .κs) (c .before .before .before .before .before .before .before .before .before .before .before .before .before .before .before .before .before .before .before .before .before .before .before .before .before .before .before .before .before .before .before .before .args)) (m63 (c .before) (After-own-slots·gave c))
-        lay13 = λ c. (Pa.refl, λ g. λ g'. ((Pa.refl, (MutSlice.fix-len (Ro.get 2 (T1 .locals) (m72 record { before = record { before = c .before; own-slots = c .own-slots }; w4 = record { given = g } } g') .ptr) (Ro.get 2 (T1 .locals) (m72 record { before = record { before = c .before; own-slots = c .own-slots }; w4 = record { given = g } } g') .name) (Ro.get 2 (T1 .locals) (m72 record { before = record { before = c .before; own-slots = c .own-slots }; w4 = record { given = g } } g') .now) (dens (c .before .before .before .before .before .before .before .before .before .before .before .before .before .before .before .before .before .before .before .before .before .before .before .before .before .before .before .before .before .before .before .before .κs) (c .before .before .before .before .before .before .before .before .before .before .before .before .before .before .before .before .before .before .before .before .before .before .before .before .before .before .before .before .before .before .before .before .args) .1 .0 .now) (same-length-10 record { before = record { before = record { before = c .before; own-slots = c .own-slots }; w4 = record { given = g } }; slice-known7 = record { given = g' } }), (MutSlice.fix-len (Ro.get 3 (T1 .locals) (m72 record { before = record { before = c .before; own-slots = c .own-slots }; w4 = record { given = g } } g') .ptr) (Ro.get 3 (T1 .locals) (m72 record { before = record { before = c .before; own-slots = c .own-slots }; w4 = record { given = g } } g') .name) (Ro.get 3 (T1 .locals) (m72 record { before = record { before = c .before; own-slots = c .own-slots }; w4 = record { given = g } } g') .now) (dens (c .before .before .before .before .before .before .before .before .before .before .before .before .before .before .before .before .before .before .before .before .before .before .before .before .before .before .before .before .before .before .before .before .κs) (c .before .before .before .before .before .before .before .before .before .before .before .before .before .before .before .before .before .before .before .before .before .before .before .before .before .before .before .before .before .before .before .before .args) .1 .1 .0 .now) (same-length-11 record { before = record { before = record { before = c .before; own-slots = c .own-slots }; w4 = record { given = g } }; slice-known7 = record { given = g' } }), (MutSlice.fix-len (Ro.get 4 (T1 .locals) (m72 record { before = record { before = c .before; own-slots = c .own-slots }; w4 = record { given = g } } g') .ptr) (Ro.get 4 (T1 .locals) (m72 record { before = record { before = c .before; own-slots = c .own-slots }; w4 = record { given = g } } g') .name) (Ro.get 4 (T1 .locals) (m72 record { before = record { before = c .before; own-slots = c .own-slots }; w4 = record { given = g } } g') .now) (dens (c .before .before .before .before .before .before .before .before .before .before .before .before .before .before .before .before .before .before .before .before .before .before .before .before .before .before .before .before .before .before .before .before .κs) (c .before .before .before .before .before .before .before .before .before .before .before .before .before .before .before .before .before .before .before .before .before .before .before .before .before .before .before .before .before .before .before .before .args) .1 .1 .1 .0 .now) (same-length-12 record { before = record { before = record { before = c .before; own-slots = c .own-slots }; w4 = record { given = g } }; slice-known7 = record { given = g' } }), (tt, tt))))), returns-4 record { before = record { before = record { before = c .before; own-slots = c .own-slots }; w4 = record { given = g } }; slice-known7 = record { given = g' } }))
+        lay13 : (c : After-own-slots) → at39 (W0 (c .before .before .before .before .before .before .before .before .before .before .before .before .before .before .before .before .before .before .before .before .before .before .before .before .before .before .before .before .before .before .before .before .κs) (c .before .before .before .before .before .before .before .before .before .before .before .before .before .before .before .before .before .before .before .before .before .before .before .before .before .before .before .before .before .before .before .before .args)) (m65 (c .before) (After-own-slots·gave c))
+        lay13 = λ c. (Pa.refl, λ g. λ g'. ((Pa.refl, (MutSlice.fix-len (Ro.get 2 (T1 .locals) (m74 record { before = record { before = c .before; own-slots = c .own-slots }; w4 = record { given = g } } g') .ptr) (Ro.get 2 (T1 .locals) (m74 record { before = record { before = c .before; own-slots = c .own-slots }; w4 = record { given = g } } g') .name) (Ro.get 2 (T1 .locals) (m74 record { before = record { before = c .before; own-slots = c .own-slots }; w4 = record { given = g } } g') .now) (dens (c .before .before .before .before .before .before .before .before .before .before .before .before .before .before .before .before .before .before .before .before .before .before .before .before .before .before .before .before .before .before .before .before .κs) (c .before .before .before .before .before .before .before .before .before .before .before .before .before .before .before .before .before .before .before .before .before .before .before .before .before .before .before .before .before .before .before .before .args) .1 .0 .now) (same-length-10 record { before = record { before = record { before = c .before; own-slots = c .own-slots }; w4 = record { given = g } }; slice-known7 = record { given = g' } }), (MutSlice.fix-len (Ro.get 3 (T1 .locals) (m74 record { before = record { before = c .before; own-slots = c .own-slots }; w4 = record { given = g } } g') .ptr) (Ro.get 3 (T1 .locals) (m74 record { before = record { before = c .before; own-slots = c .own-slots }; w4 = record { given = g } } g') .name) (Ro.get 3 (T1 .locals) (m74 record { before = record { before = c .before; own-slots = c .own-slots }; w4 = record { given = g } } g') .now) (dens (c .before .before .before .before .before .before .before .before .before .before .before .before .before .before .before .before .before .before .before .before .before .before .before .before .before .before .before .before .before .before .before .before .κs) (c .before .before .before .before .before .before .before .before .before .before .before .before .before .before .before .before .before .before .before .before .before .before .before .before .before .before .before .before .before .before .before .before .args) .1 .1 .0 .now) (same-length-11 record { before = record { before = record { before = c .before; own-slots = c .own-slots }; w4 = record { given = g } }; slice-known7 = record { given = g' } }), (MutSlice.fix-len (Ro.get 4 (T1 .locals) (m74 record { before = record { before = c .before; own-slots = c .own-slots }; w4 = record { given = g } } g') .ptr) (Ro.get 4 (T1 .locals) (m74 record { before = record { before = c .before; own-slots = c .own-slots }; w4 = record { given = g } } g') .name) (Ro.get 4 (T1 .locals) (m74 record { before = record { before = c .before; own-slots = c .own-slots }; w4 = record { given = g } } g') .now) (dens (c .before .before .before .before .before .before .before .before .before .before .before .before .before .before .before .before .before .before .before .before .before .before .before .before .before .before .before .before .before .before .before .before .κs) (c .before .before .before .before .before .before .before .before .before .before .before .before .before .before .before .before .before .before .before .before .before .before .before .before .before .before .before .before .before .before .before .before .args) .1 .1 .1 .0 .now) (same-length-12 record { before = record { before = record { before = c .before; own-slots = c .own-slots }; w4 = record { given = g } }; slice-known7 = record { given = g' } }), (tt, tt))))), returns-4 record { before = record { before = record { before = c .before; own-slots = c .own-slots }; w4 = record { given = g } }; slice-known7 = record { given = g' } }))
 
-        lay12 : (c : Else3) → at44 (W0 (c .before .before .before .before .before .before .before .before .before .before .before .before .before .before .before .before .before .before .before .before .before .before .before .before .before .before .before .before .before .κs) (c .before .before .before .before .before .before .before .before .before .before .before .before .before .before .before .before .before .before .before .before .before .before .before .before .before .before .before .before .before .args)) (m58 (c .before))
-        lay12 = λ c. λ g. (Pa.refl, λ g'. (Pa.refl, (own-slots-requires record { before = record { before = record { before = c .before; if3 = c .if3 }; own-slots-arg = record { given = g } }; own-slots-arg2 = record { given = g' } }, λ g''. lay13 record { before = record { before = record { before = record { before = c .before; if3 = c .if3 }; own-slots-arg = record { given = g } }; own-slots-arg2 = record { given = g' } }; own-slots = Called.called ps·3 r·3 (claims· .7) T95 (record { pos = 30; ty = Sy.tyRef Sy.erased Sy.mut (Sy.tyInt Sy.w32); ref = λ x. x }, (record { pos = 32; ty = Sy.tyRef Sy.erased Sy.imm (Sy.tyInt Sy.w64); ref = λ x. x }, tt)) (m62 record { before = record { before = c .before; if3 = c .if3 }; own-slots-arg = record { given = g } } g') g'' })))
+        lay12 : (c : Else3) → at46 (W0 (c .before .before .before .before .before .before .before .before .before .before .before .before .before .before .before .before .before .before .before .before .before .before .before .before .before .before .before .before .before .κs) (c .before .before .before .before .before .before .before .before .before .before .before .before .before .before .before .before .before .before .before .before .before .before .before .before .before .before .before .before .before .args)) (m60 (c .before))
+        lay12 = λ c. λ g. (Pa.refl, λ g'. (Pa.refl, (own-slots-requires record { before = record { before = record { before = c .before; if3 = c .if3 }; own-slots-arg = record { given = g } }; own-slots-arg2 = record { given = g' } }, λ g''. lay13 record { before = record { before = record { before = record { before = c .before; if3 = c .if3 }; own-slots-arg = record { given = g } }; own-slots-arg2 = record { given = g' } }; own-slots = Called.called ps·3 r·3 (claims· .7) T97 (record { pos = 30; ty = Sy.tyRef Sy.erased Sy.mut (Sy.tyInt Sy.w32); ref = λ x. x }, (record { pos = 32; ty = Sy.tyRef Sy.erased Sy.imm (Sy.tyInt Sy.w64); ref = λ x. x }, tt)) (m64 record { before = record { before = c .before; if3 = c .if3 }; own-slots-arg = record { given = g } } g') g'' })))
 
-        lay11 : (c : Else3) → at22 (W3 (c .before .before) (c .before .gaps3 .given)) (m52 (c .before .before) (c .before .gaps3 .given))
+        lay11 : (c : Else3) → at24 (W3 (c .before .before) (c .before .gaps3 .given)) (m54 (c .before .before) (c .before .gaps3 .given))
         lay11 = λ c. lay12 record { before = c .before; if3 = c .if3 }
 
-        lay10 : (c : Then3) → at20 (W3 (c .before .before) (c .before .gaps3 .given)) (m52 (c .before .before) (c .before .gaps3 .given))
-        lay10 = λ c. ((Pa.refl, (MutSlice.fix-len (Ro.get 2 (T1 .locals) (m57 (c .before)) .ptr) (Ro.get 2 (T1 .locals) (m57 (c .before)) .name) (Ro.get 2 (T1 .locals) (m57 (c .before)) .now) (dens (c .before .before .before .before .before .before .before .before .before .before .before .before .before .before .before .before .before .before .before .before .before .before .before .before .before .before .before .before .before .κs) (c .before .before .before .before .before .before .before .before .before .before .before .before .before .before .before .before .before .before .before .before .before .before .before .before .before .before .before .before .before .args) .1 .0 .now) (same-length-7 record { before = c .before; if3 = c .if3 }), (MutSlice.fix-len (Ro.get 3 (T1 .locals) (m57 (c .before)) .ptr) (Ro.get 3 (T1 .locals) (m57 (c .before)) .name) (Ro.get 3 (T1 .locals) (m57 (c .before)) .now) (dens (c .before .before .before .before .before .before .before .before .before .before .before .before .before .before .before .before .before .before .before .before .before .before .before .before .before .before .before .before .before .κs) (c .before .before .before .before .before .before .before .before .before .before .before .before .before .before .before .before .before .before .before .before .before .before .before .before .before .before .before .before .before .args) .1 .1 .0 .now) (same-length-8 record { before = c .before; if3 = c .if3 }), (MutSlice.fix-len (Ro.get 4 (T1 .locals) (m57 (c .before)) .ptr) (Ro.get 4 (T1 .locals) (m57 (c .before)) .name) (Ro.get 4 (T1 .locals) (m57 (c .before)) .now) (dens (c .before .before .before .before .before .before .before .before .before .before .before .before .before .before .before .before .before .before .before .before .before .before .before .before .before .before .before .before .before .κs) (c .before .before .before .before .before .before .before .before .before .before .before .before .before .before .before .before .before .before .before .before .before .before .before .before .before .before .before .before .before .args) .1 .1 .1 .0 .now) (same-length-9 record { before = c .before; if3 = c .if3 }), (tt, tt))))), returns-3 record { before = c .before; if3 = c .if3 })
+        lay10 : (c : Then3) → at22 (W3 (c .before .before) (c .before .gaps3 .given)) (m54 (c .before .before) (c .before .gaps3 .given))
+        lay10 = λ c. ((Pa.refl, (MutSlice.fix-len (Ro.get 2 (T1 .locals) (m59 (c .before)) .ptr) (Ro.get 2 (T1 .locals) (m59 (c .before)) .name) (Ro.get 2 (T1 .locals) (m59 (c .before)) .now) (dens (c .before .before .before .before .before .before .before .before .before .before .before .before .before .before .before .before .before .before .before .before .before .before .before .before .before .before .before .before .before .κs) (c .before .before .before .before .before .before .before .before .before .before .before .before .before .before .before .before .before .before .before .before .before .before .before .before .before .before .before .before .before .args) .1 .0 .now) (same-length-7 record { before = c .before; if3 = c .if3 }), (MutSlice.fix-len (Ro.get 3 (T1 .locals) (m59 (c .before)) .ptr) (Ro.get 3 (T1 .locals) (m59 (c .before)) .name) (Ro.get 3 (T1 .locals) (m59 (c .before)) .now) (dens (c .before .before .before .before .before .before .before .before .before .before .before .before .before .before .before .before .before .before .before .before .before .before .before .before .before .before .before .before .before .κs) (c .before .before .before .before .before .before .before .before .before .before .before .before .before .before .before .before .before .before .before .before .before .before .before .before .before .before .before .before .before .args) .1 .1 .0 .now) (same-length-8 record { before = c .before; if3 = c .if3 }), (MutSlice.fix-len (Ro.get 4 (T1 .locals) (m59 (c .before)) .ptr) (Ro.get 4 (T1 .locals) (m59 (c .before)) .name) (Ro.get 4 (T1 .locals) (m59 (c .before)) .now) (dens (c .before .before .before .before .before .before .before .before .before .before .before .before .before .before .before .before .before .before .before .before .before .before .before .before .before .before .before .before .before .κs) (c .before .before .before .before .before .before .before .before .before .before .before .before .before .before .before .before .before .before .before .before .before .before .before .before .before .before .before .before .before .args) .1 .1 .1 .0 .now) (same-length-9 record { before = c .before; if3 = c .if3 }), (tt, tt))))), returns-3 record { before = c .before; if3 = c .if3 })
 
-        lay9 : (c : After-end-pool) → at57 (W0 (c .before .before .before .before .before .before .before .before .before .before .before .before .before .before .before .before .before .before .before .before .before .before .before .before .before .κs) (c .before .before .before .before .before .before .before .before .before .before .before .before .before .before .before .before .before .before .before .before .before .before .before .before .before .args)) (m46 (c .before) (After-end-pool·gave c))
-        lay9 = λ c. (Pa.refl, λ g. λ g'. (Pa.refl, λ g''. (tt, (λ taken. lay10 record { before = record { before = record { before = record { before = record { before = c .before; end-pool = c .end-pool }; w3 = record { given = g } }; slice-known6 = record { given = g' } }; gaps3 = record { given = g'' } }; if3 = record { taken = Tests.eqb-false (Ro.get 8 (T80 .locals) (m51 record { before = record { before = record { before = c .before; end-pool = c .end-pool }; w3 = record { given = g } }; slice-known6 = record { given = g' } } g'')) 0 (Tests.not-true (Dec'.eqb (Ro.get 8 (T80 .locals) (m51 record { before = record { before = record { before = c .before; end-pool = c .end-pool }; w3 = record { given = g } }; slice-known6 = record { given = g' } } g'')) 0) taken) } }, λ left. lay11 record { before = record { before = record { before = record { before = record { before = c .before; end-pool = c .end-pool }; w3 = record { given = g } }; slice-known6 = record { given = g' } }; gaps3 = record { given = g'' } }; if3 = record { left = Tests.eqb-true (Ro.get 8 (T80 .locals) (m51 record { before = record { before = record { before = c .before; end-pool = c .end-pool }; w3 = record { given = g } }; slice-known6 = record { given = g' } } g'')) 0 (Tests.not-false (Dec'.eqb (Ro.get 8 (T80 .locals) (m51 record { before = record { before = record { before = c .before; end-pool = c .end-pool }; w3 = record { given = g } }; slice-known6 = record { given = g' } } g'')) 0) left) } }))))
+        lay9 : (c : After-end-pool) → at60 (W0 (c .before .before .before .before .before .before .before .before .before .before .before .before .before .before .before .before .before .before .before .before .before .before .before .before .before .κs) (c .before .before .before .before .before .before .before .before .before .before .before .before .before .before .before .before .before .before .before .before .before .before .before .before .before .args)) (m47 (c .before) (After-end-pool·gave c))
+        lay9 = λ c. (Pa.refl, λ g. λ g'. (Pa.refl, λ g''. (tt, (λ taken. lay10 record { before = record { before = record { before = record { before = record { before = c .before; end-pool = c .end-pool }; w3 = record { given = g } }; slice-known6 = record { given = g' } }; gaps3 = record { given = g'' } }; if3 = record { taken = Tests.eqb-false (Ro.get 8 (T82 .locals) (m53 record { before = record { before = record { before = c .before; end-pool = c .end-pool }; w3 = record { given = g } }; slice-known6 = record { given = g' } } g'')) 0 (Tests.not-true (Dec'.eqb (Ro.get 8 (T82 .locals) (m53 record { before = record { before = record { before = c .before; end-pool = c .end-pool }; w3 = record { given = g } }; slice-known6 = record { given = g' } } g'')) 0) taken) } }, λ left. lay11 record { before = record { before = record { before = record { before = record { before = c .before; end-pool = c .end-pool }; w3 = record { given = g } }; slice-known6 = record { given = g' } }; gaps3 = record { given = g'' } }; if3 = record { left = Tests.eqb-true (Ro.get 8 (T82 .locals) (m53 record { before = record { before = record { before = c .before; end-pool = c .end-pool }; w3 = record { given = g } }; slice-known6 = record { given = g' } } g'')) 0 (Tests.not-false (Dec'.eqb (Ro.get 8 (T82 .locals) (m53 record { before = record { before = record { before = c .before; end-pool = c .end-pool }; w3 = record { given = g } }; slice-known6 = record { given = g' } } g'')) 0) left) } }))))
 
-        lay8 : (c : Else2) → at67 (W0 (c .before .before .before .before .before .before .before .before .before .before .before .before .before .before .before .before .before .before .before .before .before .κs) (c .before .before .before .before .before .before .before .before .before .before .before .before .before .before .before .before .before .before .before .before .before .args)) (m39 (c .before))
-        lay8 = λ c. λ g. (Pa.refl, λ g'. (Pa.refl, λ g''. (Pa.refl, (end-pool-requires record { before = record { before = record { before = record { before = c .before; if2 = c .if2 }; end-pool-arg = record { given = g } }; end-pool-arg2 = record { given = g' } }; end-pool-arg3 = record { given = g'' } }, λ g'3. lay9 record { before = record { before = record { before = record { before = record { before = c .before; if2 = c .if2 }; end-pool-arg = record { given = g } }; end-pool-arg2 = record { given = g' } }; end-pool-arg3 = record { given = g'' } }; end-pool = Called.called ps·2 r·2 (claims· .5) T69 (record { pos = 1; ty = Sy.tyRef (Sy.named 0) Sy.imm (Sy.tyInt Sy.w8); ref = λ x. x }, (record { pos = 23; ty = Sy.tyRef Sy.erased Sy.mut (Sy.tyInt Sy.w32); ref = λ x. x }, (record { pos = 25; ty = Sy.tyRef Sy.erased Sy.imm (Sy.tyInt Sy.w64); ref = λ x. x }, (record { pos = 27; ty = Sy.tyRef Sy.erased Sy.mut Gap_.behind; ref = λ x. x }, (Num.vBig 65534, tt))))) (m45 record { before = record { before = record { before = c .before; if2 = c .if2 }; end-pool-arg = record { given = g } }; end-pool-arg2 = record { given = g' } } g'') g'3 }))))
+        lay8 : (c : Else2) → at70 (W0 (c .before .before .before .before .before .before .before .before .before .before .before .before .before .before .before .before .before .before .before .before .before .κs) (c .before .before .before .before .before .before .before .before .before .before .before .before .before .before .before .before .before .before .before .before .before .args)) (m40 (c .before))
+        lay8 = λ c. λ g. (Pa.refl, λ g'. (Pa.refl, λ g''. (Pa.refl, (end-pool-requires record { before = record { before = record { before = record { before = c .before; if2 = c .if2 }; end-pool-arg = record { given = g } }; end-pool-arg2 = record { given = g' } }; end-pool-arg3 = record { given = g'' } }, λ g'3. lay9 record { before = record { before = record { before = record { before = record { before = c .before; if2 = c .if2 }; end-pool-arg = record { given = g } }; end-pool-arg2 = record { given = g' } }; end-pool-arg3 = record { given = g'' } }; end-pool = Called.called ps·2 r·2 (claims· .5) T70 (record { pos = 1; ty = Sy.tyRef (Sy.named 0) Sy.imm (Sy.tyInt Sy.w8); ref = λ x. x }, (record { pos = 23; ty = Sy.tyRef Sy.erased Sy.mut (Sy.tyInt Sy.w32); ref = λ x. x }, (record { pos = 25; ty = Sy.tyRef Sy.erased Sy.imm (Sy.tyInt Sy.w64); ref = λ x. x }, (record { pos = 27; ty = Sy.tyRef Sy.erased Sy.mut Gap_.behind; ref = λ x. x }, (Num.vFld 5 (Li._∷_ (Sy.field 12) Li.[]) 96 λ x. JobCounts.struct .as-values x .1 .1 .1 .1 .1 .1 .1 .1 .1 .1 .1 .1 .0, tt))))) (m46 record { before = record { before = record { before = c .before; if2 = c .if2 }; end-pool-arg = record { given = g } }; end-pool-arg2 = record { given = g' } } g'') g'3 }))))
 
-        lay7 : (c : Else2) → at13 (W2 (c .before .before) (c .before .gaps2 .given)) (m34 (c .before .before) (c .before .gaps2 .given))
+        lay7 : (c : Else2) → at15 (W2 (c .before .before) (c .before .gaps2 .given)) (m34 (c .before .before) (c .before .gaps2 .given))
         lay7 = λ c. lay8 record { before = c .before; if2 = c .if2 }
 
-        lay6 : (c : Then2) → at11 (W2 (c .before .before) (c .before .gaps2 .given)) (m34 (c .before .before) (c .before .gaps2 .given))
-        lay6 = λ c. ((Pa.refl, (MutSlice.fix-len (Ro.get 2 (T1 .locals) (m38 (c .before)) .ptr) (Ro.get 2 (T1 .locals) (m38 (c .before)) .name) (Ro.get 2 (T1 .locals) (m38 (c .before)) .now) (dens (c .before .before .before .before .before .before .before .before .before .before .before .before .before .before .before .before .before .before .before .before .before .κs) (c .before .before .before .before .before .before .before .before .before .before .before .before .before .before .before .before .before .before .before .before .before .args) .1 .0 .now) (same-length-4 record { before = c .before; if2 = c .if2 }), (MutSlice.fix-len (Ro.get 3 (T1 .locals) (m38 (c .before)) .ptr) (Ro.get 3 (T1 .locals) (m38 (c .before)) .name) (Ro.get 3 (T1 .locals) (m38 (c .before)) .now) (dens (c .before .before .before .before .before .before .before .before .before .before .before .before .before .before .before .before .before .before .before .before .before .κs) (c .before .before .before .before .before .before .before .before .before .before .before .before .before .before .before .before .before .before .before .before .before .args) .1 .1 .0 .now) (same-length-5 record { before = c .before; if2 = c .if2 }), (MutSlice.fix-len (Ro.get 4 (T1 .locals) (m38 (c .before)) .ptr) (Ro.get 4 (T1 .locals) (m38 (c .before)) .name) (Ro.get 4 (T1 .locals) (m38 (c .before)) .now) (dens (c .before .before .before .before .before .before .before .before .before .before .before .before .before .before .before .before .before .before .before .before .before .κs) (c .before .before .before .before .before .before .before .before .before .before .before .before .before .before .before .before .before .before .before .before .before .args) .1 .1 .1 .0 .now) (same-length-6 record { before = c .before; if2 = c .if2 }), (tt, tt))))), returns-2 record { before = c .before; if2 = c .if2 })
+        lay6 : (c : Then2) → at13 (W2 (c .before .before) (c .before .gaps2 .given)) (m34 (c .before .before) (c .before .gaps2 .given))
+        lay6 = λ c. ((Pa.refl, (MutSlice.fix-len (Ro.get 2 (T1 .locals) (m39 (c .before)) .ptr) (Ro.get 2 (T1 .locals) (m39 (c .before)) .name) (Ro.get 2 (T1 .locals) (m39 (c .before)) .now) (dens (c .before .before .before .before .before .before .before .before .before .before .before .before .before .before .before .before .before .before .before .before .before .κs) (c .before .before .before .before .before .before .before .before .before .before .before .before .before .before .before .before .before .before .before .before .before .args) .1 .0 .now) (same-length-4 record { before = c .before; if2 = c .if2 }), (MutSlice.fix-len (Ro.get 3 (T1 .locals) (m39 (c .before)) .ptr) (Ro.get 3 (T1 .locals) (m39 (c .before)) .name) (Ro.get 3 (T1 .locals) (m39 (c .before)) .now) (dens (c .before .before .before .before .before .before .before .before .before .before .before .before .before .before .before .before .before .before .before .before .before .κs) (c .before .before .before .before .before .before .before .before .before .before .before .before .before .before .before .before .before .before .before .before .before .args) .1 .1 .0 .now) (same-length-5 record { before = c .before; if2 = c .if2 }), (MutSlice.fix-len (Ro.get 4 (T1 .locals) (m39 (c .before)) .ptr) (Ro.get 4 (T1 .locals) (m39 (c .before)) .name) (Ro.get 4 (T1 .locals) (m39 (c .before)) .now) (dens (c .before .before .before .before .before .before .before .before .before .before .before .before .before .before .before .before .before .before .before .before .before .κs) (c .before .before .before .before .before .before .before .before .before .before .before .before .before .before .before .before .before .before .before .before .before .args) .1 .1 .1 .0 .now) (same-length-6 record { before = c .before; if2 = c .if2 }), (tt, tt))))), returns-2 record { before = c .before; if2 = c .if2 })
 
-        lay5 : (c : After-build-all) → at80 (W0 (c .before .before .before .before .before .before .before .before .before .before .before .before .before .before .before .before .before .κs) (c .before .before .before .before .before .before .before .before .before .before .before .before .before .before .before .before .before .args)) (m28 (c .before) (After-build-all·gave c))
+        lay5 : (c : After-build-all) → at83 (W0 (c .before .before .before .before .before .before .before .before .before .before .before .before .before .before .before .before .before .κs) (c .before .before .before .before .before .before .before .before .before .before .before .before .before .before .before .before .before .args)) (m28 (c .before) (After-build-all·gave c))
         lay5 = λ c. (Pa.refl, λ g. λ g'. (Pa.refl, λ g''. (tt, (λ taken. lay6 record { before = record { before = record { before = record { before = record { before = c .before; build-all = c .build-all }; w2 = record { given = g } }; slice-known5 = record { given = g' } }; gaps2 = record { given = g'' } }; if2 = record { taken = Tests.eqb-false (Ro.get 7 (T52 .locals) (m33 record { before = record { before = record { before = c .before; build-all = c .build-all }; w2 = record { given = g } }; slice-known5 = record { given = g' } } g'')) 0 (Tests.not-true (Dec'.eqb (Ro.get 7 (T52 .locals) (m33 record { before = record { before = record { before = c .before; build-all = c .build-all }; w2 = record { given = g } }; slice-known5 = record { given = g' } } g'')) 0) taken) } }, λ left. lay7 record { before = record { before = record { before = record { before = record { before = c .before; build-all = c .build-all }; w2 = record { given = g } }; slice-known5 = record { given = g' } }; gaps2 = record { given = g'' } }; if2 = record { left = Tests.eqb-true (Ro.get 7 (T52 .locals) (m33 record { before = record { before = record { before = c .before; build-all = c .build-all }; w2 = record { given = g } }; slice-known5 = record { given = g' } } g'')) 0 (Tests.not-false (Dec'.eqb (Ro.get 7 (T52 .locals) (m33 record { before = record { before = record { before = c .before; build-all = c .build-all }; w2 = record { given = g } }; slice-known5 = record { given = g' } } g'')) 0) left) } }))))
 
-        lay4 : (c : Else1) → at90 (W0 (c .before .before .before .before .before .before .before .before .before .before .before .before .before .κs) (c .before .before .before .before .before .before .before .before .before .before .before .before .before .args)) (m21 (c .before))
-        lay4 = λ c. λ g. (Pa.refl, λ g'. (Pa.refl, λ g''. (Pa.refl, (build-all-requires record { before = record { before = record { before = record { before = c .before; if1 = c .if1 }; build-all-arg = record { given = g } }; build-all-arg2 = record { given = g' } }; build-all-arg3 = record { given = g'' } }, λ g'3. lay5 record { before = record { before = record { before = record { before = record { before = c .before; if1 = c .if1 }; build-all-arg = record { given = g } }; build-all-arg2 = record { given = g' } }; build-all-arg3 = record { given = g'' } }; build-all = Called.called ps·1 r·1 (claims· .3) T41 (record { pos = 1; ty = Sy.tyRef (Sy.named 0) Sy.imm (Sy.tyInt Sy.w8); ref = λ x. x }, (record { pos = 17; ty = Sy.tyRef Sy.erased Sy.mut (Sy.tyInt Sy.w32); ref = λ x. x }, (record { pos = 19; ty = Sy.tyRef Sy.erased Sy.imm (Sy.tyInt Sy.w64); ref = λ x. x }, (record { pos = 21; ty = Sy.tyRef Sy.erased Sy.mut Gap_.behind; ref = λ x. x }, tt)))) (m27 record { before = record { before = record { before = c .before; if1 = c .if1 }; build-all-arg = record { given = g } }; build-all-arg2 = record { given = g' } } g'') g'3 }))))
+        lay4 : (c : Else1) → at93 (W0 (c .before .before .before .before .before .before .before .before .before .before .before .before .before .κs) (c .before .before .before .before .before .before .before .before .before .before .before .before .before .args)) (m21 (c .before))
+        lay4 = λ c. λ g. (Pa.refl, λ g'. (Pa.refl, λ g''. (Pa.refl, (build-all-requires record { before = record { before = record { before = record { before = c .before; if1 = c .if1 }; build-all-arg = record { given = g } }; build-all-arg2 = record { given = g' } }; build-all-arg3 = record { given = g'' } }, λ g'3. lay5 record { before = record { before = record { before = record { before = record { before = c .before; if1 = c .if1 }; build-all-arg = record { given = g } }; build-all-arg2 = record { given = g' } }; build-all-arg3 = record { given = g'' } }; build-all = Called.called ps·1 r·1 (claims· .3) T41 (record { pos = 1; ty = Sy.tyRef (Sy.named 0) Sy.imm (Sy.tyInt Sy.w8); ref = λ x. x }, (record { pos = 17; ty = Sy.tyRef Sy.erased Sy.mut (Sy.tyInt Sy.w32); ref = λ x. x }, (record { pos = 19; ty = Sy.tyRef Sy.erased Sy.imm (Sy.tyInt Sy.w64); ref = λ x. x }, (record { pos = 21; ty = Sy.tyRef Sy.erased Sy.mut Gap_.behind; ref = λ x. x }, (Num.vFld 5 (Li._∷_ (Sy.field 9) Li.[]) 72 λ x. JobCounts.struct .as-values x .1 .1 .1 .1 .1 .1 .1 .1 .1 .0, tt))))) (m27 record { before = record { before = record { before = c .before; if1 = c .if1 }; build-all-arg = record { given = g } }; build-all-arg2 = record { given = g' } } g'') g'3 }))))
 
-        lay3 : (c : Else1) → at5 (W1 (c .before .before) (c .before .gaps .given)) (m17 (c .before .before) (c .before .gaps .given))
+        lay3 : (c : Else1) → at6 (W1 (c .before .before) (c .before .gaps .given)) (m16 (c .before .before) (c .before .gaps .given))
         lay3 = λ c. lay4 record { before = c .before; if1 = c .if1 }
 
-        lay2 : (c : Then1) → at3 (W1 (c .before .before) (c .before .gaps .given)) (m17 (c .before .before) (c .before .gaps .given))
+        lay2 : (c : Then1) → at4 (W1 (c .before .before) (c .before .gaps .given)) (m16 (c .before .before) (c .before .gaps .given))
         lay2 = λ c. ((Pa.refl, (MutSlice.fix-len (Ro.get 2 (T1 .locals) (m20 (c .before)) .ptr) (Ro.get 2 (T1 .locals) (m20 (c .before)) .name) (Ro.get 2 (T1 .locals) (m20 (c .before)) .now) (dens (c .before .before .before .before .before .before .before .before .before .before .before .before .before .κs) (c .before .before .before .before .before .before .before .before .before .before .before .before .before .args) .1 .0 .now) (same-length record { before = c .before; if1 = c .if1 }), (MutSlice.fix-len (Ro.get 3 (T1 .locals) (m20 (c .before)) .ptr) (Ro.get 3 (T1 .locals) (m20 (c .before)) .name) (Ro.get 3 (T1 .locals) (m20 (c .before)) .now) (dens (c .before .before .before .before .before .before .before .before .before .before .before .before .before .κs) (c .before .before .before .before .before .before .before .before .before .before .before .before .before .args) .1 .1 .0 .now) (same-length-2 record { before = c .before; if1 = c .if1 }), (MutSlice.fix-len (Ro.get 4 (T1 .locals) (m20 (c .before)) .ptr) (Ro.get 4 (T1 .locals) (m20 (c .before)) .name) (Ro.get 4 (T1 .locals) (m20 (c .before)) .now) (dens (c .before .before .before .before .before .before .before .before .before .before .before .before .before .κs) (c .before .before .before .before .before .before .before .before .before .before .before .before .before .args) .1 .1 .1 .0 .now) (same-length-3 record { before = c .before; if1 = c .if1 }), (tt, tt))))), returns record { before = c .before; if1 = c .if1 })
 
-        lay1 : (c : After-ask) → at104 (W0 (c .before .before .before .before .before .before .before .κs) (c .before .before .before .before .before .before .before .args)) (m10 (c .before) (After-ask·gave c))
-        lay1 = λ c. (Pa.refl, λ g. λ g'. (Pa.refl, λ g''. λ g'3. (Pa.refl, λ g'4. (tt, (λ taken. lay2 record { before = record { before = record { before = record { before = record { before = record { before = record { before = c .before; ask = c .ask }; w = record { given = g } }; slice-known3 = record { given = g' } }; p = record { given = g'' } }; slice-known4 = record { given = g'3 } }; gaps = record { given = g'4 } }; if1 = record { taken = Tests.eqb-false (Ro.get 6 (T25 .locals) (m16 record { before = record { before = record { before = record { before = record { before = c .before; ask = c .ask }; w = record { given = g } }; slice-known3 = record { given = g' } }; p = record { given = g'' } }; slice-known4 = record { given = g'3 } } g'4)) 0 (Tests.not-true (Dec'.eqb (Ro.get 6 (T25 .locals) (m16 record { before = record { before = record { before = record { before = record { before = c .before; ask = c .ask }; w = record { given = g } }; slice-known3 = record { given = g' } }; p = record { given = g'' } }; slice-known4 = record { given = g'3 } } g'4)) 0) taken) } }, λ left. lay3 record { before = record { before = record { before = record { before = record { before = record { before = record { before = c .before; ask = c .ask }; w = record { given = g } }; slice-known3 = record { given = g' } }; p = record { given = g'' } }; slice-known4 = record { given = g'3 } }; gaps = record { given = g'4 } }; if1 = record { left = Tests.eqb-true (Ro.get 6 (T25 .locals) (m16 record { before = record { before = record { before = record { before = record { before = c .before; ask = c .ask }; w = record { given = g } }; slice-known3 = record { given = g' } }; p = record { given = g'' } }; slice-known4 = record { given = g'3 } } g'4)) 0 (Tests.not-false (Dec'.eqb (Ro.get 6 (T25 .locals) (m16 record { before = record { before = record { before = record { before = record { before = c .before; ask = c .ask }; w = record { given = g } }; slice-known3 = record { given = g' } }; p = record { given = g'' } }; slice-known4 = record { given = g'3 } } g'4)) 0) left) } })))))
+        lay1 : (c : After-ask) → at106 (W0 (c .before .before .before .before .before .before .before .κs) (c .before .before .before .before .before .before .before .args)) (m10 (c .before) (After-ask·gave c))
+        lay1 = λ c. (Pa.refl, λ g. λ g'. (Pa.refl, λ g''. λ g'3. (Pa.refl, λ g'4. (tt, (λ taken. lay2 record { before = record { before = record { before = record { before = record { before = record { before = record { before = c .before; ask = c .ask }; w = record { given = g } }; slice-known3 = record { given = g' } }; p = record { given = g'' } }; slice-known4 = record { given = g'3 } }; gaps = record { given = g'4 } }; if1 = record { taken = Tests.eqb-false (Ro.get 6 (T24 .locals) (m15 record { before = record { before = record { before = record { before = record { before = c .before; ask = c .ask }; w = record { given = g } }; slice-known3 = record { given = g' } }; p = record { given = g'' } }; slice-known4 = record { given = g'3 } } g'4)) 0 (Tests.not-true (Dec'.eqb (Ro.get 6 (T24 .locals) (m15 record { before = record { before = record { before = record { before = record { before = c .before; ask = c .ask }; w = record { given = g } }; slice-known3 = record { given = g' } }; p = record { given = g'' } }; slice-known4 = record { given = g'3 } } g'4)) 0) taken) } }, λ left. lay3 record { before = record { before = record { before = record { before = record { before = record { before = record { before = c .before; ask = c .ask }; w = record { given = g } }; slice-known3 = record { given = g' } }; p = record { given = g'' } }; slice-known4 = record { given = g'3 } }; gaps = record { given = g'4 } }; if1 = record { left = Tests.eqb-true (Ro.get 6 (T24 .locals) (m15 record { before = record { before = record { before = record { before = record { before = c .before; ask = c .ask }; w = record { given = g } }; slice-known3 = record { given = g' } }; p = record { given = g'' } }; slice-known4 = record { given = g'3 } } g'4)) 0 (Tests.not-false (Dec'.eqb (Ro.get 6 (T24 .locals) (m15 record { before = record { before = record { before = record { before = record { before = c .before; ask = c .ask }; w = record { given = g } }; slice-known3 = record { given = g' } }; p = record { given = g'' } }; slice-known4 = record { given = g'3 } } g'4)) 0) left) } })))))
 
-        pub laid : (c : Start) → at117 (W0 (c .κs) (c .args)) (m0 (c .κs) (c .args))
-        laid = λ c. λ g. λ g'. λ g''. λ g'3. (Pa.refl, λ g'4. (Pa.refl, λ g'5. (Pa.refl, (ask-requires record { before = record { before = record { before = record { before = record { before = record { before = c; shared-slice-known = record { given = g } }; slice-known = record { given = g' } }; slice-known2 = record { given = g'' } }; ask-arg = record { given = g'3 } }; ask-arg2 = record { given = g'4 } }; ask-arg3 = record { given = g'5 } }, λ g'6. lay1 record { before = record { before = record { before = record { before = record { before = record { before = record { before = c; shared-slice-known = record { given = g } }; slice-known = record { given = g' } }; slice-known2 = record { given = g'' } }; ask-arg = record { given = g'3 } }; ask-arg2 = record { given = g'4 } }; ask-arg3 = record { given = g'5 } }; ask = Called.called ps·0 r·0 (claims· .1) T13 (record { pos = 1; ty = Sy.tyRef (Sy.named 0) Sy.imm (Sy.tyInt Sy.w8); ref = λ x. x }, (record { pos = 10; ty = Sy.tyRef Sy.erased Sy.mut (Sy.tyInt Sy.w32); ref = λ x. x }, (record { pos = 12; ty = Sy.tyRef Sy.erased Sy.mut (Sy.tyInt Sy.w64); ref = λ x. x }, (record { pos = 14; ty = Sy.tyRef Sy.erased Sy.mut Gap_.behind; ref = λ x. x }, (record { pos = 5; st = Li.[]; d = 0; at = λ x. x }, (Num.vBig 65534, tt)))))) (m9 record { before = record { before = record { before = record { before = record { before = c; shared-slice-known = record { given = g } }; slice-known = record { given = g' } }; slice-known2 = record { given = g'' } }; ask-arg = record { given = g'3 } }; ask-arg2 = record { given = g'4 } } g'5) g'6 }))))
+        pub laid : (c : Start) → at119 (W0 (c .κs) (c .args)) (m0 (c .κs) (c .args))
+        laid = λ c. λ g. λ g'. λ g''. λ g'3. (Pa.refl, λ g'4. (Pa.refl, λ g'5. (Pa.refl, (ask-requires record { before = record { before = record { before = record { before = record { before = record { before = c; shared-slice-known = record { given = g } }; slice-known = record { given = g' } }; slice-known2 = record { given = g'' } }; ask-arg = record { given = g'3 } }; ask-arg2 = record { given = g'4 } }; ask-arg3 = record { given = g'5 } }, λ g'6. lay1 record { before = record { before = record { before = record { before = record { before = record { before = record { before = c; shared-slice-known = record { given = g } }; slice-known = record { given = g' } }; slice-known2 = record { given = g'' } }; ask-arg = record { given = g'3 } }; ask-arg2 = record { given = g'4 } }; ask-arg3 = record { given = g'5 } }; ask = Called.called ps·0 r·0 (claims· .1) T13 (record { pos = 1; ty = Sy.tyRef (Sy.named 0) Sy.imm (Sy.tyInt Sy.w8); ref = λ x. x }, (record { pos = 10; ty = Sy.tyRef Sy.erased Sy.mut (Sy.tyInt Sy.w32); ref = λ x. x }, (record { pos = 12; ty = Sy.tyRef Sy.erased Sy.mut (Sy.tyInt Sy.w64); ref = λ x. x }, (record { pos = 14; ty = Sy.tyRef Sy.erased Sy.mut Gap_.behind; ref = λ x. x }, (record { pos = 5; st = Li.[]; d = 0; at = λ x. x }, (Num.vFld 5 (Li._∷_ (Sy.field 12) Li.[]) 96 λ x. JobCounts.struct .as-values x .1 .1 .1 .1 .1 .1 .1 .1 .1 .1 .1 .1 .0, tt)))))) (m9 record { before = record { before = record { before = record { before = record { before = c; shared-slice-known = record { given = g } }; slice-known = record { given = g' } }; slice-known2 = record { given = g'' } }; ask-arg = record { given = g'3 } }; ask-arg2 = record { given = g'4 } } g'5) g'6 }))))
 
         module _ (κs : Lifetimes.Lfts 4) (qs : Lifetimes.Shares 4) where
           pub asked : (a : Kinds.Dens κs ps) → (good : Kinds.GoodsP κs ps a) → (pre : Pre· κs a) → (bs : Li.List Nat.ℕ) → Φ (Any.wantQ 4 ps r xs m κs qs a (Post· κs a)) (Function.init 4 ps r xs m κs qs a)
