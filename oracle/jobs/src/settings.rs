@@ -7,6 +7,7 @@ use crate::make::*;
 use crate::random::Random;
 use crate::record::{ClassSlot, Record, Reference, encode};
 use crate::small::{ldc_full_job, small_job};
+use crate::stream::heavy_jobs;
 
 /// Versions about those that the kinds 15 to 20 need.
 const VERSIONS: &[u16] = &[
@@ -210,6 +211,18 @@ fn fill(records: &mut Vec<Record>, highest: u16, random: &mut Random) {
         }
         slot += 1;
     }
+}
+
+/// Every heavy job twice: with settings that change nothing, and with half of the slots, texts held, and a version without Dynamic.
+pub fn heavy_settings() -> impl Iterator<Item = Vec<u8>> {
+    let nothing = encode(&[Record::HighestSlot(65_534), Record::Version(u16::MAX)]);
+    let half = [
+        Record::HighestSlot(32_767),
+        Record::HoldTexts,
+        Record::Version(54),
+    ];
+    let ahead = [nothing, encode(&half)];
+    heavy_jobs().flat_map(move |job| ahead.clone().map(|ahead| [ahead, job.clone()].concat()))
 }
 
 /// Bytes at which such a job may be told from another.
