@@ -1,7 +1,7 @@
 //! Holds the proved library and the model to Krakatau's module: the same jobs through all three, in one process. Of jobs with records 47 to
 //! 49 the module has the last word where these change nothing, and else the model.
 //!
-//! `compare` takes the whole, `compare KIND SEED COUNT`, `compare heavy` or `compare short` a part; `--threads N` comes first.
+//! `compare` takes the whole, `compare KIND SEED COUNT`, `compare heavy`, `heavy_settings` or `short` a part; `--threads N` comes first.
 
 mod check;
 mod expected;
@@ -19,7 +19,7 @@ use std::thread;
 use std::time::{Duration, Instant};
 use tally::{HEAD, Tally, row};
 
-const USAGE: &str = "usage: compare [--threads N] [heavy | short | KIND SEED COUNT]
+const USAGE: &str = "usage: compare [--threads N] [heavy | heavy_settings | short | KIND SEED COUNT]
        KIND is small, damaged, pairs, orders, ldcfull, settings, settings_damaged or settings_pairs";
 
 /// So many jobs are taken by a thread at once.
@@ -103,7 +103,7 @@ fn work(part: &Part, shared: &Shared, seed: u64, start: Instant) {
         }
         let mut tally = Tally::default();
         for (number, job) in &batch {
-            let is_chosen = part.kind == "heavy" || number.is_multiple_of(EVERY);
+            let is_chosen = part.is_heavy() || number.is_multiple_of(EVERY);
             if let Err(text) = compare_job(&mut checker, job, is_chosen, &mut tally) {
                 let kind = &part.kind;
                 tally.add_difference(format!("{kind} job {number}: {}\n  {text}", hex(job)));

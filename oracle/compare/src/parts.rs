@@ -1,5 +1,6 @@
 //! The parts of the comparison: which jobs, by which seed, and how many.
 
+use jobs::settings::heavy_settings;
 use jobs::stream::{endless, heavy_jobs};
 
 /// Jobs in a row, made as they are asked for.
@@ -22,7 +23,7 @@ const WHOLE: [(&str, u64, usize); 7] = [
     ("settings", 8106, 1_000_000),
     ("settings_damaged", 8107, 1_000_000),
 ];
-const FIXED: [&str; 2] = ["heavy", "short"];
+const FIXED: [&str; 3] = ["heavy", "heavy_settings", "short"];
 
 pub fn whole() -> Vec<Part> {
     let drawn = WHOLE.map(|(kind, seed, count)| Part {
@@ -37,7 +38,7 @@ pub fn whole() -> Vec<Part> {
 }
 
 impl Part {
-    /// `KIND SEED COUNT`, or `heavy` or `short`.
+    /// `KIND SEED COUNT`, or `heavy`, `heavy_settings` or `short`.
     pub fn of(arguments: &[&str]) -> Option<Part> {
         let (kind, drawn) = match arguments {
             [kind] => (kind, None),
@@ -51,10 +52,15 @@ impl Part {
         part.jobs().map(|_| part)
     }
 
+    pub fn is_heavy(&self) -> bool {
+        ["heavy", "heavy_settings"].contains(&&self.kind[..])
+    }
+
     /// The jobs of a known part. The generated ones are those of `generate KIND SEED`.
     pub fn jobs(&self) -> Option<Jobs> {
         match (&self.kind[..], self.drawn) {
             ("heavy", None) => Some(Box::new(heavy_jobs())),
+            ("heavy_settings", None) => Some(Box::new(heavy_settings())),
             ("short", None) => Some(Box::new(short_strings())),
             (kind, Some((seed, count))) => Some(Box::new(endless(kind, seed)?.take(count))),
             _ => None,

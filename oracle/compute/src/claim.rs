@@ -1,8 +1,9 @@
-//! A job and the Rust's answer as a claim about the definition, in antt.
+//! A job and the Rust's answer, or the model's where the Rust has none, as a claim about the definition, in antt.
 
 use driver::end_of_definitions::{AtEndOfDefinitions, faults, first_number};
-use driver::form::decode;
-use driver::{Built, Outcome, run_job};
+use driver::form::{decode, decode_with_settings};
+use driver::settings::JobWithSettings;
+use driver::{Built, Mark, Outcome, run_job};
 use jobs::hex::hex;
 use jobs::record::Record;
 use std::fmt::Display;
@@ -44,8 +45,44 @@ pub struct Claim {
     pub at_end: AtEndOfDefinitions,
 }
 
+/// What the Rust says of the job, or the model if it has records 47 to 49.
+pub fn outcome(job: &[u8]) -> Outcome {
+    match JobWithSettings::of(job) {
+        None => run_job(job),
+        Some(_) => as_outcome(model::run(job)),
+    }
+}
+
+fn as_outcome(of_model: model::Outcome) -> Outcome {
+    match of_model {
+        model::Outcome::Refused(model::Refusal { code, place }) => Outcome::Refused { code, place },
+        model::Outcome::Built(built) => Outcome::Built(Built {
+            answers: built.answers.iter().map(|(slot, _)| *slot).collect(),
+            marks: built
+                .answers
+                .iter()
+                .map(|(_, mark)| as_mark(*mark))
+                .collect(),
+            pool: built.pool,
+            bootstrap_count: u16::try_from(built.bootstrap_count).expect("at most 65,535"),
+            bootstraps: built.bootstraps,
+            name_slot: built.name_slot,
+            class_name: built.class_name,
+            visits: built.visits,
+        }),
+    }
+}
+
+fn as_mark(mark: model::Mark) -> Mark {
+    match mark {
+        model::Mark::Raw => Mark::Raw,
+        model::Mark::New => Mark::New,
+        model::Mark::Old => Mark::Old,
+    }
+}
+
 pub fn claim(job: &[u8], lending: Lending) -> Claim {
-    let outcome = run_job(job);
+    let outcome = outcome(job);
     let lent = lent(job, &outcome, lending);
     let run = format!("run {} ({})", lent_text(&lent), packed(job));
     let (answer, at_end) = match refused_for_room(job, &outcome, lending) {
@@ -110,8 +147,9 @@ fn refused_for_room(job: &[u8], outcome: &Outcome, lending: Lending) -> Option<(
     }
 }
 
+/// All of them, in a job that is built.
 fn records(job: &[u8]) -> Vec<Record> {
-    decode(job).expect("a built job is well formed")
+    decode_with_settings(job).0
 }
 
 fn answer(job: &[u8], outcome: &Outcome) -> (String, AtEndOfDefinitions) {
@@ -223,6 +261,26 @@ mod tests {
             let answer = format!("≡ {}", refused(*code, *place));
             assert!(claim.text.ends_with(&answer), "{}", claim.text);
         }
+    }
+
+    #[test]
+    fn of_a_job_with_settings_it_is_the_models() {
+        let ends = |job: &str, lending, code, place| {
+            let claim = claim(&bytes(job), lending);
+            assert!(
+                claim.text.ends_with(&refused(code, place)),
+                "{}",
+                claim.text
+            );
+        };
+        ends("49 0000", Lending::Plenty, 26, 0);
+        ends("48 01 0001 00", Lending::JustEnough, 25, 1);
+        ends(
+            "47 0000 48 50 60 02 00 0000",
+            Lending::ShortOutput(2),
+            18,
+            3,
+        );
     }
 
     #[test]

@@ -12,8 +12,8 @@ mod tables;
 mod wrong;
 
 use claim::{Claim, Lending};
+use driver::Outcome;
 use driver::end_of_definitions::AtEndOfDefinitions;
-use driver::{Outcome, run_job};
 use jobs::random::Random;
 use jobs::stream::seeded;
 use scratch::{BATCH, Scratch, Verdict};
@@ -285,7 +285,7 @@ fn claims(set: &Set, passes: fn(&[u8]) -> bool) -> Vec<Claim> {
 }
 
 fn is_quick(job: &[u8]) -> bool {
-    !matches!(run_job(job), Outcome::Built(built) if built.pool.len() > QUICK_POOL)
+    !matches!(claim::outcome(job), Outcome::Built(built) if built.pool.len() > QUICK_POOL)
 }
 
 fn jobs_of(set: &Set) -> Vec<Vec<u8>> {

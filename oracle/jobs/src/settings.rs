@@ -5,8 +5,9 @@ mod texts;
 use crate::damaged::{damaged_copy, shift_number};
 use crate::make::*;
 use crate::random::Random;
-use crate::record::{Record, Reference, encode};
-use crate::small::small_job;
+use crate::record::{ClassSlot, Record, Reference, encode};
+use crate::small::{ldc_full_job, small_job};
+use crate::stream::heavy_jobs;
 
 /// Versions about those that the kinds 15 to 20 need.
 const VERSIONS: &[u16] = &[
@@ -18,9 +19,16 @@ const NEW_KINDS: &[u8] = &[METHOD_HANDLE, 16, DYNAMIC, INVOKE_DYNAMIC, 19, 20];
 /// The highest slot of a pool that may be filled slot by slot.
 const SMALL: usize = 40;
 
-/// A small job with one to three of the records, each where it may stand.
+/// About the last slot that ldc reaches.
+const ABOUT_255: &[u16] = &[253, 254, 255, 255, 256, 256, 257];
+
+/// A small job, or one whose slots up to 255 are nearly full, with one to three of the records, each where it may stand.
 pub fn settings_job(random: &mut Random) -> Vec<Record> {
-    let mut records = small_job(random);
+    let low_slots_full = random.chance(1, 24);
+    let mut records = match low_slots_full {
+        true => ldc_full_job(random),
+        false => small_job(random),
+    };
     let (version, texts, highest) = *random.pick(&[
         (true, false, false),
         (false, true, false),
@@ -35,9 +43,15 @@ pub fn settings_job(random: &mut Random) -> Vec<Record> {
         add_new_kinds(&mut records, random);
     }
     texts::change(&mut records, texts, random);
-    let highest = highest.then(|| some_highest(random));
+    let highest = highest.then(|| match low_slots_full {
+        true => *random.pick(ABOUT_255),
+        false => some_highest(random),
+    });
     if let Some(highest) = highest {
         fit(&mut records, highest, random);
+        if random.chance(1, 4) {
+            look_about(&mut records, highest, random);
+        }
         records.insert(0, Record::HighestSlot(highest));
     }
     let first = usize::from(highest.is_some());
@@ -55,7 +69,7 @@ fn some_highest(random: &mut Random) -> u16 {
     match random.below(16) {
         0..6 => 1 + random.below(12) as u16,
         6..13 => 1 + random.below(SMALL) as u16,
-        13 | 14 => *random.pick(&[253, 254, 255, 255, 256, 256, 257]),
+        13 | 14 => *random.pick(ABOUT_255),
         _ => *random.pick(&[65532, 65533, 65533, 65534, 65534]),
     }
 }
@@ -154,6 +168,20 @@ fn fit(records: &mut Vec<Record>, highest: u16, random: &mut Random) {
     }
 }
 
+/// Has the build look about the highest slot: at a slot there, or at a Class of one.
+fn look_about(records: &mut Vec<Record>, highest: u16, random: &mut Random) {
+    let mut looked_at = ClassSlot::Slot(about(highest, random));
+    if random.chance(1, 2) {
+        let entry = constants(records);
+        define_last(records, class(Reference::Raw(about(highest, random))));
+        records.insert(end_of_definitions(records) + 1, ask(entry));
+        looked_at = ClassSlot::Request(0);
+    }
+    if let Some(Record::Build { class, .. }) = records.last_mut() {
+        *class = looked_at;
+    }
+}
+
 /// Mostly at the highest slot or below it.
 fn about(highest: u16, random: &mut Random) -> u16 {
     match random.below(16) {
@@ -183,6 +211,18 @@ fn fill(records: &mut Vec<Record>, highest: u16, random: &mut Random) {
         }
         slot += 1;
     }
+}
+
+/// Every heavy job twice: with settings that change nothing, and with half of the slots, texts held, and a version without Dynamic.
+pub fn heavy_settings() -> impl Iterator<Item = Vec<u8>> {
+    let nothing = encode(&[Record::HighestSlot(65_534), Record::Version(u16::MAX)]);
+    let half = [
+        Record::HighestSlot(32_767),
+        Record::HoldTexts,
+        Record::Version(54),
+    ];
+    let ahead = [nothing, encode(&half)];
+    heavy_jobs().flat_map(move |job| ahead.clone().map(|ahead| [ahead, job.clone()].concat()))
 }
 
 /// Bytes at which such a job may be told from another.

@@ -12,9 +12,9 @@ const RECORDED: [(&str, u64); 10] = [
     ("damaged", 0xb7ab_379a_cd71_7249),
     ("pairs", 0xcbf9_1237_966f_5ab3),
     ("orders", 0x1dbc_ac22_2798_3339),
-    ("settings", 0),
-    ("settings_damaged", 0),
-    ("settings_pairs", 0),
+    ("settings", 0x1dc5_f887_4fe0_b81f),
+    ("settings_damaged", 0xb510_48cf_8e90_7da4),
+    ("settings_pairs", 0x587d_c175_1b06_fadb),
     ("heavy", 0xae62_233d_2cf4_5a4d),
     ("large", 0xb587_779e_3f02_253b),
 ];

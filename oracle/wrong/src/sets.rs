@@ -2,6 +2,7 @@
 
 use driver::end_of_definitions::{faults, first_number};
 use driver::form::decode;
+use driver::settings::JobWithSettings;
 use driver::{Outcome, run_job};
 use jobs::heavy;
 use jobs::random::Random;
@@ -98,8 +99,11 @@ pub fn name_of(kind: &str, place: usize) -> Option<&'static str> {
 }
 
 /// The Rust's line; but at record 50 the Rust takes raw definitions in a hash map's order, and document 01's order decides
-/// which of the numbers that are possible there is right.
+/// which of the numbers that are possible there is right. Of jobs with records 47 to 49 the Rust says nothing: the line is the model's.
 fn right_line(job: &[u8]) -> String {
+    if JobWithSettings::of(job).is_some() {
+        return model::run(job).to_string();
+    }
     let outcome = run_job(job);
     let at_end = match (&outcome, decode(job)) {
         (Outcome::Refused { code, place }, Ok(records))
@@ -149,6 +153,12 @@ mod tests {
         let second = [0, 0, 0, 1, 0, 1, 0xff, 0xff, 0xff, 0xff, 0, 0, 7];
         let expected = [&head[..], &all, &first, &[7; 65_535], &second].concat();
         assert_eq!(pack(&[7; 65_536]), expected);
+    }
+
+    #[test]
+    fn of_a_job_with_settings_it_is_the_models_line() {
+        assert_eq!(right_line(&[0x48]), "refused 3 1");
+        assert_eq!(right_line(&[0x49, 0, 0]), "refused 26 0");
     }
 
     #[test]
