@@ -6,7 +6,7 @@ use mathlib.Core.List
 use mir.Syntax
 
 abbrev pub ps : List.List (Kinds.PK 7)
-ps = List._∷_ (Kinds.pMut (Array.Array (Referent.rtF (Referent.fInt Syntax.w8)) 1114112) 0 tt) (List._∷_ (Kinds.pMut (Array.Array (Referent.rtF (Referent.fInt Syntax.w32)) 6292480) 1 tt) (List._∷_ (Kinds.pMut (Array.Array (Referent.rtF (Referent.fInt Syntax.w16)) 349526) 2 tt) (List._∷_ (Kinds.pMut (Array.Array (Referent.rtF (Referent.fInt Syntax.w8)) 349526) 3 tt) (List._∷_ (Kinds.pMut (Array.Array (Referent.rtF (Referent.fInt Syntax.w8)) 8388608) 4 tt) (List._∷_ (Kinds.pMut (Array.Array (Referent.rtF (Referent.fInt Syntax.w8)) 8388608) 5 tt) (List._∷_ (Kinds.pMut (Array.Array (Referent.rtF (Referent.fInt Syntax.w8)) 65536) 6 tt) List.[]))))))
+ps = List._∷_ (Kinds.pMut (Array.Array (Referent.rtF (Referent.fInt Syntax.w8)) 1114112) 0 tt) (List._∷_ (Kinds.pMut (Array.Array (Referent.rtF (Referent.fInt Syntax.w32)) 1201024) 1 tt) (List._∷_ (Kinds.pMut (Array.Array (Referent.rtF (Referent.fInt Syntax.w16)) 65536) 2 tt) (List._∷_ (Kinds.pMut (Array.Array (Referent.rtF (Referent.fInt Syntax.w8)) 65536) 3 tt) (List._∷_ (Kinds.pMut (Array.Array (Referent.rtF (Referent.fInt Syntax.w8)) 65536) 4 tt) (List._∷_ (Kinds.pMut (Array.Array (Referent.rtF (Referent.fInt Syntax.w8)) 65536) 5 tt) (List._∷_ (Kinds.pMut (Array.Array (Referent.rtF (Referent.fInt Syntax.w8)) 65536) 6 tt) List.[]))))))
 
 abbrev pub r : Kinds.RK 7
 r = Kinds.rUnit

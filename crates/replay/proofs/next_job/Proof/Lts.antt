@@ -66,29 +66,23 @@ use prog.Wp
 use types.Kit
 use Rattle.slots.proofs.Walks.Gap_
 
-abbrev ty·71 : Sy.Ty
-ty·71 = Sy.tyRef (Sy.named 1) Sy.mut (Sy.tyArray (Sy.tyInt Sy.w32) 6292480)
-
-abbrev ty·70 : Sy.Ty
-ty·70 = Sy.tyRef (Sy.named 7) Sy.mut (Sy.tyArray (Sy.tyInt Sy.w8) 65536)
-
 abbrev ty·69 : Sy.Ty
-ty·69 = Sy.tyRef (Sy.named 4) Sy.mut (Sy.tyArray (Sy.tyInt Sy.w8) 349526)
+ty·69 = Sy.tyRef (Sy.named 1) Sy.mut (Sy.tyArray (Sy.tyInt Sy.w32) 1201024)
 
 abbrev ty·68 : Sy.Ty
-ty·68 = Sy.tyRef (Sy.named 3) Sy.mut (Sy.tyArray (Sy.tyInt Sy.w16) 349526)
+ty·68 = Sy.tyRef (Sy.named 3) Sy.mut (Sy.tyArray (Sy.tyInt Sy.w16) 65536)
 
 abbrev ty·67 : Sy.Ty
-ty·67 = Sy.tyArray (Sy.tyInt Sy.w8) 8388608
+ty·67 = Sy.tyRef Sy.erased Sy.mut Gap_.behind
 
 abbrev ty·66 : Sy.Ty
-ty·66 = Sy.tyRef Sy.erased Sy.mut Gap_.behind
+ty·66 = Sy.tyRef (Sy.named 2) Sy.mut Gap_.behind
 
 abbrev ty·65 : Sy.Ty
-ty·65 = Sy.tyRef (Sy.named 2) Sy.mut Gap_.behind
+ty·65 = Sy.tyRef Sy.erased Sy.mut (Sy.tyInt Sy.w16)
 
 abbrev ty·64 : Sy.Ty
-ty·64 = Sy.tyRef Sy.erased Sy.mut (Sy.tyInt Sy.w16)
+ty·64 = Sy.tyArray (Sy.tyInt Sy.w8) 65536
 
 abbrev ty·63 : Sy.Ty
 ty·63 = Sy.tyRef Sy.erased Sy.mut (Sy.tyInt Sy.w32)
@@ -115,7 +109,7 @@ abbrev row·1 : Ro.Row
 row·1 = Rows'.any-gone (Sy.tyStruct (Li._∷_ 38 (Li._∷_ 91 (Li._∷_ 93 Li.[]))) (Sy.tcons ty·59 (Sy.tcons (Sy.tyInt Sy.w64) Sy.tnil)))
 
 abbrev row·2 : Ro.Row
-row·2 = Rows'.mref (Array.Array (Rf.rtF (Rf.fInt Sy.w32)) 6292480) ty·71 1
+row·2 = Rows'.mref (Array.Array (Rf.rtF (Rf.fInt Sy.w32)) 1201024) ty·69 1
 
 abbrev row·3 : Ro.Row
 row·3 = Rows'.mref (Array.Array (Rf.rtF (Rf.fInt Sy.w8)) 1114112) (Sy.tyRef (Sy.named 0) Sy.mut ty·61) 0
@@ -130,22 +124,22 @@ abbrev row·6 : Ro.Row
 row·6 = Rows'.any-gone ty·59
 
 abbrev row·7 : Ro.Row
-row·7 = Rows'.mref (Array.Array (Rf.rtF (Rf.fInt Sy.w8)) 65536) ty·70 7
+row·7 = Rows'.mref (Array.Array (Rf.rtF (Rf.fInt Sy.w8)) 65536) (Sy.tyRef (Sy.named 7) Sy.mut ty·64) 7
 
 abbrev row·8 : Ro.Row
-row·8 = Rows'.mref (Array.Array (Rf.rtF (Rf.fInt Sy.w8)) 8388608) (Sy.tyRef (Sy.named 6) Sy.mut ty·67) 6
+row·8 = Rows'.any-gone ty·58
 
 abbrev row·9 : Ro.Row
-row·9 = Rows'.any-gone ty·58
+row·9 = Rows'.mref (Array.Array (Rf.rtF (Rf.fInt Sy.w8)) 65536) (Sy.tyRef (Sy.named 6) Sy.mut ty·64) 6
 
 abbrev row·10 : Ro.Row
-row·10 = Rows'.mref (Array.Array (Rf.rtF (Rf.fInt Sy.w8)) 8388608) (Sy.tyRef (Sy.named 5) Sy.mut ty·67) 5
+row·10 = Rows'.mref (Array.Array (Rf.rtF (Rf.fInt Sy.w8)) 65536) (Sy.tyRef (Sy.named 5) Sy.mut ty·64) 5
 
 abbrev row·11 : Ro.Row
-row·11 = Rows'.mref (Array.Array (Rf.rtF (Rf.fInt Sy.w16)) 349526) ty·68 3
+row·11 = Rows'.mref (Array.Array (Rf.rtF (Rf.fInt Sy.w16)) 65536) ty·68 3
 
 abbrev row·12 : Ro.Row
-row·12 = Rows'.mref (Array.Array (Rf.rtF (Rf.fInt Sy.w8)) 349526) ty·69 4
+row·12 = Rows'.mref (Array.Array (Rf.rtF (Rf.fInt Sy.w8)) 65536) (Sy.tyRef (Sy.named 4) Sy.mut ty·64) 4
 
 abbrev row·13 : Ro.Row
 row·13 = Rows'.any-gone ty·60
@@ -154,7 +148,7 @@ abbrev row·14 : Ro.Row
 row·14 = Rows'.any-gone Sy.tyBool
 
 abbrev row·15 : Ro.Row
-row·15 = Mut.mslice Gap_.row ty·65 2
+row·15 = Mut.mslice Gap_.row ty·66 2
 
 abbrev row·16 : Ro.Row
 row·16 = Mut.msleft (Rf.rtF (Rf.fInt Sy.w8)) ty·59
@@ -163,10 +157,10 @@ abbrev row·17 : Ro.Row
 row·17 = Rows'.any-gone (Sy.tyStruct (Li._∷_ 38 (Li._∷_ 91 (Li._∷_ 93 Li.[]))) (Sy.tcons ty·63 (Sy.tcons (Sy.tyInt Sy.w64) Sy.tnil)))
 
 abbrev row·18 : Ro.Row
-row·18 = Rows'.any-gone (Sy.tyStruct (Li._∷_ 38 (Li._∷_ 91 (Li._∷_ 93 Li.[]))) (Sy.tcons ty·64 (Sy.tcons (Sy.tyInt Sy.w64) Sy.tnil)))
+row·18 = Rows'.any-gone (Sy.tyStruct (Li._∷_ 38 (Li._∷_ 91 (Li._∷_ 93 Li.[]))) (Sy.tcons ty·65 (Sy.tcons (Sy.tyInt Sy.w64) Sy.tnil)))
 
 abbrev row·19 : Ro.Row
-row·19 = Rows'.any-gone (Sy.tyStruct (Li._∷_ 38 (Li._∷_ 91 (Li._∷_ 93 Li.[]))) (Sy.tcons ty·66 (Sy.tcons (Sy.tyInt Sy.w64) Sy.tnil)))
+row·19 = Rows'.any-gone (Sy.tyStruct (Li._∷_ 38 (Li._∷_ 91 (Li._∷_ 93 Li.[]))) (Sy.tcons ty·67 (Sy.tcons (Sy.tyInt Sy.w64) Sy.tnil)))
 
 abbrev row·20 : Ro.Row
 row·20 = Frozen.held (Frozen.fz-open Sy.erased 0 Li.[] Ro.off (LendAt.fz-shr (Array.Array (Rf.rtF (Rf.fInt Sy.w8)) 1114112) 11))
@@ -178,40 +172,40 @@ abbrev row·22 : Ro.Row
 row·22 = Rows'.any-gone (Sy.tyRef Sy.erased Sy.imm ty·60)
 
 abbrev row·23 : Ro.Row
-row·23 = Frozen.held (Frozen.fz-open Sy.erased 1 Li.[] Ro.off (AsSlice.fz-lent-sl (Rf.rtF (Rf.fInt Sy.w32)) 6292480 12))
+row·23 = Frozen.held (Frozen.fz-open Sy.erased 1 Li.[] Ro.off (AsSlice.fz-lent-sl (Rf.rtF (Rf.fInt Sy.w32)) 1201024 12))
 
 abbrev row·24 : Ro.Row
 row·24 = Rows'.any-gone ty·63
 
 abbrev row·25 : Ro.Row
-row·25 = Rows'.any-gone ty·64
+row·25 = Rows'.any-gone ty·65
 
 abbrev row·26 : Ro.Row
 row·26 = Rows'.whole (Declared.row Outcome.the-type)
 
 abbrev row·27 : Ro.Row
-row·27 = Frozen.held (Frozen.fz-open Sy.erased 3 Li.[] Ro.off (AsSlice.fz-lent-sl (Rf.rtF (Rf.fInt Sy.w16)) 349526 14))
+row·27 = Frozen.held (Frozen.fz-open Sy.erased 3 Li.[] Ro.off (AsSlice.fz-lent-sl (Rf.rtF (Rf.fInt Sy.w16)) 65536 14))
 
 abbrev row·28 : Ro.Row
-row·28 = Frozen.held (Frozen.fz-open Sy.erased 5 Li.[] Ro.off (AsSlice.fz-lent-sl (Rf.rtF (Rf.fInt Sy.w8)) 8388608 16))
+row·28 = Frozen.held (Frozen.fz-open Sy.erased 4 Li.[] Ro.off (AsSlice.fz-lent-sl (Rf.rtF (Rf.fInt Sy.w8)) 65536 15))
 
 abbrev row·29 : Ro.Row
-row·29 = Frozen.held (Frozen.fz-open Sy.erased 6 Li.[] Ro.off (AsSlice.fz-lent-sl (Rf.rtF (Rf.fInt Sy.w8)) 8388608 17))
+row·29 = Frozen.held (Frozen.fz-open Sy.erased 5 Li.[] Ro.off (AsSlice.fz-lent-sl (Rf.rtF (Rf.fInt Sy.w8)) 65536 16))
 
 abbrev row·30 : Ro.Row
-row·30 = Frozen.held (Frozen.fz-open Sy.erased 4 Li.[] Ro.off (AsSlice.fz-lent-sl (Rf.rtF (Rf.fInt Sy.w8)) 349526 15))
+row·30 = Frozen.held (Frozen.fz-open Sy.erased 6 Li.[] Ro.off (AsSlice.fz-lent-sl (Rf.rtF (Rf.fInt Sy.w8)) 65536 17))
 
 abbrev row·31 : Ro.Row
 row·31 = Frozen.held (Frozen.fz-open Sy.erased 7 Li.[] Ro.off (AsSlice.fz-lent-sl (Rf.rtF (Rf.fInt Sy.w8)) 65536 18))
 
 abbrev row·32 : Ro.Row
-row·32 = Frozen.held (Frozen.fz-open Sy.erased 3 Li.[] Ro.off (LendAt.fz-shr (Array.Array (Rf.rtF (Rf.fInt Sy.w16)) 349526) 19))
+row·32 = Frozen.held (Frozen.fz-open Sy.erased 3 Li.[] Ro.off (LendAt.fz-shr (Array.Array (Rf.rtF (Rf.fInt Sy.w16)) 65536) 19))
 
 abbrev row·33 : Ro.Row
-row·33 = Rows'.any-gone ty·66
+row·33 = Rows'.any-gone ty·67
 
 abbrev row·34 : Ro.Row
-row·34 = Frozen.held (Frozen.fz-open Sy.erased 4 Li.[] Ro.off (LendAt.fz-shr (Array.Array (Rf.rtF (Rf.fInt Sy.w8)) 349526) 20))
+row·34 = Frozen.held (Frozen.fz-open Sy.erased 4 Li.[] Ro.off (LendAt.fz-shr (Array.Array (Rf.rtF (Rf.fInt Sy.w8)) 65536) 20))
 
 abbrev row·35 : Ro.Row
 row·35 = Rows'.sslice (Rf.rtF (Rf.fInt Sy.w8)) ty·58 11
@@ -220,19 +214,19 @@ abbrev row·36 : Ro.Row
 row·36 = Rows'.any-gone (Sy.tyStruct (Li._∷_ 38 (Li._∷_ 91 (Li._∷_ 93 Li.[]))) (Sy.tcons ty·62 (Sy.tcons (Sy.tyInt Sy.w64) Sy.tnil)))
 
 abbrev row·37 : Ro.Row
-row·37 = Frozen.held (Frozen.fz-open Sy.erased 5 Li.[] Ro.off (LendAt.fz-shr (Array.Array (Rf.rtF (Rf.fInt Sy.w8)) 8388608) 21))
+row·37 = Frozen.held (Frozen.fz-open Sy.erased 5 Li.[] Ro.off (LendAt.fz-shr (Array.Array (Rf.rtF (Rf.fInt Sy.w8)) 65536) 21))
 
 abbrev row·38 : Ro.Row
 row·38 = Mut.mslice (Rf.rtF (Rf.fInt Sy.w32)) ty·63 12
 
 abbrev row·39 : Ro.Row
-row·39 = Frozen.held (Frozen.fz-open Sy.erased 6 Li.[] Ro.off (LendAt.fz-shr (Array.Array (Rf.rtF (Rf.fInt Sy.w8)) 8388608) 22))
+row·39 = Frozen.held (Frozen.fz-open Sy.erased 6 Li.[] Ro.off (LendAt.fz-shr (Array.Array (Rf.rtF (Rf.fInt Sy.w8)) 65536) 22))
 
 abbrev row·40 : Ro.Row
 row·40 = Rows'.whole (Declared'.row Lent.the-type)
 
 abbrev row·41 : Ro.Row
-row·41 = Relend.mslice-owed Gap_.row ty·65 2 13 Ro.off
+row·41 = Relend.mslice-owed Gap_.row ty·66 2 13 Ro.off
 
 abbrev row·42 : Ro.Row
 row·42 = Rows'.any-gone ty·62
@@ -244,7 +238,7 @@ abbrev row·44 : Ro.Row
 row·44 = Rows'.sslice (Rf.rtF (Rf.fInt Sy.w16)) ty·62 19
 
 abbrev row·45 : Ro.Row
-row·45 = Mut.mslice (Rf.rtF (Rf.fInt Sy.w16)) ty·64 14
+row·45 = Mut.mslice (Rf.rtF (Rf.fInt Sy.w16)) ty·65 14
 
 abbrev row·46 : Ro.Row
 row·46 = Rows'.sslice (Rf.rtF (Rf.fInt Sy.w8)) ty·58 20
@@ -253,7 +247,7 @@ abbrev row·47 : Ro.Row
 row·47 = Rows'.any-gone (Sy.tyInt Sy.w64)
 
 abbrev row·48 : Ro.Row
-row·48 = Mut.mslice Gap_.row ty·66 13
+row·48 = Mut.mslice Gap_.row ty·67 13
 
 abbrev row·49 : Ro.Row
 row·49 = Rows'.sslice (Rf.rtF (Rf.fInt Sy.w8)) ty·58 21
@@ -262,7 +256,7 @@ abbrev row·50 : Ro.Row
 row·50 = Mut.mslice (Rf.rtF (Rf.fInt Sy.w8)) ty·59 15
 
 abbrev row·51 : Ro.Row
-row·51 = Mut.msleft (Rf.rtF (Rf.fInt Sy.w16)) ty·64
+row·51 = Mut.msleft (Rf.rtF (Rf.fInt Sy.w16)) ty·65
 
 abbrev row·52 : Ro.Row
 row·52 = Rows'.mref (Array.Array (Rf.rtF (Rf.fInt Sy.w8)) 1114112) (Sy.tyRef Sy.erased Sy.mut ty·61) 8
@@ -280,16 +274,16 @@ abbrev row·56 : Ro.Row
 row·56 = Rows'.sc-owed (Array.Array (Rf.rtF (Rf.fInt Sy.w8)) 25) 9
 
 abbrev row·57 : Ro.Row
-row·57 = Mut.msleft Gap_.row ty·66
+row·57 = Mut.msleft Gap_.row ty·67
 
 abbrev pub ps : Li.List (Kinds.PK 8)
-ps = Li._∷_ (Kinds.pMut (Array.Array (Rf.rtF (Rf.fInt Sy.w8)) 1114112) 0 tt) (Li._∷_ (Kinds.pMut (Array.Array (Rf.rtF (Rf.fInt Sy.w32)) 6292480) 1 tt) (Li._∷_ (MutSlice.pMutS Gap_.row 2 tt) (Li._∷_ (Kinds.pMut (Array.Array (Rf.rtF (Rf.fInt Sy.w16)) 349526) 3 tt) (Li._∷_ (Kinds.pMut (Array.Array (Rf.rtF (Rf.fInt Sy.w8)) 349526) 4 tt) (Li._∷_ (Kinds.pMut (Array.Array (Rf.rtF (Rf.fInt Sy.w8)) 8388608) 5 tt) (Li._∷_ (Kinds.pMut (Array.Array (Rf.rtF (Rf.fInt Sy.w8)) 8388608) 6 tt) (Li._∷_ (Kinds.pMut (Array.Array (Rf.rtF (Rf.fInt Sy.w8)) 65536) 7 tt) Li.[])))))))
+ps = Li._∷_ (Kinds.pMut (Array.Array (Rf.rtF (Rf.fInt Sy.w8)) 1114112) 0 tt) (Li._∷_ (Kinds.pMut (Array.Array (Rf.rtF (Rf.fInt Sy.w32)) 1201024) 1 tt) (Li._∷_ (MutSlice.pMutS Gap_.row 2 tt) (Li._∷_ (Kinds.pMut (Array.Array (Rf.rtF (Rf.fInt Sy.w16)) 65536) 3 tt) (Li._∷_ (Kinds.pMut (Array.Array (Rf.rtF (Rf.fInt Sy.w8)) 65536) 4 tt) (Li._∷_ (Kinds.pMut (Array.Array (Rf.rtF (Rf.fInt Sy.w8)) 65536) 5 tt) (Li._∷_ (Kinds.pMut (Array.Array (Rf.rtF (Rf.fInt Sy.w8)) 65536) 6 tt) (Li._∷_ (Kinds.pMut (Array.Array (Rf.rtF (Rf.fInt Sy.w8)) 65536) 7 tt) Li.[])))))))
 
 abbrev pub r : Kinds.RK 8
 r = Bool.rBool
 
 abbrev pub xs : Li.List Sy.Ty
-xs = Li._∷_ ty·60 (Li._∷_ (Sy.tyInt Sy.w64) (Li._∷_ Laws'.mir (Li._∷_ Laws.mir (Li._∷_ (Sy.tyRef Sy.erased Sy.mut ty·61) (Li._∷_ (Sy.tyRef Sy.erased Sy.mut ty·60) (Li._∷_ Sy.tyBool (Li._∷_ (Sy.tyRef Sy.erased Sy.imm ty·60) (Li._∷_ ty·58 (Li._∷_ (Sy.tyStruct (Li._∷_ 38 (Li._∷_ 91 (Li._∷_ 93 Li.[]))) (Sy.tcons ty·58 (Sy.tcons (Sy.tyInt Sy.w64) Sy.tnil))) (Li._∷_ ty·63 (Li._∷_ (Sy.tyStruct (Li._∷_ 38 (Li._∷_ 91 (Li._∷_ 93 Li.[]))) (Sy.tcons ty·63 (Sy.tcons (Sy.tyInt Sy.w64) Sy.tnil))) (Li._∷_ ty·66 (Li._∷_ (Sy.tyStruct (Li._∷_ 38 (Li._∷_ 91 (Li._∷_ 93 Li.[]))) (Sy.tcons ty·66 (Sy.tcons (Sy.tyInt Sy.w64) Sy.tnil))) (Li._∷_ ty·64 (Li._∷_ (Sy.tyStruct (Li._∷_ 38 (Li._∷_ 91 (Li._∷_ 93 Li.[]))) (Sy.tcons ty·64 (Sy.tcons (Sy.tyInt Sy.w64) Sy.tnil))) (Li._∷_ ty·59 (Li._∷_ (Sy.tyStruct (Li._∷_ 38 (Li._∷_ 91 (Li._∷_ 93 Li.[]))) (Sy.tcons ty·59 (Sy.tcons (Sy.tyInt Sy.w64) Sy.tnil))) (Li._∷_ ty·59 (Li._∷_ (Sy.tyStruct (Li._∷_ 38 (Li._∷_ 91 (Li._∷_ 93 Li.[]))) (Sy.tcons ty·59 (Sy.tcons (Sy.tyInt Sy.w64) Sy.tnil))) (Li._∷_ ty·59 (Li._∷_ (Sy.tyStruct (Li._∷_ 38 (Li._∷_ 91 (Li._∷_ 93 Li.[]))) (Sy.tcons ty·59 (Sy.tcons (Sy.tyInt Sy.w64) Sy.tnil))) (Li._∷_ ty·59 (Li._∷_ (Sy.tyStruct (Li._∷_ 38 (Li._∷_ 91 (Li._∷_ 93 Li.[]))) (Sy.tcons ty·59 (Sy.tcons (Sy.tyInt Sy.w64) Sy.tnil))) (Li._∷_ ty·62 (Li._∷_ (Sy.tyStruct (Li._∷_ 38 (Li._∷_ 91 (Li._∷_ 93 Li.[]))) (Sy.tcons ty·62 (Sy.tcons (Sy.tyInt Sy.w64) Sy.tnil))) (Li._∷_ ty·58 (Li._∷_ (Sy.tyStruct (Li._∷_ 38 (Li._∷_ 91 (Li._∷_ 93 Li.[]))) (Sy.tcons ty·58 (Sy.tcons (Sy.tyInt Sy.w64) Sy.tnil))) (Li._∷_ ty·58 (Li._∷_ (Sy.tyStruct (Li._∷_ 38 (Li._∷_ 91 (Li._∷_ 93 Li.[]))) (Sy.tcons ty·58 (Sy.tcons (Sy.tyInt Sy.w64) Sy.tnil))) (Li._∷_ ty·58 (Li._∷_ (Sy.tyStruct (Li._∷_ 38 (Li._∷_ 91 (Li._∷_ 93 Li.[]))) (Sy.tcons ty·58 (Sy.tcons (Sy.tyInt Sy.w64) Sy.tnil))) (Li._∷_ ty·58 (Li._∷_ (Sy.tyStruct (Li._∷_ 38 (Li._∷_ 91 (Li._∷_ 93 Li.[]))) (Sy.tcons ty·58 (Sy.tcons (Sy.tyInt Sy.w64) Sy.tnil))) Li.[])))))))))))))))))))))))))))))))))
+xs = Li._∷_ ty·60 (Li._∷_ (Sy.tyInt Sy.w64) (Li._∷_ Laws'.mir (Li._∷_ Laws.mir (Li._∷_ (Sy.tyRef Sy.erased Sy.mut ty·61) (Li._∷_ (Sy.tyRef Sy.erased Sy.mut ty·60) (Li._∷_ Sy.tyBool (Li._∷_ (Sy.tyRef Sy.erased Sy.imm ty·60) (Li._∷_ ty·58 (Li._∷_ (Sy.tyStruct (Li._∷_ 38 (Li._∷_ 91 (Li._∷_ 93 Li.[]))) (Sy.tcons ty·58 (Sy.tcons (Sy.tyInt Sy.w64) Sy.tnil))) (Li._∷_ ty·63 (Li._∷_ (Sy.tyStruct (Li._∷_ 38 (Li._∷_ 91 (Li._∷_ 93 Li.[]))) (Sy.tcons ty·63 (Sy.tcons (Sy.tyInt Sy.w64) Sy.tnil))) (Li._∷_ ty·67 (Li._∷_ (Sy.tyStruct (Li._∷_ 38 (Li._∷_ 91 (Li._∷_ 93 Li.[]))) (Sy.tcons ty·67 (Sy.tcons (Sy.tyInt Sy.w64) Sy.tnil))) (Li._∷_ ty·65 (Li._∷_ (Sy.tyStruct (Li._∷_ 38 (Li._∷_ 91 (Li._∷_ 93 Li.[]))) (Sy.tcons ty·65 (Sy.tcons (Sy.tyInt Sy.w64) Sy.tnil))) (Li._∷_ ty·59 (Li._∷_ (Sy.tyStruct (Li._∷_ 38 (Li._∷_ 91 (Li._∷_ 93 Li.[]))) (Sy.tcons ty·59 (Sy.tcons (Sy.tyInt Sy.w64) Sy.tnil))) (Li._∷_ ty·59 (Li._∷_ (Sy.tyStruct (Li._∷_ 38 (Li._∷_ 91 (Li._∷_ 93 Li.[]))) (Sy.tcons ty·59 (Sy.tcons (Sy.tyInt Sy.w64) Sy.tnil))) (Li._∷_ ty·59 (Li._∷_ (Sy.tyStruct (Li._∷_ 38 (Li._∷_ 91 (Li._∷_ 93 Li.[]))) (Sy.tcons ty·59 (Sy.tcons (Sy.tyInt Sy.w64) Sy.tnil))) (Li._∷_ ty·59 (Li._∷_ (Sy.tyStruct (Li._∷_ 38 (Li._∷_ 91 (Li._∷_ 93 Li.[]))) (Sy.tcons ty·59 (Sy.tcons (Sy.tyInt Sy.w64) Sy.tnil))) (Li._∷_ ty·62 (Li._∷_ (Sy.tyStruct (Li._∷_ 38 (Li._∷_ 91 (Li._∷_ 93 Li.[]))) (Sy.tcons ty·62 (Sy.tcons (Sy.tyInt Sy.w64) Sy.tnil))) (Li._∷_ ty·58 (Li._∷_ (Sy.tyStruct (Li._∷_ 38 (Li._∷_ 91 (Li._∷_ 93 Li.[]))) (Sy.tcons ty·58 (Sy.tcons (Sy.tyInt Sy.w64) Sy.tnil))) (Li._∷_ ty·58 (Li._∷_ (Sy.tyStruct (Li._∷_ 38 (Li._∷_ 91 (Li._∷_ 93 Li.[]))) (Sy.tcons ty·58 (Sy.tcons (Sy.tyInt Sy.w64) Sy.tnil))) (Li._∷_ ty·58 (Li._∷_ (Sy.tyStruct (Li._∷_ 38 (Li._∷_ 91 (Li._∷_ 93 Li.[]))) (Sy.tcons ty·58 (Sy.tcons (Sy.tyInt Sy.w64) Sy.tnil))) (Li._∷_ ty·58 (Li._∷_ (Sy.tyStruct (Li._∷_ 38 (Li._∷_ 91 (Li._∷_ 93 Li.[]))) (Sy.tcons ty·58 (Sy.tcons (Sy.tyInt Sy.w64) Sy.tnil))) Li.[])))))))))))))))))))))))))))))))))
 
 abbrev pub m : Nat.ℕ
 m = 16
@@ -367,7 +361,7 @@ abbrev b14 : Sy.Body
 b14 = Sy.assign (Sy.place 19 Li.[]) (Sy.addrOf (Sy.place 2 (Li._∷_ (Sy.deref (Sy.tyInt Sy.w32)) Li.[])))
 
 abbrev b15 : Sy.Body
-b15 = Sy.assign (Sy.place 20 Li.[]) (Sy.aggregate (Li._∷_ (Sy.copy (Sy.place 19 Li.[])) (Li._∷_ (Sy.intBig Sy.w64 6292480) Li.[])))
+b15 = Sy.assign (Sy.place 20 Li.[]) (Sy.aggregate (Li._∷_ (Sy.copy (Sy.place 19 Li.[])) (Li._∷_ (Sy.intBig Sy.w64 1201024) Li.[])))
 
 abbrev b16 : Sy.Body
 b16 = Sy.assign (Sy.place 21 Li.[]) (Sy.addrOf (Sy.place 3 (Li._∷_ (Sy.field 0) (Li._∷_ (Sy.deref Gap_.ty) Li.[]))))
@@ -379,25 +373,25 @@ abbrev b18 : Sy.Body
 b18 = Sy.assign (Sy.place 23 Li.[]) (Sy.addrOf (Sy.place 4 (Li._∷_ (Sy.deref (Sy.tyInt Sy.w16)) Li.[])))
 
 abbrev b19 : Sy.Body
-b19 = Sy.assign (Sy.place 24 Li.[]) (Sy.aggregate (Li._∷_ (Sy.copy (Sy.place 23 Li.[])) (Li._∷_ (Sy.intBig Sy.w64 349526) Li.[])))
+b19 = Sy.assign (Sy.place 24 Li.[]) (Sy.aggregate (Li._∷_ (Sy.copy (Sy.place 23 Li.[])) (Li._∷_ (Sy.intBig Sy.w64 65536) Li.[])))
 
 abbrev b20 : Sy.Body
 b20 = Sy.assign (Sy.place 25 Li.[]) (Sy.addrOf (Sy.place 5 (Li._∷_ (Sy.deref (Sy.tyInt Sy.w8)) Li.[])))
 
 abbrev b21 : Sy.Body
-b21 = Sy.assign (Sy.place 26 Li.[]) (Sy.aggregate (Li._∷_ (Sy.copy (Sy.place 25 Li.[])) (Li._∷_ (Sy.intBig Sy.w64 349526) Li.[])))
+b21 = Sy.assign (Sy.place 26 Li.[]) (Sy.aggregate (Li._∷_ (Sy.copy (Sy.place 25 Li.[])) (Li._∷_ (Sy.intBig Sy.w64 65536) Li.[])))
 
 abbrev b22 : Sy.Body
 b22 = Sy.assign (Sy.place 27 Li.[]) (Sy.addrOf (Sy.place 6 (Li._∷_ (Sy.deref (Sy.tyInt Sy.w8)) Li.[])))
 
 abbrev b23 : Sy.Body
-b23 = Sy.assign (Sy.place 28 Li.[]) (Sy.aggregate (Li._∷_ (Sy.copy (Sy.place 27 Li.[])) (Li._∷_ (Sy.intBig Sy.w64 8388608) Li.[])))
+b23 = Sy.assign (Sy.place 28 Li.[]) (Sy.aggregate (Li._∷_ (Sy.copy (Sy.place 27 Li.[])) (Li._∷_ (Sy.intBig Sy.w64 65536) Li.[])))
 
 abbrev b24 : Sy.Body
 b24 = Sy.assign (Sy.place 29 Li.[]) (Sy.addrOf (Sy.place 7 (Li._∷_ (Sy.deref (Sy.tyInt Sy.w8)) Li.[])))
 
 abbrev b25 : Sy.Body
-b25 = Sy.assign (Sy.place 30 Li.[]) (Sy.aggregate (Li._∷_ (Sy.copy (Sy.place 29 Li.[])) (Li._∷_ (Sy.intBig Sy.w64 8388608) Li.[])))
+b25 = Sy.assign (Sy.place 30 Li.[]) (Sy.aggregate (Li._∷_ (Sy.copy (Sy.place 29 Li.[])) (Li._∷_ (Sy.intBig Sy.w64 65536) Li.[])))
 
 abbrev b26 : Sy.Body
 b26 = Sy.assign (Sy.place 31 Li.[]) (Sy.addrOf (Sy.place 8 (Li._∷_ (Sy.deref (Sy.tyInt Sy.w8)) Li.[])))
@@ -412,25 +406,25 @@ abbrev b29 : Sy.Body
 b29 = Sy.assign (Sy.place 33 Li.[]) (Sy.addrOf (Sy.place 4 (Li._∷_ (Sy.deref (Sy.tyInt Sy.w16)) Li.[])))
 
 abbrev b30 : Sy.Body
-b30 = Sy.assign (Sy.place 34 Li.[]) (Sy.aggregate (Li._∷_ (Sy.copy (Sy.place 33 Li.[])) (Li._∷_ (Sy.intBig Sy.w64 349526) Li.[])))
+b30 = Sy.assign (Sy.place 34 Li.[]) (Sy.aggregate (Li._∷_ (Sy.copy (Sy.place 33 Li.[])) (Li._∷_ (Sy.intBig Sy.w64 65536) Li.[])))
 
 abbrev b31 : Sy.Body
 b31 = Sy.assign (Sy.place 35 Li.[]) (Sy.addrOf (Sy.place 5 (Li._∷_ (Sy.deref (Sy.tyInt Sy.w8)) Li.[])))
 
 abbrev b32 : Sy.Body
-b32 = Sy.assign (Sy.place 36 Li.[]) (Sy.aggregate (Li._∷_ (Sy.copy (Sy.place 35 Li.[])) (Li._∷_ (Sy.intBig Sy.w64 349526) Li.[])))
+b32 = Sy.assign (Sy.place 36 Li.[]) (Sy.aggregate (Li._∷_ (Sy.copy (Sy.place 35 Li.[])) (Li._∷_ (Sy.intBig Sy.w64 65536) Li.[])))
 
 abbrev b33 : Sy.Body
 b33 = Sy.assign (Sy.place 37 Li.[]) (Sy.addrOf (Sy.place 6 (Li._∷_ (Sy.deref (Sy.tyInt Sy.w8)) Li.[])))
 
 abbrev b34 : Sy.Body
-b34 = Sy.assign (Sy.place 38 Li.[]) (Sy.aggregate (Li._∷_ (Sy.copy (Sy.place 37 Li.[])) (Li._∷_ (Sy.intBig Sy.w64 8388608) Li.[])))
+b34 = Sy.assign (Sy.place 38 Li.[]) (Sy.aggregate (Li._∷_ (Sy.copy (Sy.place 37 Li.[])) (Li._∷_ (Sy.intBig Sy.w64 65536) Li.[])))
 
 abbrev b35 : Sy.Body
 b35 = Sy.assign (Sy.place 39 Li.[]) (Sy.addrOf (Sy.place 7 (Li._∷_ (Sy.deref (Sy.tyInt Sy.w8)) Li.[])))
 
 abbrev b36 : Sy.Body
-b36 = Sy.assign (Sy.place 40 Li.[]) (Sy.aggregate (Li._∷_ (Sy.copy (Sy.place 39 Li.[])) (Li._∷_ (Sy.intBig Sy.w64 8388608) Li.[])))
+b36 = Sy.assign (Sy.place 40 Li.[]) (Sy.aggregate (Li._∷_ (Sy.copy (Sy.place 39 Li.[])) (Li._∷_ (Sy.intBig Sy.w64 65536) Li.[])))
 
 abbrev b37 : Sy.Body
 b37 = Sy.assign (Sy.place 41 Li.[]) (Sy.addrOf (Sy.place 8 (Li._∷_ (Sy.deref (Sy.tyInt Sy.w8)) Li.[])))
@@ -556,16 +550,16 @@ abbrev pub Claims : Type 1
 Claims = Kinds.In 2 ps·0 × Kinds.Out 2 ps·0 r·0 × Kinds.In 1 ps·1 × Kinds.Out 1 ps·1 r·1 × Kinds.In 8 ps·2 × Kinds.Out 8 ps·2 r·2 × Kinds.In 5 ps·3 × Kinds.Out 5 ps·3 r·3
 
 abbrev pub t0 : Li.List Ro.Entry
-t0 = Li._∷_ (0, row·14) (Li._∷_ (1, row·3) (Li._∷_ (2, row·2) (Li._∷_ (3, row·15) (Li._∷_ (4, row·11) (Li._∷_ (5, row·12) (Li._∷_ (6, row·10) (Li._∷_ (7, row·8) (Li._∷_ (8, row·7) (Li._∷_ (9, row·13) (Li._∷_ (10, row·47) (Li._∷_ (11, Rows'.any-gone Laws'.mir) (Li._∷_ (12, Rows'.any-gone Laws.mir) (Li._∷_ (13, row·4) (Li._∷_ (14, row·5) (Li._∷_ (15, row·14) Li.[])))))))))))))))
+t0 = Li._∷_ (0, row·14) (Li._∷_ (1, row·3) (Li._∷_ (2, row·2) (Li._∷_ (3, row·15) (Li._∷_ (4, row·11) (Li._∷_ (5, row·12) (Li._∷_ (6, row·10) (Li._∷_ (7, row·9) (Li._∷_ (8, row·7) (Li._∷_ (9, row·13) (Li._∷_ (10, row·47) (Li._∷_ (11, Rows'.any-gone Laws'.mir) (Li._∷_ (12, Rows'.any-gone Laws.mir) (Li._∷_ (13, row·4) (Li._∷_ (14, row·5) (Li._∷_ (15, row·14) Li.[])))))))))))))))
 
 abbrev pub t1 : Li.List Ro.Entry
-t1 = Li._∷_ (16, row·22) (Li._∷_ (17, row·9) (Li._∷_ (18, row·0) (Li._∷_ (19, row·24) (Li._∷_ (20, row·17) (Li._∷_ (21, row·33) (Li._∷_ (22, row·19) (Li._∷_ (23, row·25) (Li._∷_ (24, row·18) (Li._∷_ (25, row·6) (Li._∷_ (26, row·1) (Li._∷_ (27, row·6) (Li._∷_ (28, row·1) (Li._∷_ (29, row·6) (Li._∷_ (30, row·1) (Li._∷_ (31, row·6) Li.[])))))))))))))))
+t1 = Li._∷_ (16, row·22) (Li._∷_ (17, row·8) (Li._∷_ (18, row·0) (Li._∷_ (19, row·24) (Li._∷_ (20, row·17) (Li._∷_ (21, row·33) (Li._∷_ (22, row·19) (Li._∷_ (23, row·25) (Li._∷_ (24, row·18) (Li._∷_ (25, row·6) (Li._∷_ (26, row·1) (Li._∷_ (27, row·6) (Li._∷_ (28, row·1) (Li._∷_ (29, row·6) (Li._∷_ (30, row·1) (Li._∷_ (31, row·6) Li.[])))))))))))))))
 
 abbrev pub t2 : Li.List Ro.Entry
-t2 = Li._∷_ (32, row·1) (Li._∷_ (33, row·42) (Li._∷_ (34, row·36) (Li._∷_ (35, row·9) (Li._∷_ (36, row·0) (Li._∷_ (37, row·9) (Li._∷_ (38, row·0) (Li._∷_ (39, row·9) (Li._∷_ (40, row·0) (Li._∷_ (41, row·9) (Li._∷_ (42, row·0) Li.[]))))))))))
+t2 = Li._∷_ (32, row·1) (Li._∷_ (33, row·42) (Li._∷_ (34, row·36) (Li._∷_ (35, row·8) (Li._∷_ (36, row·0) (Li._∷_ (37, row·8) (Li._∷_ (38, row·0) (Li._∷_ (39, row·8) (Li._∷_ (40, row·0) (Li._∷_ (41, row·8) (Li._∷_ (42, row·0) Li.[]))))))))))
 
 abbrev pub t3 : Li.List Ro.Entry
-t3 = Li._∷_ (0, Rows'.sc-here Ro.sBool) (Li._∷_ (1, row·3) (Li._∷_ (2, row·2) (Li._∷_ (3, row·15) (Li._∷_ (4, row·11) (Li._∷_ (5, row·12) (Li._∷_ (6, row·10) (Li._∷_ (7, row·8) (Li._∷_ (8, row·7) (Li._∷_ (9, row·13) (Li._∷_ (10, row·47) (Li._∷_ (11, Rows'.any-gone Laws'.mir) (Li._∷_ (12, Rows'.any-gone Laws.mir) (Li._∷_ (13, row·4) (Li._∷_ (14, row·5) (Li._∷_ (15, row·14) Li.[])))))))))))))))
+t3 = Li._∷_ (0, Rows'.sc-here Ro.sBool) (Li._∷_ (1, row·3) (Li._∷_ (2, row·2) (Li._∷_ (3, row·15) (Li._∷_ (4, row·11) (Li._∷_ (5, row·12) (Li._∷_ (6, row·10) (Li._∷_ (7, row·9) (Li._∷_ (8, row·7) (Li._∷_ (9, row·13) (Li._∷_ (10, row·47) (Li._∷_ (11, Rows'.any-gone Laws'.mir) (Li._∷_ (12, Rows'.any-gone Laws.mir) (Li._∷_ (13, row·4) (Li._∷_ (14, row·5) (Li._∷_ (15, row·14) Li.[])))))))))))))))
 
 abbrev pub t4 : Li.List Ro.Entry
 t4 = Ro.setRow 9 (9, Rows'.whole (Array.Array (Rf.rtF (Rf.fInt Sy.w8)) 25)) (Ro.setRow 0 (0, row·14) t3)
@@ -604,10 +598,10 @@ abbrev pub t15 : Li.List Ro.Entry
 t15 = Ro.setRow 9 (9, Rows'.sc-shr row·55 (Array.Array (Rf.rtF (Rf.fInt Sy.w8)) 25) (λ x. x) 10) (Ro.setRow 0 (0, row·14) t14)
 
 abbrev pub t16 : Li.List Ro.Entry
-t16 = Li._∷_ (16, Rows'.sref (Array.Array (Rf.rtF (Rf.fInt Sy.w8)) 25) (Sy.tyRef Sy.erased Sy.imm ty·60) 10) (Li._∷_ (17, row·9) (Li._∷_ (18, row·0) (Li._∷_ (19, row·24) (Li._∷_ (20, row·17) (Li._∷_ (21, row·33) (Li._∷_ (22, row·19) (Li._∷_ (23, row·25) (Li._∷_ (24, row·18) (Li._∷_ (25, row·6) (Li._∷_ (26, row·1) (Li._∷_ (27, row·6) (Li._∷_ (28, row·1) (Li._∷_ (29, row·6) (Li._∷_ (30, row·1) (Li._∷_ (31, row·6) Li.[])))))))))))))))
+t16 = Li._∷_ (16, Rows'.sref (Array.Array (Rf.rtF (Rf.fInt Sy.w8)) 25) (Sy.tyRef Sy.erased Sy.imm ty·60) 10) (Li._∷_ (17, row·8) (Li._∷_ (18, row·0) (Li._∷_ (19, row·24) (Li._∷_ (20, row·17) (Li._∷_ (21, row·33) (Li._∷_ (22, row·19) (Li._∷_ (23, row·25) (Li._∷_ (24, row·18) (Li._∷_ (25, row·6) (Li._∷_ (26, row·1) (Li._∷_ (27, row·6) (Li._∷_ (28, row·1) (Li._∷_ (29, row·6) (Li._∷_ (30, row·1) (Li._∷_ (31, row·6) Li.[])))))))))))))))
 
 abbrev pub t17 : Li.List Ro.Entry
-t17 = Li._∷_ (0, row·14) (Li._∷_ (1, row·3) (Li._∷_ (2, row·2) (Li._∷_ (3, row·15) (Li._∷_ (4, row·11) (Li._∷_ (5, row·12) (Li._∷_ (6, row·10) (Li._∷_ (7, row·8) (Li._∷_ (8, row·7) (Li._∷_ (9, Rows'.sc-shr row·55 (Array.Array (Rf.rtF (Rf.fInt Sy.w8)) 25) (λ x. x) 10) (Li._∷_ (10, row·21) (Li._∷_ (11, row·40) (Li._∷_ (12, Rows'.any-gone Laws.mir) (Li._∷_ (13, row·4) (Li._∷_ (14, row·5) (Li._∷_ (15, row·14) Li.[])))))))))))))))
+t17 = Li._∷_ (0, row·14) (Li._∷_ (1, row·3) (Li._∷_ (2, row·2) (Li._∷_ (3, row·15) (Li._∷_ (4, row·11) (Li._∷_ (5, row·12) (Li._∷_ (6, row·10) (Li._∷_ (7, row·9) (Li._∷_ (8, row·7) (Li._∷_ (9, Rows'.sc-shr row·55 (Array.Array (Rf.rtF (Rf.fInt Sy.w8)) 25) (λ x. x) 10) (Li._∷_ (10, row·21) (Li._∷_ (11, row·40) (Li._∷_ (12, Rows'.any-gone Laws.mir) (Li._∷_ (13, row·4) (Li._∷_ (14, row·5) (Li._∷_ (15, row·14) Li.[])))))))))))))))
 
 abbrev pub t18 : Li.List Ro.Entry
 t18 = Ro.setRow 9 (9, row·55) t17
@@ -625,85 +619,85 @@ abbrev pub t22 : Li.List Ro.Entry
 t22 = Ro.setRow 1 (17, Relend.ssptr (Rf.rtF (Rf.fInt Sy.w8)) ty·58 11) t21
 
 abbrev pub t23 : Li.List Ro.Entry
-t23 = Ro.setRow 2 (18, row·35) (Ro.setRow 1 (17, row·9) t22)
+t23 = Ro.setRow 2 (18, row·35) (Ro.setRow 1 (17, row·8) t22)
 
 abbrev pub t24 : Li.List Ro.Entry
-t24 = Li._∷_ (0, row·14) (Li._∷_ (1, row·20) (Li._∷_ (2, row·23) (Li._∷_ (3, row·15) (Li._∷_ (4, row·11) (Li._∷_ (5, row·12) (Li._∷_ (6, row·10) (Li._∷_ (7, row·8) (Li._∷_ (8, row·7) (Li._∷_ (9, row·13) (Li._∷_ (10, row·21) (Li._∷_ (11, row·40) (Li._∷_ (12, Rows'.any-gone Laws.mir) (Li._∷_ (13, row·4) (Li._∷_ (14, row·5) (Li._∷_ (15, row·14) Li.[])))))))))))))))
+t24 = Li._∷_ (0, row·14) (Li._∷_ (1, row·20) (Li._∷_ (2, row·23) (Li._∷_ (3, row·15) (Li._∷_ (4, row·11) (Li._∷_ (5, row·12) (Li._∷_ (6, row·10) (Li._∷_ (7, row·9) (Li._∷_ (8, row·7) (Li._∷_ (9, row·13) (Li._∷_ (10, row·21) (Li._∷_ (11, row·40) (Li._∷_ (12, Rows'.any-gone Laws.mir) (Li._∷_ (13, row·4) (Li._∷_ (14, row·5) (Li._∷_ (15, row·14) Li.[])))))))))))))))
 
 abbrev pub t25 : Li.List Ro.Entry
-t25 = Li._∷_ (16, row·22) (Li._∷_ (17, row·9) (Li._∷_ (18, row·35) (Li._∷_ (19, Relend.msptr (Rf.rtF (Rf.fInt Sy.w32)) ty·63 12) (Li._∷_ (20, row·17) (Li._∷_ (21, row·33) (Li._∷_ (22, row·19) (Li._∷_ (23, row·25) (Li._∷_ (24, row·18) (Li._∷_ (25, row·6) (Li._∷_ (26, row·1) (Li._∷_ (27, row·6) (Li._∷_ (28, row·1) (Li._∷_ (29, row·6) (Li._∷_ (30, row·1) (Li._∷_ (31, row·6) Li.[])))))))))))))))
+t25 = Li._∷_ (16, row·22) (Li._∷_ (17, row·8) (Li._∷_ (18, row·35) (Li._∷_ (19, Relend.msptr (Rf.rtF (Rf.fInt Sy.w32)) ty·63 12) (Li._∷_ (20, row·17) (Li._∷_ (21, row·33) (Li._∷_ (22, row·19) (Li._∷_ (23, row·25) (Li._∷_ (24, row·18) (Li._∷_ (25, row·6) (Li._∷_ (26, row·1) (Li._∷_ (27, row·6) (Li._∷_ (28, row·1) (Li._∷_ (29, row·6) (Li._∷_ (30, row·1) (Li._∷_ (31, row·6) Li.[])))))))))))))))
 
 abbrev pub t26 : Li.List Ro.Entry
 t26 = Ro.setRow 4 (20, row·38) (Ro.setRow 3 (19, row·24) t25)
 
 abbrev pub t27 : Li.List Ro.Entry
-t27 = Li._∷_ (0, row·14) (Li._∷_ (1, row·20) (Li._∷_ (2, row·23) (Li._∷_ (3, row·41) (Li._∷_ (4, row·11) (Li._∷_ (5, row·12) (Li._∷_ (6, row·10) (Li._∷_ (7, row·8) (Li._∷_ (8, row·7) (Li._∷_ (9, row·13) (Li._∷_ (10, row·21) (Li._∷_ (11, row·40) (Li._∷_ (12, Rows'.any-gone Laws.mir) (Li._∷_ (13, row·4) (Li._∷_ (14, row·5) (Li._∷_ (15, row·14) Li.[])))))))))))))))
+t27 = Li._∷_ (0, row·14) (Li._∷_ (1, row·20) (Li._∷_ (2, row·23) (Li._∷_ (3, row·41) (Li._∷_ (4, row·11) (Li._∷_ (5, row·12) (Li._∷_ (6, row·10) (Li._∷_ (7, row·9) (Li._∷_ (8, row·7) (Li._∷_ (9, row·13) (Li._∷_ (10, row·21) (Li._∷_ (11, row·40) (Li._∷_ (12, Rows'.any-gone Laws.mir) (Li._∷_ (13, row·4) (Li._∷_ (14, row·5) (Li._∷_ (15, row·14) Li.[])))))))))))))))
 
 abbrev pub t28 : Li.List Ro.Entry
-t28 = Li._∷_ (16, row·22) (Li._∷_ (17, row·9) (Li._∷_ (18, row·35) (Li._∷_ (19, row·24) (Li._∷_ (20, row·38) (Li._∷_ (21, Relend.msptr Gap_.row ty·66 13) (Li._∷_ (22, row·19) (Li._∷_ (23, row·25) (Li._∷_ (24, row·18) (Li._∷_ (25, row·6) (Li._∷_ (26, row·1) (Li._∷_ (27, row·6) (Li._∷_ (28, row·1) (Li._∷_ (29, row·6) (Li._∷_ (30, row·1) (Li._∷_ (31, row·6) Li.[])))))))))))))))
+t28 = Li._∷_ (16, row·22) (Li._∷_ (17, row·8) (Li._∷_ (18, row·35) (Li._∷_ (19, row·24) (Li._∷_ (20, row·38) (Li._∷_ (21, Relend.msptr Gap_.row ty·67 13) (Li._∷_ (22, row·19) (Li._∷_ (23, row·25) (Li._∷_ (24, row·18) (Li._∷_ (25, row·6) (Li._∷_ (26, row·1) (Li._∷_ (27, row·6) (Li._∷_ (28, row·1) (Li._∷_ (29, row·6) (Li._∷_ (30, row·1) (Li._∷_ (31, row·6) Li.[])))))))))))))))
 
 abbrev pub t29 : Li.List Ro.Entry
 t29 = Ro.setRow 6 (22, row·48) (Ro.setRow 5 (21, row·33) t28)
 
 abbrev pub t30 : Li.List Ro.Entry
-t30 = Li._∷_ (0, row·14) (Li._∷_ (1, row·20) (Li._∷_ (2, row·23) (Li._∷_ (3, row·41) (Li._∷_ (4, row·27) (Li._∷_ (5, row·12) (Li._∷_ (6, row·10) (Li._∷_ (7, row·8) (Li._∷_ (8, row·7) (Li._∷_ (9, row·13) (Li._∷_ (10, row·21) (Li._∷_ (11, row·40) (Li._∷_ (12, Rows'.any-gone Laws.mir) (Li._∷_ (13, row·4) (Li._∷_ (14, row·5) (Li._∷_ (15, row·14) Li.[])))))))))))))))
+t30 = Li._∷_ (0, row·14) (Li._∷_ (1, row·20) (Li._∷_ (2, row·23) (Li._∷_ (3, row·41) (Li._∷_ (4, row·27) (Li._∷_ (5, row·12) (Li._∷_ (6, row·10) (Li._∷_ (7, row·9) (Li._∷_ (8, row·7) (Li._∷_ (9, row·13) (Li._∷_ (10, row·21) (Li._∷_ (11, row·40) (Li._∷_ (12, Rows'.any-gone Laws.mir) (Li._∷_ (13, row·4) (Li._∷_ (14, row·5) (Li._∷_ (15, row·14) Li.[])))))))))))))))
 
 abbrev pub t31 : Li.List Ro.Entry
-t31 = Li._∷_ (16, row·22) (Li._∷_ (17, row·9) (Li._∷_ (18, row·35) (Li._∷_ (19, row·24) (Li._∷_ (20, row·38) (Li._∷_ (21, row·33) (Li._∷_ (22, row·48) (Li._∷_ (23, Relend.msptr (Rf.rtF (Rf.fInt Sy.w16)) ty·64 14) (Li._∷_ (24, row·18) (Li._∷_ (25, row·6) (Li._∷_ (26, row·1) (Li._∷_ (27, row·6) (Li._∷_ (28, row·1) (Li._∷_ (29, row·6) (Li._∷_ (30, row·1) (Li._∷_ (31, row·6) Li.[])))))))))))))))
+t31 = Li._∷_ (16, row·22) (Li._∷_ (17, row·8) (Li._∷_ (18, row·35) (Li._∷_ (19, row·24) (Li._∷_ (20, row·38) (Li._∷_ (21, row·33) (Li._∷_ (22, row·48) (Li._∷_ (23, Relend.msptr (Rf.rtF (Rf.fInt Sy.w16)) ty·65 14) (Li._∷_ (24, row·18) (Li._∷_ (25, row·6) (Li._∷_ (26, row·1) (Li._∷_ (27, row·6) (Li._∷_ (28, row·1) (Li._∷_ (29, row·6) (Li._∷_ (30, row·1) (Li._∷_ (31, row·6) Li.[])))))))))))))))
 
 abbrev pub t32 : Li.List Ro.Entry
 t32 = Ro.setRow 8 (24, row·45) (Ro.setRow 7 (23, row·25) t31)
 
 abbrev pub t33 : Li.List Ro.Entry
-t33 = Li._∷_ (0, row·14) (Li._∷_ (1, row·20) (Li._∷_ (2, row·23) (Li._∷_ (3, row·41) (Li._∷_ (4, row·27) (Li._∷_ (5, row·30) (Li._∷_ (6, row·10) (Li._∷_ (7, row·8) (Li._∷_ (8, row·7) (Li._∷_ (9, row·13) (Li._∷_ (10, row·21) (Li._∷_ (11, row·40) (Li._∷_ (12, Rows'.any-gone Laws.mir) (Li._∷_ (13, row·4) (Li._∷_ (14, row·5) (Li._∷_ (15, row·14) Li.[])))))))))))))))
+t33 = Li._∷_ (0, row·14) (Li._∷_ (1, row·20) (Li._∷_ (2, row·23) (Li._∷_ (3, row·41) (Li._∷_ (4, row·27) (Li._∷_ (5, row·28) (Li._∷_ (6, row·10) (Li._∷_ (7, row·9) (Li._∷_ (8, row·7) (Li._∷_ (9, row·13) (Li._∷_ (10, row·21) (Li._∷_ (11, row·40) (Li._∷_ (12, Rows'.any-gone Laws.mir) (Li._∷_ (13, row·4) (Li._∷_ (14, row·5) (Li._∷_ (15, row·14) Li.[])))))))))))))))
 
 abbrev pub t34 : Li.List Ro.Entry
-t34 = Li._∷_ (16, row·22) (Li._∷_ (17, row·9) (Li._∷_ (18, row·35) (Li._∷_ (19, row·24) (Li._∷_ (20, row·38) (Li._∷_ (21, row·33) (Li._∷_ (22, row·48) (Li._∷_ (23, row·25) (Li._∷_ (24, row·45) (Li._∷_ (25, Relend.msptr (Rf.rtF (Rf.fInt Sy.w8)) ty·59 15) (Li._∷_ (26, row·1) (Li._∷_ (27, row·6) (Li._∷_ (28, row·1) (Li._∷_ (29, row·6) (Li._∷_ (30, row·1) (Li._∷_ (31, row·6) Li.[])))))))))))))))
+t34 = Li._∷_ (16, row·22) (Li._∷_ (17, row·8) (Li._∷_ (18, row·35) (Li._∷_ (19, row·24) (Li._∷_ (20, row·38) (Li._∷_ (21, row·33) (Li._∷_ (22, row·48) (Li._∷_ (23, row·25) (Li._∷_ (24, row·45) (Li._∷_ (25, Relend.msptr (Rf.rtF (Rf.fInt Sy.w8)) ty·59 15) (Li._∷_ (26, row·1) (Li._∷_ (27, row·6) (Li._∷_ (28, row·1) (Li._∷_ (29, row·6) (Li._∷_ (30, row·1) (Li._∷_ (31, row·6) Li.[])))))))))))))))
 
 abbrev pub t35 : Li.List Ro.Entry
 t35 = Ro.setRow 10 (26, row·50) (Ro.setRow 9 (25, row·6) t34)
 
 abbrev pub t36 : Li.List Ro.Entry
-t36 = Li._∷_ (0, row·14) (Li._∷_ (1, row·20) (Li._∷_ (2, row·23) (Li._∷_ (3, row·41) (Li._∷_ (4, row·27) (Li._∷_ (5, row·30) (Li._∷_ (6, row·28) (Li._∷_ (7, row·8) (Li._∷_ (8, row·7) (Li._∷_ (9, row·13) (Li._∷_ (10, row·21) (Li._∷_ (11, row·40) (Li._∷_ (12, Rows'.any-gone Laws.mir) (Li._∷_ (13, row·4) (Li._∷_ (14, row·5) (Li._∷_ (15, row·14) Li.[])))))))))))))))
+t36 = Li._∷_ (0, row·14) (Li._∷_ (1, row·20) (Li._∷_ (2, row·23) (Li._∷_ (3, row·41) (Li._∷_ (4, row·27) (Li._∷_ (5, row·28) (Li._∷_ (6, row·29) (Li._∷_ (7, row·9) (Li._∷_ (8, row·7) (Li._∷_ (9, row·13) (Li._∷_ (10, row·21) (Li._∷_ (11, row·40) (Li._∷_ (12, Rows'.any-gone Laws.mir) (Li._∷_ (13, row·4) (Li._∷_ (14, row·5) (Li._∷_ (15, row·14) Li.[])))))))))))))))
 
 abbrev pub t37 : Li.List Ro.Entry
-t37 = Li._∷_ (16, row·22) (Li._∷_ (17, row·9) (Li._∷_ (18, row·35) (Li._∷_ (19, row·24) (Li._∷_ (20, row·38) (Li._∷_ (21, row·33) (Li._∷_ (22, row·48) (Li._∷_ (23, row·25) (Li._∷_ (24, row·45) (Li._∷_ (25, row·6) (Li._∷_ (26, row·50) (Li._∷_ (27, Relend.msptr (Rf.rtF (Rf.fInt Sy.w8)) ty·59 16) (Li._∷_ (28, row·1) (Li._∷_ (29, row·6) (Li._∷_ (30, row·1) (Li._∷_ (31, row·6) Li.[])))))))))))))))
+t37 = Li._∷_ (16, row·22) (Li._∷_ (17, row·8) (Li._∷_ (18, row·35) (Li._∷_ (19, row·24) (Li._∷_ (20, row·38) (Li._∷_ (21, row·33) (Li._∷_ (22, row·48) (Li._∷_ (23, row·25) (Li._∷_ (24, row·45) (Li._∷_ (25, row·6) (Li._∷_ (26, row·50) (Li._∷_ (27, Relend.msptr (Rf.rtF (Rf.fInt Sy.w8)) ty·59 16) (Li._∷_ (28, row·1) (Li._∷_ (29, row·6) (Li._∷_ (30, row·1) (Li._∷_ (31, row·6) Li.[])))))))))))))))
 
 abbrev pub t38 : Li.List Ro.Entry
 t38 = Ro.setRow 12 (28, row·54) (Ro.setRow 11 (27, row·6) t37)
 
 abbrev pub t39 : Li.List Ro.Entry
-t39 = Li._∷_ (0, row·14) (Li._∷_ (1, row·20) (Li._∷_ (2, row·23) (Li._∷_ (3, row·41) (Li._∷_ (4, row·27) (Li._∷_ (5, row·30) (Li._∷_ (6, row·28) (Li._∷_ (7, row·29) (Li._∷_ (8, row·7) (Li._∷_ (9, row·13) (Li._∷_ (10, row·21) (Li._∷_ (11, row·40) (Li._∷_ (12, Rows'.any-gone Laws.mir) (Li._∷_ (13, row·4) (Li._∷_ (14, row·5) (Li._∷_ (15, row·14) Li.[])))))))))))))))
+t39 = Li._∷_ (0, row·14) (Li._∷_ (1, row·20) (Li._∷_ (2, row·23) (Li._∷_ (3, row·41) (Li._∷_ (4, row·27) (Li._∷_ (5, row·28) (Li._∷_ (6, row·29) (Li._∷_ (7, row·30) (Li._∷_ (8, row·7) (Li._∷_ (9, row·13) (Li._∷_ (10, row·21) (Li._∷_ (11, row·40) (Li._∷_ (12, Rows'.any-gone Laws.mir) (Li._∷_ (13, row·4) (Li._∷_ (14, row·5) (Li._∷_ (15, row·14) Li.[])))))))))))))))
 
 abbrev pub t40 : Li.List Ro.Entry
-t40 = Li._∷_ (16, row·22) (Li._∷_ (17, row·9) (Li._∷_ (18, row·35) (Li._∷_ (19, row·24) (Li._∷_ (20, row·38) (Li._∷_ (21, row·33) (Li._∷_ (22, row·48) (Li._∷_ (23, row·25) (Li._∷_ (24, row·45) (Li._∷_ (25, row·6) (Li._∷_ (26, row·50) (Li._∷_ (27, row·6) (Li._∷_ (28, row·54) (Li._∷_ (29, Relend.msptr (Rf.rtF (Rf.fInt Sy.w8)) ty·59 17) (Li._∷_ (30, row·1) (Li._∷_ (31, row·6) Li.[])))))))))))))))
+t40 = Li._∷_ (16, row·22) (Li._∷_ (17, row·8) (Li._∷_ (18, row·35) (Li._∷_ (19, row·24) (Li._∷_ (20, row·38) (Li._∷_ (21, row·33) (Li._∷_ (22, row·48) (Li._∷_ (23, row·25) (Li._∷_ (24, row·45) (Li._∷_ (25, row·6) (Li._∷_ (26, row·50) (Li._∷_ (27, row·6) (Li._∷_ (28, row·54) (Li._∷_ (29, Relend.msptr (Rf.rtF (Rf.fInt Sy.w8)) ty·59 17) (Li._∷_ (30, row·1) (Li._∷_ (31, row·6) Li.[])))))))))))))))
 
 abbrev pub t41 : Li.List Ro.Entry
 t41 = Ro.setRow 14 (30, Mut.mslice (Rf.rtF (Rf.fInt Sy.w8)) ty·59 17) (Ro.setRow 13 (29, row·6) t40)
 
 abbrev pub t42 : Li.List Ro.Entry
-t42 = Li._∷_ (0, row·14) (Li._∷_ (1, row·20) (Li._∷_ (2, row·23) (Li._∷_ (3, row·41) (Li._∷_ (4, row·27) (Li._∷_ (5, row·30) (Li._∷_ (6, row·28) (Li._∷_ (7, row·29) (Li._∷_ (8, row·31) (Li._∷_ (9, row·13) (Li._∷_ (10, row·21) (Li._∷_ (11, row·40) (Li._∷_ (12, Rows'.any-gone Laws.mir) (Li._∷_ (13, row·4) (Li._∷_ (14, row·5) (Li._∷_ (15, row·14) Li.[])))))))))))))))
+t42 = Li._∷_ (0, row·14) (Li._∷_ (1, row·20) (Li._∷_ (2, row·23) (Li._∷_ (3, row·41) (Li._∷_ (4, row·27) (Li._∷_ (5, row·28) (Li._∷_ (6, row·29) (Li._∷_ (7, row·30) (Li._∷_ (8, row·31) (Li._∷_ (9, row·13) (Li._∷_ (10, row·21) (Li._∷_ (11, row·40) (Li._∷_ (12, Rows'.any-gone Laws.mir) (Li._∷_ (13, row·4) (Li._∷_ (14, row·5) (Li._∷_ (15, row·14) Li.[])))))))))))))))
 
 abbrev pub t43 : Li.List Ro.Entry
-t43 = Li._∷_ (16, row·22) (Li._∷_ (17, row·9) (Li._∷_ (18, row·35) (Li._∷_ (19, row·24) (Li._∷_ (20, row·38) (Li._∷_ (21, row·33) (Li._∷_ (22, row·48) (Li._∷_ (23, row·25) (Li._∷_ (24, row·45) (Li._∷_ (25, row·6) (Li._∷_ (26, row·50) (Li._∷_ (27, row·6) (Li._∷_ (28, row·54) (Li._∷_ (29, row·6) (Li._∷_ (30, Mut.mslice (Rf.rtF (Rf.fInt Sy.w8)) ty·59 17) (Li._∷_ (31, Relend.msptr (Rf.rtF (Rf.fInt Sy.w8)) ty·59 18) Li.[])))))))))))))))
+t43 = Li._∷_ (16, row·22) (Li._∷_ (17, row·8) (Li._∷_ (18, row·35) (Li._∷_ (19, row·24) (Li._∷_ (20, row·38) (Li._∷_ (21, row·33) (Li._∷_ (22, row·48) (Li._∷_ (23, row·25) (Li._∷_ (24, row·45) (Li._∷_ (25, row·6) (Li._∷_ (26, row·50) (Li._∷_ (27, row·6) (Li._∷_ (28, row·54) (Li._∷_ (29, row·6) (Li._∷_ (30, Mut.mslice (Rf.rtF (Rf.fInt Sy.w8)) ty·59 17) (Li._∷_ (31, Relend.msptr (Rf.rtF (Rf.fInt Sy.w8)) ty·59 18) Li.[])))))))))))))))
 
 abbrev pub t44 : Li.List Ro.Entry
-t44 = Li._∷_ (32, Mut.mslice (Rf.rtF (Rf.fInt Sy.w8)) ty·59 18) (Li._∷_ (33, row·42) (Li._∷_ (34, row·36) (Li._∷_ (35, row·9) (Li._∷_ (36, row·0) (Li._∷_ (37, row·9) (Li._∷_ (38, row·0) (Li._∷_ (39, row·9) (Li._∷_ (40, row·0) (Li._∷_ (41, row·9) (Li._∷_ (42, row·0) Li.[]))))))))))
+t44 = Li._∷_ (32, Mut.mslice (Rf.rtF (Rf.fInt Sy.w8)) ty·59 18) (Li._∷_ (33, row·42) (Li._∷_ (34, row·36) (Li._∷_ (35, row·8) (Li._∷_ (36, row·0) (Li._∷_ (37, row·8) (Li._∷_ (38, row·0) (Li._∷_ (39, row·8) (Li._∷_ (40, row·0) (Li._∷_ (41, row·8) (Li._∷_ (42, row·0) Li.[]))))))))))
 
 abbrev pub t45 : Li.List Ro.Entry
-t45 = Li._∷_ (0, row·14) (Li._∷_ (1, row·20) (Li._∷_ (2, row·23) (Li._∷_ (3, row·41) (Li._∷_ (4, row·27) (Li._∷_ (5, row·30) (Li._∷_ (6, row·28) (Li._∷_ (7, row·29) (Li._∷_ (8, row·31) (Li._∷_ (9, row·13) (Li._∷_ (10, row·21) (Li._∷_ (11, row·40) (Li._∷_ (12, row·26) (Li._∷_ (13, row·4) (Li._∷_ (14, row·5) (Li._∷_ (15, row·14) Li.[])))))))))))))))
+t45 = Li._∷_ (0, row·14) (Li._∷_ (1, row·20) (Li._∷_ (2, row·23) (Li._∷_ (3, row·41) (Li._∷_ (4, row·27) (Li._∷_ (5, row·28) (Li._∷_ (6, row·29) (Li._∷_ (7, row·30) (Li._∷_ (8, row·31) (Li._∷_ (9, row·13) (Li._∷_ (10, row·21) (Li._∷_ (11, row·40) (Li._∷_ (12, row·26) (Li._∷_ (13, row·4) (Li._∷_ (14, row·5) (Li._∷_ (15, row·14) Li.[])))))))))))))))
 
 abbrev pub t46 : Li.List Ro.Entry
-t46 = Li._∷_ (16, row·22) (Li._∷_ (17, row·9) (Li._∷_ (18, row·35) (Li._∷_ (19, row·24) (Li._∷_ (20, Mut.msleft (Rf.rtF (Rf.fInt Sy.w32)) ty·63) (Li._∷_ (21, row·33) (Li._∷_ (22, row·57) (Li._∷_ (23, row·25) (Li._∷_ (24, row·51) (Li._∷_ (25, row·6) (Li._∷_ (26, row·16) (Li._∷_ (27, row·6) (Li._∷_ (28, row·16) (Li._∷_ (29, row·6) (Li._∷_ (30, row·16) (Li._∷_ (31, row·6) Li.[])))))))))))))))
+t46 = Li._∷_ (16, row·22) (Li._∷_ (17, row·8) (Li._∷_ (18, row·35) (Li._∷_ (19, row·24) (Li._∷_ (20, Mut.msleft (Rf.rtF (Rf.fInt Sy.w32)) ty·63) (Li._∷_ (21, row·33) (Li._∷_ (22, row·57) (Li._∷_ (23, row·25) (Li._∷_ (24, row·51) (Li._∷_ (25, row·6) (Li._∷_ (26, row·16) (Li._∷_ (27, row·6) (Li._∷_ (28, row·16) (Li._∷_ (29, row·6) (Li._∷_ (30, row·16) (Li._∷_ (31, row·6) Li.[])))))))))))))))
 
 abbrev pub t47 : Li.List Ro.Entry
-t47 = Li._∷_ (32, row·16) (Li._∷_ (33, row·42) (Li._∷_ (34, row·36) (Li._∷_ (35, row·9) (Li._∷_ (36, row·0) (Li._∷_ (37, row·9) (Li._∷_ (38, row·0) (Li._∷_ (39, row·9) (Li._∷_ (40, row·0) (Li._∷_ (41, row·9) (Li._∷_ (42, row·0) Li.[]))))))))))
+t47 = Li._∷_ (32, row·16) (Li._∷_ (33, row·42) (Li._∷_ (34, row·36) (Li._∷_ (35, row·8) (Li._∷_ (36, row·0) (Li._∷_ (37, row·8) (Li._∷_ (38, row·0) (Li._∷_ (39, row·8) (Li._∷_ (40, row·0) (Li._∷_ (41, row·8) (Li._∷_ (42, row·0) Li.[]))))))))))
 
 abbrev pub t48 : Li.List Ro.Entry
-t48 = Li._∷_ (16, row·22) (Li._∷_ (17, row·9) (Li._∷_ (18, row·0) (Li._∷_ (19, row·24) (Li._∷_ (20, Mut.msleft (Rf.rtF (Rf.fInt Sy.w32)) ty·63) (Li._∷_ (21, row·33) (Li._∷_ (22, row·57) (Li._∷_ (23, row·25) (Li._∷_ (24, row·51) (Li._∷_ (25, row·6) (Li._∷_ (26, row·16) (Li._∷_ (27, row·6) (Li._∷_ (28, row·16) (Li._∷_ (29, row·6) (Li._∷_ (30, row·16) (Li._∷_ (31, row·6) Li.[])))))))))))))))
+t48 = Li._∷_ (16, row·22) (Li._∷_ (17, row·8) (Li._∷_ (18, row·0) (Li._∷_ (19, row·24) (Li._∷_ (20, Mut.msleft (Rf.rtF (Rf.fInt Sy.w32)) ty·63) (Li._∷_ (21, row·33) (Li._∷_ (22, row·57) (Li._∷_ (23, row·25) (Li._∷_ (24, row·51) (Li._∷_ (25, row·6) (Li._∷_ (26, row·16) (Li._∷_ (27, row·6) (Li._∷_ (28, row·16) (Li._∷_ (29, row·6) (Li._∷_ (30, row·16) (Li._∷_ (31, row·6) Li.[])))))))))))))))
 
 abbrev pub t49 : Li.List Ro.Entry
-t49 = Li._∷_ (0, row·14) (Li._∷_ (1, row·20) (Li._∷_ (2, row·23) (Li._∷_ (3, row·41) (Li._∷_ (4, row·27) (Li._∷_ (5, row·30) (Li._∷_ (6, row·28) (Li._∷_ (7, row·29) (Li._∷_ (8, row·31) (Li._∷_ (9, row·13) (Li._∷_ (10, row·21) (Li._∷_ (11, Rows'.any-gone Laws'.mir) (Li._∷_ (12, row·26) (Li._∷_ (13, row·4) (Li._∷_ (14, row·5) (Li._∷_ (15, row·14) Li.[])))))))))))))))
+t49 = Li._∷_ (0, row·14) (Li._∷_ (1, row·20) (Li._∷_ (2, row·23) (Li._∷_ (3, row·41) (Li._∷_ (4, row·27) (Li._∷_ (5, row·28) (Li._∷_ (6, row·29) (Li._∷_ (7, row·30) (Li._∷_ (8, row·31) (Li._∷_ (9, row·13) (Li._∷_ (10, row·21) (Li._∷_ (11, Rows'.any-gone Laws'.mir) (Li._∷_ (12, row·26) (Li._∷_ (13, row·4) (Li._∷_ (14, row·5) (Li._∷_ (15, row·14) Li.[])))))))))))))))
 
 abbrev pub t50 : Li.List Ro.Entry
 t50 = Ro.setRow 1 (1, row·3) t49
@@ -712,34 +706,34 @@ abbrev pub t51 : Li.List Ro.Entry
 t51 = Ro.setRow 2 (2, row·2) t50
 
 abbrev pub t52 : Li.List Ro.Entry
-t52 = Li._∷_ (16, row·22) (Li._∷_ (17, row·9) (Li._∷_ (18, row·0) (Li._∷_ (19, row·24) (Li._∷_ (20, row·17) (Li._∷_ (21, row·33) (Li._∷_ (22, row·57) (Li._∷_ (23, row·25) (Li._∷_ (24, row·51) (Li._∷_ (25, row·6) (Li._∷_ (26, row·16) (Li._∷_ (27, row·6) (Li._∷_ (28, row·16) (Li._∷_ (29, row·6) (Li._∷_ (30, row·16) (Li._∷_ (31, row·6) Li.[])))))))))))))))
+t52 = Li._∷_ (16, row·22) (Li._∷_ (17, row·8) (Li._∷_ (18, row·0) (Li._∷_ (19, row·24) (Li._∷_ (20, row·17) (Li._∷_ (21, row·33) (Li._∷_ (22, row·57) (Li._∷_ (23, row·25) (Li._∷_ (24, row·51) (Li._∷_ (25, row·6) (Li._∷_ (26, row·16) (Li._∷_ (27, row·6) (Li._∷_ (28, row·16) (Li._∷_ (29, row·6) (Li._∷_ (30, row·16) (Li._∷_ (31, row·6) Li.[])))))))))))))))
 
 abbrev pub t53 : Li.List Ro.Entry
-t53 = Li._∷_ (0, row·14) (Li._∷_ (1, row·3) (Li._∷_ (2, row·2) (Li._∷_ (3, row·15) (Li._∷_ (4, row·27) (Li._∷_ (5, row·30) (Li._∷_ (6, row·28) (Li._∷_ (7, row·29) (Li._∷_ (8, row·31) (Li._∷_ (9, row·13) (Li._∷_ (10, row·21) (Li._∷_ (11, Rows'.any-gone Laws'.mir) (Li._∷_ (12, row·26) (Li._∷_ (13, row·4) (Li._∷_ (14, row·5) (Li._∷_ (15, row·14) Li.[])))))))))))))))
+t53 = Li._∷_ (0, row·14) (Li._∷_ (1, row·3) (Li._∷_ (2, row·2) (Li._∷_ (3, row·15) (Li._∷_ (4, row·27) (Li._∷_ (5, row·28) (Li._∷_ (6, row·29) (Li._∷_ (7, row·30) (Li._∷_ (8, row·31) (Li._∷_ (9, row·13) (Li._∷_ (10, row·21) (Li._∷_ (11, Rows'.any-gone Laws'.mir) (Li._∷_ (12, row·26) (Li._∷_ (13, row·4) (Li._∷_ (14, row·5) (Li._∷_ (15, row·14) Li.[])))))))))))))))
 
 abbrev pub t54 : Li.List Ro.Entry
-t54 = Li._∷_ (16, row·22) (Li._∷_ (17, row·9) (Li._∷_ (18, row·0) (Li._∷_ (19, row·24) (Li._∷_ (20, row·17) (Li._∷_ (21, row·33) (Li._∷_ (22, row·19) (Li._∷_ (23, row·25) (Li._∷_ (24, row·51) (Li._∷_ (25, row·6) (Li._∷_ (26, row·16) (Li._∷_ (27, row·6) (Li._∷_ (28, row·16) (Li._∷_ (29, row·6) (Li._∷_ (30, row·16) (Li._∷_ (31, row·6) Li.[])))))))))))))))
+t54 = Li._∷_ (16, row·22) (Li._∷_ (17, row·8) (Li._∷_ (18, row·0) (Li._∷_ (19, row·24) (Li._∷_ (20, row·17) (Li._∷_ (21, row·33) (Li._∷_ (22, row·19) (Li._∷_ (23, row·25) (Li._∷_ (24, row·51) (Li._∷_ (25, row·6) (Li._∷_ (26, row·16) (Li._∷_ (27, row·6) (Li._∷_ (28, row·16) (Li._∷_ (29, row·6) (Li._∷_ (30, row·16) (Li._∷_ (31, row·6) Li.[])))))))))))))))
 
 abbrev pub t55 : Li.List Ro.Entry
-t55 = Li._∷_ (0, row·14) (Li._∷_ (1, row·3) (Li._∷_ (2, row·2) (Li._∷_ (3, row·15) (Li._∷_ (4, row·11) (Li._∷_ (5, row·30) (Li._∷_ (6, row·28) (Li._∷_ (7, row·29) (Li._∷_ (8, row·31) (Li._∷_ (9, row·13) (Li._∷_ (10, row·21) (Li._∷_ (11, Rows'.any-gone Laws'.mir) (Li._∷_ (12, row·26) (Li._∷_ (13, row·4) (Li._∷_ (14, row·5) (Li._∷_ (15, row·14) Li.[])))))))))))))))
+t55 = Li._∷_ (0, row·14) (Li._∷_ (1, row·3) (Li._∷_ (2, row·2) (Li._∷_ (3, row·15) (Li._∷_ (4, row·11) (Li._∷_ (5, row·28) (Li._∷_ (6, row·29) (Li._∷_ (7, row·30) (Li._∷_ (8, row·31) (Li._∷_ (9, row·13) (Li._∷_ (10, row·21) (Li._∷_ (11, Rows'.any-gone Laws'.mir) (Li._∷_ (12, row·26) (Li._∷_ (13, row·4) (Li._∷_ (14, row·5) (Li._∷_ (15, row·14) Li.[])))))))))))))))
 
 abbrev pub t56 : Li.List Ro.Entry
-t56 = Li._∷_ (16, row·22) (Li._∷_ (17, row·9) (Li._∷_ (18, row·0) (Li._∷_ (19, row·24) (Li._∷_ (20, row·17) (Li._∷_ (21, row·33) (Li._∷_ (22, row·19) (Li._∷_ (23, row·25) (Li._∷_ (24, row·18) (Li._∷_ (25, row·6) (Li._∷_ (26, row·16) (Li._∷_ (27, row·6) (Li._∷_ (28, row·16) (Li._∷_ (29, row·6) (Li._∷_ (30, row·16) (Li._∷_ (31, row·6) Li.[])))))))))))))))
+t56 = Li._∷_ (16, row·22) (Li._∷_ (17, row·8) (Li._∷_ (18, row·0) (Li._∷_ (19, row·24) (Li._∷_ (20, row·17) (Li._∷_ (21, row·33) (Li._∷_ (22, row·19) (Li._∷_ (23, row·25) (Li._∷_ (24, row·18) (Li._∷_ (25, row·6) (Li._∷_ (26, row·16) (Li._∷_ (27, row·6) (Li._∷_ (28, row·16) (Li._∷_ (29, row·6) (Li._∷_ (30, row·16) (Li._∷_ (31, row·6) Li.[])))))))))))))))
 
 abbrev pub t57 : Li.List Ro.Entry
-t57 = Li._∷_ (0, row·14) (Li._∷_ (1, row·3) (Li._∷_ (2, row·2) (Li._∷_ (3, row·15) (Li._∷_ (4, row·11) (Li._∷_ (5, row·12) (Li._∷_ (6, row·28) (Li._∷_ (7, row·29) (Li._∷_ (8, row·31) (Li._∷_ (9, row·13) (Li._∷_ (10, row·21) (Li._∷_ (11, Rows'.any-gone Laws'.mir) (Li._∷_ (12, row·26) (Li._∷_ (13, row·4) (Li._∷_ (14, row·5) (Li._∷_ (15, row·14) Li.[])))))))))))))))
+t57 = Li._∷_ (0, row·14) (Li._∷_ (1, row·3) (Li._∷_ (2, row·2) (Li._∷_ (3, row·15) (Li._∷_ (4, row·11) (Li._∷_ (5, row·12) (Li._∷_ (6, row·29) (Li._∷_ (7, row·30) (Li._∷_ (8, row·31) (Li._∷_ (9, row·13) (Li._∷_ (10, row·21) (Li._∷_ (11, Rows'.any-gone Laws'.mir) (Li._∷_ (12, row·26) (Li._∷_ (13, row·4) (Li._∷_ (14, row·5) (Li._∷_ (15, row·14) Li.[])))))))))))))))
 
 abbrev pub t58 : Li.List Ro.Entry
-t58 = Li._∷_ (16, row·22) (Li._∷_ (17, row·9) (Li._∷_ (18, row·0) (Li._∷_ (19, row·24) (Li._∷_ (20, row·17) (Li._∷_ (21, row·33) (Li._∷_ (22, row·19) (Li._∷_ (23, row·25) (Li._∷_ (24, row·18) (Li._∷_ (25, row·6) (Li._∷_ (26, row·1) (Li._∷_ (27, row·6) (Li._∷_ (28, row·16) (Li._∷_ (29, row·6) (Li._∷_ (30, row·16) (Li._∷_ (31, row·6) Li.[])))))))))))))))
+t58 = Li._∷_ (16, row·22) (Li._∷_ (17, row·8) (Li._∷_ (18, row·0) (Li._∷_ (19, row·24) (Li._∷_ (20, row·17) (Li._∷_ (21, row·33) (Li._∷_ (22, row·19) (Li._∷_ (23, row·25) (Li._∷_ (24, row·18) (Li._∷_ (25, row·6) (Li._∷_ (26, row·1) (Li._∷_ (27, row·6) (Li._∷_ (28, row·16) (Li._∷_ (29, row·6) (Li._∷_ (30, row·16) (Li._∷_ (31, row·6) Li.[])))))))))))))))
 
 abbrev pub t59 : Li.List Ro.Entry
-t59 = Li._∷_ (0, row·14) (Li._∷_ (1, row·3) (Li._∷_ (2, row·2) (Li._∷_ (3, row·15) (Li._∷_ (4, row·11) (Li._∷_ (5, row·12) (Li._∷_ (6, row·10) (Li._∷_ (7, row·29) (Li._∷_ (8, row·31) (Li._∷_ (9, row·13) (Li._∷_ (10, row·21) (Li._∷_ (11, Rows'.any-gone Laws'.mir) (Li._∷_ (12, row·26) (Li._∷_ (13, row·4) (Li._∷_ (14, row·5) (Li._∷_ (15, row·14) Li.[])))))))))))))))
+t59 = Li._∷_ (0, row·14) (Li._∷_ (1, row·3) (Li._∷_ (2, row·2) (Li._∷_ (3, row·15) (Li._∷_ (4, row·11) (Li._∷_ (5, row·12) (Li._∷_ (6, row·10) (Li._∷_ (7, row·30) (Li._∷_ (8, row·31) (Li._∷_ (9, row·13) (Li._∷_ (10, row·21) (Li._∷_ (11, Rows'.any-gone Laws'.mir) (Li._∷_ (12, row·26) (Li._∷_ (13, row·4) (Li._∷_ (14, row·5) (Li._∷_ (15, row·14) Li.[])))))))))))))))
 
 abbrev pub t60 : Li.List Ro.Entry
-t60 = Li._∷_ (16, row·22) (Li._∷_ (17, row·9) (Li._∷_ (18, row·0) (Li._∷_ (19, row·24) (Li._∷_ (20, row·17) (Li._∷_ (21, row·33) (Li._∷_ (22, row·19) (Li._∷_ (23, row·25) (Li._∷_ (24, row·18) (Li._∷_ (25, row·6) (Li._∷_ (26, row·1) (Li._∷_ (27, row·6) (Li._∷_ (28, row·1) (Li._∷_ (29, row·6) (Li._∷_ (30, row·16) (Li._∷_ (31, row·6) Li.[])))))))))))))))
+t60 = Li._∷_ (16, row·22) (Li._∷_ (17, row·8) (Li._∷_ (18, row·0) (Li._∷_ (19, row·24) (Li._∷_ (20, row·17) (Li._∷_ (21, row·33) (Li._∷_ (22, row·19) (Li._∷_ (23, row·25) (Li._∷_ (24, row·18) (Li._∷_ (25, row·6) (Li._∷_ (26, row·1) (Li._∷_ (27, row·6) (Li._∷_ (28, row·1) (Li._∷_ (29, row·6) (Li._∷_ (30, row·16) (Li._∷_ (31, row·6) Li.[])))))))))))))))
 
 abbrev pub t61 : Li.List Ro.Entry
-t61 = Li._∷_ (0, row·14) (Li._∷_ (1, row·3) (Li._∷_ (2, row·2) (Li._∷_ (3, row·15) (Li._∷_ (4, row·11) (Li._∷_ (5, row·12) (Li._∷_ (6, row·10) (Li._∷_ (7, row·8) (Li._∷_ (8, row·31) (Li._∷_ (9, row·13) (Li._∷_ (10, row·21) (Li._∷_ (11, Rows'.any-gone Laws'.mir) (Li._∷_ (12, row·26) (Li._∷_ (13, row·4) (Li._∷_ (14, row·5) (Li._∷_ (15, row·14) Li.[])))))))))))))))
+t61 = Li._∷_ (0, row·14) (Li._∷_ (1, row·3) (Li._∷_ (2, row·2) (Li._∷_ (3, row·15) (Li._∷_ (4, row·11) (Li._∷_ (5, row·12) (Li._∷_ (6, row·10) (Li._∷_ (7, row·9) (Li._∷_ (8, row·31) (Li._∷_ (9, row·13) (Li._∷_ (10, row·21) (Li._∷_ (11, Rows'.any-gone Laws'.mir) (Li._∷_ (12, row·26) (Li._∷_ (13, row·4) (Li._∷_ (14, row·5) (Li._∷_ (15, row·14) Li.[])))))))))))))))
 
 abbrev pub t62 : Li.List Ro.Entry
 t62 = Ro.setRow 8 (8, row·7) t61
@@ -748,7 +742,7 @@ abbrev pub t63 : Li.List Ro.Entry
 t63 = Ro.setRow 4 (4, row·32) t62
 
 abbrev pub t64 : Li.List Ro.Entry
-t64 = Li._∷_ (32, row·1) (Li._∷_ (33, Rows'.sref (Array.Array (Rf.rtF (Rf.fInt Sy.w16)) 349526) ty·62 19) (Li._∷_ (34, row·36) (Li._∷_ (35, row·9) (Li._∷_ (36, row·0) (Li._∷_ (37, row·9) (Li._∷_ (38, row·0) (Li._∷_ (39, row·9) (Li._∷_ (40, row·0) (Li._∷_ (41, row·9) (Li._∷_ (42, row·0) Li.[]))))))))))
+t64 = Li._∷_ (32, row·1) (Li._∷_ (33, Rows'.sref (Array.Array (Rf.rtF (Rf.fInt Sy.w16)) 65536) ty·62 19) (Li._∷_ (34, row·36) (Li._∷_ (35, row·8) (Li._∷_ (36, row·0) (Li._∷_ (37, row·8) (Li._∷_ (38, row·0) (Li._∷_ (39, row·8) (Li._∷_ (40, row·0) (Li._∷_ (41, row·8) (Li._∷_ (42, row·0) Li.[]))))))))))
 
 abbrev pub t65 : Li.List Ro.Entry
 t65 = Ro.setRow 1 (33, Relend.ssptr (Rf.rtF (Rf.fInt Sy.w16)) ty·62 19) t64
@@ -757,58 +751,58 @@ abbrev pub t66 : Li.List Ro.Entry
 t66 = Ro.setRow 2 (34, row·44) (Ro.setRow 1 (33, row·42) t65)
 
 abbrev pub t67 : Li.List Ro.Entry
-t67 = Li._∷_ (0, row·14) (Li._∷_ (1, row·3) (Li._∷_ (2, row·2) (Li._∷_ (3, row·15) (Li._∷_ (4, row·32) (Li._∷_ (5, row·34) (Li._∷_ (6, row·10) (Li._∷_ (7, row·8) (Li._∷_ (8, row·7) (Li._∷_ (9, row·13) (Li._∷_ (10, row·21) (Li._∷_ (11, Rows'.any-gone Laws'.mir) (Li._∷_ (12, row·26) (Li._∷_ (13, row·4) (Li._∷_ (14, row·5) (Li._∷_ (15, row·14) Li.[])))))))))))))))
+t67 = Li._∷_ (0, row·14) (Li._∷_ (1, row·3) (Li._∷_ (2, row·2) (Li._∷_ (3, row·15) (Li._∷_ (4, row·32) (Li._∷_ (5, row·34) (Li._∷_ (6, row·10) (Li._∷_ (7, row·9) (Li._∷_ (8, row·7) (Li._∷_ (9, row·13) (Li._∷_ (10, row·21) (Li._∷_ (11, Rows'.any-gone Laws'.mir) (Li._∷_ (12, row·26) (Li._∷_ (13, row·4) (Li._∷_ (14, row·5) (Li._∷_ (15, row·14) Li.[])))))))))))))))
 
 abbrev pub t68 : Li.List Ro.Entry
-t68 = Li._∷_ (32, row·1) (Li._∷_ (33, row·42) (Li._∷_ (34, row·44) (Li._∷_ (35, Rows'.sref (Array.Array (Rf.rtF (Rf.fInt Sy.w8)) 349526) ty·58 20) (Li._∷_ (36, row·0) (Li._∷_ (37, row·9) (Li._∷_ (38, row·0) (Li._∷_ (39, row·9) (Li._∷_ (40, row·0) (Li._∷_ (41, row·9) (Li._∷_ (42, row·0) Li.[]))))))))))
+t68 = Li._∷_ (32, row·1) (Li._∷_ (33, row·42) (Li._∷_ (34, row·44) (Li._∷_ (35, Rows'.sref (Array.Array (Rf.rtF (Rf.fInt Sy.w8)) 65536) ty·58 20) (Li._∷_ (36, row·0) (Li._∷_ (37, row·8) (Li._∷_ (38, row·0) (Li._∷_ (39, row·8) (Li._∷_ (40, row·0) (Li._∷_ (41, row·8) (Li._∷_ (42, row·0) Li.[]))))))))))
 
 abbrev pub t69 : Li.List Ro.Entry
 t69 = Ro.setRow 3 (35, Relend.ssptr (Rf.rtF (Rf.fInt Sy.w8)) ty·58 20) t68
 
 abbrev pub t70 : Li.List Ro.Entry
-t70 = Ro.setRow 4 (36, row·46) (Ro.setRow 3 (35, row·9) t69)
+t70 = Ro.setRow 4 (36, row·46) (Ro.setRow 3 (35, row·8) t69)
 
 abbrev pub t71 : Li.List Ro.Entry
-t71 = Li._∷_ (0, row·14) (Li._∷_ (1, row·3) (Li._∷_ (2, row·2) (Li._∷_ (3, row·15) (Li._∷_ (4, row·32) (Li._∷_ (5, row·34) (Li._∷_ (6, row·37) (Li._∷_ (7, row·8) (Li._∷_ (8, row·7) (Li._∷_ (9, row·13) (Li._∷_ (10, row·21) (Li._∷_ (11, Rows'.any-gone Laws'.mir) (Li._∷_ (12, row·26) (Li._∷_ (13, row·4) (Li._∷_ (14, row·5) (Li._∷_ (15, row·14) Li.[])))))))))))))))
+t71 = Li._∷_ (0, row·14) (Li._∷_ (1, row·3) (Li._∷_ (2, row·2) (Li._∷_ (3, row·15) (Li._∷_ (4, row·32) (Li._∷_ (5, row·34) (Li._∷_ (6, row·37) (Li._∷_ (7, row·9) (Li._∷_ (8, row·7) (Li._∷_ (9, row·13) (Li._∷_ (10, row·21) (Li._∷_ (11, Rows'.any-gone Laws'.mir) (Li._∷_ (12, row·26) (Li._∷_ (13, row·4) (Li._∷_ (14, row·5) (Li._∷_ (15, row·14) Li.[])))))))))))))))
 
 abbrev pub t72 : Li.List Ro.Entry
-t72 = Li._∷_ (32, row·1) (Li._∷_ (33, row·42) (Li._∷_ (34, row·44) (Li._∷_ (35, row·9) (Li._∷_ (36, row·46) (Li._∷_ (37, Rows'.sref (Array.Array (Rf.rtF (Rf.fInt Sy.w8)) 8388608) ty·58 21) (Li._∷_ (38, row·0) (Li._∷_ (39, row·9) (Li._∷_ (40, row·0) (Li._∷_ (41, row·9) (Li._∷_ (42, row·0) Li.[]))))))))))
+t72 = Li._∷_ (32, row·1) (Li._∷_ (33, row·42) (Li._∷_ (34, row·44) (Li._∷_ (35, row·8) (Li._∷_ (36, row·46) (Li._∷_ (37, Rows'.sref (Array.Array (Rf.rtF (Rf.fInt Sy.w8)) 65536) ty·58 21) (Li._∷_ (38, row·0) (Li._∷_ (39, row·8) (Li._∷_ (40, row·0) (Li._∷_ (41, row·8) (Li._∷_ (42, row·0) Li.[]))))))))))
 
 abbrev pub t73 : Li.List Ro.Entry
 t73 = Ro.setRow 5 (37, Relend.ssptr (Rf.rtF (Rf.fInt Sy.w8)) ty·58 21) t72
 
 abbrev pub t74 : Li.List Ro.Entry
-t74 = Ro.setRow 6 (38, row·49) (Ro.setRow 5 (37, row·9) t73)
+t74 = Ro.setRow 6 (38, row·49) (Ro.setRow 5 (37, row·8) t73)
 
 abbrev pub t75 : Li.List Ro.Entry
 t75 = Li._∷_ (0, row·14) (Li._∷_ (1, row·3) (Li._∷_ (2, row·2) (Li._∷_ (3, row·15) (Li._∷_ (4, row·32) (Li._∷_ (5, row·34) (Li._∷_ (6, row·37) (Li._∷_ (7, row·39) (Li._∷_ (8, row·7) (Li._∷_ (9, row·13) (Li._∷_ (10, row·21) (Li._∷_ (11, Rows'.any-gone Laws'.mir) (Li._∷_ (12, row·26) (Li._∷_ (13, row·4) (Li._∷_ (14, row·5) (Li._∷_ (15, row·14) Li.[])))))))))))))))
 
 abbrev pub t76 : Li.List Ro.Entry
-t76 = Li._∷_ (32, row·1) (Li._∷_ (33, row·42) (Li._∷_ (34, row·44) (Li._∷_ (35, row·9) (Li._∷_ (36, row·46) (Li._∷_ (37, row·9) (Li._∷_ (38, row·49) (Li._∷_ (39, Rows'.sref (Array.Array (Rf.rtF (Rf.fInt Sy.w8)) 8388608) ty·58 22) (Li._∷_ (40, row·0) (Li._∷_ (41, row·9) (Li._∷_ (42, row·0) Li.[]))))))))))
+t76 = Li._∷_ (32, row·1) (Li._∷_ (33, row·42) (Li._∷_ (34, row·44) (Li._∷_ (35, row·8) (Li._∷_ (36, row·46) (Li._∷_ (37, row·8) (Li._∷_ (38, row·49) (Li._∷_ (39, Rows'.sref (Array.Array (Rf.rtF (Rf.fInt Sy.w8)) 65536) ty·58 22) (Li._∷_ (40, row·0) (Li._∷_ (41, row·8) (Li._∷_ (42, row·0) Li.[]))))))))))
 
 abbrev pub t77 : Li.List Ro.Entry
 t77 = Ro.setRow 7 (39, Relend.ssptr (Rf.rtF (Rf.fInt Sy.w8)) ty·58 22) t76
 
 abbrev pub t78 : Li.List Ro.Entry
-t78 = Ro.setRow 8 (40, row·53) (Ro.setRow 7 (39, row·9) t77)
+t78 = Ro.setRow 8 (40, row·53) (Ro.setRow 7 (39, row·8) t77)
 
 abbrev pub t79 : Li.List Ro.Entry
 t79 = Li._∷_ (0, row·14) (Li._∷_ (1, row·3) (Li._∷_ (2, row·2) (Li._∷_ (3, row·15) (Li._∷_ (4, row·32) (Li._∷_ (5, row·34) (Li._∷_ (6, row·37) (Li._∷_ (7, row·39) (Li._∷_ (8, row·43) (Li._∷_ (9, row·13) (Li._∷_ (10, row·21) (Li._∷_ (11, Rows'.any-gone Laws'.mir) (Li._∷_ (12, row·26) (Li._∷_ (13, row·4) (Li._∷_ (14, row·5) (Li._∷_ (15, row·14) Li.[])))))))))))))))
 
 abbrev pub t80 : Li.List Ro.Entry
-t80 = Li._∷_ (32, row·1) (Li._∷_ (33, row·42) (Li._∷_ (34, row·44) (Li._∷_ (35, row·9) (Li._∷_ (36, row·46) (Li._∷_ (37, row·9) (Li._∷_ (38, row·49) (Li._∷_ (39, row·9) (Li._∷_ (40, row·53) (Li._∷_ (41, Rows'.sref (Array.Array (Rf.rtF (Rf.fInt Sy.w8)) 65536) ty·58 23) (Li._∷_ (42, row·0) Li.[]))))))))))
+t80 = Li._∷_ (32, row·1) (Li._∷_ (33, row·42) (Li._∷_ (34, row·44) (Li._∷_ (35, row·8) (Li._∷_ (36, row·46) (Li._∷_ (37, row·8) (Li._∷_ (38, row·49) (Li._∷_ (39, row·8) (Li._∷_ (40, row·53) (Li._∷_ (41, Rows'.sref (Array.Array (Rf.rtF (Rf.fInt Sy.w8)) 65536) ty·58 23) (Li._∷_ (42, row·0) Li.[]))))))))))
 
 abbrev pub t81 : Li.List Ro.Entry
 t81 = Ro.setRow 9 (41, Relend.ssptr (Rf.rtF (Rf.fInt Sy.w8)) ty·58 23) t80
 
 abbrev pub t82 : Li.List Ro.Entry
-t82 = Ro.setRow 10 (42, Rows'.sslice (Rf.rtF (Rf.fInt Sy.w8)) ty·58 23) (Ro.setRow 9 (41, row·9) t81)
+t82 = Ro.setRow 10 (42, Rows'.sslice (Rf.rtF (Rf.fInt Sy.w8)) ty·58 23) (Ro.setRow 9 (41, row·8) t81)
 
 abbrev pub t83 : Li.List Ro.Entry
 t83 = Li._∷_ (0, Rows'.sc-here Ro.sBool) (Li._∷_ (1, row·3) (Li._∷_ (2, row·2) (Li._∷_ (3, row·15) (Li._∷_ (4, row·32) (Li._∷_ (5, row·34) (Li._∷_ (6, row·37) (Li._∷_ (7, row·39) (Li._∷_ (8, row·43) (Li._∷_ (9, row·13) (Li._∷_ (10, row·21) (Li._∷_ (11, Rows'.any-gone Laws'.mir) (Li._∷_ (12, row·26) (Li._∷_ (13, row·4) (Li._∷_ (14, row·5) (Li._∷_ (15, row·14) Li.[])))))))))))))))
 
 abbrev pub t84 : Li.List Ro.Entry
-t84 = Li._∷_ (32, row·1) (Li._∷_ (33, row·42) (Li._∷_ (34, row·36) (Li._∷_ (35, row·9) (Li._∷_ (36, row·46) (Li._∷_ (37, row·9) (Li._∷_ (38, row·49) (Li._∷_ (39, row·9) (Li._∷_ (40, row·53) (Li._∷_ (41, row·9) (Li._∷_ (42, Rows'.sslice (Rf.rtF (Rf.fInt Sy.w8)) ty·58 23) Li.[]))))))))))
+t84 = Li._∷_ (32, row·1) (Li._∷_ (33, row·42) (Li._∷_ (34, row·36) (Li._∷_ (35, row·8) (Li._∷_ (36, row·46) (Li._∷_ (37, row·8) (Li._∷_ (38, row·49) (Li._∷_ (39, row·8) (Li._∷_ (40, row·53) (Li._∷_ (41, row·8) (Li._∷_ (42, Rows'.sslice (Rf.rtF (Rf.fInt Sy.w8)) ty·58 23) Li.[]))))))))))
 
 abbrev pub t85 : Li.List Ro.Entry
 t85 = Ro.setRow 4 (36, row·0) t84
@@ -835,7 +829,7 @@ abbrev pub t92 : Li.List Ro.Entry
 t92 = Ro.setRow 6 (6, row·10) t91
 
 abbrev pub t93 : Li.List Ro.Entry
-t93 = Ro.setRow 7 (7, row·8) t92
+t93 = Ro.setRow 7 (7, row·9) t92
 
 abbrev pub T0 : Ro.Cx
 T0 = record { locals = Li._++_ t0 (Li._++_ t1 t2); slots = Li.[] }
@@ -1127,40 +1121,40 @@ module _ (claims· : Claims) where
   s30 = Relend.k-sl-aggregate (Rf.rtF (Rf.fInt Sy.w8)) (Relend.asShr (Rf.rtF (Rf.fInt Sy.w8))) T32 17 18 11 ty·58 ty·58 (λ x. x) (Sc.oBig Sy.w64 1114112)
 
   abbrev s32 : Ty.Both T33 T35
-  s32 = AsSlice.k-way-lend-slice (Rf.rtF (Rf.fInt Sy.w32)) 6292480 T33 (Ro.out 2 (T33 .locals)) (λ u. Ro.drop 2 (T33 .locals) u) ty·63 19 12 (λ u. u .1 .1 .0 .now) (λ T′. record { locals = Ro.setRow 2 (2, row·23) T′; slots = Li.[] }) (λ u γ T′ m′. Ro.set 2 (2, row·23) (u .1 .1 .0, γ) T′ m′) λ u. Unit
+  s32 = AsSlice.k-way-lend-slice (Rf.rtF (Rf.fInt Sy.w32)) 1201024 T33 (Ro.out 2 (T33 .locals)) (λ u. Ro.drop 2 (T33 .locals) u) ty·63 19 12 (λ u. u .1 .1 .0 .now) (λ T′. record { locals = Ro.setRow 2 (2, row·23) T′; slots = Li.[] }) (λ u γ T′ m′. Ro.set 2 (2, row·23) (u .1 .1 .0, γ) T′ m′) λ u. Unit
 
   abbrev s33 : Ty.Asks T35 T36
-  s33 = Relend.k-sl-aggregate (Rf.rtF (Rf.fInt Sy.w32)) (Relend.asMut (Rf.rtF (Rf.fInt Sy.w32))) T35 19 20 12 ty·63 ty·63 (λ x. x) (Sc.oBig Sy.w64 6292480)
+  s33 = Relend.k-sl-aggregate (Rf.rtF (Rf.fInt Sy.w32)) (Relend.asMut (Rf.rtF (Rf.fInt Sy.w32))) T35 19 20 12 ty·63 ty·63 (λ x. x) (Sc.oBig Sy.w64 1201024)
 
   abbrev s35 : Ty.Gives T36 T38
-  s35 = Relend.k-sl-relend Gap_.row T36 3 21 2 13 ty·65 ty·66 Ro.off λ x. x
+  s35 = Relend.k-sl-relend Gap_.row T36 3 21 2 13 ty·66 ty·67 Ro.off λ x. x
 
   abbrev s36 : Ty.Asks T38 T39
-  s36 = Relend.k-sl-aggregate Gap_.row (Relend.asMut Gap_.row) T38 21 22 13 ty·66 ty·66 (λ x. x) (Sc.oFld 3 (Li._∷_ (Sy.field 1) Li.[]) (Sy.tyInt Sy.w64) 8 λ v. Shared.lenV (v .0))
+  s36 = Relend.k-sl-aggregate Gap_.row (Relend.asMut Gap_.row) T38 21 22 13 ty·67 ty·67 (λ x. x) (Sc.oFld 3 (Li._∷_ (Sy.field 1) Li.[]) (Sy.tyInt Sy.w64) 8 λ v. Shared.lenV (v .0))
 
   abbrev s38 : Ty.Both T39 T41
-  s38 = AsSlice.k-way-lend-slice (Rf.rtF (Rf.fInt Sy.w16)) 349526 T39 (Ro.out 4 (T39 .locals)) (λ u. Ro.drop 4 (T39 .locals) u) ty·64 23 14 (λ u. u .1 .1 .1 .1 .0 .now) (λ T′. record { locals = Ro.setRow 4 (4, row·27) T′; slots = Li.[] }) (λ u γ T′ m′. Ro.set 4 (4, row·27) (u .1 .1 .1 .1 .0, γ) T′ m′) λ u. Unit
+  s38 = AsSlice.k-way-lend-slice (Rf.rtF (Rf.fInt Sy.w16)) 65536 T39 (Ro.out 4 (T39 .locals)) (λ u. Ro.drop 4 (T39 .locals) u) ty·65 23 14 (λ u. u .1 .1 .1 .1 .0 .now) (λ T′. record { locals = Ro.setRow 4 (4, row·27) T′; slots = Li.[] }) (λ u γ T′ m′. Ro.set 4 (4, row·27) (u .1 .1 .1 .1 .0, γ) T′ m′) λ u. Unit
 
   abbrev s39 : Ty.Asks T41 T42
-  s39 = Relend.k-sl-aggregate (Rf.rtF (Rf.fInt Sy.w16)) (Relend.asMut (Rf.rtF (Rf.fInt Sy.w16))) T41 23 24 14 ty·64 ty·64 (λ x. x) (Sc.oBig Sy.w64 349526)
+  s39 = Relend.k-sl-aggregate (Rf.rtF (Rf.fInt Sy.w16)) (Relend.asMut (Rf.rtF (Rf.fInt Sy.w16))) T41 23 24 14 ty·65 ty·65 (λ x. x) (Sc.oBig Sy.w64 65536)
 
   abbrev s41 : Ty.Both T42 T44
-  s41 = AsSlice.k-way-lend-slice (Rf.rtF (Rf.fInt Sy.w8)) 349526 T42 (Ro.out 5 (T42 .locals)) (λ u. Ro.drop 5 (T42 .locals) u) ty·59 25 15 (λ u. u .1 .1 .1 .1 .1 .0 .now) (λ T′. record { locals = Ro.setRow 5 (5, row·30) T′; slots = Li.[] }) (λ u γ T′ m′. Ro.set 5 (5, row·30) (u .1 .1 .1 .1 .1 .0, γ) T′ m′) λ u. Unit
+  s41 = AsSlice.k-way-lend-slice (Rf.rtF (Rf.fInt Sy.w8)) 65536 T42 (Ro.out 5 (T42 .locals)) (λ u. Ro.drop 5 (T42 .locals) u) ty·59 25 15 (λ u. u .1 .1 .1 .1 .1 .0 .now) (λ T′. record { locals = Ro.setRow 5 (5, row·28) T′; slots = Li.[] }) (λ u γ T′ m′. Ro.set 5 (5, row·28) (u .1 .1 .1 .1 .1 .0, γ) T′ m′) λ u. Unit
 
   abbrev s42 : Ty.Asks T44 T45
-  s42 = Relend.k-sl-aggregate (Rf.rtF (Rf.fInt Sy.w8)) (Relend.asMut (Rf.rtF (Rf.fInt Sy.w8))) T44 25 26 15 ty·59 ty·59 (λ x. x) (Sc.oBig Sy.w64 349526)
+  s42 = Relend.k-sl-aggregate (Rf.rtF (Rf.fInt Sy.w8)) (Relend.asMut (Rf.rtF (Rf.fInt Sy.w8))) T44 25 26 15 ty·59 ty·59 (λ x. x) (Sc.oBig Sy.w64 65536)
 
   abbrev s44 : Ty.Both T45 T47
-  s44 = AsSlice.k-way-lend-slice (Rf.rtF (Rf.fInt Sy.w8)) 8388608 T45 (Ro.out 6 (T45 .locals)) (λ u. Ro.drop 6 (T45 .locals) u) ty·59 27 16 (λ u. u .1 .1 .1 .1 .1 .1 .0 .now) (λ T′. record { locals = Ro.setRow 6 (6, row·28) T′; slots = Li.[] }) (λ u γ T′ m′. Ro.set 6 (6, row·28) (u .1 .1 .1 .1 .1 .1 .0, γ) T′ m′) λ u. Unit
+  s44 = AsSlice.k-way-lend-slice (Rf.rtF (Rf.fInt Sy.w8)) 65536 T45 (Ro.out 6 (T45 .locals)) (λ u. Ro.drop 6 (T45 .locals) u) ty·59 27 16 (λ u. u .1 .1 .1 .1 .1 .1 .0 .now) (λ T′. record { locals = Ro.setRow 6 (6, row·29) T′; slots = Li.[] }) (λ u γ T′ m′. Ro.set 6 (6, row·29) (u .1 .1 .1 .1 .1 .1 .0, γ) T′ m′) λ u. Unit
 
   abbrev s45 : Ty.Asks T47 T48
-  s45 = Relend.k-sl-aggregate (Rf.rtF (Rf.fInt Sy.w8)) (Relend.asMut (Rf.rtF (Rf.fInt Sy.w8))) T47 27 28 16 ty·59 ty·59 (λ x. x) (Sc.oBig Sy.w64 8388608)
+  s45 = Relend.k-sl-aggregate (Rf.rtF (Rf.fInt Sy.w8)) (Relend.asMut (Rf.rtF (Rf.fInt Sy.w8))) T47 27 28 16 ty·59 ty·59 (λ x. x) (Sc.oBig Sy.w64 65536)
 
   abbrev s47 : Ty.Both T48 T50
-  s47 = AsSlice.k-way-lend-slice (Rf.rtF (Rf.fInt Sy.w8)) 8388608 T48 (Ro.out 7 (T48 .locals)) (λ u. Ro.drop 7 (T48 .locals) u) ty·59 29 17 (λ u. u .1 .1 .1 .1 .1 .1 .1 .0 .now) (λ T′. record { locals = Ro.setRow 7 (7, row·29) T′; slots = Li.[] }) (λ u γ T′ m′. Ro.set 7 (7, row·29) (u .1 .1 .1 .1 .1 .1 .1 .0, γ) T′ m′) λ u. Unit
+  s47 = AsSlice.k-way-lend-slice (Rf.rtF (Rf.fInt Sy.w8)) 65536 T48 (Ro.out 7 (T48 .locals)) (λ u. Ro.drop 7 (T48 .locals) u) ty·59 29 17 (λ u. u .1 .1 .1 .1 .1 .1 .1 .0 .now) (λ T′. record { locals = Ro.setRow 7 (7, row·30) T′; slots = Li.[] }) (λ u γ T′ m′. Ro.set 7 (7, row·30) (u .1 .1 .1 .1 .1 .1 .1 .0, γ) T′ m′) λ u. Unit
 
   abbrev s48 : Ty.Asks T50 T51
-  s48 = Relend.k-sl-aggregate (Rf.rtF (Rf.fInt Sy.w8)) (Relend.asMut (Rf.rtF (Rf.fInt Sy.w8))) T50 29 30 17 ty·59 ty·59 (λ x. x) (Sc.oBig Sy.w64 8388608)
+  s48 = Relend.k-sl-aggregate (Rf.rtF (Rf.fInt Sy.w8)) (Relend.asMut (Rf.rtF (Rf.fInt Sy.w8))) T50 29 30 17 ty·59 ty·59 (λ x. x) (Sc.oBig Sy.w64 65536)
 
   abbrev s50 : Ty.Both T51 T53
   s50 = AsSlice.k-way-lend-slice (Rf.rtF (Rf.fInt Sy.w8)) 65536 T51 (Ro.out 8 (T51 .locals)) (λ u. Ro.drop 8 (T51 .locals) u) ty·59 31 18 (λ u. u .1 .1 .1 .1 .1 .1 .1 .1 .0 .now) (λ T′. record { locals = Ro.setRow 8 (8, row·31) T′; slots = Li.[] }) (λ u γ T′ m′. Ro.set 8 (8, row·31) (u .1 .1 .1 .1 .1 .1 .1 .1 .0, γ) T′ m′) λ u. Unit
@@ -1181,61 +1175,61 @@ module _ (claims· : Claims) where
   s56 = LendAt.k-way-back-shr (Frozen.fz-open Sy.erased 0 Li.[] Ro.off (LendAt.fz-shr (Array.Array (Rf.rtF (Rf.fInt Sy.w8)) 1114112) 11)) (LendAt.as-was-open Sy.erased 0 Li.[] Ro.off (LendAt.fz-shr (Array.Array (Rf.rtF (Rf.fInt Sy.w8)) 1114112) 11) (LendAt.as-was-shr (Array.Array (Rf.rtF (Rf.fInt Sy.w8)) 1114112) 11)) T57 1 row·3 Li.[] (λ x. x) λ x. x
 
   abbrev s59 : Ty.Asks T59 T62
-  s59 = WayLend.k-way-back (Frozen.fz-open Sy.erased 1 Li.[] Ro.off (AsSlice.fz-lent-sl (Rf.rtF (Rf.fInt Sy.w32)) 6292480 12)) T59 20 2 row·2 ty·63 Li.[] (λ x. x) (λ x. x) λ x. x
+  s59 = WayLend.k-way-back (Frozen.fz-open Sy.erased 1 Li.[] Ro.off (AsSlice.fz-lent-sl (Rf.rtF (Rf.fInt Sy.w32)) 1201024 12)) T59 20 2 row·2 ty·63 Li.[] (λ x. x) (λ x. x) λ x. x
 
   abbrev s62 : Ty.Both T62 T65
-  s62 = Relend.k-back-sl Gap_.row T62 22 3 2 13 ty·65 ty·66 Ro.off (λ x. x) λ x. x
+  s62 = Relend.k-back-sl Gap_.row T62 22 3 2 13 ty·66 ty·67 Ro.off (λ x. x) λ x. x
 
   abbrev s65 : Ty.Asks T65 T68
-  s65 = WayLend.k-way-back (Frozen.fz-open Sy.erased 3 Li.[] Ro.off (AsSlice.fz-lent-sl (Rf.rtF (Rf.fInt Sy.w16)) 349526 14)) T65 24 4 row·11 ty·64 Li.[] (λ x. x) (λ x. x) λ x. x
+  s65 = WayLend.k-way-back (Frozen.fz-open Sy.erased 3 Li.[] Ro.off (AsSlice.fz-lent-sl (Rf.rtF (Rf.fInt Sy.w16)) 65536 14)) T65 24 4 row·11 ty·65 Li.[] (λ x. x) (λ x. x) λ x. x
 
   abbrev s68 : Ty.Asks T68 T71
-  s68 = WayLend.k-way-back (Frozen.fz-open Sy.erased 4 Li.[] Ro.off (AsSlice.fz-lent-sl (Rf.rtF (Rf.fInt Sy.w8)) 349526 15)) T68 26 5 row·12 ty·59 Li.[] (λ x. x) (λ x. x) λ x. x
+  s68 = WayLend.k-way-back (Frozen.fz-open Sy.erased 4 Li.[] Ro.off (AsSlice.fz-lent-sl (Rf.rtF (Rf.fInt Sy.w8)) 65536 15)) T68 26 5 row·12 ty·59 Li.[] (λ x. x) (λ x. x) λ x. x
 
   abbrev s71 : Ty.Asks T71 T74
-  s71 = WayLend.k-way-back (Frozen.fz-open Sy.erased 5 Li.[] Ro.off (AsSlice.fz-lent-sl (Rf.rtF (Rf.fInt Sy.w8)) 8388608 16)) T71 28 6 row·10 ty·59 Li.[] (λ x. x) (λ x. x) λ x. x
+  s71 = WayLend.k-way-back (Frozen.fz-open Sy.erased 5 Li.[] Ro.off (AsSlice.fz-lent-sl (Rf.rtF (Rf.fInt Sy.w8)) 65536 16)) T71 28 6 row·10 ty·59 Li.[] (λ x. x) (λ x. x) λ x. x
 
   abbrev s74 : Ty.Asks T74 T77
-  s74 = WayLend.k-way-back (Frozen.fz-open Sy.erased 6 Li.[] Ro.off (AsSlice.fz-lent-sl (Rf.rtF (Rf.fInt Sy.w8)) 8388608 17)) T74 30 7 row·8 ty·59 Li.[] (λ x. x) (λ x. x) λ x. x
+  s74 = WayLend.k-way-back (Frozen.fz-open Sy.erased 6 Li.[] Ro.off (AsSlice.fz-lent-sl (Rf.rtF (Rf.fInt Sy.w8)) 65536 17)) T74 30 7 row·9 ty·59 Li.[] (λ x. x) (λ x. x) λ x. x
 
   abbrev s77 : Ty.Asks T77 T80
   s77 = WayLend.k-way-back (Frozen.fz-open Sy.erased 7 Li.[] Ro.off (AsSlice.fz-lent-sl (Rf.rtF (Rf.fInt Sy.w8)) 65536 18)) T77 32 8 row·7 ty·59 Li.[] (λ x. x) (λ x. x) λ x. x
 
   abbrev s80 : Ty.Both T80 T83
-  s80 = LendAt.k-way-share (Array.Array (Rf.rtF (Rf.fInt Sy.w16)) 349526) T80 (Ro.out 4 (T80 .locals)) (λ u. Ro.drop 4 (T80 .locals) u) ty·62 33 19 (λ u. u .1 .1 .1 .1 .0 .now) (λ T′. record { locals = Ro.setRow 4 (4, row·32) T′; slots = Li.[] }) (λ u γ T′ m′. Ro.set 4 (4, row·32) (u .1 .1 .1 .1 .0, γ) T′ m′) λ u. Unit
+  s80 = LendAt.k-way-share (Array.Array (Rf.rtF (Rf.fInt Sy.w16)) 65536) T80 (Ro.out 4 (T80 .locals)) (λ u. Ro.drop 4 (T80 .locals) u) ty·62 33 19 (λ u. u .1 .1 .1 .1 .0 .now) (λ T′. record { locals = Ro.setRow 4 (4, row·32) T′; slots = Li.[] }) (λ u γ T′ m′. Ro.set 4 (4, row·32) (u .1 .1 .1 .1 .0, γ) T′ m′) λ u. Unit
 
   abbrev s81 : Ty.Gives T83 T84
-  s81 = AsSlice.k-sref-as-slice T83 33 19 (Rf.rtF (Rf.fInt Sy.w16)) 349526 ty·62 Ro.alive λ x. x
+  s81 = AsSlice.k-sref-as-slice T83 33 19 (Rf.rtF (Rf.fInt Sy.w16)) 65536 ty·62 Ro.alive λ x. x
 
   abbrev s82 : Ty.Asks T84 T85
-  s82 = Relend.k-sl-aggregate (Rf.rtF (Rf.fInt Sy.w16)) (Relend.asShr (Rf.rtF (Rf.fInt Sy.w16))) T84 33 34 19 ty·62 ty·62 (λ x. x) (Sc.oBig Sy.w64 349526)
+  s82 = Relend.k-sl-aggregate (Rf.rtF (Rf.fInt Sy.w16)) (Relend.asShr (Rf.rtF (Rf.fInt Sy.w16))) T84 33 34 19 ty·62 ty·62 (λ x. x) (Sc.oBig Sy.w64 65536)
 
   abbrev s84 : Ty.Both T85 T87
-  s84 = LendAt.k-way-share (Array.Array (Rf.rtF (Rf.fInt Sy.w8)) 349526) T85 (Ro.out 5 (T85 .locals)) (λ u. Ro.drop 5 (T85 .locals) u) ty·58 35 20 (λ u. u .1 .1 .1 .1 .1 .0 .now) (λ T′. record { locals = Ro.setRow 5 (5, row·34) T′; slots = Li.[] }) (λ u γ T′ m′. Ro.set 5 (5, row·34) (u .1 .1 .1 .1 .1 .0, γ) T′ m′) λ u. Unit
+  s84 = LendAt.k-way-share (Array.Array (Rf.rtF (Rf.fInt Sy.w8)) 65536) T85 (Ro.out 5 (T85 .locals)) (λ u. Ro.drop 5 (T85 .locals) u) ty·58 35 20 (λ u. u .1 .1 .1 .1 .1 .0 .now) (λ T′. record { locals = Ro.setRow 5 (5, row·34) T′; slots = Li.[] }) (λ u γ T′ m′. Ro.set 5 (5, row·34) (u .1 .1 .1 .1 .1 .0, γ) T′ m′) λ u. Unit
 
   abbrev s85 : Ty.Gives T87 T88
-  s85 = AsSlice.k-sref-as-slice T87 35 20 (Rf.rtF (Rf.fInt Sy.w8)) 349526 ty·58 Ro.alive λ x. x
+  s85 = AsSlice.k-sref-as-slice T87 35 20 (Rf.rtF (Rf.fInt Sy.w8)) 65536 ty·58 Ro.alive λ x. x
 
   abbrev s86 : Ty.Asks T88 T89
-  s86 = Relend.k-sl-aggregate (Rf.rtF (Rf.fInt Sy.w8)) (Relend.asShr (Rf.rtF (Rf.fInt Sy.w8))) T88 35 36 20 ty·58 ty·58 (λ x. x) (Sc.oBig Sy.w64 349526)
+  s86 = Relend.k-sl-aggregate (Rf.rtF (Rf.fInt Sy.w8)) (Relend.asShr (Rf.rtF (Rf.fInt Sy.w8))) T88 35 36 20 ty·58 ty·58 (λ x. x) (Sc.oBig Sy.w64 65536)
 
   abbrev s88 : Ty.Both T89 T91
-  s88 = LendAt.k-way-share (Array.Array (Rf.rtF (Rf.fInt Sy.w8)) 8388608) T89 (Ro.out 6 (T89 .locals)) (λ u. Ro.drop 6 (T89 .locals) u) ty·58 37 21 (λ u. u .1 .1 .1 .1 .1 .1 .0 .now) (λ T′. record { locals = Ro.setRow 6 (6, row·37) T′; slots = Li.[] }) (λ u γ T′ m′. Ro.set 6 (6, row·37) (u .1 .1 .1 .1 .1 .1 .0, γ) T′ m′) λ u. Unit
+  s88 = LendAt.k-way-share (Array.Array (Rf.rtF (Rf.fInt Sy.w8)) 65536) T89 (Ro.out 6 (T89 .locals)) (λ u. Ro.drop 6 (T89 .locals) u) ty·58 37 21 (λ u. u .1 .1 .1 .1 .1 .1 .0 .now) (λ T′. record { locals = Ro.setRow 6 (6, row·37) T′; slots = Li.[] }) (λ u γ T′ m′. Ro.set 6 (6, row·37) (u .1 .1 .1 .1 .1 .1 .0, γ) T′ m′) λ u. Unit
 
   abbrev s89 : Ty.Gives T91 T92
-  s89 = AsSlice.k-sref-as-slice T91 37 21 (Rf.rtF (Rf.fInt Sy.w8)) 8388608 ty·58 Ro.alive λ x. x
+  s89 = AsSlice.k-sref-as-slice T91 37 21 (Rf.rtF (Rf.fInt Sy.w8)) 65536 ty·58 Ro.alive λ x. x
 
   abbrev s90 : Ty.Asks T92 T93
-  s90 = Relend.k-sl-aggregate (Rf.rtF (Rf.fInt Sy.w8)) (Relend.asShr (Rf.rtF (Rf.fInt Sy.w8))) T92 37 38 21 ty·58 ty·58 (λ x. x) (Sc.oBig Sy.w64 8388608)
+  s90 = Relend.k-sl-aggregate (Rf.rtF (Rf.fInt Sy.w8)) (Relend.asShr (Rf.rtF (Rf.fInt Sy.w8))) T92 37 38 21 ty·58 ty·58 (λ x. x) (Sc.oBig Sy.w64 65536)
 
   abbrev s92 : Ty.Both T93 T95
-  s92 = LendAt.k-way-share (Array.Array (Rf.rtF (Rf.fInt Sy.w8)) 8388608) T93 (Ro.out 7 (T93 .locals)) (λ u. Ro.drop 7 (T93 .locals) u) ty·58 39 22 (λ u. u .1 .1 .1 .1 .1 .1 .1 .0 .now) (λ T′. record { locals = Ro.setRow 7 (7, row·39) T′; slots = Li.[] }) (λ u γ T′ m′. Ro.set 7 (7, row·39) (u .1 .1 .1 .1 .1 .1 .1 .0, γ) T′ m′) λ u. Unit
+  s92 = LendAt.k-way-share (Array.Array (Rf.rtF (Rf.fInt Sy.w8)) 65536) T93 (Ro.out 7 (T93 .locals)) (λ u. Ro.drop 7 (T93 .locals) u) ty·58 39 22 (λ u. u .1 .1 .1 .1 .1 .1 .1 .0 .now) (λ T′. record { locals = Ro.setRow 7 (7, row·39) T′; slots = Li.[] }) (λ u γ T′ m′. Ro.set 7 (7, row·39) (u .1 .1 .1 .1 .1 .1 .1 .0, γ) T′ m′) λ u. Unit
 
   abbrev s93 : Ty.Gives T95 T96
-  s93 = AsSlice.k-sref-as-slice T95 39 22 (Rf.rtF (Rf.fInt Sy.w8)) 8388608 ty·58 Ro.alive λ x. x
+  s93 = AsSlice.k-sref-as-slice T95 39 22 (Rf.rtF (Rf.fInt Sy.w8)) 65536 ty·58 Ro.alive λ x. x
 
   abbrev s94 : Ty.Asks T96 T97
-  s94 = Relend.k-sl-aggregate (Rf.rtF (Rf.fInt Sy.w8)) (Relend.asShr (Rf.rtF (Rf.fInt Sy.w8))) T96 39 40 22 ty·58 ty·58 (λ x. x) (Sc.oBig Sy.w64 8388608)
+  s94 = Relend.k-sl-aggregate (Rf.rtF (Rf.fInt Sy.w8)) (Relend.asShr (Rf.rtF (Rf.fInt Sy.w8))) T96 39 40 22 ty·58 ty·58 (λ x. x) (Sc.oBig Sy.w64 65536)
 
   abbrev s96 : Ty.Both T97 T99
   s96 = LendAt.k-way-share (Array.Array (Rf.rtF (Rf.fInt Sy.w8)) 65536) T97 (Ro.out 8 (T97 .locals)) (λ u. Ro.drop 8 (T97 .locals) u) ty·58 41 23 (λ u. u .1 .1 .1 .1 .1 .1 .1 .1 .0 .now) (λ T′. record { locals = Ro.setRow 8 (8, row·43) T′; slots = Li.[] }) (λ u γ T′ m′. Ro.set 8 (8, row·43) (u .1 .1 .1 .1 .1 .1 .1 .1 .0, γ) T′ m′) λ u. Unit
@@ -1271,16 +1265,16 @@ module _ (claims· : Claims) where
   s106 = Sc.n-room T108 12 Laws.mir
 
   abbrev s108 : Ty.Asks T109 T111
-  s108 = LendAt.k-way-back-shr (Frozen.fz-open Sy.erased 3 Li.[] Ro.off (LendAt.fz-shr (Array.Array (Rf.rtF (Rf.fInt Sy.w16)) 349526) 19)) (LendAt.as-was-open Sy.erased 3 Li.[] Ro.off (LendAt.fz-shr (Array.Array (Rf.rtF (Rf.fInt Sy.w16)) 349526) 19) (LendAt.as-was-shr (Array.Array (Rf.rtF (Rf.fInt Sy.w16)) 349526) 19)) T109 4 row·11 Li.[] (λ x. x) λ x. x
+  s108 = LendAt.k-way-back-shr (Frozen.fz-open Sy.erased 3 Li.[] Ro.off (LendAt.fz-shr (Array.Array (Rf.rtF (Rf.fInt Sy.w16)) 65536) 19)) (LendAt.as-was-open Sy.erased 3 Li.[] Ro.off (LendAt.fz-shr (Array.Array (Rf.rtF (Rf.fInt Sy.w16)) 65536) 19) (LendAt.as-was-shr (Array.Array (Rf.rtF (Rf.fInt Sy.w16)) 65536) 19)) T109 4 row·11 Li.[] (λ x. x) λ x. x
 
   abbrev s111 : Ty.Asks T111 T114
-  s111 = LendAt.k-way-back-shr (Frozen.fz-open Sy.erased 4 Li.[] Ro.off (LendAt.fz-shr (Array.Array (Rf.rtF (Rf.fInt Sy.w8)) 349526) 20)) (LendAt.as-was-open Sy.erased 4 Li.[] Ro.off (LendAt.fz-shr (Array.Array (Rf.rtF (Rf.fInt Sy.w8)) 349526) 20) (LendAt.as-was-shr (Array.Array (Rf.rtF (Rf.fInt Sy.w8)) 349526) 20)) T111 5 row·12 Li.[] (λ x. x) λ x. x
+  s111 = LendAt.k-way-back-shr (Frozen.fz-open Sy.erased 4 Li.[] Ro.off (LendAt.fz-shr (Array.Array (Rf.rtF (Rf.fInt Sy.w8)) 65536) 20)) (LendAt.as-was-open Sy.erased 4 Li.[] Ro.off (LendAt.fz-shr (Array.Array (Rf.rtF (Rf.fInt Sy.w8)) 65536) 20) (LendAt.as-was-shr (Array.Array (Rf.rtF (Rf.fInt Sy.w8)) 65536) 20)) T111 5 row·12 Li.[] (λ x. x) λ x. x
 
   abbrev s114 : Ty.Asks T114 T117
-  s114 = LendAt.k-way-back-shr (Frozen.fz-open Sy.erased 5 Li.[] Ro.off (LendAt.fz-shr (Array.Array (Rf.rtF (Rf.fInt Sy.w8)) 8388608) 21)) (LendAt.as-was-open Sy.erased 5 Li.[] Ro.off (LendAt.fz-shr (Array.Array (Rf.rtF (Rf.fInt Sy.w8)) 8388608) 21) (LendAt.as-was-shr (Array.Array (Rf.rtF (Rf.fInt Sy.w8)) 8388608) 21)) T114 6 row·10 Li.[] (λ x. x) λ x. x
+  s114 = LendAt.k-way-back-shr (Frozen.fz-open Sy.erased 5 Li.[] Ro.off (LendAt.fz-shr (Array.Array (Rf.rtF (Rf.fInt Sy.w8)) 65536) 21)) (LendAt.as-was-open Sy.erased 5 Li.[] Ro.off (LendAt.fz-shr (Array.Array (Rf.rtF (Rf.fInt Sy.w8)) 65536) 21) (LendAt.as-was-shr (Array.Array (Rf.rtF (Rf.fInt Sy.w8)) 65536) 21)) T114 6 row·10 Li.[] (λ x. x) λ x. x
 
   abbrev s117 : Ty.Asks T117 T120
-  s117 = LendAt.k-way-back-shr (Frozen.fz-open Sy.erased 6 Li.[] Ro.off (LendAt.fz-shr (Array.Array (Rf.rtF (Rf.fInt Sy.w8)) 8388608) 22)) (LendAt.as-was-open Sy.erased 6 Li.[] Ro.off (LendAt.fz-shr (Array.Array (Rf.rtF (Rf.fInt Sy.w8)) 8388608) 22) (LendAt.as-was-shr (Array.Array (Rf.rtF (Rf.fInt Sy.w8)) 8388608) 22)) T117 7 row·8 Li.[] (λ x. x) λ x. x
+  s117 = LendAt.k-way-back-shr (Frozen.fz-open Sy.erased 6 Li.[] Ro.off (LendAt.fz-shr (Array.Array (Rf.rtF (Rf.fInt Sy.w8)) 65536) 22)) (LendAt.as-was-open Sy.erased 6 Li.[] Ro.off (LendAt.fz-shr (Array.Array (Rf.rtF (Rf.fInt Sy.w8)) 65536) 22) (LendAt.as-was-shr (Array.Array (Rf.rtF (Rf.fInt Sy.w8)) 65536) 22)) T117 7 row·9 Li.[] (λ x. x) λ x. x
 
   abbrev s120 : Ty.Asks T120 T1
   s120 = LendAt.k-way-back-shr (Frozen.fz-open Sy.erased 7 Li.[] Ro.off (LendAt.fz-shr (Array.Array (Rf.rtF (Rf.fInt Sy.w8)) 65536) 23)) (LendAt.as-was-open Sy.erased 7 Li.[] Ro.off (LendAt.fz-shr (Array.Array (Rf.rtF (Rf.fInt Sy.w8)) 65536) 23) (LendAt.as-was-shr (Array.Array (Rf.rtF (Rf.fInt Sy.w8)) 65536) 23)) T120 8 row·7 Li.[] (λ x. x) λ x. x
@@ -1681,100 +1675,100 @@ module _ (claims· : Claims) where
 
       module _ (κs : Lifetimes.Lfts 8) (qs : Lifetimes.Shares 8) where
         abbrev g6 : Li.List Ro.Entry
-        g6 = Li._∷_ (0, row·14) (Li._∷_ (1, Rows'.mref-owed (Array.Array (Rf.rtF (Rf.fInt Sy.w8)) 1114112) (Sy.tyRef (Sy.named 0) Sy.mut ty·61) 0 8 (Ro.lease (κs .0) (qs .0))) (Li._∷_ (2, row·2) (Li._∷_ (3, row·15) (Li._∷_ (4, row·11) (Li._∷_ (5, row·12) (Li._∷_ (6, row·10) (Li._∷_ (7, row·8) (Li._∷_ (8, row·7) (Li._∷_ (9, row·55) (Li._∷_ (10, row·47) (Li._∷_ (11, Rows'.any-gone Laws'.mir) (Li._∷_ (12, Rows'.any-gone Laws.mir) (Li._∷_ (13, row·52) (Li._∷_ (14, row·5) (Li._∷_ (15, row·14) Li.[])))))))))))))))
+        g6 = Li._∷_ (0, row·14) (Li._∷_ (1, Rows'.mref-owed (Array.Array (Rf.rtF (Rf.fInt Sy.w8)) 1114112) (Sy.tyRef (Sy.named 0) Sy.mut ty·61) 0 8 (Ro.lease (κs .0) (qs .0))) (Li._∷_ (2, row·2) (Li._∷_ (3, row·15) (Li._∷_ (4, row·11) (Li._∷_ (5, row·12) (Li._∷_ (6, row·10) (Li._∷_ (7, row·9) (Li._∷_ (8, row·7) (Li._∷_ (9, row·55) (Li._∷_ (10, row·47) (Li._∷_ (11, Rows'.any-gone Laws'.mir) (Li._∷_ (12, Rows'.any-gone Laws.mir) (Li._∷_ (13, row·52) (Li._∷_ (14, row·5) (Li._∷_ (15, row·14) Li.[])))))))))))))))
 
         abbrev g7 : Li.List Ro.Entry
-        g7 = Li._∷_ (0, row·14) (Li._∷_ (1, Rows'.mref-owed (Array.Array (Rf.rtF (Rf.fInt Sy.w8)) 1114112) (Sy.tyRef (Sy.named 0) Sy.mut ty·61) 0 8 (Ro.lease (κs .0) (qs .0))) (Li._∷_ (2, row·2) (Li._∷_ (3, row·15) (Li._∷_ (4, row·11) (Li._∷_ (5, row·12) (Li._∷_ (6, row·10) (Li._∷_ (7, row·8) (Li._∷_ (8, row·7) (Li._∷_ (9, row·56) (Li._∷_ (10, row·47) (Li._∷_ (11, Rows'.any-gone Laws'.mir) (Li._∷_ (12, Rows'.any-gone Laws.mir) (Li._∷_ (13, row·52) (Li._∷_ (14, Rows'.mref (Array.Array (Rf.rtF (Rf.fInt Sy.w8)) 25) (Sy.tyRef Sy.erased Sy.mut ty·60) 9) (Li._∷_ (15, row·14) Li.[])))))))))))))))
+        g7 = Li._∷_ (0, row·14) (Li._∷_ (1, Rows'.mref-owed (Array.Array (Rf.rtF (Rf.fInt Sy.w8)) 1114112) (Sy.tyRef (Sy.named 0) Sy.mut ty·61) 0 8 (Ro.lease (κs .0) (qs .0))) (Li._∷_ (2, row·2) (Li._∷_ (3, row·15) (Li._∷_ (4, row·11) (Li._∷_ (5, row·12) (Li._∷_ (6, row·10) (Li._∷_ (7, row·9) (Li._∷_ (8, row·7) (Li._∷_ (9, row·56) (Li._∷_ (10, row·47) (Li._∷_ (11, Rows'.any-gone Laws'.mir) (Li._∷_ (12, Rows'.any-gone Laws.mir) (Li._∷_ (13, row·52) (Li._∷_ (14, Rows'.mref (Array.Array (Rf.rtF (Rf.fInt Sy.w8)) 25) (Sy.tyRef Sy.erased Sy.mut ty·60) 9) (Li._∷_ (15, row·14) Li.[])))))))))))))))
 
         abbrev g8 : Li.List Ro.Entry
-        g8 = Li._∷_ (0, row·14) (Li._∷_ (1, Rows'.mref-owed (Array.Array (Rf.rtF (Rf.fInt Sy.w8)) 1114112) (Sy.tyRef (Sy.named 0) Sy.mut ty·61) 0 8 (Ro.lease (κs .0) (qs .0))) (Li._∷_ (2, row·2) (Li._∷_ (3, row·15) (Li._∷_ (4, row·11) (Li._∷_ (5, row·12) (Li._∷_ (6, row·10) (Li._∷_ (7, row·8) (Li._∷_ (8, row·7) (Li._∷_ (9, row·56) (Li._∷_ (10, row·21) (Li._∷_ (11, Rows'.any-gone Laws'.mir) (Li._∷_ (12, Rows'.any-gone Laws.mir) (Li._∷_ (13, Rows'.mleft (Array.Array (Rf.rtF (Rf.fInt Sy.w8)) 1114112) (Sy.tyRef Sy.erased Sy.mut ty·61)) (Li._∷_ (14, Rows'.mleft (Array.Array (Rf.rtF (Rf.fInt Sy.w8)) 25) (Sy.tyRef Sy.erased Sy.mut ty·60)) (Li._∷_ (15, row·14) Li.[])))))))))))))))
+        g8 = Li._∷_ (0, row·14) (Li._∷_ (1, Rows'.mref-owed (Array.Array (Rf.rtF (Rf.fInt Sy.w8)) 1114112) (Sy.tyRef (Sy.named 0) Sy.mut ty·61) 0 8 (Ro.lease (κs .0) (qs .0))) (Li._∷_ (2, row·2) (Li._∷_ (3, row·15) (Li._∷_ (4, row·11) (Li._∷_ (5, row·12) (Li._∷_ (6, row·10) (Li._∷_ (7, row·9) (Li._∷_ (8, row·7) (Li._∷_ (9, row·56) (Li._∷_ (10, row·21) (Li._∷_ (11, Rows'.any-gone Laws'.mir) (Li._∷_ (12, Rows'.any-gone Laws.mir) (Li._∷_ (13, Rows'.mleft (Array.Array (Rf.rtF (Rf.fInt Sy.w8)) 1114112) (Sy.tyRef Sy.erased Sy.mut ty·61)) (Li._∷_ (14, Rows'.mleft (Array.Array (Rf.rtF (Rf.fInt Sy.w8)) 25) (Sy.tyRef Sy.erased Sy.mut ty·60)) (Li._∷_ (15, row·14) Li.[])))))))))))))))
 
         abbrev g20 : Li.List Ro.Entry
-        g20 = Li._∷_ (0, row·14) (Li._∷_ (1, Frozen.held (Frozen.fz-open Sy.erased 0 (κs .0) (Ro.lease (κs .0) (qs .0)) (LendAt.fz-shr (Array.Array (Rf.rtF (Rf.fInt Sy.w8)) 1114112) 11))) (Li._∷_ (2, row·2) (Li._∷_ (3, row·15) (Li._∷_ (4, row·11) (Li._∷_ (5, row·12) (Li._∷_ (6, row·10) (Li._∷_ (7, row·8) (Li._∷_ (8, row·7) (Li._∷_ (9, row·13) (Li._∷_ (10, row·21) (Li._∷_ (11, row·40) (Li._∷_ (12, Rows'.any-gone Laws.mir) (Li._∷_ (13, row·4) (Li._∷_ (14, row·5) (Li._∷_ (15, row·14) Li.[])))))))))))))))
+        g20 = Li._∷_ (0, row·14) (Li._∷_ (1, Frozen.held (Frozen.fz-open Sy.erased 0 (κs .0) (Ro.lease (κs .0) (qs .0)) (LendAt.fz-shr (Array.Array (Rf.rtF (Rf.fInt Sy.w8)) 1114112) 11))) (Li._∷_ (2, row·2) (Li._∷_ (3, row·15) (Li._∷_ (4, row·11) (Li._∷_ (5, row·12) (Li._∷_ (6, row·10) (Li._∷_ (7, row·9) (Li._∷_ (8, row·7) (Li._∷_ (9, row·13) (Li._∷_ (10, row·21) (Li._∷_ (11, row·40) (Li._∷_ (12, Rows'.any-gone Laws.mir) (Li._∷_ (13, row·4) (Li._∷_ (14, row·5) (Li._∷_ (15, row·14) Li.[])))))))))))))))
 
         abbrev g24 : Li.List Ro.Entry
-        g24 = Li._∷_ (0, row·14) (Li._∷_ (1, Frozen.held (Frozen.fz-open Sy.erased 0 (κs .0) (Ro.lease (κs .0) (qs .0)) (LendAt.fz-shr (Array.Array (Rf.rtF (Rf.fInt Sy.w8)) 1114112) 11))) (Li._∷_ (2, Frozen.held (Frozen.fz-open Sy.erased 1 (κs .1 .0) (Ro.lease (κs .1 .0) (qs .1 .0)) (AsSlice.fz-lent-sl (Rf.rtF (Rf.fInt Sy.w32)) 6292480 12))) (Li._∷_ (3, row·15) (Li._∷_ (4, row·11) (Li._∷_ (5, row·12) (Li._∷_ (6, row·10) (Li._∷_ (7, row·8) (Li._∷_ (8, row·7) (Li._∷_ (9, row·13) (Li._∷_ (10, row·21) (Li._∷_ (11, row·40) (Li._∷_ (12, Rows'.any-gone Laws.mir) (Li._∷_ (13, row·4) (Li._∷_ (14, row·5) (Li._∷_ (15, row·14) Li.[])))))))))))))))
+        g24 = Li._∷_ (0, row·14) (Li._∷_ (1, Frozen.held (Frozen.fz-open Sy.erased 0 (κs .0) (Ro.lease (κs .0) (qs .0)) (LendAt.fz-shr (Array.Array (Rf.rtF (Rf.fInt Sy.w8)) 1114112) 11))) (Li._∷_ (2, Frozen.held (Frozen.fz-open Sy.erased 1 (κs .1 .0) (Ro.lease (κs .1 .0) (qs .1 .0)) (AsSlice.fz-lent-sl (Rf.rtF (Rf.fInt Sy.w32)) 1201024 12))) (Li._∷_ (3, row·15) (Li._∷_ (4, row·11) (Li._∷_ (5, row·12) (Li._∷_ (6, row·10) (Li._∷_ (7, row·9) (Li._∷_ (8, row·7) (Li._∷_ (9, row·13) (Li._∷_ (10, row·21) (Li._∷_ (11, row·40) (Li._∷_ (12, Rows'.any-gone Laws.mir) (Li._∷_ (13, row·4) (Li._∷_ (14, row·5) (Li._∷_ (15, row·14) Li.[])))))))))))))))
 
         abbrev g27 : Li.List Ro.Entry
-        g27 = Li._∷_ (0, row·14) (Li._∷_ (1, Frozen.held (Frozen.fz-open Sy.erased 0 (κs .0) (Ro.lease (κs .0) (qs .0)) (LendAt.fz-shr (Array.Array (Rf.rtF (Rf.fInt Sy.w8)) 1114112) 11))) (Li._∷_ (2, Frozen.held (Frozen.fz-open Sy.erased 1 (κs .1 .0) (Ro.lease (κs .1 .0) (qs .1 .0)) (AsSlice.fz-lent-sl (Rf.rtF (Rf.fInt Sy.w32)) 6292480 12))) (Li._∷_ (3, Relend.mslice-owed Gap_.row ty·65 2 13 (Ro.lease (κs .1 .1 .0) (qs .1 .1 .0))) (Li._∷_ (4, row·11) (Li._∷_ (5, row·12) (Li._∷_ (6, row·10) (Li._∷_ (7, row·8) (Li._∷_ (8, row·7) (Li._∷_ (9, row·13) (Li._∷_ (10, row·21) (Li._∷_ (11, row·40) (Li._∷_ (12, Rows'.any-gone Laws.mir) (Li._∷_ (13, row·4) (Li._∷_ (14, row·5) (Li._∷_ (15, row·14) Li.[])))))))))))))))
+        g27 = Li._∷_ (0, row·14) (Li._∷_ (1, Frozen.held (Frozen.fz-open Sy.erased 0 (κs .0) (Ro.lease (κs .0) (qs .0)) (LendAt.fz-shr (Array.Array (Rf.rtF (Rf.fInt Sy.w8)) 1114112) 11))) (Li._∷_ (2, Frozen.held (Frozen.fz-open Sy.erased 1 (κs .1 .0) (Ro.lease (κs .1 .0) (qs .1 .0)) (AsSlice.fz-lent-sl (Rf.rtF (Rf.fInt Sy.w32)) 1201024 12))) (Li._∷_ (3, Relend.mslice-owed Gap_.row ty·66 2 13 (Ro.lease (κs .1 .1 .0) (qs .1 .1 .0))) (Li._∷_ (4, row·11) (Li._∷_ (5, row·12) (Li._∷_ (6, row·10) (Li._∷_ (7, row·9) (Li._∷_ (8, row·7) (Li._∷_ (9, row·13) (Li._∷_ (10, row·21) (Li._∷_ (11, row·40) (Li._∷_ (12, Rows'.any-gone Laws.mir) (Li._∷_ (13, row·4) (Li._∷_ (14, row·5) (Li._∷_ (15, row·14) Li.[])))))))))))))))
 
         abbrev g30 : Li.List Ro.Entry
-        g30 = Li._∷_ (0, row·14) (Li._∷_ (1, Frozen.held (Frozen.fz-open Sy.erased 0 (κs .0) (Ro.lease (κs .0) (qs .0)) (LendAt.fz-shr (Array.Array (Rf.rtF (Rf.fInt Sy.w8)) 1114112) 11))) (Li._∷_ (2, Frozen.held (Frozen.fz-open Sy.erased 1 (κs .1 .0) (Ro.lease (κs .1 .0) (qs .1 .0)) (AsSlice.fz-lent-sl (Rf.rtF (Rf.fInt Sy.w32)) 6292480 12))) (Li._∷_ (3, Relend.mslice-owed Gap_.row ty·65 2 13 (Ro.lease (κs .1 .1 .0) (qs .1 .1 .0))) (Li._∷_ (4, Frozen.held (Frozen.fz-open Sy.erased 3 (κs .1 .1 .1 .0) (Ro.lease (κs .1 .1 .1 .0) (qs .1 .1 .1 .0)) (AsSlice.fz-lent-sl (Rf.rtF (Rf.fInt Sy.w16)) 349526 14))) (Li._∷_ (5, row·12) (Li._∷_ (6, row·10) (Li._∷_ (7, row·8) (Li._∷_ (8, row·7) (Li._∷_ (9, row·13) (Li._∷_ (10, row·21) (Li._∷_ (11, row·40) (Li._∷_ (12, Rows'.any-gone Laws.mir) (Li._∷_ (13, row·4) (Li._∷_ (14, row·5) (Li._∷_ (15, row·14) Li.[])))))))))))))))
+        g30 = Li._∷_ (0, row·14) (Li._∷_ (1, Frozen.held (Frozen.fz-open Sy.erased 0 (κs .0) (Ro.lease (κs .0) (qs .0)) (LendAt.fz-shr (Array.Array (Rf.rtF (Rf.fInt Sy.w8)) 1114112) 11))) (Li._∷_ (2, Frozen.held (Frozen.fz-open Sy.erased 1 (κs .1 .0) (Ro.lease (κs .1 .0) (qs .1 .0)) (AsSlice.fz-lent-sl (Rf.rtF (Rf.fInt Sy.w32)) 1201024 12))) (Li._∷_ (3, Relend.mslice-owed Gap_.row ty·66 2 13 (Ro.lease (κs .1 .1 .0) (qs .1 .1 .0))) (Li._∷_ (4, Frozen.held (Frozen.fz-open Sy.erased 3 (κs .1 .1 .1 .0) (Ro.lease (κs .1 .1 .1 .0) (qs .1 .1 .1 .0)) (AsSlice.fz-lent-sl (Rf.rtF (Rf.fInt Sy.w16)) 65536 14))) (Li._∷_ (5, row·12) (Li._∷_ (6, row·10) (Li._∷_ (7, row·9) (Li._∷_ (8, row·7) (Li._∷_ (9, row·13) (Li._∷_ (10, row·21) (Li._∷_ (11, row·40) (Li._∷_ (12, Rows'.any-gone Laws.mir) (Li._∷_ (13, row·4) (Li._∷_ (14, row·5) (Li._∷_ (15, row·14) Li.[])))))))))))))))
 
         abbrev g33 : Li.List Ro.Entry
-        g33 = Li._∷_ (0, row·14) (Li._∷_ (1, Frozen.held (Frozen.fz-open Sy.erased 0 (κs .0) (Ro.lease (κs .0) (qs .0)) (LendAt.fz-shr (Array.Array (Rf.rtF (Rf.fInt Sy.w8)) 1114112) 11))) (Li._∷_ (2, Frozen.held (Frozen.fz-open Sy.erased 1 (κs .1 .0) (Ro.lease (κs .1 .0) (qs .1 .0)) (AsSlice.fz-lent-sl (Rf.rtF (Rf.fInt Sy.w32)) 6292480 12))) (Li._∷_ (3, Relend.mslice-owed Gap_.row ty·65 2 13 (Ro.lease (κs .1 .1 .0) (qs .1 .1 .0))) (Li._∷_ (4, Frozen.held (Frozen.fz-open Sy.erased 3 (κs .1 .1 .1 .0) (Ro.lease (κs .1 .1 .1 .0) (qs .1 .1 .1 .0)) (AsSlice.fz-lent-sl (Rf.rtF (Rf.fInt Sy.w16)) 349526 14))) (Li._∷_ (5, Frozen.held (Frozen.fz-open Sy.erased 4 (κs .1 .1 .1 .1 .0) (Ro.lease (κs .1 .1 .1 .1 .0) (qs .1 .1 .1 .1 .0)) (AsSlice.fz-lent-sl (Rf.rtF (Rf.fInt Sy.w8)) 349526 15))) (Li._∷_ (6, row·10) (Li._∷_ (7, row·8) (Li._∷_ (8, row·7) (Li._∷_ (9, row·13) (Li._∷_ (10, row·21) (Li._∷_ (11, row·40) (Li._∷_ (12, Rows'.any-gone Laws.mir) (Li._∷_ (13, row·4) (Li._∷_ (14, row·5) (Li._∷_ (15, row·14) Li.[])))))))))))))))
+        g33 = Li._∷_ (0, row·14) (Li._∷_ (1, Frozen.held (Frozen.fz-open Sy.erased 0 (κs .0) (Ro.lease (κs .0) (qs .0)) (LendAt.fz-shr (Array.Array (Rf.rtF (Rf.fInt Sy.w8)) 1114112) 11))) (Li._∷_ (2, Frozen.held (Frozen.fz-open Sy.erased 1 (κs .1 .0) (Ro.lease (κs .1 .0) (qs .1 .0)) (AsSlice.fz-lent-sl (Rf.rtF (Rf.fInt Sy.w32)) 1201024 12))) (Li._∷_ (3, Relend.mslice-owed Gap_.row ty·66 2 13 (Ro.lease (κs .1 .1 .0) (qs .1 .1 .0))) (Li._∷_ (4, Frozen.held (Frozen.fz-open Sy.erased 3 (κs .1 .1 .1 .0) (Ro.lease (κs .1 .1 .1 .0) (qs .1 .1 .1 .0)) (AsSlice.fz-lent-sl (Rf.rtF (Rf.fInt Sy.w16)) 65536 14))) (Li._∷_ (5, Frozen.held (Frozen.fz-open Sy.erased 4 (κs .1 .1 .1 .1 .0) (Ro.lease (κs .1 .1 .1 .1 .0) (qs .1 .1 .1 .1 .0)) (AsSlice.fz-lent-sl (Rf.rtF (Rf.fInt Sy.w8)) 65536 15))) (Li._∷_ (6, row·10) (Li._∷_ (7, row·9) (Li._∷_ (8, row·7) (Li._∷_ (9, row·13) (Li._∷_ (10, row·21) (Li._∷_ (11, row·40) (Li._∷_ (12, Rows'.any-gone Laws.mir) (Li._∷_ (13, row·4) (Li._∷_ (14, row·5) (Li._∷_ (15, row·14) Li.[])))))))))))))))
 
         abbrev g36 : Li.List Ro.Entry
-        g36 = Li._∷_ (0, row·14) (Li._∷_ (1, Frozen.held (Frozen.fz-open Sy.erased 0 (κs .0) (Ro.lease (κs .0) (qs .0)) (LendAt.fz-shr (Array.Array (Rf.rtF (Rf.fInt Sy.w8)) 1114112) 11))) (Li._∷_ (2, Frozen.held (Frozen.fz-open Sy.erased 1 (κs .1 .0) (Ro.lease (κs .1 .0) (qs .1 .0)) (AsSlice.fz-lent-sl (Rf.rtF (Rf.fInt Sy.w32)) 6292480 12))) (Li._∷_ (3, Relend.mslice-owed Gap_.row ty·65 2 13 (Ro.lease (κs .1 .1 .0) (qs .1 .1 .0))) (Li._∷_ (4, Frozen.held (Frozen.fz-open Sy.erased 3 (κs .1 .1 .1 .0) (Ro.lease (κs .1 .1 .1 .0) (qs .1 .1 .1 .0)) (AsSlice.fz-lent-sl (Rf.rtF (Rf.fInt Sy.w16)) 349526 14))) (Li._∷_ (5, Frozen.held (Frozen.fz-open Sy.erased 4 (κs .1 .1 .1 .1 .0) (Ro.lease (κs .1 .1 .1 .1 .0) (qs .1 .1 .1 .1 .0)) (AsSlice.fz-lent-sl (Rf.rtF (Rf.fInt Sy.w8)) 349526 15))) (Li._∷_ (6, Frozen.held (Frozen.fz-open Sy.erased 5 (κs .1 .1 .1 .1 .1 .0) (Ro.lease (κs .1 .1 .1 .1 .1 .0) (qs .1 .1 .1 .1 .1 .0)) (AsSlice.fz-lent-sl (Rf.rtF (Rf.fInt Sy.w8)) 8388608 16))) (Li._∷_ (7, row·8) (Li._∷_ (8, row·7) (Li._∷_ (9, row·13) (Li._∷_ (10, row·21) (Li._∷_ (11, row·40) (Li._∷_ (12, Rows'.any-gone Laws.mir) (Li._∷_ (13, row·4) (Li._∷_ (14, row·5) (Li._∷_ (15, row·14) Li.[])))))))))))))))
+        g36 = Li._∷_ (0, row·14) (Li._∷_ (1, Frozen.held (Frozen.fz-open Sy.erased 0 (κs .0) (Ro.lease (κs .0) (qs .0)) (LendAt.fz-shr (Array.Array (Rf.rtF (Rf.fInt Sy.w8)) 1114112) 11))) (Li._∷_ (2, Frozen.held (Frozen.fz-open Sy.erased 1 (κs .1 .0) (Ro.lease (κs .1 .0) (qs .1 .0)) (AsSlice.fz-lent-sl (Rf.rtF (Rf.fInt Sy.w32)) 1201024 12))) (Li._∷_ (3, Relend.mslice-owed Gap_.row ty·66 2 13 (Ro.lease (κs .1 .1 .0) (qs .1 .1 .0))) (Li._∷_ (4, Frozen.held (Frozen.fz-open Sy.erased 3 (κs .1 .1 .1 .0) (Ro.lease (κs .1 .1 .1 .0) (qs .1 .1 .1 .0)) (AsSlice.fz-lent-sl (Rf.rtF (Rf.fInt Sy.w16)) 65536 14))) (Li._∷_ (5, Frozen.held (Frozen.fz-open Sy.erased 4 (κs .1 .1 .1 .1 .0) (Ro.lease (κs .1 .1 .1 .1 .0) (qs .1 .1 .1 .1 .0)) (AsSlice.fz-lent-sl (Rf.rtF (Rf.fInt Sy.w8)) 65536 15))) (Li._∷_ (6, Frozen.held (Frozen.fz-open Sy.erased 5 (κs .1 .1 .1 .1 .1 .0) (Ro.lease (κs .1 .1 .1 .1 .1 .0) (qs .1 .1 .1 .1 .1 .0)) (AsSlice.fz-lent-sl (Rf.rtF (Rf.fInt Sy.w8)) 65536 16))) (Li._∷_ (7, row·9) (Li._∷_ (8, row·7) (Li._∷_ (9, row·13) (Li._∷_ (10, row·21) (Li._∷_ (11, row·40) (Li._∷_ (12, Rows'.any-gone Laws.mir) (Li._∷_ (13, row·4) (Li._∷_ (14, row·5) (Li._∷_ (15, row·14) Li.[])))))))))))))))
 
         abbrev g39 : Li.List Ro.Entry
-        g39 = Li._∷_ (0, row·14) (Li._∷_ (1, Frozen.held (Frozen.fz-open Sy.erased 0 (κs .0) (Ro.lease (κs .0) (qs .0)) (LendAt.fz-shr (Array.Array (Rf.rtF (Rf.fInt Sy.w8)) 1114112) 11))) (Li._∷_ (2, Frozen.held (Frozen.fz-open Sy.erased 1 (κs .1 .0) (Ro.lease (κs .1 .0) (qs .1 .0)) (AsSlice.fz-lent-sl (Rf.rtF (Rf.fInt Sy.w32)) 6292480 12))) (Li._∷_ (3, Relend.mslice-owed Gap_.row ty·65 2 13 (Ro.lease (κs .1 .1 .0) (qs .1 .1 .0))) (Li._∷_ (4, Frozen.held (Frozen.fz-open Sy.erased 3 (κs .1 .1 .1 .0) (Ro.lease (κs .1 .1 .1 .0) (qs .1 .1 .1 .0)) (AsSlice.fz-lent-sl (Rf.rtF (Rf.fInt Sy.w16)) 349526 14))) (Li._∷_ (5, Frozen.held (Frozen.fz-open Sy.erased 4 (κs .1 .1 .1 .1 .0) (Ro.lease (κs .1 .1 .1 .1 .0) (qs .1 .1 .1 .1 .0)) (AsSlice.fz-lent-sl (Rf.rtF (Rf.fInt Sy.w8)) 349526 15))) (Li._∷_ (6, Frozen.held (Frozen.fz-open Sy.erased 5 (κs .1 .1 .1 .1 .1 .0) (Ro.lease (κs .1 .1 .1 .1 .1 .0) (qs .1 .1 .1 .1 .1 .0)) (AsSlice.fz-lent-sl (Rf.rtF (Rf.fInt Sy.w8)) 8388608 16))) (Li._∷_ (7, Frozen.held (Frozen.fz-open Sy.erased 6 (κs .1 .1 .1 .1 .1 .1 .0) (Ro.lease (κs .1 .1 .1 .1 .1 .1 .0) (qs .1 .1 .1 .1 .1 .1 .0)) (AsSlice.fz-lent-sl (Rf.rtF (Rf.fInt Sy.w8)) 8388608 17))) (Li._∷_ (8, row·7) (Li._∷_ (9, row·13) (Li._∷_ (10, row·21) (Li._∷_ (11, row·40) (Li._∷_ (12, Rows'.any-gone Laws.mir) (Li._∷_ (13, row·4) (Li._∷_ (14, row·5) (Li._∷_ (15, row·14) Li.[])))))))))))))))
+        g39 = Li._∷_ (0, row·14) (Li._∷_ (1, Frozen.held (Frozen.fz-open Sy.erased 0 (κs .0) (Ro.lease (κs .0) (qs .0)) (LendAt.fz-shr (Array.Array (Rf.rtF (Rf.fInt Sy.w8)) 1114112) 11))) (Li._∷_ (2, Frozen.held (Frozen.fz-open Sy.erased 1 (κs .1 .0) (Ro.lease (κs .1 .0) (qs .1 .0)) (AsSlice.fz-lent-sl (Rf.rtF (Rf.fInt Sy.w32)) 1201024 12))) (Li._∷_ (3, Relend.mslice-owed Gap_.row ty·66 2 13 (Ro.lease (κs .1 .1 .0) (qs .1 .1 .0))) (Li._∷_ (4, Frozen.held (Frozen.fz-open Sy.erased 3 (κs .1 .1 .1 .0) (Ro.lease (κs .1 .1 .1 .0) (qs .1 .1 .1 .0)) (AsSlice.fz-lent-sl (Rf.rtF (Rf.fInt Sy.w16)) 65536 14))) (Li._∷_ (5, Frozen.held (Frozen.fz-open Sy.erased 4 (κs .1 .1 .1 .1 .0) (Ro.lease (κs .1 .1 .1 .1 .0) (qs .1 .1 .1 .1 .0)) (AsSlice.fz-lent-sl (Rf.rtF (Rf.fInt Sy.w8)) 65536 15))) (Li._∷_ (6, Frozen.held (Frozen.fz-open Sy.erased 5 (κs .1 .1 .1 .1 .1 .0) (Ro.lease (κs .1 .1 .1 .1 .1 .0) (qs .1 .1 .1 .1 .1 .0)) (AsSlice.fz-lent-sl (Rf.rtF (Rf.fInt Sy.w8)) 65536 16))) (Li._∷_ (7, Frozen.held (Frozen.fz-open Sy.erased 6 (κs .1 .1 .1 .1 .1 .1 .0) (Ro.lease (κs .1 .1 .1 .1 .1 .1 .0) (qs .1 .1 .1 .1 .1 .1 .0)) (AsSlice.fz-lent-sl (Rf.rtF (Rf.fInt Sy.w8)) 65536 17))) (Li._∷_ (8, row·7) (Li._∷_ (9, row·13) (Li._∷_ (10, row·21) (Li._∷_ (11, row·40) (Li._∷_ (12, Rows'.any-gone Laws.mir) (Li._∷_ (13, row·4) (Li._∷_ (14, row·5) (Li._∷_ (15, row·14) Li.[])))))))))))))))
 
         abbrev g42 : Li.List Ro.Entry
-        g42 = Li._∷_ (0, row·14) (Li._∷_ (1, Frozen.held (Frozen.fz-open Sy.erased 0 (κs .0) (Ro.lease (κs .0) (qs .0)) (LendAt.fz-shr (Array.Array (Rf.rtF (Rf.fInt Sy.w8)) 1114112) 11))) (Li._∷_ (2, Frozen.held (Frozen.fz-open Sy.erased 1 (κs .1 .0) (Ro.lease (κs .1 .0) (qs .1 .0)) (AsSlice.fz-lent-sl (Rf.rtF (Rf.fInt Sy.w32)) 6292480 12))) (Li._∷_ (3, Relend.mslice-owed Gap_.row ty·65 2 13 (Ro.lease (κs .1 .1 .0) (qs .1 .1 .0))) (Li._∷_ (4, Frozen.held (Frozen.fz-open Sy.erased 3 (κs .1 .1 .1 .0) (Ro.lease (κs .1 .1 .1 .0) (qs .1 .1 .1 .0)) (AsSlice.fz-lent-sl (Rf.rtF (Rf.fInt Sy.w16)) 349526 14))) (Li._∷_ (5, Frozen.held (Frozen.fz-open Sy.erased 4 (κs .1 .1 .1 .1 .0) (Ro.lease (κs .1 .1 .1 .1 .0) (qs .1 .1 .1 .1 .0)) (AsSlice.fz-lent-sl (Rf.rtF (Rf.fInt Sy.w8)) 349526 15))) (Li._∷_ (6, Frozen.held (Frozen.fz-open Sy.erased 5 (κs .1 .1 .1 .1 .1 .0) (Ro.lease (κs .1 .1 .1 .1 .1 .0) (qs .1 .1 .1 .1 .1 .0)) (AsSlice.fz-lent-sl (Rf.rtF (Rf.fInt Sy.w8)) 8388608 16))) (Li._∷_ (7, Frozen.held (Frozen.fz-open Sy.erased 6 (κs .1 .1 .1 .1 .1 .1 .0) (Ro.lease (κs .1 .1 .1 .1 .1 .1 .0) (qs .1 .1 .1 .1 .1 .1 .0)) (AsSlice.fz-lent-sl (Rf.rtF (Rf.fInt Sy.w8)) 8388608 17))) (Li._∷_ (8, Frozen.held (Frozen.fz-open Sy.erased 7 (κs .1 .1 .1 .1 .1 .1 .1 .0) (Ro.lease (κs .1 .1 .1 .1 .1 .1 .1 .0) (qs .1 .1 .1 .1 .1 .1 .1 .0)) (AsSlice.fz-lent-sl (Rf.rtF (Rf.fInt Sy.w8)) 65536 18))) (Li._∷_ (9, row·13) (Li._∷_ (10, row·21) (Li._∷_ (11, row·40) (Li._∷_ (12, Rows'.any-gone Laws.mir) (Li._∷_ (13, row·4) (Li._∷_ (14, row·5) (Li._∷_ (15, row·14) Li.[])))))))))))))))
+        g42 = Li._∷_ (0, row·14) (Li._∷_ (1, Frozen.held (Frozen.fz-open Sy.erased 0 (κs .0) (Ro.lease (κs .0) (qs .0)) (LendAt.fz-shr (Array.Array (Rf.rtF (Rf.fInt Sy.w8)) 1114112) 11))) (Li._∷_ (2, Frozen.held (Frozen.fz-open Sy.erased 1 (κs .1 .0) (Ro.lease (κs .1 .0) (qs .1 .0)) (AsSlice.fz-lent-sl (Rf.rtF (Rf.fInt Sy.w32)) 1201024 12))) (Li._∷_ (3, Relend.mslice-owed Gap_.row ty·66 2 13 (Ro.lease (κs .1 .1 .0) (qs .1 .1 .0))) (Li._∷_ (4, Frozen.held (Frozen.fz-open Sy.erased 3 (κs .1 .1 .1 .0) (Ro.lease (κs .1 .1 .1 .0) (qs .1 .1 .1 .0)) (AsSlice.fz-lent-sl (Rf.rtF (Rf.fInt Sy.w16)) 65536 14))) (Li._∷_ (5, Frozen.held (Frozen.fz-open Sy.erased 4 (κs .1 .1 .1 .1 .0) (Ro.lease (κs .1 .1 .1 .1 .0) (qs .1 .1 .1 .1 .0)) (AsSlice.fz-lent-sl (Rf.rtF (Rf.fInt Sy.w8)) 65536 15))) (Li._∷_ (6, Frozen.held (Frozen.fz-open Sy.erased 5 (κs .1 .1 .1 .1 .1 .0) (Ro.lease (κs .1 .1 .1 .1 .1 .0) (qs .1 .1 .1 .1 .1 .0)) (AsSlice.fz-lent-sl (Rf.rtF (Rf.fInt Sy.w8)) 65536 16))) (Li._∷_ (7, Frozen.held (Frozen.fz-open Sy.erased 6 (κs .1 .1 .1 .1 .1 .1 .0) (Ro.lease (κs .1 .1 .1 .1 .1 .1 .0) (qs .1 .1 .1 .1 .1 .1 .0)) (AsSlice.fz-lent-sl (Rf.rtF (Rf.fInt Sy.w8)) 65536 17))) (Li._∷_ (8, Frozen.held (Frozen.fz-open Sy.erased 7 (κs .1 .1 .1 .1 .1 .1 .1 .0) (Ro.lease (κs .1 .1 .1 .1 .1 .1 .1 .0) (qs .1 .1 .1 .1 .1 .1 .1 .0)) (AsSlice.fz-lent-sl (Rf.rtF (Rf.fInt Sy.w8)) 65536 18))) (Li._∷_ (9, row·13) (Li._∷_ (10, row·21) (Li._∷_ (11, row·40) (Li._∷_ (12, Rows'.any-gone Laws.mir) (Li._∷_ (13, row·4) (Li._∷_ (14, row·5) (Li._∷_ (15, row·14) Li.[])))))))))))))))
 
         abbrev g45 : Li.List Ro.Entry
-        g45 = Li._∷_ (0, row·14) (Li._∷_ (1, Frozen.held (Frozen.fz-open Sy.erased 0 (κs .0) (Ro.lease (κs .0) (qs .0)) (LendAt.fz-shr (Array.Array (Rf.rtF (Rf.fInt Sy.w8)) 1114112) 11))) (Li._∷_ (2, Frozen.held (Frozen.fz-open Sy.erased 1 (κs .1 .0) (Ro.lease (κs .1 .0) (qs .1 .0)) (AsSlice.fz-lent-sl (Rf.rtF (Rf.fInt Sy.w32)) 6292480 12))) (Li._∷_ (3, Relend.mslice-owed Gap_.row ty·65 2 13 (Ro.lease (κs .1 .1 .0) (qs .1 .1 .0))) (Li._∷_ (4, Frozen.held (Frozen.fz-open Sy.erased 3 (κs .1 .1 .1 .0) (Ro.lease (κs .1 .1 .1 .0) (qs .1 .1 .1 .0)) (AsSlice.fz-lent-sl (Rf.rtF (Rf.fInt Sy.w16)) 349526 14))) (Li._∷_ (5, Frozen.held (Frozen.fz-open Sy.erased 4 (κs .1 .1 .1 .1 .0) (Ro.lease (κs .1 .1 .1 .1 .0) (qs .1 .1 .1 .1 .0)) (AsSlice.fz-lent-sl (Rf.rtF (Rf.fInt Sy.w8)) 349526 15))) (Li._∷_ (6, Frozen.held (Frozen.fz-open Sy.erased 5 (κs .1 .1 .1 .1 .1 .0) (Ro.lease (κs .1 .1 .1 .1 .1 .0) (qs .1 .1 .1 .1 .1 .0)) (AsSlice.fz-lent-sl (Rf.rtF (Rf.fInt Sy.w8)) 8388608 16))) (Li._∷_ (7, Frozen.held (Frozen.fz-open Sy.erased 6 (κs .1 .1 .1 .1 .1 .1 .0) (Ro.lease (κs .1 .1 .1 .1 .1 .1 .0) (qs .1 .1 .1 .1 .1 .1 .0)) (AsSlice.fz-lent-sl (Rf.rtF (Rf.fInt Sy.w8)) 8388608 17))) (Li._∷_ (8, Frozen.held (Frozen.fz-open Sy.erased 7 (κs .1 .1 .1 .1 .1 .1 .1 .0) (Ro.lease (κs .1 .1 .1 .1 .1 .1 .1 .0) (qs .1 .1 .1 .1 .1 .1 .1 .0)) (AsSlice.fz-lent-sl (Rf.rtF (Rf.fInt Sy.w8)) 65536 18))) (Li._∷_ (9, row·13) (Li._∷_ (10, row·21) (Li._∷_ (11, row·40) (Li._∷_ (12, row·26) (Li._∷_ (13, row·4) (Li._∷_ (14, row·5) (Li._∷_ (15, row·14) Li.[])))))))))))))))
+        g45 = Li._∷_ (0, row·14) (Li._∷_ (1, Frozen.held (Frozen.fz-open Sy.erased 0 (κs .0) (Ro.lease (κs .0) (qs .0)) (LendAt.fz-shr (Array.Array (Rf.rtF (Rf.fInt Sy.w8)) 1114112) 11))) (Li._∷_ (2, Frozen.held (Frozen.fz-open Sy.erased 1 (κs .1 .0) (Ro.lease (κs .1 .0) (qs .1 .0)) (AsSlice.fz-lent-sl (Rf.rtF (Rf.fInt Sy.w32)) 1201024 12))) (Li._∷_ (3, Relend.mslice-owed Gap_.row ty·66 2 13 (Ro.lease (κs .1 .1 .0) (qs .1 .1 .0))) (Li._∷_ (4, Frozen.held (Frozen.fz-open Sy.erased 3 (κs .1 .1 .1 .0) (Ro.lease (κs .1 .1 .1 .0) (qs .1 .1 .1 .0)) (AsSlice.fz-lent-sl (Rf.rtF (Rf.fInt Sy.w16)) 65536 14))) (Li._∷_ (5, Frozen.held (Frozen.fz-open Sy.erased 4 (κs .1 .1 .1 .1 .0) (Ro.lease (κs .1 .1 .1 .1 .0) (qs .1 .1 .1 .1 .0)) (AsSlice.fz-lent-sl (Rf.rtF (Rf.fInt Sy.w8)) 65536 15))) (Li._∷_ (6, Frozen.held (Frozen.fz-open Sy.erased 5 (κs .1 .1 .1 .1 .1 .0) (Ro.lease (κs .1 .1 .1 .1 .1 .0) (qs .1 .1 .1 .1 .1 .0)) (AsSlice.fz-lent-sl (Rf.rtF (Rf.fInt Sy.w8)) 65536 16))) (Li._∷_ (7, Frozen.held (Frozen.fz-open Sy.erased 6 (κs .1 .1 .1 .1 .1 .1 .0) (Ro.lease (κs .1 .1 .1 .1 .1 .1 .0) (qs .1 .1 .1 .1 .1 .1 .0)) (AsSlice.fz-lent-sl (Rf.rtF (Rf.fInt Sy.w8)) 65536 17))) (Li._∷_ (8, Frozen.held (Frozen.fz-open Sy.erased 7 (κs .1 .1 .1 .1 .1 .1 .1 .0) (Ro.lease (κs .1 .1 .1 .1 .1 .1 .1 .0) (qs .1 .1 .1 .1 .1 .1 .1 .0)) (AsSlice.fz-lent-sl (Rf.rtF (Rf.fInt Sy.w8)) 65536 18))) (Li._∷_ (9, row·13) (Li._∷_ (10, row·21) (Li._∷_ (11, row·40) (Li._∷_ (12, row·26) (Li._∷_ (13, row·4) (Li._∷_ (14, row·5) (Li._∷_ (15, row·14) Li.[])))))))))))))))
 
         abbrev g49 : Li.List Ro.Entry
-        g49 = Li._∷_ (0, row·14) (Li._∷_ (1, Frozen.held (Frozen.fz-open Sy.erased 0 (κs .0) (Ro.lease (κs .0) (qs .0)) (LendAt.fz-shr (Array.Array (Rf.rtF (Rf.fInt Sy.w8)) 1114112) 11))) (Li._∷_ (2, Frozen.held (Frozen.fz-open Sy.erased 1 (κs .1 .0) (Ro.lease (κs .1 .0) (qs .1 .0)) (AsSlice.fz-lent-sl (Rf.rtF (Rf.fInt Sy.w32)) 6292480 12))) (Li._∷_ (3, Relend.mslice-owed Gap_.row ty·65 2 13 (Ro.lease (κs .1 .1 .0) (qs .1 .1 .0))) (Li._∷_ (4, Frozen.held (Frozen.fz-open Sy.erased 3 (κs .1 .1 .1 .0) (Ro.lease (κs .1 .1 .1 .0) (qs .1 .1 .1 .0)) (AsSlice.fz-lent-sl (Rf.rtF (Rf.fInt Sy.w16)) 349526 14))) (Li._∷_ (5, Frozen.held (Frozen.fz-open Sy.erased 4 (κs .1 .1 .1 .1 .0) (Ro.lease (κs .1 .1 .1 .1 .0) (qs .1 .1 .1 .1 .0)) (AsSlice.fz-lent-sl (Rf.rtF (Rf.fInt Sy.w8)) 349526 15))) (Li._∷_ (6, Frozen.held (Frozen.fz-open Sy.erased 5 (κs .1 .1 .1 .1 .1 .0) (Ro.lease (κs .1 .1 .1 .1 .1 .0) (qs .1 .1 .1 .1 .1 .0)) (AsSlice.fz-lent-sl (Rf.rtF (Rf.fInt Sy.w8)) 8388608 16))) (Li._∷_ (7, Frozen.held (Frozen.fz-open Sy.erased 6 (κs .1 .1 .1 .1 .1 .1 .0) (Ro.lease (κs .1 .1 .1 .1 .1 .1 .0) (qs .1 .1 .1 .1 .1 .1 .0)) (AsSlice.fz-lent-sl (Rf.rtF (Rf.fInt Sy.w8)) 8388608 17))) (Li._∷_ (8, Frozen.held (Frozen.fz-open Sy.erased 7 (κs .1 .1 .1 .1 .1 .1 .1 .0) (Ro.lease (κs .1 .1 .1 .1 .1 .1 .1 .0) (qs .1 .1 .1 .1 .1 .1 .1 .0)) (AsSlice.fz-lent-sl (Rf.rtF (Rf.fInt Sy.w8)) 65536 18))) (Li._∷_ (9, row·13) (Li._∷_ (10, row·21) (Li._∷_ (11, Rows'.any-gone Laws'.mir) (Li._∷_ (12, row·26) (Li._∷_ (13, row·4) (Li._∷_ (14, row·5) (Li._∷_ (15, row·14) Li.[])))))))))))))))
+        g49 = Li._∷_ (0, row·14) (Li._∷_ (1, Frozen.held (Frozen.fz-open Sy.erased 0 (κs .0) (Ro.lease (κs .0) (qs .0)) (LendAt.fz-shr (Array.Array (Rf.rtF (Rf.fInt Sy.w8)) 1114112) 11))) (Li._∷_ (2, Frozen.held (Frozen.fz-open Sy.erased 1 (κs .1 .0) (Ro.lease (κs .1 .0) (qs .1 .0)) (AsSlice.fz-lent-sl (Rf.rtF (Rf.fInt Sy.w32)) 1201024 12))) (Li._∷_ (3, Relend.mslice-owed Gap_.row ty·66 2 13 (Ro.lease (κs .1 .1 .0) (qs .1 .1 .0))) (Li._∷_ (4, Frozen.held (Frozen.fz-open Sy.erased 3 (κs .1 .1 .1 .0) (Ro.lease (κs .1 .1 .1 .0) (qs .1 .1 .1 .0)) (AsSlice.fz-lent-sl (Rf.rtF (Rf.fInt Sy.w16)) 65536 14))) (Li._∷_ (5, Frozen.held (Frozen.fz-open Sy.erased 4 (κs .1 .1 .1 .1 .0) (Ro.lease (κs .1 .1 .1 .1 .0) (qs .1 .1 .1 .1 .0)) (AsSlice.fz-lent-sl (Rf.rtF (Rf.fInt Sy.w8)) 65536 15))) (Li._∷_ (6, Frozen.held (Frozen.fz-open Sy.erased 5 (κs .1 .1 .1 .1 .1 .0) (Ro.lease (κs .1 .1 .1 .1 .1 .0) (qs .1 .1 .1 .1 .1 .0)) (AsSlice.fz-lent-sl (Rf.rtF (Rf.fInt Sy.w8)) 65536 16))) (Li._∷_ (7, Frozen.held (Frozen.fz-open Sy.erased 6 (κs .1 .1 .1 .1 .1 .1 .0) (Ro.lease (κs .1 .1 .1 .1 .1 .1 .0) (qs .1 .1 .1 .1 .1 .1 .0)) (AsSlice.fz-lent-sl (Rf.rtF (Rf.fInt Sy.w8)) 65536 17))) (Li._∷_ (8, Frozen.held (Frozen.fz-open Sy.erased 7 (κs .1 .1 .1 .1 .1 .1 .1 .0) (Ro.lease (κs .1 .1 .1 .1 .1 .1 .1 .0) (qs .1 .1 .1 .1 .1 .1 .1 .0)) (AsSlice.fz-lent-sl (Rf.rtF (Rf.fInt Sy.w8)) 65536 18))) (Li._∷_ (9, row·13) (Li._∷_ (10, row·21) (Li._∷_ (11, Rows'.any-gone Laws'.mir) (Li._∷_ (12, row·26) (Li._∷_ (13, row·4) (Li._∷_ (14, row·5) (Li._∷_ (15, row·14) Li.[])))))))))))))))
 
         abbrev g50 : Li.List Ro.Entry
-        g50 = Li._∷_ (0, row·14) (Li._∷_ (1, row·3) (Li._∷_ (2, Frozen.held (Frozen.fz-open Sy.erased 1 (κs .1 .0) (Ro.lease (κs .1 .0) (qs .1 .0)) (AsSlice.fz-lent-sl (Rf.rtF (Rf.fInt Sy.w32)) 6292480 12))) (Li._∷_ (3, Relend.mslice-owed Gap_.row ty·65 2 13 (Ro.lease (κs .1 .1 .0) (qs .1 .1 .0))) (Li._∷_ (4, Frozen.held (Frozen.fz-open Sy.erased 3 (κs .1 .1 .1 .0) (Ro.lease (κs .1 .1 .1 .0) (qs .1 .1 .1 .0)) (AsSlice.fz-lent-sl (Rf.rtF (Rf.fInt Sy.w16)) 349526 14))) (Li._∷_ (5, Frozen.held (Frozen.fz-open Sy.erased 4 (κs .1 .1 .1 .1 .0) (Ro.lease (κs .1 .1 .1 .1 .0) (qs .1 .1 .1 .1 .0)) (AsSlice.fz-lent-sl (Rf.rtF (Rf.fInt Sy.w8)) 349526 15))) (Li._∷_ (6, Frozen.held (Frozen.fz-open Sy.erased 5 (κs .1 .1 .1 .1 .1 .0) (Ro.lease (κs .1 .1 .1 .1 .1 .0) (qs .1 .1 .1 .1 .1 .0)) (AsSlice.fz-lent-sl (Rf.rtF (Rf.fInt Sy.w8)) 8388608 16))) (Li._∷_ (7, Frozen.held (Frozen.fz-open Sy.erased 6 (κs .1 .1 .1 .1 .1 .1 .0) (Ro.lease (κs .1 .1 .1 .1 .1 .1 .0) (qs .1 .1 .1 .1 .1 .1 .0)) (AsSlice.fz-lent-sl (Rf.rtF (Rf.fInt Sy.w8)) 8388608 17))) (Li._∷_ (8, Frozen.held (Frozen.fz-open Sy.erased 7 (κs .1 .1 .1 .1 .1 .1 .1 .0) (Ro.lease (κs .1 .1 .1 .1 .1 .1 .1 .0) (qs .1 .1 .1 .1 .1 .1 .1 .0)) (AsSlice.fz-lent-sl (Rf.rtF (Rf.fInt Sy.w8)) 65536 18))) (Li._∷_ (9, row·13) (Li._∷_ (10, row·21) (Li._∷_ (11, Rows'.any-gone Laws'.mir) (Li._∷_ (12, row·26) (Li._∷_ (13, row·4) (Li._∷_ (14, row·5) (Li._∷_ (15, row·14) Li.[])))))))))))))))
+        g50 = Li._∷_ (0, row·14) (Li._∷_ (1, row·3) (Li._∷_ (2, Frozen.held (Frozen.fz-open Sy.erased 1 (κs .1 .0) (Ro.lease (κs .1 .0) (qs .1 .0)) (AsSlice.fz-lent-sl (Rf.rtF (Rf.fInt Sy.w32)) 1201024 12))) (Li._∷_ (3, Relend.mslice-owed Gap_.row ty·66 2 13 (Ro.lease (κs .1 .1 .0) (qs .1 .1 .0))) (Li._∷_ (4, Frozen.held (Frozen.fz-open Sy.erased 3 (κs .1 .1 .1 .0) (Ro.lease (κs .1 .1 .1 .0) (qs .1 .1 .1 .0)) (AsSlice.fz-lent-sl (Rf.rtF (Rf.fInt Sy.w16)) 65536 14))) (Li._∷_ (5, Frozen.held (Frozen.fz-open Sy.erased 4 (κs .1 .1 .1 .1 .0) (Ro.lease (κs .1 .1 .1 .1 .0) (qs .1 .1 .1 .1 .0)) (AsSlice.fz-lent-sl (Rf.rtF (Rf.fInt Sy.w8)) 65536 15))) (Li._∷_ (6, Frozen.held (Frozen.fz-open Sy.erased 5 (κs .1 .1 .1 .1 .1 .0) (Ro.lease (κs .1 .1 .1 .1 .1 .0) (qs .1 .1 .1 .1 .1 .0)) (AsSlice.fz-lent-sl (Rf.rtF (Rf.fInt Sy.w8)) 65536 16))) (Li._∷_ (7, Frozen.held (Frozen.fz-open Sy.erased 6 (κs .1 .1 .1 .1 .1 .1 .0) (Ro.lease (κs .1 .1 .1 .1 .1 .1 .0) (qs .1 .1 .1 .1 .1 .1 .0)) (AsSlice.fz-lent-sl (Rf.rtF (Rf.fInt Sy.w8)) 65536 17))) (Li._∷_ (8, Frozen.held (Frozen.fz-open Sy.erased 7 (κs .1 .1 .1 .1 .1 .1 .1 .0) (Ro.lease (κs .1 .1 .1 .1 .1 .1 .1 .0) (qs .1 .1 .1 .1 .1 .1 .1 .0)) (AsSlice.fz-lent-sl (Rf.rtF (Rf.fInt Sy.w8)) 65536 18))) (Li._∷_ (9, row·13) (Li._∷_ (10, row·21) (Li._∷_ (11, Rows'.any-gone Laws'.mir) (Li._∷_ (12, row·26) (Li._∷_ (13, row·4) (Li._∷_ (14, row·5) (Li._∷_ (15, row·14) Li.[])))))))))))))))
 
         abbrev g51 : Li.List Ro.Entry
-        g51 = Li._∷_ (0, row·14) (Li._∷_ (1, row·3) (Li._∷_ (2, row·2) (Li._∷_ (3, Relend.mslice-owed Gap_.row ty·65 2 13 (Ro.lease (κs .1 .1 .0) (qs .1 .1 .0))) (Li._∷_ (4, Frozen.held (Frozen.fz-open Sy.erased 3 (κs .1 .1 .1 .0) (Ro.lease (κs .1 .1 .1 .0) (qs .1 .1 .1 .0)) (AsSlice.fz-lent-sl (Rf.rtF (Rf.fInt Sy.w16)) 349526 14))) (Li._∷_ (5, Frozen.held (Frozen.fz-open Sy.erased 4 (κs .1 .1 .1 .1 .0) (Ro.lease (κs .1 .1 .1 .1 .0) (qs .1 .1 .1 .1 .0)) (AsSlice.fz-lent-sl (Rf.rtF (Rf.fInt Sy.w8)) 349526 15))) (Li._∷_ (6, Frozen.held (Frozen.fz-open Sy.erased 5 (κs .1 .1 .1 .1 .1 .0) (Ro.lease (κs .1 .1 .1 .1 .1 .0) (qs .1 .1 .1 .1 .1 .0)) (AsSlice.fz-lent-sl (Rf.rtF (Rf.fInt Sy.w8)) 8388608 16))) (Li._∷_ (7, Frozen.held (Frozen.fz-open Sy.erased 6 (κs .1 .1 .1 .1 .1 .1 .0) (Ro.lease (κs .1 .1 .1 .1 .1 .1 .0) (qs .1 .1 .1 .1 .1 .1 .0)) (AsSlice.fz-lent-sl (Rf.rtF (Rf.fInt Sy.w8)) 8388608 17))) (Li._∷_ (8, Frozen.held (Frozen.fz-open Sy.erased 7 (κs .1 .1 .1 .1 .1 .1 .1 .0) (Ro.lease (κs .1 .1 .1 .1 .1 .1 .1 .0) (qs .1 .1 .1 .1 .1 .1 .1 .0)) (AsSlice.fz-lent-sl (Rf.rtF (Rf.fInt Sy.w8)) 65536 18))) (Li._∷_ (9, row·13) (Li._∷_ (10, row·21) (Li._∷_ (11, Rows'.any-gone Laws'.mir) (Li._∷_ (12, row·26) (Li._∷_ (13, row·4) (Li._∷_ (14, row·5) (Li._∷_ (15, row·14) Li.[])))))))))))))))
+        g51 = Li._∷_ (0, row·14) (Li._∷_ (1, row·3) (Li._∷_ (2, row·2) (Li._∷_ (3, Relend.mslice-owed Gap_.row ty·66 2 13 (Ro.lease (κs .1 .1 .0) (qs .1 .1 .0))) (Li._∷_ (4, Frozen.held (Frozen.fz-open Sy.erased 3 (κs .1 .1 .1 .0) (Ro.lease (κs .1 .1 .1 .0) (qs .1 .1 .1 .0)) (AsSlice.fz-lent-sl (Rf.rtF (Rf.fInt Sy.w16)) 65536 14))) (Li._∷_ (5, Frozen.held (Frozen.fz-open Sy.erased 4 (κs .1 .1 .1 .1 .0) (Ro.lease (κs .1 .1 .1 .1 .0) (qs .1 .1 .1 .1 .0)) (AsSlice.fz-lent-sl (Rf.rtF (Rf.fInt Sy.w8)) 65536 15))) (Li._∷_ (6, Frozen.held (Frozen.fz-open Sy.erased 5 (κs .1 .1 .1 .1 .1 .0) (Ro.lease (κs .1 .1 .1 .1 .1 .0) (qs .1 .1 .1 .1 .1 .0)) (AsSlice.fz-lent-sl (Rf.rtF (Rf.fInt Sy.w8)) 65536 16))) (Li._∷_ (7, Frozen.held (Frozen.fz-open Sy.erased 6 (κs .1 .1 .1 .1 .1 .1 .0) (Ro.lease (κs .1 .1 .1 .1 .1 .1 .0) (qs .1 .1 .1 .1 .1 .1 .0)) (AsSlice.fz-lent-sl (Rf.rtF (Rf.fInt Sy.w8)) 65536 17))) (Li._∷_ (8, Frozen.held (Frozen.fz-open Sy.erased 7 (κs .1 .1 .1 .1 .1 .1 .1 .0) (Ro.lease (κs .1 .1 .1 .1 .1 .1 .1 .0) (qs .1 .1 .1 .1 .1 .1 .1 .0)) (AsSlice.fz-lent-sl (Rf.rtF (Rf.fInt Sy.w8)) 65536 18))) (Li._∷_ (9, row·13) (Li._∷_ (10, row·21) (Li._∷_ (11, Rows'.any-gone Laws'.mir) (Li._∷_ (12, row·26) (Li._∷_ (13, row·4) (Li._∷_ (14, row·5) (Li._∷_ (15, row·14) Li.[])))))))))))))))
 
         abbrev g53 : Li.List Ro.Entry
-        g53 = Li._∷_ (0, row·14) (Li._∷_ (1, row·3) (Li._∷_ (2, row·2) (Li._∷_ (3, row·15) (Li._∷_ (4, Frozen.held (Frozen.fz-open Sy.erased 3 (κs .1 .1 .1 .0) (Ro.lease (κs .1 .1 .1 .0) (qs .1 .1 .1 .0)) (AsSlice.fz-lent-sl (Rf.rtF (Rf.fInt Sy.w16)) 349526 14))) (Li._∷_ (5, Frozen.held (Frozen.fz-open Sy.erased 4 (κs .1 .1 .1 .1 .0) (Ro.lease (κs .1 .1 .1 .1 .0) (qs .1 .1 .1 .1 .0)) (AsSlice.fz-lent-sl (Rf.rtF (Rf.fInt Sy.w8)) 349526 15))) (Li._∷_ (6, Frozen.held (Frozen.fz-open Sy.erased 5 (κs .1 .1 .1 .1 .1 .0) (Ro.lease (κs .1 .1 .1 .1 .1 .0) (qs .1 .1 .1 .1 .1 .0)) (AsSlice.fz-lent-sl (Rf.rtF (Rf.fInt Sy.w8)) 8388608 16))) (Li._∷_ (7, Frozen.held (Frozen.fz-open Sy.erased 6 (κs .1 .1 .1 .1 .1 .1 .0) (Ro.lease (κs .1 .1 .1 .1 .1 .1 .0) (qs .1 .1 .1 .1 .1 .1 .0)) (AsSlice.fz-lent-sl (Rf.rtF (Rf.fInt Sy.w8)) 8388608 17))) (Li._∷_ (8, Frozen.held (Frozen.fz-open Sy.erased 7 (κs .1 .1 .1 .1 .1 .1 .1 .0) (Ro.lease (κs .1 .1 .1 .1 .1 .1 .1 .0) (qs .1 .1 .1 .1 .1 .1 .1 .0)) (AsSlice.fz-lent-sl (Rf.rtF (Rf.fInt Sy.w8)) 65536 18))) (Li._∷_ (9, row·13) (Li._∷_ (10, row·21) (Li._∷_ (11, Rows'.any-gone Laws'.mir) (Li._∷_ (12, row·26) (Li._∷_ (13, row·4) (Li._∷_ (14, row·5) (Li._∷_ (15, row·14) Li.[])))))))))))))))
+        g53 = Li._∷_ (0, row·14) (Li._∷_ (1, row·3) (Li._∷_ (2, row·2) (Li._∷_ (3, row·15) (Li._∷_ (4, Frozen.held (Frozen.fz-open Sy.erased 3 (κs .1 .1 .1 .0) (Ro.lease (κs .1 .1 .1 .0) (qs .1 .1 .1 .0)) (AsSlice.fz-lent-sl (Rf.rtF (Rf.fInt Sy.w16)) 65536 14))) (Li._∷_ (5, Frozen.held (Frozen.fz-open Sy.erased 4 (κs .1 .1 .1 .1 .0) (Ro.lease (κs .1 .1 .1 .1 .0) (qs .1 .1 .1 .1 .0)) (AsSlice.fz-lent-sl (Rf.rtF (Rf.fInt Sy.w8)) 65536 15))) (Li._∷_ (6, Frozen.held (Frozen.fz-open Sy.erased 5 (κs .1 .1 .1 .1 .1 .0) (Ro.lease (κs .1 .1 .1 .1 .1 .0) (qs .1 .1 .1 .1 .1 .0)) (AsSlice.fz-lent-sl (Rf.rtF (Rf.fInt Sy.w8)) 65536 16))) (Li._∷_ (7, Frozen.held (Frozen.fz-open Sy.erased 6 (κs .1 .1 .1 .1 .1 .1 .0) (Ro.lease (κs .1 .1 .1 .1 .1 .1 .0) (qs .1 .1 .1 .1 .1 .1 .0)) (AsSlice.fz-lent-sl (Rf.rtF (Rf.fInt Sy.w8)) 65536 17))) (Li._∷_ (8, Frozen.held (Frozen.fz-open Sy.erased 7 (κs .1 .1 .1 .1 .1 .1 .1 .0) (Ro.lease (κs .1 .1 .1 .1 .1 .1 .1 .0) (qs .1 .1 .1 .1 .1 .1 .1 .0)) (AsSlice.fz-lent-sl (Rf.rtF (Rf.fInt Sy.w8)) 65536 18))) (Li._∷_ (9, row·13) (Li._∷_ (10, row·21) (Li._∷_ (11, Rows'.any-gone Laws'.mir) (Li._∷_ (12, row·26) (Li._∷_ (13, row·4) (Li._∷_ (14, row·5) (Li._∷_ (15, row·14) Li.[])))))))))))))))
 
         abbrev g55 : Li.List Ro.Entry
-        g55 = Li._∷_ (0, row·14) (Li._∷_ (1, row·3) (Li._∷_ (2, row·2) (Li._∷_ (3, row·15) (Li._∷_ (4, row·11) (Li._∷_ (5, Frozen.held (Frozen.fz-open Sy.erased 4 (κs .1 .1 .1 .1 .0) (Ro.lease (κs .1 .1 .1 .1 .0) (qs .1 .1 .1 .1 .0)) (AsSlice.fz-lent-sl (Rf.rtF (Rf.fInt Sy.w8)) 349526 15))) (Li._∷_ (6, Frozen.held (Frozen.fz-open Sy.erased 5 (κs .1 .1 .1 .1 .1 .0) (Ro.lease (κs .1 .1 .1 .1 .1 .0) (qs .1 .1 .1 .1 .1 .0)) (AsSlice.fz-lent-sl (Rf.rtF (Rf.fInt Sy.w8)) 8388608 16))) (Li._∷_ (7, Frozen.held (Frozen.fz-open Sy.erased 6 (κs .1 .1 .1 .1 .1 .1 .0) (Ro.lease (κs .1 .1 .1 .1 .1 .1 .0) (qs .1 .1 .1 .1 .1 .1 .0)) (AsSlice.fz-lent-sl (Rf.rtF (Rf.fInt Sy.w8)) 8388608 17))) (Li._∷_ (8, Frozen.held (Frozen.fz-open Sy.erased 7 (κs .1 .1 .1 .1 .1 .1 .1 .0) (Ro.lease (κs .1 .1 .1 .1 .1 .1 .1 .0) (qs .1 .1 .1 .1 .1 .1 .1 .0)) (AsSlice.fz-lent-sl (Rf.rtF (Rf.fInt Sy.w8)) 65536 18))) (Li._∷_ (9, row·13) (Li._∷_ (10, row·21) (Li._∷_ (11, Rows'.any-gone Laws'.mir) (Li._∷_ (12, row·26) (Li._∷_ (13, row·4) (Li._∷_ (14, row·5) (Li._∷_ (15, row·14) Li.[])))))))))))))))
+        g55 = Li._∷_ (0, row·14) (Li._∷_ (1, row·3) (Li._∷_ (2, row·2) (Li._∷_ (3, row·15) (Li._∷_ (4, row·11) (Li._∷_ (5, Frozen.held (Frozen.fz-open Sy.erased 4 (κs .1 .1 .1 .1 .0) (Ro.lease (κs .1 .1 .1 .1 .0) (qs .1 .1 .1 .1 .0)) (AsSlice.fz-lent-sl (Rf.rtF (Rf.fInt Sy.w8)) 65536 15))) (Li._∷_ (6, Frozen.held (Frozen.fz-open Sy.erased 5 (κs .1 .1 .1 .1 .1 .0) (Ro.lease (κs .1 .1 .1 .1 .1 .0) (qs .1 .1 .1 .1 .1 .0)) (AsSlice.fz-lent-sl (Rf.rtF (Rf.fInt Sy.w8)) 65536 16))) (Li._∷_ (7, Frozen.held (Frozen.fz-open Sy.erased 6 (κs .1 .1 .1 .1 .1 .1 .0) (Ro.lease (κs .1 .1 .1 .1 .1 .1 .0) (qs .1 .1 .1 .1 .1 .1 .0)) (AsSlice.fz-lent-sl (Rf.rtF (Rf.fInt Sy.w8)) 65536 17))) (Li._∷_ (8, Frozen.held (Frozen.fz-open Sy.erased 7 (κs .1 .1 .1 .1 .1 .1 .1 .0) (Ro.lease (κs .1 .1 .1 .1 .1 .1 .1 .0) (qs .1 .1 .1 .1 .1 .1 .1 .0)) (AsSlice.fz-lent-sl (Rf.rtF (Rf.fInt Sy.w8)) 65536 18))) (Li._∷_ (9, row·13) (Li._∷_ (10, row·21) (Li._∷_ (11, Rows'.any-gone Laws'.mir) (Li._∷_ (12, row·26) (Li._∷_ (13, row·4) (Li._∷_ (14, row·5) (Li._∷_ (15, row·14) Li.[])))))))))))))))
 
         abbrev g57 : Li.List Ro.Entry
-        g57 = Li._∷_ (0, row·14) (Li._∷_ (1, row·3) (Li._∷_ (2, row·2) (Li._∷_ (3, row·15) (Li._∷_ (4, row·11) (Li._∷_ (5, row·12) (Li._∷_ (6, Frozen.held (Frozen.fz-open Sy.erased 5 (κs .1 .1 .1 .1 .1 .0) (Ro.lease (κs .1 .1 .1 .1 .1 .0) (qs .1 .1 .1 .1 .1 .0)) (AsSlice.fz-lent-sl (Rf.rtF (Rf.fInt Sy.w8)) 8388608 16))) (Li._∷_ (7, Frozen.held (Frozen.fz-open Sy.erased 6 (κs .1 .1 .1 .1 .1 .1 .0) (Ro.lease (κs .1 .1 .1 .1 .1 .1 .0) (qs .1 .1 .1 .1 .1 .1 .0)) (AsSlice.fz-lent-sl (Rf.rtF (Rf.fInt Sy.w8)) 8388608 17))) (Li._∷_ (8, Frozen.held (Frozen.fz-open Sy.erased 7 (κs .1 .1 .1 .1 .1 .1 .1 .0) (Ro.lease (κs .1 .1 .1 .1 .1 .1 .1 .0) (qs .1 .1 .1 .1 .1 .1 .1 .0)) (AsSlice.fz-lent-sl (Rf.rtF (Rf.fInt Sy.w8)) 65536 18))) (Li._∷_ (9, row·13) (Li._∷_ (10, row·21) (Li._∷_ (11, Rows'.any-gone Laws'.mir) (Li._∷_ (12, row·26) (Li._∷_ (13, row·4) (Li._∷_ (14, row·5) (Li._∷_ (15, row·14) Li.[])))))))))))))))
+        g57 = Li._∷_ (0, row·14) (Li._∷_ (1, row·3) (Li._∷_ (2, row·2) (Li._∷_ (3, row·15) (Li._∷_ (4, row·11) (Li._∷_ (5, row·12) (Li._∷_ (6, Frozen.held (Frozen.fz-open Sy.erased 5 (κs .1 .1 .1 .1 .1 .0) (Ro.lease (κs .1 .1 .1 .1 .1 .0) (qs .1 .1 .1 .1 .1 .0)) (AsSlice.fz-lent-sl (Rf.rtF (Rf.fInt Sy.w8)) 65536 16))) (Li._∷_ (7, Frozen.held (Frozen.fz-open Sy.erased 6 (κs .1 .1 .1 .1 .1 .1 .0) (Ro.lease (κs .1 .1 .1 .1 .1 .1 .0) (qs .1 .1 .1 .1 .1 .1 .0)) (AsSlice.fz-lent-sl (Rf.rtF (Rf.fInt Sy.w8)) 65536 17))) (Li._∷_ (8, Frozen.held (Frozen.fz-open Sy.erased 7 (κs .1 .1 .1 .1 .1 .1 .1 .0) (Ro.lease (κs .1 .1 .1 .1 .1 .1 .1 .0) (qs .1 .1 .1 .1 .1 .1 .1 .0)) (AsSlice.fz-lent-sl (Rf.rtF (Rf.fInt Sy.w8)) 65536 18))) (Li._∷_ (9, row·13) (Li._∷_ (10, row·21) (Li._∷_ (11, Rows'.any-gone Laws'.mir) (Li._∷_ (12, row·26) (Li._∷_ (13, row·4) (Li._∷_ (14, row·5) (Li._∷_ (15, row·14) Li.[])))))))))))))))
 
         abbrev g59 : Li.List Ro.Entry
-        g59 = Li._∷_ (0, row·14) (Li._∷_ (1, row·3) (Li._∷_ (2, row·2) (Li._∷_ (3, row·15) (Li._∷_ (4, row·11) (Li._∷_ (5, row·12) (Li._∷_ (6, row·10) (Li._∷_ (7, Frozen.held (Frozen.fz-open Sy.erased 6 (κs .1 .1 .1 .1 .1 .1 .0) (Ro.lease (κs .1 .1 .1 .1 .1 .1 .0) (qs .1 .1 .1 .1 .1 .1 .0)) (AsSlice.fz-lent-sl (Rf.rtF (Rf.fInt Sy.w8)) 8388608 17))) (Li._∷_ (8, Frozen.held (Frozen.fz-open Sy.erased 7 (κs .1 .1 .1 .1 .1 .1 .1 .0) (Ro.lease (κs .1 .1 .1 .1 .1 .1 .1 .0) (qs .1 .1 .1 .1 .1 .1 .1 .0)) (AsSlice.fz-lent-sl (Rf.rtF (Rf.fInt Sy.w8)) 65536 18))) (Li._∷_ (9, row·13) (Li._∷_ (10, row·21) (Li._∷_ (11, Rows'.any-gone Laws'.mir) (Li._∷_ (12, row·26) (Li._∷_ (13, row·4) (Li._∷_ (14, row·5) (Li._∷_ (15, row·14) Li.[])))))))))))))))
+        g59 = Li._∷_ (0, row·14) (Li._∷_ (1, row·3) (Li._∷_ (2, row·2) (Li._∷_ (3, row·15) (Li._∷_ (4, row·11) (Li._∷_ (5, row·12) (Li._∷_ (6, row·10) (Li._∷_ (7, Frozen.held (Frozen.fz-open Sy.erased 6 (κs .1 .1 .1 .1 .1 .1 .0) (Ro.lease (κs .1 .1 .1 .1 .1 .1 .0) (qs .1 .1 .1 .1 .1 .1 .0)) (AsSlice.fz-lent-sl (Rf.rtF (Rf.fInt Sy.w8)) 65536 17))) (Li._∷_ (8, Frozen.held (Frozen.fz-open Sy.erased 7 (κs .1 .1 .1 .1 .1 .1 .1 .0) (Ro.lease (κs .1 .1 .1 .1 .1 .1 .1 .0) (qs .1 .1 .1 .1 .1 .1 .1 .0)) (AsSlice.fz-lent-sl (Rf.rtF (Rf.fInt Sy.w8)) 65536 18))) (Li._∷_ (9, row·13) (Li._∷_ (10, row·21) (Li._∷_ (11, Rows'.any-gone Laws'.mir) (Li._∷_ (12, row·26) (Li._∷_ (13, row·4) (Li._∷_ (14, row·5) (Li._∷_ (15, row·14) Li.[])))))))))))))))
 
         abbrev g61 : Li.List Ro.Entry
-        g61 = Li._∷_ (0, row·14) (Li._∷_ (1, row·3) (Li._∷_ (2, row·2) (Li._∷_ (3, row·15) (Li._∷_ (4, row·11) (Li._∷_ (5, row·12) (Li._∷_ (6, row·10) (Li._∷_ (7, row·8) (Li._∷_ (8, Frozen.held (Frozen.fz-open Sy.erased 7 (κs .1 .1 .1 .1 .1 .1 .1 .0) (Ro.lease (κs .1 .1 .1 .1 .1 .1 .1 .0) (qs .1 .1 .1 .1 .1 .1 .1 .0)) (AsSlice.fz-lent-sl (Rf.rtF (Rf.fInt Sy.w8)) 65536 18))) (Li._∷_ (9, row·13) (Li._∷_ (10, row·21) (Li._∷_ (11, Rows'.any-gone Laws'.mir) (Li._∷_ (12, row·26) (Li._∷_ (13, row·4) (Li._∷_ (14, row·5) (Li._∷_ (15, row·14) Li.[])))))))))))))))
+        g61 = Li._∷_ (0, row·14) (Li._∷_ (1, row·3) (Li._∷_ (2, row·2) (Li._∷_ (3, row·15) (Li._∷_ (4, row·11) (Li._∷_ (5, row·12) (Li._∷_ (6, row·10) (Li._∷_ (7, row·9) (Li._∷_ (8, Frozen.held (Frozen.fz-open Sy.erased 7 (κs .1 .1 .1 .1 .1 .1 .1 .0) (Ro.lease (κs .1 .1 .1 .1 .1 .1 .1 .0) (qs .1 .1 .1 .1 .1 .1 .1 .0)) (AsSlice.fz-lent-sl (Rf.rtF (Rf.fInt Sy.w8)) 65536 18))) (Li._∷_ (9, row·13) (Li._∷_ (10, row·21) (Li._∷_ (11, Rows'.any-gone Laws'.mir) (Li._∷_ (12, row·26) (Li._∷_ (13, row·4) (Li._∷_ (14, row·5) (Li._∷_ (15, row·14) Li.[])))))))))))))))
 
         abbrev g63 : Li.List Ro.Entry
-        g63 = Li._∷_ (0, row·14) (Li._∷_ (1, row·3) (Li._∷_ (2, row·2) (Li._∷_ (3, row·15) (Li._∷_ (4, Frozen.held (Frozen.fz-open Sy.erased 3 (κs .1 .1 .1 .0) (Ro.lease (κs .1 .1 .1 .0) (qs .1 .1 .1 .0)) (LendAt.fz-shr (Array.Array (Rf.rtF (Rf.fInt Sy.w16)) 349526) 19))) (Li._∷_ (5, row·12) (Li._∷_ (6, row·10) (Li._∷_ (7, row·8) (Li._∷_ (8, row·7) (Li._∷_ (9, row·13) (Li._∷_ (10, row·21) (Li._∷_ (11, Rows'.any-gone Laws'.mir) (Li._∷_ (12, row·26) (Li._∷_ (13, row·4) (Li._∷_ (14, row·5) (Li._∷_ (15, row·14) Li.[])))))))))))))))
+        g63 = Li._∷_ (0, row·14) (Li._∷_ (1, row·3) (Li._∷_ (2, row·2) (Li._∷_ (3, row·15) (Li._∷_ (4, Frozen.held (Frozen.fz-open Sy.erased 3 (κs .1 .1 .1 .0) (Ro.lease (κs .1 .1 .1 .0) (qs .1 .1 .1 .0)) (LendAt.fz-shr (Array.Array (Rf.rtF (Rf.fInt Sy.w16)) 65536) 19))) (Li._∷_ (5, row·12) (Li._∷_ (6, row·10) (Li._∷_ (7, row·9) (Li._∷_ (8, row·7) (Li._∷_ (9, row·13) (Li._∷_ (10, row·21) (Li._∷_ (11, Rows'.any-gone Laws'.mir) (Li._∷_ (12, row·26) (Li._∷_ (13, row·4) (Li._∷_ (14, row·5) (Li._∷_ (15, row·14) Li.[])))))))))))))))
 
         abbrev g67 : Li.List Ro.Entry
-        g67 = Li._∷_ (0, row·14) (Li._∷_ (1, row·3) (Li._∷_ (2, row·2) (Li._∷_ (3, row·15) (Li._∷_ (4, Frozen.held (Frozen.fz-open Sy.erased 3 (κs .1 .1 .1 .0) (Ro.lease (κs .1 .1 .1 .0) (qs .1 .1 .1 .0)) (LendAt.fz-shr (Array.Array (Rf.rtF (Rf.fInt Sy.w16)) 349526) 19))) (Li._∷_ (5, Frozen.held (Frozen.fz-open Sy.erased 4 (κs .1 .1 .1 .1 .0) (Ro.lease (κs .1 .1 .1 .1 .0) (qs .1 .1 .1 .1 .0)) (LendAt.fz-shr (Array.Array (Rf.rtF (Rf.fInt Sy.w8)) 349526) 20))) (Li._∷_ (6, row·10) (Li._∷_ (7, row·8) (Li._∷_ (8, row·7) (Li._∷_ (9, row·13) (Li._∷_ (10, row·21) (Li._∷_ (11, Rows'.any-gone Laws'.mir) (Li._∷_ (12, row·26) (Li._∷_ (13, row·4) (Li._∷_ (14, row·5) (Li._∷_ (15, row·14) Li.[])))))))))))))))
+        g67 = Li._∷_ (0, row·14) (Li._∷_ (1, row·3) (Li._∷_ (2, row·2) (Li._∷_ (3, row·15) (Li._∷_ (4, Frozen.held (Frozen.fz-open Sy.erased 3 (κs .1 .1 .1 .0) (Ro.lease (κs .1 .1 .1 .0) (qs .1 .1 .1 .0)) (LendAt.fz-shr (Array.Array (Rf.rtF (Rf.fInt Sy.w16)) 65536) 19))) (Li._∷_ (5, Frozen.held (Frozen.fz-open Sy.erased 4 (κs .1 .1 .1 .1 .0) (Ro.lease (κs .1 .1 .1 .1 .0) (qs .1 .1 .1 .1 .0)) (LendAt.fz-shr (Array.Array (Rf.rtF (Rf.fInt Sy.w8)) 65536) 20))) (Li._∷_ (6, row·10) (Li._∷_ (7, row·9) (Li._∷_ (8, row·7) (Li._∷_ (9, row·13) (Li._∷_ (10, row·21) (Li._∷_ (11, Rows'.any-gone Laws'.mir) (Li._∷_ (12, row·26) (Li._∷_ (13, row·4) (Li._∷_ (14, row·5) (Li._∷_ (15, row·14) Li.[])))))))))))))))
 
         abbrev g71 : Li.List Ro.Entry
-        g71 = Li._∷_ (0, row·14) (Li._∷_ (1, row·3) (Li._∷_ (2, row·2) (Li._∷_ (3, row·15) (Li._∷_ (4, Frozen.held (Frozen.fz-open Sy.erased 3 (κs .1 .1 .1 .0) (Ro.lease (κs .1 .1 .1 .0) (qs .1 .1 .1 .0)) (LendAt.fz-shr (Array.Array (Rf.rtF (Rf.fInt Sy.w16)) 349526) 19))) (Li._∷_ (5, Frozen.held (Frozen.fz-open Sy.erased 4 (κs .1 .1 .1 .1 .0) (Ro.lease (κs .1 .1 .1 .1 .0) (qs .1 .1 .1 .1 .0)) (LendAt.fz-shr (Array.Array (Rf.rtF (Rf.fInt Sy.w8)) 349526) 20))) (Li._∷_ (6, Frozen.held (Frozen.fz-open Sy.erased 5 (κs .1 .1 .1 .1 .1 .0) (Ro.lease (κs .1 .1 .1 .1 .1 .0) (qs .1 .1 .1 .1 .1 .0)) (LendAt.fz-shr (Array.Array (Rf.rtF (Rf.fInt Sy.w8)) 8388608) 21))) (Li._∷_ (7, row·8) (Li._∷_ (8, row·7) (Li._∷_ (9, row·13) (Li._∷_ (10, row·21) (Li._∷_ (11, Rows'.any-gone Laws'.mir) (Li._∷_ (12, row·26) (Li._∷_ (13, row·4) (Li._∷_ (14, row·5) (Li._∷_ (15, row·14) Li.[])))))))))))))))
+        g71 = Li._∷_ (0, row·14) (Li._∷_ (1, row·3) (Li._∷_ (2, row·2) (Li._∷_ (3, row·15) (Li._∷_ (4, Frozen.held (Frozen.fz-open Sy.erased 3 (κs .1 .1 .1 .0) (Ro.lease (κs .1 .1 .1 .0) (qs .1 .1 .1 .0)) (LendAt.fz-shr (Array.Array (Rf.rtF (Rf.fInt Sy.w16)) 65536) 19))) (Li._∷_ (5, Frozen.held (Frozen.fz-open Sy.erased 4 (κs .1 .1 .1 .1 .0) (Ro.lease (κs .1 .1 .1 .1 .0) (qs .1 .1 .1 .1 .0)) (LendAt.fz-shr (Array.Array (Rf.rtF (Rf.fInt Sy.w8)) 65536) 20))) (Li._∷_ (6, Frozen.held (Frozen.fz-open Sy.erased 5 (κs .1 .1 .1 .1 .1 .0) (Ro.lease (κs .1 .1 .1 .1 .1 .0) (qs .1 .1 .1 .1 .1 .0)) (LendAt.fz-shr (Array.Array (Rf.rtF (Rf.fInt Sy.w8)) 65536) 21))) (Li._∷_ (7, row·9) (Li._∷_ (8, row·7) (Li._∷_ (9, row·13) (Li._∷_ (10, row·21) (Li._∷_ (11, Rows'.any-gone Laws'.mir) (Li._∷_ (12, row·26) (Li._∷_ (13, row·4) (Li._∷_ (14, row·5) (Li._∷_ (15, row·14) Li.[])))))))))))))))
 
         abbrev g75 : Li.List Ro.Entry
-        g75 = Li._∷_ (0, row·14) (Li._∷_ (1, row·3) (Li._∷_ (2, row·2) (Li._∷_ (3, row·15) (Li._∷_ (4, Frozen.held (Frozen.fz-open Sy.erased 3 (κs .1 .1 .1 .0) (Ro.lease (κs .1 .1 .1 .0) (qs .1 .1 .1 .0)) (LendAt.fz-shr (Array.Array (Rf.rtF (Rf.fInt Sy.w16)) 349526) 19))) (Li._∷_ (5, Frozen.held (Frozen.fz-open Sy.erased 4 (κs .1 .1 .1 .1 .0) (Ro.lease (κs .1 .1 .1 .1 .0) (qs .1 .1 .1 .1 .0)) (LendAt.fz-shr (Array.Array (Rf.rtF (Rf.fInt Sy.w8)) 349526) 20))) (Li._∷_ (6, Frozen.held (Frozen.fz-open Sy.erased 5 (κs .1 .1 .1 .1 .1 .0) (Ro.lease (κs .1 .1 .1 .1 .1 .0) (qs .1 .1 .1 .1 .1 .0)) (LendAt.fz-shr (Array.Array (Rf.rtF (Rf.fInt Sy.w8)) 8388608) 21))) (Li._∷_ (7, Frozen.held (Frozen.fz-open Sy.erased 6 (κs .1 .1 .1 .1 .1 .1 .0) (Ro.lease (κs .1 .1 .1 .1 .1 .1 .0) (qs .1 .1 .1 .1 .1 .1 .0)) (LendAt.fz-shr (Array.Array (Rf.rtF (Rf.fInt Sy.w8)) 8388608) 22))) (Li._∷_ (8, row·7) (Li._∷_ (9, row·13) (Li._∷_ (10, row·21) (Li._∷_ (11, Rows'.any-gone Laws'.mir) (Li._∷_ (12, row·26) (Li._∷_ (13, row·4) (Li._∷_ (14, row·5) (Li._∷_ (15, row·14) Li.[])))))))))))))))
+        g75 = Li._∷_ (0, row·14) (Li._∷_ (1, row·3) (Li._∷_ (2, row·2) (Li._∷_ (3, row·15) (Li._∷_ (4, Frozen.held (Frozen.fz-open Sy.erased 3 (κs .1 .1 .1 .0) (Ro.lease (κs .1 .1 .1 .0) (qs .1 .1 .1 .0)) (LendAt.fz-shr (Array.Array (Rf.rtF (Rf.fInt Sy.w16)) 65536) 19))) (Li._∷_ (5, Frozen.held (Frozen.fz-open Sy.erased 4 (κs .1 .1 .1 .1 .0) (Ro.lease (κs .1 .1 .1 .1 .0) (qs .1 .1 .1 .1 .0)) (LendAt.fz-shr (Array.Array (Rf.rtF (Rf.fInt Sy.w8)) 65536) 20))) (Li._∷_ (6, Frozen.held (Frozen.fz-open Sy.erased 5 (κs .1 .1 .1 .1 .1 .0) (Ro.lease (κs .1 .1 .1 .1 .1 .0) (qs .1 .1 .1 .1 .1 .0)) (LendAt.fz-shr (Array.Array (Rf.rtF (Rf.fInt Sy.w8)) 65536) 21))) (Li._∷_ (7, Frozen.held (Frozen.fz-open Sy.erased 6 (κs .1 .1 .1 .1 .1 .1 .0) (Ro.lease (κs .1 .1 .1 .1 .1 .1 .0) (qs .1 .1 .1 .1 .1 .1 .0)) (LendAt.fz-shr (Array.Array (Rf.rtF (Rf.fInt Sy.w8)) 65536) 22))) (Li._∷_ (8, row·7) (Li._∷_ (9, row·13) (Li._∷_ (10, row·21) (Li._∷_ (11, Rows'.any-gone Laws'.mir) (Li._∷_ (12, row·26) (Li._∷_ (13, row·4) (Li._∷_ (14, row·5) (Li._∷_ (15, row·14) Li.[])))))))))))))))
 
         abbrev g79 : Li.List Ro.Entry
-        g79 = Li._∷_ (0, row·14) (Li._∷_ (1, row·3) (Li._∷_ (2, row·2) (Li._∷_ (3, row·15) (Li._∷_ (4, Frozen.held (Frozen.fz-open Sy.erased 3 (κs .1 .1 .1 .0) (Ro.lease (κs .1 .1 .1 .0) (qs .1 .1 .1 .0)) (LendAt.fz-shr (Array.Array (Rf.rtF (Rf.fInt Sy.w16)) 349526) 19))) (Li._∷_ (5, Frozen.held (Frozen.fz-open Sy.erased 4 (κs .1 .1 .1 .1 .0) (Ro.lease (κs .1 .1 .1 .1 .0) (qs .1 .1 .1 .1 .0)) (LendAt.fz-shr (Array.Array (Rf.rtF (Rf.fInt Sy.w8)) 349526) 20))) (Li._∷_ (6, Frozen.held (Frozen.fz-open Sy.erased 5 (κs .1 .1 .1 .1 .1 .0) (Ro.lease (κs .1 .1 .1 .1 .1 .0) (qs .1 .1 .1 .1 .1 .0)) (LendAt.fz-shr (Array.Array (Rf.rtF (Rf.fInt Sy.w8)) 8388608) 21))) (Li._∷_ (7, Frozen.held (Frozen.fz-open Sy.erased 6 (κs .1 .1 .1 .1 .1 .1 .0) (Ro.lease (κs .1 .1 .1 .1 .1 .1 .0) (qs .1 .1 .1 .1 .1 .1 .0)) (LendAt.fz-shr (Array.Array (Rf.rtF (Rf.fInt Sy.w8)) 8388608) 22))) (Li._∷_ (8, Frozen.held (Frozen.fz-open Sy.erased 7 (κs .1 .1 .1 .1 .1 .1 .1 .0) (Ro.lease (κs .1 .1 .1 .1 .1 .1 .1 .0) (qs .1 .1 .1 .1 .1 .1 .1 .0)) (LendAt.fz-shr (Array.Array (Rf.rtF (Rf.fInt Sy.w8)) 65536) 23))) (Li._∷_ (9, row·13) (Li._∷_ (10, row·21) (Li._∷_ (11, Rows'.any-gone Laws'.mir) (Li._∷_ (12, row·26) (Li._∷_ (13, row·4) (Li._∷_ (14, row·5) (Li._∷_ (15, row·14) Li.[])))))))))))))))
+        g79 = Li._∷_ (0, row·14) (Li._∷_ (1, row·3) (Li._∷_ (2, row·2) (Li._∷_ (3, row·15) (Li._∷_ (4, Frozen.held (Frozen.fz-open Sy.erased 3 (κs .1 .1 .1 .0) (Ro.lease (κs .1 .1 .1 .0) (qs .1 .1 .1 .0)) (LendAt.fz-shr (Array.Array (Rf.rtF (Rf.fInt Sy.w16)) 65536) 19))) (Li._∷_ (5, Frozen.held (Frozen.fz-open Sy.erased 4 (κs .1 .1 .1 .1 .0) (Ro.lease (κs .1 .1 .1 .1 .0) (qs .1 .1 .1 .1 .0)) (LendAt.fz-shr (Array.Array (Rf.rtF (Rf.fInt Sy.w8)) 65536) 20))) (Li._∷_ (6, Frozen.held (Frozen.fz-open Sy.erased 5 (κs .1 .1 .1 .1 .1 .0) (Ro.lease (κs .1 .1 .1 .1 .1 .0) (qs .1 .1 .1 .1 .1 .0)) (LendAt.fz-shr (Array.Array (Rf.rtF (Rf.fInt Sy.w8)) 65536) 21))) (Li._∷_ (7, Frozen.held (Frozen.fz-open Sy.erased 6 (κs .1 .1 .1 .1 .1 .1 .0) (Ro.lease (κs .1 .1 .1 .1 .1 .1 .0) (qs .1 .1 .1 .1 .1 .1 .0)) (LendAt.fz-shr (Array.Array (Rf.rtF (Rf.fInt Sy.w8)) 65536) 22))) (Li._∷_ (8, Frozen.held (Frozen.fz-open Sy.erased 7 (κs .1 .1 .1 .1 .1 .1 .1 .0) (Ro.lease (κs .1 .1 .1 .1 .1 .1 .1 .0) (qs .1 .1 .1 .1 .1 .1 .1 .0)) (LendAt.fz-shr (Array.Array (Rf.rtF (Rf.fInt Sy.w8)) 65536) 23))) (Li._∷_ (9, row·13) (Li._∷_ (10, row·21) (Li._∷_ (11, Rows'.any-gone Laws'.mir) (Li._∷_ (12, row·26) (Li._∷_ (13, row·4) (Li._∷_ (14, row·5) (Li._∷_ (15, row·14) Li.[])))))))))))))))
 
         abbrev g83 : Li.List Ro.Entry
-        g83 = Li._∷_ (0, Rows'.sc-here Ro.sBool) (Li._∷_ (1, row·3) (Li._∷_ (2, row·2) (Li._∷_ (3, row·15) (Li._∷_ (4, Frozen.held (Frozen.fz-open Sy.erased 3 (κs .1 .1 .1 .0) (Ro.lease (κs .1 .1 .1 .0) (qs .1 .1 .1 .0)) (LendAt.fz-shr (Array.Array (Rf.rtF (Rf.fInt Sy.w16)) 349526) 19))) (Li._∷_ (5, Frozen.held (Frozen.fz-open Sy.erased 4 (κs .1 .1 .1 .1 .0) (Ro.lease (κs .1 .1 .1 .1 .0) (qs .1 .1 .1 .1 .0)) (LendAt.fz-shr (Array.Array (Rf.rtF (Rf.fInt Sy.w8)) 349526) 20))) (Li._∷_ (6, Frozen.held (Frozen.fz-open Sy.erased 5 (κs .1 .1 .1 .1 .1 .0) (Ro.lease (κs .1 .1 .1 .1 .1 .0) (qs .1 .1 .1 .1 .1 .0)) (LendAt.fz-shr (Array.Array (Rf.rtF (Rf.fInt Sy.w8)) 8388608) 21))) (Li._∷_ (7, Frozen.held (Frozen.fz-open Sy.erased 6 (κs .1 .1 .1 .1 .1 .1 .0) (Ro.lease (κs .1 .1 .1 .1 .1 .1 .0) (qs .1 .1 .1 .1 .1 .1 .0)) (LendAt.fz-shr (Array.Array (Rf.rtF (Rf.fInt Sy.w8)) 8388608) 22))) (Li._∷_ (8, Frozen.held (Frozen.fz-open Sy.erased 7 (κs .1 .1 .1 .1 .1 .1 .1 .0) (Ro.lease (κs .1 .1 .1 .1 .1 .1 .1 .0) (qs .1 .1 .1 .1 .1 .1 .1 .0)) (LendAt.fz-shr (Array.Array (Rf.rtF (Rf.fInt Sy.w8)) 65536) 23))) (Li._∷_ (9, row·13) (Li._∷_ (10, row·21) (Li._∷_ (11, Rows'.any-gone Laws'.mir) (Li._∷_ (12, row·26) (Li._∷_ (13, row·4) (Li._∷_ (14, row·5) (Li._∷_ (15, row·14) Li.[])))))))))))))))
+        g83 = Li._∷_ (0, Rows'.sc-here Ro.sBool) (Li._∷_ (1, row·3) (Li._∷_ (2, row·2) (Li._∷_ (3, row·15) (Li._∷_ (4, Frozen.held (Frozen.fz-open Sy.erased 3 (κs .1 .1 .1 .0) (Ro.lease (κs .1 .1 .1 .0) (qs .1 .1 .1 .0)) (LendAt.fz-shr (Array.Array (Rf.rtF (Rf.fInt Sy.w16)) 65536) 19))) (Li._∷_ (5, Frozen.held (Frozen.fz-open Sy.erased 4 (κs .1 .1 .1 .1 .0) (Ro.lease (κs .1 .1 .1 .1 .0) (qs .1 .1 .1 .1 .0)) (LendAt.fz-shr (Array.Array (Rf.rtF (Rf.fInt Sy.w8)) 65536) 20))) (Li._∷_ (6, Frozen.held (Frozen.fz-open Sy.erased 5 (κs .1 .1 .1 .1 .1 .0) (Ro.lease (κs .1 .1 .1 .1 .1 .0) (qs .1 .1 .1 .1 .1 .0)) (LendAt.fz-shr (Array.Array (Rf.rtF (Rf.fInt Sy.w8)) 65536) 21))) (Li._∷_ (7, Frozen.held (Frozen.fz-open Sy.erased 6 (κs .1 .1 .1 .1 .1 .1 .0) (Ro.lease (κs .1 .1 .1 .1 .1 .1 .0) (qs .1 .1 .1 .1 .1 .1 .0)) (LendAt.fz-shr (Array.Array (Rf.rtF (Rf.fInt Sy.w8)) 65536) 22))) (Li._∷_ (8, Frozen.held (Frozen.fz-open Sy.erased 7 (κs .1 .1 .1 .1 .1 .1 .1 .0) (Ro.lease (κs .1 .1 .1 .1 .1 .1 .1 .0) (qs .1 .1 .1 .1 .1 .1 .1 .0)) (LendAt.fz-shr (Array.Array (Rf.rtF (Rf.fInt Sy.w8)) 65536) 23))) (Li._∷_ (9, row·13) (Li._∷_ (10, row·21) (Li._∷_ (11, Rows'.any-gone Laws'.mir) (Li._∷_ (12, row·26) (Li._∷_ (13, row·4) (Li._∷_ (14, row·5) (Li._∷_ (15, row·14) Li.[])))))))))))))))
 
         abbrev g88 : Li.List Ro.Entry
-        g88 = Li._∷_ (0, Rows'.sc-here Ro.sBool) (Li._∷_ (1, row·3) (Li._∷_ (2, row·2) (Li._∷_ (3, row·15) (Li._∷_ (4, Frozen.held (Frozen.fz-open Sy.erased 3 (κs .1 .1 .1 .0) (Ro.lease (κs .1 .1 .1 .0) (qs .1 .1 .1 .0)) (LendAt.fz-shr (Array.Array (Rf.rtF (Rf.fInt Sy.w16)) 349526) 19))) (Li._∷_ (5, Frozen.held (Frozen.fz-open Sy.erased 4 (κs .1 .1 .1 .1 .0) (Ro.lease (κs .1 .1 .1 .1 .0) (qs .1 .1 .1 .1 .0)) (LendAt.fz-shr (Array.Array (Rf.rtF (Rf.fInt Sy.w8)) 349526) 20))) (Li._∷_ (6, Frozen.held (Frozen.fz-open Sy.erased 5 (κs .1 .1 .1 .1 .1 .0) (Ro.lease (κs .1 .1 .1 .1 .1 .0) (qs .1 .1 .1 .1 .1 .0)) (LendAt.fz-shr (Array.Array (Rf.rtF (Rf.fInt Sy.w8)) 8388608) 21))) (Li._∷_ (7, Frozen.held (Frozen.fz-open Sy.erased 6 (κs .1 .1 .1 .1 .1 .1 .0) (Ro.lease (κs .1 .1 .1 .1 .1 .1 .0) (qs .1 .1 .1 .1 .1 .1 .0)) (LendAt.fz-shr (Array.Array (Rf.rtF (Rf.fInt Sy.w8)) 8388608) 22))) (Li._∷_ (8, Frozen.held (Frozen.fz-open Sy.erased 7 (κs .1 .1 .1 .1 .1 .1 .1 .0) (Ro.lease (κs .1 .1 .1 .1 .1 .1 .1 .0) (qs .1 .1 .1 .1 .1 .1 .1 .0)) (LendAt.fz-shr (Array.Array (Rf.rtF (Rf.fInt Sy.w8)) 65536) 23))) (Li._∷_ (9, row·13) (Li._∷_ (10, row·47) (Li._∷_ (11, Rows'.any-gone Laws'.mir) (Li._∷_ (12, row·26) (Li._∷_ (13, row·4) (Li._∷_ (14, row·5) (Li._∷_ (15, row·14) Li.[])))))))))))))))
+        g88 = Li._∷_ (0, Rows'.sc-here Ro.sBool) (Li._∷_ (1, row·3) (Li._∷_ (2, row·2) (Li._∷_ (3, row·15) (Li._∷_ (4, Frozen.held (Frozen.fz-open Sy.erased 3 (κs .1 .1 .1 .0) (Ro.lease (κs .1 .1 .1 .0) (qs .1 .1 .1 .0)) (LendAt.fz-shr (Array.Array (Rf.rtF (Rf.fInt Sy.w16)) 65536) 19))) (Li._∷_ (5, Frozen.held (Frozen.fz-open Sy.erased 4 (κs .1 .1 .1 .1 .0) (Ro.lease (κs .1 .1 .1 .1 .0) (qs .1 .1 .1 .1 .0)) (LendAt.fz-shr (Array.Array (Rf.rtF (Rf.fInt Sy.w8)) 65536) 20))) (Li._∷_ (6, Frozen.held (Frozen.fz-open Sy.erased 5 (κs .1 .1 .1 .1 .1 .0) (Ro.lease (κs .1 .1 .1 .1 .1 .0) (qs .1 .1 .1 .1 .1 .0)) (LendAt.fz-shr (Array.Array (Rf.rtF (Rf.fInt Sy.w8)) 65536) 21))) (Li._∷_ (7, Frozen.held (Frozen.fz-open Sy.erased 6 (κs .1 .1 .1 .1 .1 .1 .0) (Ro.lease (κs .1 .1 .1 .1 .1 .1 .0) (qs .1 .1 .1 .1 .1 .1 .0)) (LendAt.fz-shr (Array.Array (Rf.rtF (Rf.fInt Sy.w8)) 65536) 22))) (Li._∷_ (8, Frozen.held (Frozen.fz-open Sy.erased 7 (κs .1 .1 .1 .1 .1 .1 .1 .0) (Ro.lease (κs .1 .1 .1 .1 .1 .1 .1 .0) (qs .1 .1 .1 .1 .1 .1 .1 .0)) (LendAt.fz-shr (Array.Array (Rf.rtF (Rf.fInt Sy.w8)) 65536) 23))) (Li._∷_ (9, row·13) (Li._∷_ (10, row·47) (Li._∷_ (11, Rows'.any-gone Laws'.mir) (Li._∷_ (12, row·26) (Li._∷_ (13, row·4) (Li._∷_ (14, row·5) (Li._∷_ (15, row·14) Li.[])))))))))))))))
 
         abbrev g89 : Li.List Ro.Entry
-        g89 = Li._∷_ (0, Rows'.sc-here Ro.sBool) (Li._∷_ (1, row·3) (Li._∷_ (2, row·2) (Li._∷_ (3, row·15) (Li._∷_ (4, Frozen.held (Frozen.fz-open Sy.erased 3 (κs .1 .1 .1 .0) (Ro.lease (κs .1 .1 .1 .0) (qs .1 .1 .1 .0)) (LendAt.fz-shr (Array.Array (Rf.rtF (Rf.fInt Sy.w16)) 349526) 19))) (Li._∷_ (5, Frozen.held (Frozen.fz-open Sy.erased 4 (κs .1 .1 .1 .1 .0) (Ro.lease (κs .1 .1 .1 .1 .0) (qs .1 .1 .1 .1 .0)) (LendAt.fz-shr (Array.Array (Rf.rtF (Rf.fInt Sy.w8)) 349526) 20))) (Li._∷_ (6, Frozen.held (Frozen.fz-open Sy.erased 5 (κs .1 .1 .1 .1 .1 .0) (Ro.lease (κs .1 .1 .1 .1 .1 .0) (qs .1 .1 .1 .1 .1 .0)) (LendAt.fz-shr (Array.Array (Rf.rtF (Rf.fInt Sy.w8)) 8388608) 21))) (Li._∷_ (7, Frozen.held (Frozen.fz-open Sy.erased 6 (κs .1 .1 .1 .1 .1 .1 .0) (Ro.lease (κs .1 .1 .1 .1 .1 .1 .0) (qs .1 .1 .1 .1 .1 .1 .0)) (LendAt.fz-shr (Array.Array (Rf.rtF (Rf.fInt Sy.w8)) 8388608) 22))) (Li._∷_ (8, Frozen.held (Frozen.fz-open Sy.erased 7 (κs .1 .1 .1 .1 .1 .1 .1 .0) (Ro.lease (κs .1 .1 .1 .1 .1 .1 .1 .0) (qs .1 .1 .1 .1 .1 .1 .1 .0)) (LendAt.fz-shr (Array.Array (Rf.rtF (Rf.fInt Sy.w8)) 65536) 23))) (Li._∷_ (9, row·13) (Li._∷_ (10, row·47) (Li._∷_ (11, Rows'.any-gone Laws'.mir) (Li._∷_ (12, Rows'.any-gone Laws.mir) (Li._∷_ (13, row·4) (Li._∷_ (14, row·5) (Li._∷_ (15, row·14) Li.[])))))))))))))))
+        g89 = Li._∷_ (0, Rows'.sc-here Ro.sBool) (Li._∷_ (1, row·3) (Li._∷_ (2, row·2) (Li._∷_ (3, row·15) (Li._∷_ (4, Frozen.held (Frozen.fz-open Sy.erased 3 (κs .1 .1 .1 .0) (Ro.lease (κs .1 .1 .1 .0) (qs .1 .1 .1 .0)) (LendAt.fz-shr (Array.Array (Rf.rtF (Rf.fInt Sy.w16)) 65536) 19))) (Li._∷_ (5, Frozen.held (Frozen.fz-open Sy.erased 4 (κs .1 .1 .1 .1 .0) (Ro.lease (κs .1 .1 .1 .1 .0) (qs .1 .1 .1 .1 .0)) (LendAt.fz-shr (Array.Array (Rf.rtF (Rf.fInt Sy.w8)) 65536) 20))) (Li._∷_ (6, Frozen.held (Frozen.fz-open Sy.erased 5 (κs .1 .1 .1 .1 .1 .0) (Ro.lease (κs .1 .1 .1 .1 .1 .0) (qs .1 .1 .1 .1 .1 .0)) (LendAt.fz-shr (Array.Array (Rf.rtF (Rf.fInt Sy.w8)) 65536) 21))) (Li._∷_ (7, Frozen.held (Frozen.fz-open Sy.erased 6 (κs .1 .1 .1 .1 .1 .1 .0) (Ro.lease (κs .1 .1 .1 .1 .1 .1 .0) (qs .1 .1 .1 .1 .1 .1 .0)) (LendAt.fz-shr (Array.Array (Rf.rtF (Rf.fInt Sy.w8)) 65536) 22))) (Li._∷_ (8, Frozen.held (Frozen.fz-open Sy.erased 7 (κs .1 .1 .1 .1 .1 .1 .1 .0) (Ro.lease (κs .1 .1 .1 .1 .1 .1 .1 .0) (qs .1 .1 .1 .1 .1 .1 .1 .0)) (LendAt.fz-shr (Array.Array (Rf.rtF (Rf.fInt Sy.w8)) 65536) 23))) (Li._∷_ (9, row·13) (Li._∷_ (10, row·47) (Li._∷_ (11, Rows'.any-gone Laws'.mir) (Li._∷_ (12, Rows'.any-gone Laws.mir) (Li._∷_ (13, row·4) (Li._∷_ (14, row·5) (Li._∷_ (15, row·14) Li.[])))))))))))))))
 
         abbrev g90 : Li.List Ro.Entry
-        g90 = Li._∷_ (0, Rows'.sc-here Ro.sBool) (Li._∷_ (1, row·3) (Li._∷_ (2, row·2) (Li._∷_ (3, row·15) (Li._∷_ (4, row·11) (Li._∷_ (5, Frozen.held (Frozen.fz-open Sy.erased 4 (κs .1 .1 .1 .1 .0) (Ro.lease (κs .1 .1 .1 .1 .0) (qs .1 .1 .1 .1 .0)) (LendAt.fz-shr (Array.Array (Rf.rtF (Rf.fInt Sy.w8)) 349526) 20))) (Li._∷_ (6, Frozen.held (Frozen.fz-open Sy.erased 5 (κs .1 .1 .1 .1 .1 .0) (Ro.lease (κs .1 .1 .1 .1 .1 .0) (qs .1 .1 .1 .1 .1 .0)) (LendAt.fz-shr (Array.Array (Rf.rtF (Rf.fInt Sy.w8)) 8388608) 21))) (Li._∷_ (7, Frozen.held (Frozen.fz-open Sy.erased 6 (κs .1 .1 .1 .1 .1 .1 .0) (Ro.lease (κs .1 .1 .1 .1 .1 .1 .0) (qs .1 .1 .1 .1 .1 .1 .0)) (LendAt.fz-shr (Array.Array (Rf.rtF (Rf.fInt Sy.w8)) 8388608) 22))) (Li._∷_ (8, Frozen.held (Frozen.fz-open Sy.erased 7 (κs .1 .1 .1 .1 .1 .1 .1 .0) (Ro.lease (κs .1 .1 .1 .1 .1 .1 .1 .0) (qs .1 .1 .1 .1 .1 .1 .1 .0)) (LendAt.fz-shr (Array.Array (Rf.rtF (Rf.fInt Sy.w8)) 65536) 23))) (Li._∷_ (9, row·13) (Li._∷_ (10, row·47) (Li._∷_ (11, Rows'.any-gone Laws'.mir) (Li._∷_ (12, Rows'.any-gone Laws.mir) (Li._∷_ (13, row·4) (Li._∷_ (14, row·5) (Li._∷_ (15, row·14) Li.[])))))))))))))))
+        g90 = Li._∷_ (0, Rows'.sc-here Ro.sBool) (Li._∷_ (1, row·3) (Li._∷_ (2, row·2) (Li._∷_ (3, row·15) (Li._∷_ (4, row·11) (Li._∷_ (5, Frozen.held (Frozen.fz-open Sy.erased 4 (κs .1 .1 .1 .1 .0) (Ro.lease (κs .1 .1 .1 .1 .0) (qs .1 .1 .1 .1 .0)) (LendAt.fz-shr (Array.Array (Rf.rtF (Rf.fInt Sy.w8)) 65536) 20))) (Li._∷_ (6, Frozen.held (Frozen.fz-open Sy.erased 5 (κs .1 .1 .1 .1 .1 .0) (Ro.lease (κs .1 .1 .1 .1 .1 .0) (qs .1 .1 .1 .1 .1 .0)) (LendAt.fz-shr (Array.Array (Rf.rtF (Rf.fInt Sy.w8)) 65536) 21))) (Li._∷_ (7, Frozen.held (Frozen.fz-open Sy.erased 6 (κs .1 .1 .1 .1 .1 .1 .0) (Ro.lease (κs .1 .1 .1 .1 .1 .1 .0) (qs .1 .1 .1 .1 .1 .1 .0)) (LendAt.fz-shr (Array.Array (Rf.rtF (Rf.fInt Sy.w8)) 65536) 22))) (Li._∷_ (8, Frozen.held (Frozen.fz-open Sy.erased 7 (κs .1 .1 .1 .1 .1 .1 .1 .0) (Ro.lease (κs .1 .1 .1 .1 .1 .1 .1 .0) (qs .1 .1 .1 .1 .1 .1 .1 .0)) (LendAt.fz-shr (Array.Array (Rf.rtF (Rf.fInt Sy.w8)) 65536) 23))) (Li._∷_ (9, row·13) (Li._∷_ (10, row·47) (Li._∷_ (11, Rows'.any-gone Laws'.mir) (Li._∷_ (12, Rows'.any-gone Laws.mir) (Li._∷_ (13, row·4) (Li._∷_ (14, row·5) (Li._∷_ (15, row·14) Li.[])))))))))))))))
 
         abbrev g91 : Li.List Ro.Entry
-        g91 = Li._∷_ (0, Rows'.sc-here Ro.sBool) (Li._∷_ (1, row·3) (Li._∷_ (2, row·2) (Li._∷_ (3, row·15) (Li._∷_ (4, row·11) (Li._∷_ (5, row·12) (Li._∷_ (6, Frozen.held (Frozen.fz-open Sy.erased 5 (κs .1 .1 .1 .1 .1 .0) (Ro.lease (κs .1 .1 .1 .1 .1 .0) (qs .1 .1 .1 .1 .1 .0)) (LendAt.fz-shr (Array.Array (Rf.rtF (Rf.fInt Sy.w8)) 8388608) 21))) (Li._∷_ (7, Frozen.held (Frozen.fz-open Sy.erased 6 (κs .1 .1 .1 .1 .1 .1 .0) (Ro.lease (κs .1 .1 .1 .1 .1 .1 .0) (qs .1 .1 .1 .1 .1 .1 .0)) (LendAt.fz-shr (Array.Array (Rf.rtF (Rf.fInt Sy.w8)) 8388608) 22))) (Li._∷_ (8, Frozen.held (Frozen.fz-open Sy.erased 7 (κs .1 .1 .1 .1 .1 .1 .1 .0) (Ro.lease (κs .1 .1 .1 .1 .1 .1 .1 .0) (qs .1 .1 .1 .1 .1 .1 .1 .0)) (LendAt.fz-shr (Array.Array (Rf.rtF (Rf.fInt Sy.w8)) 65536) 23))) (Li._∷_ (9, row·13) (Li._∷_ (10, row·47) (Li._∷_ (11, Rows'.any-gone Laws'.mir) (Li._∷_ (12, Rows'.any-gone Laws.mir) (Li._∷_ (13, row·4) (Li._∷_ (14, row·5) (Li._∷_ (15, row·14) Li.[])))))))))))))))
+        g91 = Li._∷_ (0, Rows'.sc-here Ro.sBool) (Li._∷_ (1, row·3) (Li._∷_ (2, row·2) (Li._∷_ (3, row·15) (Li._∷_ (4, row·11) (Li._∷_ (5, row·12) (Li._∷_ (6, Frozen.held (Frozen.fz-open Sy.erased 5 (κs .1 .1 .1 .1 .1 .0) (Ro.lease (κs .1 .1 .1 .1 .1 .0) (qs .1 .1 .1 .1 .1 .0)) (LendAt.fz-shr (Array.Array (Rf.rtF (Rf.fInt Sy.w8)) 65536) 21))) (Li._∷_ (7, Frozen.held (Frozen.fz-open Sy.erased 6 (κs .1 .1 .1 .1 .1 .1 .0) (Ro.lease (κs .1 .1 .1 .1 .1 .1 .0) (qs .1 .1 .1 .1 .1 .1 .0)) (LendAt.fz-shr (Array.Array (Rf.rtF (Rf.fInt Sy.w8)) 65536) 22))) (Li._∷_ (8, Frozen.held (Frozen.fz-open Sy.erased 7 (κs .1 .1 .1 .1 .1 .1 .1 .0) (Ro.lease (κs .1 .1 .1 .1 .1 .1 .1 .0) (qs .1 .1 .1 .1 .1 .1 .1 .0)) (LendAt.fz-shr (Array.Array (Rf.rtF (Rf.fInt Sy.w8)) 65536) 23))) (Li._∷_ (9, row·13) (Li._∷_ (10, row·47) (Li._∷_ (11, Rows'.any-gone Laws'.mir) (Li._∷_ (12, Rows'.any-gone Laws.mir) (Li._∷_ (13, row·4) (Li._∷_ (14, row·5) (Li._∷_ (15, row·14) Li.[])))))))))))))))
 
         abbrev g92 : Li.List Ro.Entry
-        g92 = Li._∷_ (0, Rows'.sc-here Ro.sBool) (Li._∷_ (1, row·3) (Li._∷_ (2, row·2) (Li._∷_ (3, row·15) (Li._∷_ (4, row·11) (Li._∷_ (5, row·12) (Li._∷_ (6, row·10) (Li._∷_ (7, Frozen.held (Frozen.fz-open Sy.erased 6 (κs .1 .1 .1 .1 .1 .1 .0) (Ro.lease (κs .1 .1 .1 .1 .1 .1 .0) (qs .1 .1 .1 .1 .1 .1 .0)) (LendAt.fz-shr (Array.Array (Rf.rtF (Rf.fInt Sy.w8)) 8388608) 22))) (Li._∷_ (8, Frozen.held (Frozen.fz-open Sy.erased 7 (κs .1 .1 .1 .1 .1 .1 .1 .0) (Ro.lease (κs .1 .1 .1 .1 .1 .1 .1 .0) (qs .1 .1 .1 .1 .1 .1 .1 .0)) (LendAt.fz-shr (Array.Array (Rf.rtF (Rf.fInt Sy.w8)) 65536) 23))) (Li._∷_ (9, row·13) (Li._∷_ (10, row·47) (Li._∷_ (11, Rows'.any-gone Laws'.mir) (Li._∷_ (12, Rows'.any-gone Laws.mir) (Li._∷_ (13, row·4) (Li._∷_ (14, row·5) (Li._∷_ (15, row·14) Li.[])))))))))))))))
+        g92 = Li._∷_ (0, Rows'.sc-here Ro.sBool) (Li._∷_ (1, row·3) (Li._∷_ (2, row·2) (Li._∷_ (3, row·15) (Li._∷_ (4, row·11) (Li._∷_ (5, row·12) (Li._∷_ (6, row·10) (Li._∷_ (7, Frozen.held (Frozen.fz-open Sy.erased 6 (κs .1 .1 .1 .1 .1 .1 .0) (Ro.lease (κs .1 .1 .1 .1 .1 .1 .0) (qs .1 .1 .1 .1 .1 .1 .0)) (LendAt.fz-shr (Array.Array (Rf.rtF (Rf.fInt Sy.w8)) 65536) 22))) (Li._∷_ (8, Frozen.held (Frozen.fz-open Sy.erased 7 (κs .1 .1 .1 .1 .1 .1 .1 .0) (Ro.lease (κs .1 .1 .1 .1 .1 .1 .1 .0) (qs .1 .1 .1 .1 .1 .1 .1 .0)) (LendAt.fz-shr (Array.Array (Rf.rtF (Rf.fInt Sy.w8)) 65536) 23))) (Li._∷_ (9, row·13) (Li._∷_ (10, row·47) (Li._∷_ (11, Rows'.any-gone Laws'.mir) (Li._∷_ (12, Rows'.any-gone Laws.mir) (Li._∷_ (13, row·4) (Li._∷_ (14, row·5) (Li._∷_ (15, row·14) Li.[])))))))))))))))
 
         abbrev g93 : Li.List Ro.Entry
-        g93 = Li._∷_ (0, Rows'.sc-here Ro.sBool) (Li._∷_ (1, row·3) (Li._∷_ (2, row·2) (Li._∷_ (3, row·15) (Li._∷_ (4, row·11) (Li._∷_ (5, row·12) (Li._∷_ (6, row·10) (Li._∷_ (7, row·8) (Li._∷_ (8, Frozen.held (Frozen.fz-open Sy.erased 7 (κs .1 .1 .1 .1 .1 .1 .1 .0) (Ro.lease (κs .1 .1 .1 .1 .1 .1 .1 .0) (qs .1 .1 .1 .1 .1 .1 .1 .0)) (LendAt.fz-shr (Array.Array (Rf.rtF (Rf.fInt Sy.w8)) 65536) 23))) (Li._∷_ (9, row·13) (Li._∷_ (10, row·47) (Li._∷_ (11, Rows'.any-gone Laws'.mir) (Li._∷_ (12, Rows'.any-gone Laws.mir) (Li._∷_ (13, row·4) (Li._∷_ (14, row·5) (Li._∷_ (15, row·14) Li.[])))))))))))))))
+        g93 = Li._∷_ (0, Rows'.sc-here Ro.sBool) (Li._∷_ (1, row·3) (Li._∷_ (2, row·2) (Li._∷_ (3, row·15) (Li._∷_ (4, row·11) (Li._∷_ (5, row·12) (Li._∷_ (6, row·10) (Li._∷_ (7, row·9) (Li._∷_ (8, Frozen.held (Frozen.fz-open Sy.erased 7 (κs .1 .1 .1 .1 .1 .1 .1 .0) (Ro.lease (κs .1 .1 .1 .1 .1 .1 .1 .0) (qs .1 .1 .1 .1 .1 .1 .1 .0)) (LendAt.fz-shr (Array.Array (Rf.rtF (Rf.fInt Sy.w8)) 65536) 23))) (Li._∷_ (9, row·13) (Li._∷_ (10, row·47) (Li._∷_ (11, Rows'.any-gone Laws'.mir) (Li._∷_ (12, Rows'.any-gone Laws.mir) (Li._∷_ (13, row·4) (Li._∷_ (14, row·5) (Li._∷_ (15, row·14) Li.[])))))))))))))))
 
         abbrev slots·0 : Li.List Ro.Life
         slots·0 = Li._∷_ (Ro.lease (κs .0) (qs .0)) (Li._∷_ (Ro.lease (κs .1 .0) (qs .1 .0)) (Li._∷_ (Ro.lease (κs .1 .1 .0) (qs .1 .1 .0)) (Li._∷_ (Ro.lease (κs .1 .1 .1 .0) (qs .1 .1 .1 .0)) (Li._∷_ (Ro.lease (κs .1 .1 .1 .1 .0) (qs .1 .1 .1 .1 .0)) (Li._∷_ (Ro.lease (κs .1 .1 .1 .1 .1 .0) (qs .1 .1 .1 .1 .1 .0)) (Li._∷_ (Ro.lease (κs .1 .1 .1 .1 .1 .1 .0) (qs .1 .1 .1 .1 .1 .1 .0)) (Li._∷_ (Ro.lease (κs .1 .1 .1 .1 .1 .1 .1 .0) (qs .1 .1 .1 .1 .1 .1 .1 .0)) (Li._∷_ Ro.off (Li._∷_ Ro.off (Li._∷_ Ro.off (Li._∷_ Ro.off (Li._∷_ Ro.off (Li._∷_ Ro.off (Li._∷_ Ro.off (Li._∷_ Ro.off (Li._∷_ Ro.off (Li._∷_ Ro.off (Li._∷_ Ro.off (Li._∷_ Ro.off (Li._∷_ Ro.off (Li._∷_ Ro.off (Li._∷_ Ro.off (Li._∷_ Ro.off Li.[])))))))))))))))))))))))
@@ -2204,17 +2198,17 @@ module _ (claims· : Claims) where
           E = Frame.EnvOf 𝓤 H (Li._∷_ (Kinds.tyR r) (Enter.tysP ps xs)) bs
 
           pub typed : Ty.Typed 𝓤 H A 𝓣 E (Function.Γin 8 ps r xs m κs qs) b76 (Function.Δret 8 ps r xs m κs qs) Φ
-          typed = (Ty.s-seq 𝓤 H A W 𝓣 E G0 G2 b0 b75 Δ0 (Ty.pass T0 T2 s0) at125 (Repeat.t-repeat 𝓤 H A W E 𝓣 (Rf.rtF (Rf.fInt Sy.w8)) (Plain'.uint-lawful 𝓤 H A W Sy.w8) (Copies.cRf (Rf.fInt Sy.w8) .copy 𝓤 H A W) (Plain'.uint-makes 𝓤 H A W Sy.w8) 25 G0 9 (Sc.oInt Sy.w8 0) (λ m. 0) (Reads.room-gone 𝓤 H A ty·60) tt Pa.refl λ m wa. (Pa.refl, Dec'.lit< tt)) (Ty.g-pre 𝓤 H A W 𝓣 E G2 G3 b75 Δ0 (Ty.pass T2 T3 s1) at124 (AtSlots.g-as-by 𝓤 H A W E (λ ρ. Unit) G2 9 row·55 (λ x. x) (Own.told-none 𝓤 H A (G2 .slots)) λ ρ told. Repeat.whole-arr 𝓤 H A W (Rf.rtF (Rf.fInt Sy.w8)) 25 tt ρ) (Ty.g-pre 𝓤 H A W 𝓣 E G3 G4 b75 Δ0 (λ Ψ. Ψ) at123 (Lifetime.g-begin 𝓤 H A W E G3 8 (tt, (tt, (tt, (tt, (tt, (tt, (tt, (tt, (tt, (tt, (tt, (tt, (tt, (tt, (tt, (tt, (tt, (tt, (tt, (tt, (tt, (tt, (tt, (tt, (tt, (tt, (tt, (tt, (tt, (tt, (tt, (tt, (tt, (tt, (tt, (tt, (tt, (tt, (tt, (tt, (tt, (tt, (tt, tt)))))))))))))))))))))))))))))))))))))))))))) (Ty.s-seq 𝓤 H A W 𝓣 E G4 G5 b1 b74 Δ0 (Ty.give s3) at122 (Reborrow.t-mref-relend 𝓤 H A W E 𝓣 G4 1 13 0 8 (Array.Array (Rf.rtF (Rf.fInt Sy.w8)) 1114112) ty·61 (Sy.tyRef (Sy.named 0) Sy.mut ty·61) (Sy.tyRef Sy.erased Sy.mut ty·61) (Ro.lease (κs .0) (qs .0)) (λ x. x) (Reads.as-is 𝓤 H A row·3) (Reads.room-gone 𝓤 H A (Sy.tyRef Sy.erased Sy.mut ty·61)) Pa.refl tt Pa.refl Pa.refl λ b o. tt) (Ty.g-pre 𝓤 H A W 𝓣 E G5 G6 b74 Δ0 (λ Ψ. Ψ) at121 (Lifetime.g-begin 𝓤 H A W E G5 9 (tt, ((tt, tt), (tt, (tt, (tt, (tt, (tt, (tt, (tt, (tt, (tt, (tt, (tt, (tt, (tt, (tt, (tt, (tt, (tt, (tt, (tt, (tt, (tt, (tt, (tt, (tt, (tt, (tt, (tt, (tt, (tt, (tt, (tt, (tt, (tt, (tt, (tt, (tt, (tt, (tt, (tt, (tt, (tt, tt)))))))))))))))))))))))))))))))))))))))))))) (Ty.s-seq 𝓤 H A W 𝓣 E G6 G7 b2 b73 Δ0 (Ty.give s5) at120 (Local.t-sc-borrow 𝓤 H A W E 𝓣 G6 9 14 9 (Array.Array (Rf.rtF (Rf.fInt Sy.w8)) 25) (Sy.tyRef Sy.erased Sy.mut ty·60) (λ x. x) (Whole.mem-arr 𝓤 H A W (Rf.rtF (Rf.fInt Sy.w8)) 25) (Reads.room-gone 𝓤 H A (Sy.tyRef Sy.erased Sy.mut ty·60)) Pa.refl λ b o. tt) (Ty.s-seq 𝓤 H A W 𝓣 E G7 G8 b3 b72 Δ0 (Ty.both s6) at119 (Plain.t-call-plain 𝓤 H A W 𝓣 2 ps·0 r·0 (claims· .0) (claims· .1) "replay::packed::next_packed" (known .0) E (λ pos β. β) G7 (record { pos = 13; ty = Sy.tyRef Sy.erased Sy.mut ty·61; ref = λ x. x }, (record { pos = 14; ty = Sy.tyRef Sy.erased Sy.mut ty·60; ref = λ x. x }, tt)) 10 (Li._∷_ 8 (Li._∷_ 9 Li.[])) (Call.sub-id 𝓤 H A W (G7 .slots)) (Reads.as-is 𝓤 H A row·52, Reads.reads-mref 𝓤 H A W (Array.Array (Rf.rtF (Rf.fInt Sy.w8)) 1114112) (Sy.tyRef Sy.erased Sy.mut ty·61) 8, Pa.refl, (Reads.as-is 𝓤 H A (Rows'.mref (Array.Array (Rf.rtF (Rf.fInt Sy.w8)) 25) (Sy.tyRef Sy.erased Sy.mut ty·60) 9), Reads.reads-mref 𝓤 H A W (Array.Array (Rf.rtF (Rf.fInt Sy.w8)) 25) (Sy.tyRef Sy.erased Sy.mut ty·60) 9, Pa.refl, tt)) (Reads.room-gone 𝓤 H A (Sy.tyInt Sy.w64)) (tt, (tt, tt)) Pa.refl) (Ty.g-pre 𝓤 H A W 𝓣 E G8 G9 b72 Δ0 (λ Ψ. Ψ) at118 (Lifetime.g-end 𝓤 H A W E G8 8 Pa.refl) (Ty.g-pre 𝓤 H A W 𝓣 E G9 G10 b72 Δ0 (Ty.ask s8) at117 (Reborrow.g-back-mref 𝓤 H A W E G9 13 1 0 8 (Array.Array (Rf.rtF (Rf.fInt Sy.w8)) 1114112) (Sy.tyRef (Sy.named 0) Sy.mut ty·61) (Sy.tyRef Sy.erased Sy.mut ty·61) (Ro.lease (κs .0) (qs .0)) (λ x. x) (λ x. x) (Reads.as-is 𝓤 H A (Rows'.mleft (Array.Array (Rf.rtF (Rf.fInt Sy.w8)) 1114112) (Sy.tyRef Sy.erased Sy.mut ty·61))) (Reads.as-is 𝓤 H A (Rows'.mref-owed (Array.Array (Rf.rtF (Rf.fInt Sy.w8)) 1114112) (Sy.tyRef (Sy.named 0) Sy.mut ty·61) 0 8 (Ro.lease (κs .0) (qs .0)))) Pa.refl Pa.refl) (Ty.g-pre 𝓤 H A W 𝓣 E G10 G11 b72 Δ0 (λ Ψ. Ψ) at116 (Lifetime.g-forget 𝓤 H A W E G10 8 Ro.dead Pa.refl) (Ty.g-pre 𝓤 H A W 𝓣 E G11 G12 b72 Δ0 (λ Ψ. Ψ) at115 (Lifetime.g-end 𝓤 H A W E G11 9 Pa.refl) (Ty.g-pre 𝓤 H A W 𝓣 E G12 G13 b72 Δ0 (Ty.ask s11) at114 (Local.g-back-sc 𝓤 H A W E G12 14 9 9 (Array.Array (Rf.rtF (Rf.fInt Sy.w8)) 25) (Sy.tyRef Sy.erased Sy.mut ty·60) row·55 (λ x. x) (λ x. x) (λ x. x) (Reads.as-is 𝓤 H A (Rows'.mleft (Array.Array (Rf.rtF (Rf.fInt Sy.w8)) 25) (Sy.tyRef Sy.erased Sy.mut ty·60))) (Reads.as-is 𝓤 H A row·56) (Whole.arr-mem 𝓤 H A W (Rf.rtF (Rf.fInt Sy.w8)) 25 tt) Pa.refl) (Ty.g-pre 𝓤 H A W 𝓣 E G13 G14 b72 Δ0 (λ Ψ. Ψ) at113 (Lifetime.g-forget 𝓤 H A W E G13 9 Ro.dead Pa.refl) (Ty.s-seq 𝓤 H A W 𝓣 E G14 G15 b4 b71 Δ0 (Ty.ask s13) at112 (Sc.t-op2 𝓤 H A W E 𝓣 G14 (Sy.lt Sy.unsigned) (Sc.oBig Sy.w64 1114112) (Sc.oAt 10 (Sy.tyInt Sy.w64) (Ro.valS (Ro.sInt Sy.w64))) 15 (Rows'.sc-here Ro.sBool) Sy.tyBool (Ro.valS Ro.sBool) (Ro.sBool .of) record { lower = record { fits = Dec'.lit< tt } } (Sc.reads-sc 𝓤 H A W (Ro.sInt Sy.w64), Pa.refl) (Reads.room-gone 𝓤 H A Sy.tyBool) (Sc.holds-sc 𝓤 H A W Ro.sBool) Pa.refl (λ u. Pa.refl) λ u. tt) (Ty.t-seq 𝓤 H A W 𝓣 E G15 G14 b9 b70 Δ0 at7 at111 (Sc.t-cond 𝓤 H A W E 𝓣 G15 15 (λ x. x) b7 b8 Δ1 at4 at6 (Sc.reads-sc 𝓤 H A W Ro.sBool) Pa.refl (Ty.g-pre 𝓤 H A W 𝓣 E G15 G17 b7 Δ1 (Ty.pass T15 T17 s14) at3 (Sc.g-room 𝓤 H A W E G15 9 ty·60 (Init.room-arr 𝓤 H A W (Rf.rtF (Rf.fInt Sy.w8)) 25 0 25 Pa.refl)) (Ty.g-pre 𝓤 H A W 𝓣 E G17 G18 b7 Δ1 (Ty.pass T17 T18 s15) at2 (Sc.g-room 𝓤 H A W E G17 15 Sy.tyBool (Sc.room-sc 𝓤 H A W Ro.sBool)) (Ty.s-seq 𝓤 H A W 𝓣 E G18 G19 b5 b6 Δ1 (Ty.pass T18 T19 s16) at1 (Sc.t-use 𝓤 H A W E 𝓣 G18 (Sc.oBool Bool'.false) 0 (Rows'.sc-here Ro.sBool) Sy.tyBool (Ro.valS Ro.sBool) (Ro.sBool .of) tt (Reads.room-gone 𝓤 H A Sy.tyBool) (Sc.holds-sc 𝓤 H A W Ro.sBool) Pa.refl (λ u. Pa.refl) λ u. tt) (Ty.g-pre 𝓤 H A W 𝓣 E G19 G1 b6 Δ1 (Ty.pass T19 T1 s17) at0 (Sc.g-room 𝓤 H A W E G19 10 (Sy.tyInt Sy.w64) (Sc.room-sc 𝓤 H A W (Ro.sInt Sy.w64))) (Ty.t-return 𝓤 H A W 𝓣 E Δ1 tt))))) (Ty.g-pre 𝓤 H A W 𝓣 E G15 G14 b8 Δ1 (Ty.pass T15 T13 s18) at5 (Sc.g-room 𝓤 H A W E G15 15 Sy.tyBool (Sc.room-sc 𝓤 H A W Ro.sBool)) (Ty.t-skip 𝓤 H A W 𝓣 E Δ1 tt))) (Ty.g-pre 𝓤 H A W 𝓣 E G14 G22 b70 Δ0 (λ Ψ. Ψ) at110 (Lifetime.g-begin 𝓤 H A W E G14 10 (tt, (tt, (tt, (tt, (tt, (tt, (tt, (tt, (tt, (tt, (tt, (tt, (tt, (tt, (tt, (tt, (tt, (tt, (tt, (tt, (tt, (tt, (tt, (tt, (tt, (tt, (tt, (tt, (tt, (tt, (tt, (tt, (tt, (tt, (tt, (tt, (tt, (tt, (tt, (tt, (tt, (tt, (tt, tt)))))))))))))))))))))))))))))))))))))))))))) (Ty.s-seq 𝓤 H A W 𝓣 E G22 G23 b10 b69 Δ0 (Ty.give s20) at109 (Local.t-sc-share 𝓤 H A W E 𝓣 G22 9 16 10 (Array.Array (Rf.rtF (Rf.fInt Sy.w8)) 25) (Sy.tyRef Sy.erased Sy.imm ty·60) (λ x. x) (Whole.mem-arr 𝓤 H A W (Rf.rtF (Rf.fInt Sy.w8)) 25) (Reads.room-gone 𝓤 H A (Sy.tyRef Sy.erased Sy.imm ty·60)) Pa.refl λ b o. tt) (Ty.s-seq 𝓤 H A W 𝓣 E G23 G24 b11 b68 Δ0 (Ty.both s21) at108 (Plain.t-call-plain 𝓤 H A W 𝓣 1 ps·1 r·1 (claims· .2) (claims· .3) "replay::packed::lent_of" (known .1) E (λ pos β. β) G23 (record { pos = 16; ty = Sy.tyRef Sy.erased Sy.imm ty·60; ref = λ x. x }, tt) 11 (Li._∷_ 10 Li.[]) (Call.sub-id 𝓤 H A W (G23 .slots)) (ShrRef.spares-sref 𝓤 H A W (Array.Array (Rf.rtF (Rf.fInt Sy.w8)) 25) (Sy.tyRef Sy.erased Sy.imm ty·60) 10, Reads.reads-sref 𝓤 H A W (Array.Array (Rf.rtF (Rf.fInt Sy.w8)) 25) (Sy.tyRef Sy.erased Sy.imm ty·60) 10, Pa.refl, tt) (Reads.room-gone 𝓤 H A Laws'.mir) (tt, tt) Pa.refl) (Ty.g-pre 𝓤 H A W 𝓣 E G24 G25 b68 Δ0 (Ty.pass T24 T25 s22) at107 (Local.g-drop-sref 𝓤 H A W E G24 16 10 (Array.Array (Rf.rtF (Rf.fInt Sy.w8)) 25) (Sy.tyRef Sy.erased Sy.imm ty·60) (λ x. x) (Reads.as-is 𝓤 H A (Rows'.sref (Array.Array (Rf.rtF (Rf.fInt Sy.w8)) 25) (Sy.tyRef Sy.erased Sy.imm ty·60) 10))) (Ty.g-pre 𝓤 H A W 𝓣 E G25 G26 b68 Δ0 (λ Ψ. Ψ) at106 (Lifetime.g-end 𝓤 H A W E G25 10 Pa.refl) (Ty.g-pre 𝓤 H A W 𝓣 E G26 G27 b68 Δ0 (Ty.pass T25 T27 s24) at105 (Local.g-back-shr 𝓤 H A W E G26 9 10 row·55 (Array.Array (Rf.rtF (Rf.fInt Sy.w8)) 25) (λ x. x) (λ x. x) (Reads.as-is 𝓤 H A (Rows'.sc-shr row·55 (Array.Array (Rf.rtF (Rf.fInt Sy.w8)) 25) (λ x. x) 10)) (Local.home-of 𝓤 H A row·55 (Array.Array (Rf.rtF (Rf.fInt Sy.w8)) 25) (λ x. x) (λ x. x) (Whole.arr-mem 𝓤 H A W (Rf.rtF (Rf.fInt Sy.w8)) 25 tt) λ x k. Pa.refl) Pa.refl) (Ty.g-pre 𝓤 H A W 𝓣 E G27 G28 b68 Δ0 (λ Ψ. Ψ) at104 (Lifetime.g-forget 𝓤 H A W E G27 10 Ro.dead Pa.refl) (Ty.g-pre 𝓤 H A W 𝓣 E G28 G29 b68 Δ0 (Ty.pass T27 T29 s26) at103 (Sc.g-room 𝓤 H A W E G28 9 ty·60 (Init.room-arr 𝓤 H A W (Rf.rtF (Rf.fInt Sy.w8)) 25 0 25 Pa.refl)) (Ty.g-pre 𝓤 H A W 𝓣 E G29 G30 b68 Δ0 (λ Ψ. Ψ) at102 (Lifetime.g-begin 𝓤 H A W E G29 11 (tt, (tt, (tt, (tt, (tt, (tt, (tt, (tt, (tt, (tt, (tt, (tt, (tt, (tt, (tt, (tt, (tt, (tt, (tt, (tt, (tt, (tt, (tt, (tt, (tt, (tt, (tt, (tt, (tt, (tt, (tt, (tt, (tt, (tt, (tt, (tt, (tt, (tt, (tt, (tt, (tt, (tt, (tt, tt)))))))))))))))))))))))))))))))))))))))))))) (Ty.s-seq 𝓤 H A W 𝓣 E G30 G31 b12 b67 Δ0 (Ty.both s28) at101 (LendAt.t-way-share 𝓤 H A W E 𝓣 (Array.Array (Rf.rtF (Rf.fInt Sy.w8)) 1114112) (λ ρ. Pa._≡_ (Ro.lft ρ 0) (κs .0)) G30 (Ro.out 1 (G30 .locals)) (λ u. Ro.drop 1 (G30 .locals) u) (Ro.setLife 0 Ro.off (G30 .slots)) 1 (λ t. Li._∷_ (Sy.deref (Sy.tyInt Sy.w8)) t) (Sy.tyInt Sy.w8) ty·58 17 11 (λ u. u .1 .0 .now) (λ u. u .1 .0 .ptr) (λ T′. record { locals = Ro.setRow 1 (1, Frozen.held (Frozen.fz-open Sy.erased 0 (κs .0) (Ro.lease (κs .0) (qs .0)) (LendAt.fz-shr (Array.Array (Rf.rtF (Rf.fInt Sy.w8)) 1114112) 11))) T′; slots = Ro.setLife 0 Ro.off (G30 .slots) }) (λ u γ T′ m′. Ro.set 1 (1, Frozen.held (Frozen.fz-open Sy.erased 0 (κs .0) (Ro.lease (κs .0) (qs .0)) (LendAt.fz-shr (Array.Array (Rf.rtF (Rf.fInt Sy.w8)) 1114112) 11))) (u .1 .0, γ) T′ m′) (λ u. Unit) (Call.pin-lease 𝓤 H A W 0 (G30 .slots) (κs .0) (qs .0) Pa.refl) (λ ρ told u asked. WayLend.wt-mut 𝓤 H A W E Sy.erased 0 (κs .0) (Ro.lease (κs .0) (qs .0)) (LendAt.fz-shr (Array.Array (Rf.rtF (Rf.fInt Sy.w8)) 1114112) 11) (Sy.tyRef (Sy.named 0) Sy.mut ty·61) (Sy.tyInt Sy.w8) (u .1 .0) (Wp.spotOf 𝓤 H E 1 .1, 0) (WayLend.wt-mref 𝓤 H A W E Sy.erased (κs .0) (Array.Array (Rf.rtF (Rf.fInt Sy.w8)) 1114112) 0 (Sy.tyRef (Sy.named 0) Sy.mut ty·61) (Frozen.fz-open Sy.erased 0 (κs .0) (Ro.lease (κs .0) (qs .0)) (LendAt.fz-shr (Array.Array (Rf.rtF (Rf.fInt Sy.w8)) 1114112) 11)) Pa.refl G30 ρ u (Ro.setLife 0 Ro.off (G30 .slots)) 1 (λ x. x) told (Reads.as-is 𝓤 H A row·3)) Pa.refl (Ro.setLife 0 Ro.off (G30 .slots)) (Open.takes-whole 𝓤 H A W 0 (G30 .slots) (Ro.lease (κs .0) (qs .0)) Pa.refl tt) told) (Reads.room-gone 𝓤 H A ty·58) Pa.refl λ b o. tt) (Ty.g-pre 𝓤 H A W 𝓣 E G31 G32 b67 Δ0 (Ty.give s29) at100 (AsSlice.g-sref-as-slice 𝓤 H A W E G31 17 11 (Rf.rtF (Rf.fInt Sy.w8)) tt 1114112 (Dec'.lit< tt, Dec'.lit< tt) (Copies.halves 𝓤 H A W (Copies.cArr (Rf.rtF (Rf.fInt Sy.w8)) (Copies.cRf (Rf.fInt Sy.w8)) 1114112)) ty·58 Ro.alive (λ x. x) (Reads.as-is 𝓤 H A (Rows'.sref (Array.Array (Rf.rtF (Rf.fInt Sy.w8)) 1114112) ty·58 11)) Pa.refl tt) (Ty.s-seq 𝓤 H A W 𝓣 E G32 G33 b13 b66 Δ0 (Ty.ask s30) at99 (Relend.t-sl-aggregate 𝓤 H A W E (Rf.rtF (Rf.fInt Sy.w8)) 𝓣 (Relend.asShr (Rf.rtF (Rf.fInt Sy.w8))) G32 17 18 11 ty·58 ty·58 (λ x. x) (Sc.oBig Sy.w64 1114112) (Reads.as-is 𝓤 H A (Relend.ssptr (Rf.rtF (Rf.fInt Sy.w8)) ty·58 11)) (Reads.room-gone 𝓤 H A (Sy.tyStruct (Li._∷_ 38 (Li._∷_ 91 (Li._∷_ 93 Li.[]))) (Sy.tcons ty·58 (Sy.tcons (Sy.tyInt Sy.w64) Sy.tnil)))) record { lower = record { fits = Dec'.lit< tt } } Pa.refl Pa.refl λ b o k. tt) (Ty.g-pre 𝓤 H A W 𝓣 E G33 G34 b66 Δ0 (λ Ψ. Ψ) at98 (Lifetime.g-begin 𝓤 H A W E G33 12 (tt, ((tt, tt), (tt, (tt, (tt, (tt, (tt, (tt, (tt, (tt, (tt, (tt, (tt, (tt, (tt, (tt, (tt, (tt, (tt, (tt, (tt, (tt, (tt, (tt, (tt, (tt, (tt, (tt, (tt, (tt, (tt, (tt, (tt, (tt, (tt, (tt, (tt, (tt, (tt, (tt, (tt, (tt, (tt, tt)))))))))))))))))))))))))))))))))))))))))))) (Ty.s-seq 𝓤 H A W 𝓣 E G34 G35 b14 b65 Δ0 (Ty.both s32) at97 (AsSlice.t-way-lend-slice 𝓤 H A W E 𝓣 (Rf.rtF (Rf.fInt Sy.w32)) tt 6292480 (Dec'.lit< tt, Dec'.lit< tt) (λ ρ. Pa._≡_ (Ro.lft ρ 1) (κs .1 .0)) G34 (Ro.out 2 (G34 .locals)) (λ u. Ro.drop 2 (G34 .locals) u) (Ro.setLife 1 Ro.off (G34 .slots)) 2 (λ t. Li._∷_ (Sy.deref (Sy.tyInt Sy.w32)) t) (Sy.tyInt Sy.w32) ty·63 19 12 (λ u. u .1 .1 .0 .now) (λ u. u .1 .1 .0 .ptr) (λ T′. record { locals = Ro.setRow 2 (2, Frozen.held (Frozen.fz-open Sy.erased 1 (κs .1 .0) (Ro.lease (κs .1 .0) (qs .1 .0)) (AsSlice.fz-lent-sl (Rf.rtF (Rf.fInt Sy.w32)) 6292480 12))) T′; slots = Ro.setLife 1 Ro.off (G34 .slots) }) (λ u γ T′ m′. Ro.set 2 (2, Frozen.held (Frozen.fz-open Sy.erased 1 (κs .1 .0) (Ro.lease (κs .1 .0) (qs .1 .0)) (AsSlice.fz-lent-sl (Rf.rtF (Rf.fInt Sy.w32)) 6292480 12))) (u .1 .1 .0, γ) T′ m′) (λ u. Unit) (Call.pin-lease 𝓤 H A W 1 (G34 .slots) (κs .1 .0) (qs .1 .0) Pa.refl) (λ ρ told u asked. WayLend.wt-mut 𝓤 H A W E Sy.erased 1 (κs .1 .0) (Ro.lease (κs .1 .0) (qs .1 .0)) (AsSlice.fz-lent-sl (Rf.rtF (Rf.fInt Sy.w32)) 6292480 12) ty·71 (Sy.tyInt Sy.w32) (u .1 .1 .0) (Wp.spotOf 𝓤 H E 2 .1, 0) (WayLend.wt-mref 𝓤 H A W E Sy.erased (κs .1 .0) (Array.Array (Rf.rtF (Rf.fInt Sy.w32)) 6292480) 1 ty·71 (Frozen.fz-open Sy.erased 1 (κs .1 .0) (Ro.lease (κs .1 .0) (qs .1 .0)) (AsSlice.fz-lent-sl (Rf.rtF (Rf.fInt Sy.w32)) 6292480 12)) Pa.refl G34 ρ u (Ro.setLife 1 Ro.off (G34 .slots)) 2 (λ x. x) told (Reads.as-is 𝓤 H A row·2)) Pa.refl (Ro.setLife 1 Ro.off (G34 .slots)) (Open.takes-whole 𝓤 H A W 1 (G34 .slots) (Ro.lease (κs .1 .0) (qs .1 .0)) Pa.refl tt) told) (Reads.room-gone 𝓤 H A ty·63) Pa.refl λ b o. tt) (Ty.s-seq 𝓤 H A W 𝓣 E G35 G36 b15 b64 Δ0 (Ty.ask s33) at96 (Relend.t-sl-aggregate 𝓤 H A W E (Rf.rtF (Rf.fInt Sy.w32)) 𝓣 (Relend.asMut (Rf.rtF (Rf.fInt Sy.w32))) G35 19 20 12 ty·63 ty·63 (λ x. x) (Sc.oBig Sy.w64 6292480) (Reads.as-is 𝓤 H A (Relend.msptr (Rf.rtF (Rf.fInt Sy.w32)) ty·63 12)) (Reads.room-gone 𝓤 H A (Sy.tyStruct (Li._∷_ 38 (Li._∷_ 91 (Li._∷_ 93 Li.[]))) (Sy.tcons ty·63 (Sy.tcons (Sy.tyInt Sy.w64) Sy.tnil)))) record { lower = record { fits = Dec'.lit< tt } } Pa.refl Pa.refl λ b o k. tt) (Ty.g-pre 𝓤 H A W 𝓣 E G36 G37 b64 Δ0 (λ Ψ. Ψ) at95 (Lifetime.g-begin 𝓤 H A W E G36 13 (tt, ((tt, tt), ((tt, tt), (tt, (tt, (tt, (tt, (tt, (tt, (tt, (tt, (tt, (tt, (tt, (tt, (tt, (tt, (tt, (tt, (tt, (tt, (tt, (tt, (tt, (tt, (tt, (tt, (tt, (tt, (tt, (tt, (tt, (tt, (tt, (tt, (tt, (tt, (tt, (tt, (tt, (tt, (tt, (tt, tt)))))))))))))))))))))))))))))))))))))))))))) (Ty.s-seq 𝓤 H A W 𝓣 E G37 G38 b16 b63 Δ0 (Ty.give s35) at94 (Relend.t-sl-relend 𝓤 H A W E Gap_.row 𝓣 G37 3 21 2 13 ty·65 ty·66 (Ro.lease (κs .1 .1 .0) (qs .1 .1 .0)) 0 (λ x. x) (Reads.as-is 𝓤 H A row·15) (Reads.room-gone 𝓤 H A ty·66) Pa.refl tt Pa.refl Pa.refl Pa.refl λ b o. tt) (Ty.s-seq 𝓤 H A W 𝓣 E G38 G39 b17 b62 Δ0 (Ty.ask s36) at93 (Relend.t-sl-aggregate 𝓤 H A W E Gap_.row 𝓣 (Relend.asMut Gap_.row) G38 21 22 13 ty·66 ty·66 (λ x. x) (Sc.oFld 3 (Li._∷_ (Sy.field 1) Li.[]) (Sy.tyInt Sy.w64) 8 λ v. Shared.lenV (v .0)) (Reads.as-is 𝓤 H A (Relend.msptr Gap_.row ty·66 13)) (Reads.room-gone 𝓤 H A (Sy.tyStruct (Li._∷_ 38 (Li._∷_ 91 (Li._∷_ 93 Li.[]))) (Sy.tcons ty·66 (Sy.tcons (Sy.tyInt Sy.w64) Sy.tnil)))) (Relend.reads-owed-len 𝓤 H A W Gap_.row ty·65 2 13 (Ro.lease (κs .1 .1 .0) (qs .1 .1 .0)) 8 Pa.refl, Pa.refl) Pa.refl Pa.refl λ b o k. tt) (Ty.g-pre 𝓤 H A W 𝓣 E G39 G40 b62 Δ0 (λ Ψ. Ψ) at92 (Lifetime.g-begin 𝓤 H A W E G39 14 (tt, ((tt, tt), ((tt, tt), ((tt, tt), (tt, (tt, (tt, (tt, (tt, (tt, (tt, (tt, (tt, (tt, (tt, (tt, (tt, (tt, (tt, (tt, (tt, (tt, (tt, (tt, (tt, (tt, (tt, (tt, (tt, (tt, (tt, (tt, (tt, (tt, (tt, (tt, (tt, (tt, (tt, (tt, (tt, (tt, (tt, tt)))))))))))))))))))))))))))))))))))))))))))) (Ty.s-seq 𝓤 H A W 𝓣 E G40 G41 b18 b61 Δ0 (Ty.both s38) at91 (AsSlice.t-way-lend-slice 𝓤 H A W E 𝓣 (Rf.rtF (Rf.fInt Sy.w16)) tt 349526 (Dec'.lit< tt, Dec'.lit< tt) (λ ρ. Pa._≡_ (Ro.lft ρ 3) (κs .1 .1 .1 .0)) G40 (Ro.out 4 (G40 .locals)) (λ u. Ro.drop 4 (G40 .locals) u) (Ro.setLife 3 Ro.off (G40 .slots)) 4 (λ t. Li._∷_ (Sy.deref (Sy.tyInt Sy.w16)) t) (Sy.tyInt Sy.w16) ty·64 23 14 (λ u. u .1 .1 .1 .1 .0 .now) (λ u. u .1 .1 .1 .1 .0 .ptr) (λ T′. record { locals = Ro.setRow 4 (4, Frozen.held (Frozen.fz-open Sy.erased 3 (κs .1 .1 .1 .0) (Ro.lease (κs .1 .1 .1 .0) (qs .1 .1 .1 .0)) (AsSlice.fz-lent-sl (Rf.rtF (Rf.fInt Sy.w16)) 349526 14))) T′; slots = Ro.setLife 3 Ro.off (G40 .slots) }) (λ u γ T′ m′. Ro.set 4 (4, Frozen.held (Frozen.fz-open Sy.erased 3 (κs .1 .1 .1 .0) (Ro.lease (κs .1 .1 .1 .0) (qs .1 .1 .1 .0)) (AsSlice.fz-lent-sl (Rf.rtF (Rf.fInt Sy.w16)) 349526 14))) (u .1 .1 .1 .1 .0, γ) T′ m′) (λ u. Unit) (Call.pin-lease 𝓤 H A W 3 (G40 .slots) (κs .1 .1 .1 .0) (qs .1 .1 .1 .0) Pa.refl) (λ ρ told u asked. WayLend.wt-mut 𝓤 H A W E Sy.erased 3 (κs .1 .1 .1 .0) (Ro.lease (κs .1 .1 .1 .0) (qs .1 .1 .1 .0)) (AsSlice.fz-lent-sl (Rf.rtF (Rf.fInt Sy.w16)) 349526 14) ty·68 (Sy.tyInt Sy.w16) (u .1 .1 .1 .1 .0) (Wp.spotOf 𝓤 H E 4 .1, 0) (WayLend.wt-mref 𝓤 H A W E Sy.erased (κs .1 .1 .1 .0) (Array.Array (Rf.rtF (Rf.fInt Sy.w16)) 349526) 3 ty·68 (Frozen.fz-open Sy.erased 3 (κs .1 .1 .1 .0) (Ro.lease (κs .1 .1 .1 .0) (qs .1 .1 .1 .0)) (AsSlice.fz-lent-sl (Rf.rtF (Rf.fInt Sy.w16)) 349526 14)) Pa.refl G40 ρ u (Ro.setLife 3 Ro.off (G40 .slots)) 4 (λ x. x) told (Reads.as-is 𝓤 H A row·11)) Pa.refl (Ro.setLife 3 Ro.off (G40 .slots)) (Open.takes-whole 𝓤 H A W 3 (G40 .slots) (Ro.lease (κs .1 .1 .1 .0) (qs .1 .1 .1 .0)) Pa.refl tt) told) (Reads.room-gone 𝓤 H A ty·64) Pa.refl λ b o. tt) (Ty.s-seq 𝓤 H A W 𝓣 E G41 G42 b19 b60 Δ0 (Ty.ask s39) at90 (Relend.t-sl-aggregate 𝓤 H A W E (Rf.rtF (Rf.fInt Sy.w16)) 𝓣 (Relend.asMut (Rf.rtF (Rf.fInt Sy.w16))) G41 23 24 14 ty·64 ty·64 (λ x. x) (Sc.oBig Sy.w64 349526) (Reads.as-is 𝓤 H A (Relend.msptr (Rf.rtF (Rf.fInt Sy.w16)) ty·64 14)) (Reads.room-gone 𝓤 H A (Sy.tyStruct (Li._∷_ 38 (Li._∷_ 91 (Li._∷_ 93 Li.[]))) (Sy.tcons ty·64 (Sy.tcons (Sy.tyInt Sy.w64) Sy.tnil)))) record { lower = record { fits = Dec'.lit< tt } } Pa.refl Pa.refl λ b o k. tt) (Ty.g-pre 𝓤 H A W 𝓣 E G42 G43 b60 Δ0 (λ Ψ. Ψ) at89 (Lifetime.g-begin 𝓤 H A W E G42 15 (tt, ((tt, tt), ((tt, tt), ((tt, tt), ((tt, tt), (tt, (tt, (tt, (tt, (tt, (tt, (tt, (tt, (tt, (tt, (tt, (tt, (tt, (tt, (tt, (tt, (tt, (tt, (tt, (tt, (tt, (tt, (tt, (tt, (tt, (tt, (tt, (tt, (tt, (tt, (tt, (tt, (tt, (tt, (tt, (tt, (tt, (tt, tt)))))))))))))))))))))))))))))))))))))))))))) (Ty.s-seq 𝓤 H A W 𝓣 E G43 G44 b20 b59 Δ0 (Ty.both s41) at88 (AsSlice.t-way-lend-slice 𝓤 H A W E 𝓣 (Rf.rtF (Rf.fInt Sy.w8)) tt 349526 (Dec'.lit< tt, Dec'.lit< tt) (λ ρ. Pa._≡_ (Ro.lft ρ 4) (κs .1 .1 .1 .1 .0)) G43 (Ro.out 5 (G43 .locals)) (λ u. Ro.drop 5 (G43 .locals) u) (Ro.setLife 4 Ro.off (G43 .slots)) 5 (λ t. Li._∷_ (Sy.deref (Sy.tyInt Sy.w8)) t) (Sy.tyInt Sy.w8) ty·59 25 15 (λ u. u .1 .1 .1 .1 .1 .0 .now) (λ u. u .1 .1 .1 .1 .1 .0 .ptr) (λ T′. record { locals = Ro.setRow 5 (5, Frozen.held (Frozen.fz-open Sy.erased 4 (κs .1 .1 .1 .1 .0) (Ro.lease (κs .1 .1 .1 .1 .0) (qs .1 .1 .1 .1 .0)) (AsSlice.fz-lent-sl (Rf.rtF (Rf.fInt Sy.w8)) 349526 15))) T′; slots = Ro.setLife 4 Ro.off (G43 .slots) }) (λ u γ T′ m′. Ro.set 5 (5, Frozen.held (Frozen.fz-open Sy.erased 4 (κs .1 .1 .1 .1 .0) (Ro.lease (κs .1 .1 .1 .1 .0) (qs .1 .1 .1 .1 .0)) (AsSlice.fz-lent-sl (Rf.rtF (Rf.fInt Sy.w8)) 349526 15))) (u .1 .1 .1 .1 .1 .0, γ) T′ m′) (λ u. Unit) (Call.pin-lease 𝓤 H A W 4 (G43 .slots) (κs .1 .1 .1 .1 .0) (qs .1 .1 .1 .1 .0) Pa.refl) (λ ρ told u asked. WayLend.wt-mut 𝓤 H A W E Sy.erased 4 (κs .1 .1 .1 .1 .0) (Ro.lease (κs .1 .1 .1 .1 .0) (qs .1 .1 .1 .1 .0)) (AsSlice.fz-lent-sl (Rf.rtF (Rf.fInt Sy.w8)) 349526 15) ty·69 (Sy.tyInt Sy.w8) (u .1 .1 .1 .1 .1 .0) (Wp.spotOf 𝓤 H E 5 .1, 0) (WayLend.wt-mref 𝓤 H A W E Sy.erased (κs .1 .1 .1 .1 .0) (Array.Array (Rf.rtF (Rf.fInt Sy.w8)) 349526) 4 ty·69 (Frozen.fz-open Sy.erased 4 (κs .1 .1 .1 .1 .0) (Ro.lease (κs .1 .1 .1 .1 .0) (qs .1 .1 .1 .1 .0)) (AsSlice.fz-lent-sl (Rf.rtF (Rf.fInt Sy.w8)) 349526 15)) Pa.refl G43 ρ u (Ro.setLife 4 Ro.off (G43 .slots)) 5 (λ x. x) told (Reads.as-is 𝓤 H A row·12)) Pa.refl (Ro.setLife 4 Ro.off (G43 .slots)) (Open.takes-whole 𝓤 H A W 4 (G43 .slots) (Ro.lease (κs .1 .1 .1 .1 .0) (qs .1 .1 .1 .1 .0)) Pa.refl tt) told) (Reads.room-gone 𝓤 H A ty·59) Pa.refl λ b o. tt) (Ty.s-seq 𝓤 H A W 𝓣 E G44 G45 b21 b58 Δ0 (Ty.ask s42) at87 (Relend.t-sl-aggregate 𝓤 H A W E (Rf.rtF (Rf.fInt Sy.w8)) 𝓣 (Relend.asMut (Rf.rtF (Rf.fInt Sy.w8))) G44 25 26 15 ty·59 ty·59 (λ x. x) (Sc.oBig Sy.w64 349526) (Reads.as-is 𝓤 H A (Relend.msptr (Rf.rtF (Rf.fInt Sy.w8)) ty·59 15)) (Reads.room-gone 𝓤 H A (Sy.tyStruct (Li._∷_ 38 (Li._∷_ 91 (Li._∷_ 93 Li.[]))) (Sy.tcons ty·59 (Sy.tcons (Sy.tyInt Sy.w64) Sy.tnil)))) record { lower = record { fits = Dec'.lit< tt } } Pa.refl Pa.refl λ b o k. tt) (Ty.g-pre 𝓤 H A W 𝓣 E G45 G46 b58 Δ0 (λ Ψ. Ψ) at86 (Lifetime.g-begin 𝓤 H A W E G45 16 (tt, ((tt, tt), ((tt, tt), ((tt, tt), ((tt, tt), ((tt, tt), (tt, (tt, (tt, (tt, (tt, (tt, (tt, (tt, (tt, (tt, (tt, (tt, (tt, (tt, (tt, (tt, (tt, (tt, (tt, (tt, (tt, (tt, (tt, (tt, (tt, (tt, (tt, (tt, (tt, (tt, (tt, (tt, (tt, (tt, (tt, (tt, (tt, tt)))))))))))))))))))))))))))))))))))))))))))) (Ty.s-seq 𝓤 H A W 𝓣 E G46 G47 b22 b57 Δ0 (Ty.both s44) at85 (AsSlice.t-way-lend-slice 𝓤 H A W E 𝓣 (Rf.rtF (Rf.fInt Sy.w8)) tt 8388608 (Dec'.lit< tt, Dec'.lit< tt) (λ ρ. Pa._≡_ (Ro.lft ρ 5) (κs .1 .1 .1 .1 .1 .0)) G46 (Ro.out 6 (G46 .locals)) (λ u. Ro.drop 6 (G46 .locals) u) (Ro.setLife 5 Ro.off (G46 .slots)) 6 (λ t. Li._∷_ (Sy.deref (Sy.tyInt Sy.w8)) t) (Sy.tyInt Sy.w8) ty·59 27 16 (λ u. u .1 .1 .1 .1 .1 .1 .0 .now) (λ u. u .1 .1 .1 .1 .1 .1 .0 .ptr) (λ T′. record { locals = Ro.setRow 6 (6, Frozen.held (Frozen.fz-open Sy.erased 5 (κs .1 .1 .1 .1 .1 .0) (Ro.lease (κs .1 .1 .1 .1 .1 .0) (qs .1 .1 .1 .1 .1 .0)) (AsSlice.fz-lent-sl (Rf.rtF (Rf.fInt Sy.w8)) 8388608 16))) T′; slots = Ro.setLife 5 Ro.off (G46 .slots) }) (λ u γ T′ m′. Ro.set 6 (6, Frozen.held (Frozen.fz-open Sy.erased 5 (κs .1 .1 .1 .1 .1 .0) (Ro.lease (κs .1 .1 .1 .1 .1 .0) (qs .1 .1 .1 .1 .1 .0)) (AsSlice.fz-lent-sl (Rf.rtF (Rf.fInt Sy.w8)) 8388608 16))) (u .1 .1 .1 .1 .1 .1 .0, γ) T′ m′) (λ u. Unit) (Call.pin-lease 𝓤 H A W 5 (G46 .slots) (κs .1 .1 .1 .1 .1 .0) (qs .1 .1 .1 .1 .1 .0) Pa.refl) (λ ρ told u asked. WayLend.wt-mut 𝓤 H A W E Sy.erased 5 (κs .1 .1 .1 .1 .1 .0) (Ro.lease (κs .1 .1 .1 .1 .1 .0) (qs .1 .1 .1 .1 .1 .0)) (AsSlice.fz-lent-sl (Rf.rtF (Rf.fInt Sy.w8)) 8388608 16) (Sy.tyRef (Sy.named 5) Sy.mut ty·67) (Sy.tyInt Sy.w8) (u .1 .1 .1 .1 .1 .1 .0) (Wp.spotOf 𝓤 H E 6 .1, 0) (WayLend.wt-mref 𝓤 H A W E Sy.erased (κs .1 .1 .1 .1 .1 .0) (Array.Array (Rf.rtF (Rf.fInt Sy.w8)) 8388608) 5 (Sy.tyRef (Sy.named 5) Sy.mut ty·67) (Frozen.fz-open Sy.erased 5 (κs .1 .1 .1 .1 .1 .0) (Ro.lease (κs .1 .1 .1 .1 .1 .0) (qs .1 .1 .1 .1 .1 .0)) (AsSlice.fz-lent-sl (Rf.rtF (Rf.fInt Sy.w8)) 8388608 16)) Pa.refl G46 ρ u (Ro.setLife 5 Ro.off (G46 .slots)) 6 (λ x. x) told (Reads.as-is 𝓤 H A row·10)) Pa.refl (Ro.setLife 5 Ro.off (G46 .slots)) (Open.takes-whole 𝓤 H A W 5 (G46 .slots) (Ro.lease (κs .1 .1 .1 .1 .1 .0) (qs .1 .1 .1 .1 .1 .0)) Pa.refl tt) told) (Reads.room-gone 𝓤 H A ty·59) Pa.refl λ b o. tt) (Ty.s-seq 𝓤 H A W 𝓣 E G47 G48 b23 b56 Δ0 (Ty.ask s45) at84 (Relend.t-sl-aggregate 𝓤 H A W E (Rf.rtF (Rf.fInt Sy.w8)) 𝓣 (Relend.asMut (Rf.rtF (Rf.fInt Sy.w8))) G47 27 28 16 ty·59 ty·59 (λ x. x) (Sc.oBig Sy.w64 8388608) (Reads.as-is 𝓤 H A (Relend.msptr (Rf.rtF (Rf.fInt Sy.w8)) ty·59 16)) (Reads.room-gone 𝓤 H A (Sy.tyStruct (Li._∷_ 38 (Li._∷_ 91 (Li._∷_ 93 Li.[]))) (Sy.tcons ty·59 (Sy.tcons (Sy.tyInt Sy.w64) Sy.tnil)))) record { lower = record { fits = Dec'.lit< tt } } Pa.refl Pa.refl λ b o k. tt) (Ty.g-pre 𝓤 H A W 𝓣 E G48 G49 b56 Δ0 (λ Ψ. Ψ) at83 (Lifetime.g-begin 𝓤 H A W E G48 17 (tt, ((tt, tt), ((tt, tt), ((tt, tt), ((tt, tt), ((tt, tt), ((tt, tt), (tt, (tt, (tt, (tt, (tt, (tt, (tt, (tt, (tt, (tt, (tt, (tt, (tt, (tt, (tt, (tt, (tt, (tt, (tt, (tt, (tt, (tt, (tt, (tt, (tt, (tt, (tt, (tt, (tt, (tt, (tt, (tt, (tt, (tt, (tt, (tt, tt)))))))))))))))))))))))))))))))))))))))))))) (Ty.s-seq 𝓤 H A W 𝓣 E G49 G50 b24 b55 Δ0 (Ty.both s47) at82 (AsSlice.t-way-lend-slice 𝓤 H A W E 𝓣 (Rf.rtF (Rf.fInt Sy.w8)) tt 8388608 (Dec'.lit< tt, Dec'.lit< tt) (λ ρ. Pa._≡_ (Ro.lft ρ 6) (κs .1 .1 .1 .1 .1 .1 .0)) G49 (Ro.out 7 (G49 .locals)) (λ u. Ro.drop 7 (G49 .locals) u) (Ro.setLife 6 Ro.off (G49 .slots)) 7 (λ t. Li._∷_ (Sy.deref (Sy.tyInt Sy.w8)) t) (Sy.tyInt Sy.w8) ty·59 29 17 (λ u. u .1 .1 .1 .1 .1 .1 .1 .0 .now) (λ u. u .1 .1 .1 .1 .1 .1 .1 .0 .ptr) (λ T′. record { locals = Ro.setRow 7 (7, Frozen.held (Frozen.fz-open Sy.erased 6 (κs .1 .1 .1 .1 .1 .1 .0) (Ro.lease (κs .1 .1 .1 .1 .1 .1 .0) (qs .1 .1 .1 .1 .1 .1 .0)) (AsSlice.fz-lent-sl (Rf.rtF (Rf.fInt Sy.w8)) 8388608 17))) T′; slots = Ro.setLife 6 Ro.off (G49 .slots) }) (λ u γ T′ m′. Ro.set 7 (7, Frozen.held (Frozen.fz-open Sy.erased 6 (κs .1 .1 .1 .1 .1 .1 .0) (Ro.lease (κs .1 .1 .1 .1 .1 .1 .0) (qs .1 .1 .1 .1 .1 .1 .0)) (AsSlice.fz-lent-sl (Rf.rtF (Rf.fInt Sy.w8)) 8388608 17))) (u .1 .1 .1 .1 .1 .1 .1 .0, γ) T′ m′) (λ u. Unit) (Call.pin-lease 𝓤 H A W 6 (G49 .slots) (κs .1 .1 .1 .1 .1 .1 .0) (qs .1 .1 .1 .1 .1 .1 .0) Pa.refl) (λ ρ told u asked. WayLend.wt-mut 𝓤 H A W E Sy.erased 6 (κs .1 .1 .1 .1 .1 .1 .0) (Ro.lease (κs .1 .1 .1 .1 .1 .1 .0) (qs .1 .1 .1 .1 .1 .1 .0)) (AsSlice.fz-lent-sl (Rf.rtF (Rf.fInt Sy.w8)) 8388608 17) (Sy.tyRef (Sy.named 6) Sy.mut ty·67) (Sy.tyInt Sy.w8) (u .1 .1 .1 .1 .1 .1 .1 .0) (Wp.spotOf 𝓤 H E 7 .1, 0) (WayLend.wt-mref 𝓤 H A W E Sy.erased (κs .1 .1 .1 .1 .1 .1 .0) (Array.Array (Rf.rtF (Rf.fInt Sy.w8)) 8388608) 6 (Sy.tyRef (Sy.named 6) Sy.mut ty·67) (Frozen.fz-open Sy.erased 6 (κs .1 .1 .1 .1 .1 .1 .0) (Ro.lease (κs .1 .1 .1 .1 .1 .1 .0) (qs .1 .1 .1 .1 .1 .1 .0)) (AsSlice.fz-lent-sl (Rf.rtF (Rf.fInt Sy.w8)) 8388608 17)) Pa.refl G49 ρ u (Ro.setLife 6 Ro.off (G49 .slots)) 7 (λ x. x) told (Reads.as-is 𝓤 H A row·8)) Pa.refl (Ro.setLife 6 Ro.off (G49 .slots)) (Open.takes-whole 𝓤 H A W 6 (G49 .slots) (Ro.lease (κs .1 .1 .1 .1 .1 .1 .0) (qs .1 .1 .1 .1 .1 .1 .0)) Pa.refl tt) told) (Reads.room-gone 𝓤 H A ty·59) Pa.refl λ b o. tt) (Ty.s-seq 𝓤 H A W 𝓣 E G50 G51 b25 b54 Δ0 (Ty.ask s48) at81 (Relend.t-sl-aggregate 𝓤 H A W E (Rf.rtF (Rf.fInt Sy.w8)) 𝓣 (Relend.asMut (Rf.rtF (Rf.fInt Sy.w8))) G50 29 30 17 ty·59 ty·59 (λ x. x) (Sc.oBig Sy.w64 8388608) (Reads.as-is 𝓤 H A (Relend.msptr (Rf.rtF (Rf.fInt Sy.w8)) ty·59 17)) (Reads.room-gone 𝓤 H A (Sy.tyStruct (Li._∷_ 38 (Li._∷_ 91 (Li._∷_ 93 Li.[]))) (Sy.tcons ty·59 (Sy.tcons (Sy.tyInt Sy.w64) Sy.tnil)))) record { lower = record { fits = Dec'.lit< tt } } Pa.refl Pa.refl λ b o k. tt) (Ty.g-pre 𝓤 H A W 𝓣 E G51 G52 b54 Δ0 (λ Ψ. Ψ) at80 (Lifetime.g-begin 𝓤 H A W E G51 18 (tt, ((tt, tt), ((tt, tt), ((tt, tt), ((tt, tt), ((tt, tt), ((tt, tt), ((tt, tt), (tt, (tt, (tt, (tt, (tt, (tt, (tt, (tt, (tt, (tt, (tt, (tt, (tt, (tt, (tt, (tt, (tt, (tt, (tt, (tt, (tt, (tt, (tt, (tt, (tt, (tt, (tt, (tt, (tt, (tt, (tt, (tt, (tt, (tt, (tt, tt)))))))))))))))))))))))))))))))))))))))))))) (Ty.s-seq 𝓤 H A W 𝓣 E G52 G53 b26 b53 Δ0 (Ty.both s50) at79 (AsSlice.t-way-lend-slice 𝓤 H A W E 𝓣 (Rf.rtF (Rf.fInt Sy.w8)) tt 65536 (Dec'.lit< tt, Dec'.lit< tt) (λ ρ. Pa._≡_ (Ro.lft ρ 7) (κs .1 .1 .1 .1 .1 .1 .1 .0)) G52 (Ro.out 8 (G52 .locals)) (λ u. Ro.drop 8 (G52 .locals) u) (Ro.setLife 7 Ro.off (G52 .slots)) 8 (λ t. Li._∷_ (Sy.deref (Sy.tyInt Sy.w8)) t) (Sy.tyInt Sy.w8) ty·59 31 18 (λ u. u .1 .1 .1 .1 .1 .1 .1 .1 .0 .now) (λ u. u .1 .1 .1 .1 .1 .1 .1 .1 .0 .ptr) (λ T′. record { locals = Ro.setRow 8 (8, Frozen.held (Frozen.fz-open Sy.erased 7 (κs .1 .1 .1 .1 .1 .1 .1 .0) (Ro.lease (κs .1 .1 .1 .1 .1 .1 .1 .0) (qs .1 .1 .1 .1 .1 .1 .1 .0)) (AsSlice.fz-lent-sl (Rf.rtF (Rf.fInt Sy.w8)) 65536 18))) T′; slots = Ro.setLife 7 Ro.off (G52 .slots) }) (λ u γ T′ m′. Ro.set 8 (8, Frozen.held (Frozen.fz-open Sy.erased 7 (κs .1 .1 .1 .1 .1 .1 .1 .0) (Ro.lease (κs .1 .1 .1 .1 .1 .1 .1 .0) (qs .1 .1 .1 .1 .1 .1 .1 .0)) (AsSlice.fz-lent-sl (Rf.rtF (Rf.fInt Sy.w8)) 65536 18))) (u .1 .1 .1 .1 .1 .1 .1 .1 .0, γ) T′ m′) (λ u. Unit) (Call.pin-lease 𝓤 H A W 7 (G52 .slots) (κs .1 .1 .1 .1 .1 .1 .1 .0) (qs .1 .1 .1 .1 .1 .1 .1 .0) Pa.refl) (λ ρ told u asked. WayLend.wt-mut 𝓤 H A W E Sy.erased 7 (κs .1 .1 .1 .1 .1 .1 .1 .0) (Ro.lease (κs .1 .1 .1 .1 .1 .1 .1 .0) (qs .1 .1 .1 .1 .1 .1 .1 .0)) (AsSlice.fz-lent-sl (Rf.rtF (Rf.fInt Sy.w8)) 65536 18) ty·70 (Sy.tyInt Sy.w8) (u .1 .1 .1 .1 .1 .1 .1 .1 .0) (Wp.spotOf 𝓤 H E 8 .1, 0) (WayLend.wt-mref 𝓤 H A W E Sy.erased (κs .1 .1 .1 .1 .1 .1 .1 .0) (Array.Array (Rf.rtF (Rf.fInt Sy.w8)) 65536) 7 ty·70 (Frozen.fz-open Sy.erased 7 (κs .1 .1 .1 .1 .1 .1 .1 .0) (Ro.lease (κs .1 .1 .1 .1 .1 .1 .1 .0) (qs .1 .1 .1 .1 .1 .1 .1 .0)) (AsSlice.fz-lent-sl (Rf.rtF (Rf.fInt Sy.w8)) 65536 18)) Pa.refl G52 ρ u (Ro.setLife 7 Ro.off (G52 .slots)) 8 (λ x. x) told (Reads.as-is 𝓤 H A row·7)) Pa.refl (Ro.setLife 7 Ro.off (G52 .slots)) (Open.takes-whole 𝓤 H A W 7 (G52 .slots) (Ro.lease (κs .1 .1 .1 .1 .1 .1 .1 .0) (qs .1 .1 .1 .1 .1 .1 .1 .0)) Pa.refl tt) told) (Reads.room-gone 𝓤 H A ty·59) Pa.refl λ b o. tt) (Ty.s-seq 𝓤 H A W 𝓣 E G53 G54 b27 b52 Δ0 (Ty.ask s51) at78 (Relend.t-sl-aggregate 𝓤 H A W E (Rf.rtF (Rf.fInt Sy.w8)) 𝓣 (Relend.asMut (Rf.rtF (Rf.fInt Sy.w8))) G53 31 32 18 ty·59 ty·59 (λ x. x) (Sc.oBig Sy.w64 65536) (Reads.as-is 𝓤 H A (Relend.msptr (Rf.rtF (Rf.fInt Sy.w8)) ty·59 18)) (Reads.room-gone 𝓤 H A (Sy.tyStruct (Li._∷_ 38 (Li._∷_ 91 (Li._∷_ 93 Li.[]))) (Sy.tcons ty·59 (Sy.tcons (Sy.tyInt Sy.w64) Sy.tnil)))) record { lower = record { fits = Dec'.lit< tt } } Pa.refl Pa.refl λ b o k. tt) (Ty.s-seq 𝓤 H A W 𝓣 E G54 G55 b28 b51 Δ0 (Ty.both s52) at77 (Plain.t-call-plain 𝓤 H A W 𝓣 8 ps·2 r·2 (claims· .4) (claims· .5) "replay::run_lent" (known .2) E (λ pos β. β) G54 (record { pos = 18; ty = Sy.tyRef Sy.erased Sy.imm (Sy.tyInt Sy.w8); ref = λ x. x }, (Num.vAt 10 λ x. x, (record { pos = 11; st = Li.[]; d = 0; at = λ x. x }, (record { pos = 20; ty = Sy.tyRef Sy.erased Sy.mut (Sy.tyInt Sy.w32); ref = λ x. x }, (record { pos = 22; ty = Sy.tyRef Sy.erased Sy.mut Gap_.behind; ref = λ x. x }, (record { pos = 24; ty = Sy.tyRef Sy.erased Sy.mut (Sy.tyInt Sy.w16); ref = λ x. x }, (record { pos = 26; ty = Sy.tyRef Sy.erased Sy.mut (Sy.tyInt Sy.w8); ref = λ x. x }, (record { pos = 28; ty = Sy.tyRef Sy.erased Sy.mut (Sy.tyInt Sy.w8); ref = λ x. x }, (record { pos = 30; ty = Sy.tyRef Sy.erased Sy.mut (Sy.tyInt Sy.w8); ref = λ x. x }, (record { pos = 32; ty = Sy.tyRef Sy.erased Sy.mut (Sy.tyInt Sy.w8); ref = λ x. x }, tt)))))))))) 12 (Li._∷_ 11 (Li._∷_ 12 (Li._∷_ 13 (Li._∷_ 14 (Li._∷_ 15 (Li._∷_ 16 (Li._∷_ 17 (Li._∷_ 18 Li.[])))))))) (Call.sub-id 𝓤 H A W (G54 .slots)) (ShrSlice.spares-sslice 𝓤 H A W (Rf.rtF (Rf.fInt Sy.w8)) ty·58 11, Shared.reads-sslice 𝓤 H A W (Rf.rtF (Rf.fInt Sy.w8)) ty·58 11, Pa.refl, ((Sc.reads-sc 𝓤 H A W (Ro.sInt Sy.w64), Pa.refl), ((Yields.yields-copy 𝓤 H A W (λ ρ. Unit) (Declared'.row Lent.the-type) Pa.refl (Copies.cStruct Lent.the-type Laws'.the-laws Laws'.the-copy .copy 𝓤 H A W) row·40 (λ x. x) (λ x. x) (λ ρ told. Local.mem-whole 𝓤 H A W (Declared'.row Lent.the-type) ρ) λ ρ told. Local.whole-mem 𝓤 H A W (Declared'.row Lent.the-type) ρ, Pa.refl), (Reads.as-is 𝓤 H A row·38, Mut.reads-mslice 𝓤 H A W (Rf.rtF (Rf.fInt Sy.w32)) ty·63 12, Pa.refl, (Reads.as-is 𝓤 H A row·48, Mut.reads-mslice 𝓤 H A W Gap_.row ty·66 13, Pa.refl, (Reads.as-is 𝓤 H A row·45, Mut.reads-mslice 𝓤 H A W (Rf.rtF (Rf.fInt Sy.w16)) ty·64 14, Pa.refl, (Reads.as-is 𝓤 H A row·50, Mut.reads-mslice 𝓤 H A W (Rf.rtF (Rf.fInt Sy.w8)) ty·59 15, Pa.refl, (Reads.as-is 𝓤 H A row·54, Mut.reads-mslice 𝓤 H A W (Rf.rtF (Rf.fInt Sy.w8)) ty·59 16, Pa.refl, (Reads.as-is 𝓤 H A (Mut.mslice (Rf.rtF (Rf.fInt Sy.w8)) ty·59 17), Mut.reads-mslice 𝓤 H A W (Rf.rtF (Rf.fInt Sy.w8)) ty·59 17, Pa.refl, (Reads.as-is 𝓤 H A (Mut.mslice (Rf.rtF (Rf.fInt Sy.w8)) ty·59 18), Mut.reads-mslice 𝓤 H A W (Rf.rtF (Rf.fInt Sy.w8)) ty·59 18, Pa.refl, tt)))))))))) (Reads.room-gone 𝓤 H A Laws.mir) (tt, (tt, (tt, (tt, (tt, (tt, (tt, (tt, tt)))))))) Pa.refl) (Ty.g-pre 𝓤 H A W 𝓣 E G55 G56 b51 Δ0 (Ty.pass T55 T56 s53) at76 (Sc.g-room 𝓤 H A W E G55 18 (Sy.tyStruct (Li._∷_ 38 (Li._∷_ 91 (Li._∷_ 93 Li.[]))) (Sy.tcons ty·58 (Sy.tcons (Sy.tyInt Sy.w64) Sy.tnil))) (Shared.room-sslice 𝓤 H A W (Rf.rtF (Rf.fInt Sy.w8)) ty·58 11)) (Ty.g-pre 𝓤 H A W 𝓣 E G56 G57 b51 Δ0 (Ty.pass T56 T57 s54) at75 (Sc.g-room 𝓤 H A W E G56 11 Laws'.mir (Local.room-whole 𝓤 H A W (Declared'.row Lent.the-type) Laws'.mir Pa.refl)) (Ty.g-pre 𝓤 H A W 𝓣 E G57 G58 b51 Δ0 (λ Ψ. Ψ) at74 (Lifetime.g-end 𝓤 H A W E G57 11 Pa.refl) (Ty.g-pre 𝓤 H A W 𝓣 E G58 G59 b51 Δ0 (Ty.ask s56) at73 (LendAt.g-way-back-shr 𝓤 H A W E (Frozen.fz-open Sy.erased 0 (κs .0) (Ro.lease (κs .0) (qs .0)) (LendAt.fz-shr (Array.Array (Rf.rtF (Rf.fInt Sy.w8)) 1114112) 11)) (LendAt.as-was-open Sy.erased 0 (κs .0) (Ro.lease (κs .0) (qs .0)) (LendAt.fz-shr (Array.Array (Rf.rtF (Rf.fInt Sy.w8)) 1114112) 11) (LendAt.as-was-shr (Array.Array (Rf.rtF (Rf.fInt Sy.w8)) 1114112) 11)) G58 1 row·3 (Ro.setLife 0 (Ro.lease (κs .0) (qs .0)) (G58 .slots)) (λ x. x) (λ x. x) (Reads.as-is 𝓤 H A (Frozen.held (Frozen.fz-open Sy.erased 0 (κs .0) (Ro.lease (κs .0) (qs .0)) (LendAt.fz-shr (Array.Array (Rf.rtF (Rf.fInt Sy.w8)) 1114112) 11)))) Pa.refl (WayLend.puts-open 𝓤 H A Sy.erased 0 (κs .0) (Ro.lease (κs .0) (qs .0)) (LendAt.fz-shr (Array.Array (Rf.rtF (Rf.fInt Sy.w8)) 1114112) 11) (G58 .slots) (G58 .slots) (Ro.setLife 0 (Ro.lease (κs .0) (qs .0)) (G58 .slots)) (LendAt.puts-none-shr 𝓤 H A (Array.Array (Rf.rtF (Rf.fInt Sy.w8)) 1114112) 11 (G58 .slots)) (Open.puts-whole 𝓤 H A W 0 (Ro.lease (κs .0) (qs .0)) (G58 .slots) Pa.refl)) λ ρ pins. Local.mref-mem 𝓤 H A W Sy.erased (κs .0) (Array.Array (Rf.rtF (Rf.fInt Sy.w8)) 1114112) 0 (Sy.tyRef (Sy.named 0) Sy.mut ty·61) Pa.refl ρ (pins .0)) (Ty.g-pre 𝓤 H A W 𝓣 E G59 G60 b51 Δ0 (λ Ψ. Ψ) at72 (Lifetime.g-forget 𝓤 H A W E G59 11 Ro.dead Pa.refl) (Ty.g-pre 𝓤 H A W 𝓣 E G60 G61 b51 Δ0 (λ Ψ. Ψ) at71 (Lifetime.g-end 𝓤 H A W E G60 12 Pa.refl) (Ty.g-pre 𝓤 H A W 𝓣 E G61 G62 b51 Δ0 (Ty.ask s59) at70 (WayLend.g-way-back 𝓤 H A W E (Frozen.fz-open Sy.erased 1 (κs .1 .0) (Ro.lease (κs .1 .0) (qs .1 .0)) (AsSlice.fz-lent-sl (Rf.rtF (Rf.fInt Sy.w32)) 6292480 12)) G61 20 2 row·2 ty·63 (Ro.setLife 1 (Ro.lease (κs .1 .0) (qs .1 .0)) (G61 .slots)) (λ x. x) (λ x. x) (λ x. x) (Reads.as-is 𝓤 H A (Mut.msleft (Rf.rtF (Rf.fInt Sy.w32)) ty·63)) (Reads.as-is 𝓤 H A (Frozen.held (Frozen.fz-open Sy.erased 1 (κs .1 .0) (Ro.lease (κs .1 .0) (qs .1 .0)) (AsSlice.fz-lent-sl (Rf.rtF (Rf.fInt Sy.w32)) 6292480 12)))) Pa.refl (WayLend.puts-open 𝓤 H A Sy.erased 1 (κs .1 .0) (Ro.lease (κs .1 .0) (qs .1 .0)) (AsSlice.fz-lent-sl (Rf.rtF (Rf.fInt Sy.w32)) 6292480 12) (G61 .slots) (G61 .slots) (Ro.setLife 1 (Ro.lease (κs .1 .0) (qs .1 .0)) (G61 .slots)) (AsSlice.puts-none-sl 𝓤 H A (Rf.rtF (Rf.fInt Sy.w32)) 6292480 12 (G61 .slots)) (Open.puts-whole 𝓤 H A W 1 (Ro.lease (κs .1 .0) (qs .1 .0)) (G61 .slots) Pa.refl)) λ ρ pins. Local.mref-mem 𝓤 H A W Sy.erased (κs .1 .0) (Array.Array (Rf.rtF (Rf.fInt Sy.w32)) 6292480) 1 ty·71 Pa.refl ρ (pins .0)) (Ty.g-pre 𝓤 H A W 𝓣 E G62 G63 b51 Δ0 (λ Ψ. Ψ) at69 (Lifetime.g-forget 𝓤 H A W E G62 12 Ro.dead Pa.refl) (Ty.g-pre 𝓤 H A W 𝓣 E G63 G64 b51 Δ0 (λ Ψ. Ψ) at68 (Lifetime.g-end 𝓤 H A W E G63 13 Pa.refl) (Ty.g-pre 𝓤 H A W 𝓣 E G64 G65 b51 Δ0 (Ty.both s62) at67 (Relend.g-back-sl 𝓤 H A W E Gap_.row G64 22 3 2 13 ty·65 ty·66 (Ro.lease (κs .1 .1 .0) (qs .1 .1 .0)) (λ x. x) (λ x. x) (Reads.as-is 𝓤 H A row·57) (Reads.as-is 𝓤 H A (Relend.mslice-owed Gap_.row ty·65 2 13 (Ro.lease (κs .1 .1 .0) (qs .1 .1 .0)))) Pa.refl Pa.refl) (Ty.g-pre 𝓤 H A W 𝓣 E G65 G66 b51 Δ0 (λ Ψ. Ψ) at66 (Lifetime.g-forget 𝓤 H A W E G65 13 Ro.dead Pa.refl) (Ty.g-pre 𝓤 H A W 𝓣 E G66 G67 b51 Δ0 (λ Ψ. Ψ) at65 (Lifetime.g-end 𝓤 H A W E G66 14 Pa.refl) (Ty.g-pre 𝓤 H A W 𝓣 E G67 G68 b51 Δ0 (Ty.ask s65) at64 (WayLend.g-way-back 𝓤 H A W E (Frozen.fz-open Sy.erased 3 (κs .1 .1 .1 .0) (Ro.lease (κs .1 .1 .1 .0) (qs .1 .1 .1 .0)) (AsSlice.fz-lent-sl (Rf.rtF (Rf.fInt Sy.w16)) 349526 14)) G67 24 4 row·11 ty·64 (Ro.setLife 3 (Ro.lease (κs .1 .1 .1 .0) (qs .1 .1 .1 .0)) (G67 .slots)) (λ x. x) (λ x. x) (λ x. x) (Reads.as-is 𝓤 H A row·51) (Reads.as-is 𝓤 H A (Frozen.held (Frozen.fz-open Sy.erased 3 (κs .1 .1 .1 .0) (Ro.lease (κs .1 .1 .1 .0) (qs .1 .1 .1 .0)) (AsSlice.fz-lent-sl (Rf.rtF (Rf.fInt Sy.w16)) 349526 14)))) Pa.refl (WayLend.puts-open 𝓤 H A Sy.erased 3 (κs .1 .1 .1 .0) (Ro.lease (κs .1 .1 .1 .0) (qs .1 .1 .1 .0)) (AsSlice.fz-lent-sl (Rf.rtF (Rf.fInt Sy.w16)) 349526 14) (G67 .slots) (G67 .slots) (Ro.setLife 3 (Ro.lease (κs .1 .1 .1 .0) (qs .1 .1 .1 .0)) (G67 .slots)) (AsSlice.puts-none-sl 𝓤 H A (Rf.rtF (Rf.fInt Sy.w16)) 349526 14 (G67 .slots)) (Open.puts-whole 𝓤 H A W 3 (Ro.lease (κs .1 .1 .1 .0) (qs .1 .1 .1 .0)) (G67 .slots) Pa.refl)) λ ρ pins. Local.mref-mem 𝓤 H A W Sy.erased (κs .1 .1 .1 .0) (Array.Array (Rf.rtF (Rf.fInt Sy.w16)) 349526) 3 ty·68 Pa.refl ρ (pins .0)) (Ty.g-pre 𝓤 H A W 𝓣 E G68 G69 b51 Δ0 (λ Ψ. Ψ) at63 (Lifetime.g-forget 𝓤 H A W E G68 14 Ro.dead Pa.refl) (Ty.g-pre 𝓤 H A W 𝓣 E G69 G70 b51 Δ0 (λ Ψ. Ψ) at62 (Lifetime.g-end 𝓤 H A W E G69 15 Pa.refl) (Ty.g-pre 𝓤 H A W 𝓣 E G70 G71 b51 Δ0 (Ty.ask s68) at61 (WayLend.g-way-back 𝓤 H A W E (Frozen.fz-open Sy.erased 4 (κs .1 .1 .1 .1 .0) (Ro.lease (κs .1 .1 .1 .1 .0) (qs .1 .1 .1 .1 .0)) (AsSlice.fz-lent-sl (Rf.rtF (Rf.fInt Sy.w8)) 349526 15)) G70 26 5 row·12 ty·59 (Ro.setLife 4 (Ro.lease (κs .1 .1 .1 .1 .0) (qs .1 .1 .1 .1 .0)) (G70 .slots)) (λ x. x) (λ x. x) (λ x. x) (Reads.as-is 𝓤 H A row·16) (Reads.as-is 𝓤 H A (Frozen.held (Frozen.fz-open Sy.erased 4 (κs .1 .1 .1 .1 .0) (Ro.lease (κs .1 .1 .1 .1 .0) (qs .1 .1 .1 .1 .0)) (AsSlice.fz-lent-sl (Rf.rtF (Rf.fInt Sy.w8)) 349526 15)))) Pa.refl (WayLend.puts-open 𝓤 H A Sy.erased 4 (κs .1 .1 .1 .1 .0) (Ro.lease (κs .1 .1 .1 .1 .0) (qs .1 .1 .1 .1 .0)) (AsSlice.fz-lent-sl (Rf.rtF (Rf.fInt Sy.w8)) 349526 15) (G70 .slots) (G70 .slots) (Ro.setLife 4 (Ro.lease (κs .1 .1 .1 .1 .0) (qs .1 .1 .1 .1 .0)) (G70 .slots)) (AsSlice.puts-none-sl 𝓤 H A (Rf.rtF (Rf.fInt Sy.w8)) 349526 15 (G70 .slots)) (Open.puts-whole 𝓤 H A W 4 (Ro.lease (κs .1 .1 .1 .1 .0) (qs .1 .1 .1 .1 .0)) (G70 .slots) Pa.refl)) λ ρ pins. Local.mref-mem 𝓤 H A W Sy.erased (κs .1 .1 .1 .1 .0) (Array.Array (Rf.rtF (Rf.fInt Sy.w8)) 349526) 4 ty·69 Pa.refl ρ (pins .0)) (Ty.g-pre 𝓤 H A W 𝓣 E G71 G72 b51 Δ0 (λ Ψ. Ψ) at60 (Lifetime.g-forget 𝓤 H A W E G71 15 Ro.dead Pa.refl) (Ty.g-pre 𝓤 H A W 𝓣 E G72 G73 b51 Δ0 (λ Ψ. Ψ) at59 (Lifetime.g-end 𝓤 H A W E G72 16 Pa.refl) (Ty.g-pre 𝓤 H A W 𝓣 E G73 G74 b51 Δ0 (Ty.ask s71) at58 (WayLend.g-way-back 𝓤 H A W E (Frozen.fz-open Sy.erased 5 (κs .1 .1 .1 .1 .1 .0) (Ro.lease (κs .1 .1 .1 .1 .1 .0) (qs .1 .1 .1 .1 .1 .0)) (AsSlice.fz-lent-sl (Rf.rtF (Rf.fInt Sy.w8)) 8388608 16)) G73 28 6 row·10 ty·59 (Ro.setLife 5 (Ro.lease (κs .1 .1 .1 .1 .1 .0) (qs .1 .1 .1 .1 .1 .0)) (G73 .slots)) (λ x. x) (λ x. x) (λ x. x) (Reads.as-is 𝓤 H A row·16) (Reads.as-is 𝓤 H A (Frozen.held (Frozen.fz-open Sy.erased 5 (κs .1 .1 .1 .1 .1 .0) (Ro.lease (κs .1 .1 .1 .1 .1 .0) (qs .1 .1 .1 .1 .1 .0)) (AsSlice.fz-lent-sl (Rf.rtF (Rf.fInt Sy.w8)) 8388608 16)))) Pa.refl (WayLend.puts-open 𝓤 H A Sy.erased 5 (κs .1 .1 .1 .1 .1 .0) (Ro.lease (κs .1 .1 .1 .1 .1 .0) (qs .1 .1 .1 .1 .1 .0)) (AsSlice.fz-lent-sl (Rf.rtF (Rf.fInt Sy.w8)) 8388608 16) (G73 .slots) (G73 .slots) (Ro.setLife 5 (Ro.lease (κs .1 .1 .1 .1 .1 .0) (qs .1 .1 .1 .1 .1 .0)) (G73 .slots)) (AsSlice.puts-none-sl 𝓤 H A (Rf.rtF (Rf.fInt Sy.w8)) 8388608 16 (G73 .slots)) (Open.puts-whole 𝓤 H A W 5 (Ro.lease (κs .1 .1 .1 .1 .1 .0) (qs .1 .1 .1 .1 .1 .0)) (G73 .slots) Pa.refl)) λ ρ pins. Local.mref-mem 𝓤 H A W Sy.erased (κs .1 .1 .1 .1 .1 .0) (Array.Array (Rf.rtF (Rf.fInt Sy.w8)) 8388608) 5 (Sy.tyRef (Sy.named 5) Sy.mut ty·67) Pa.refl ρ (pins .0)) (Ty.g-pre 𝓤 H A W 𝓣 E G74 G75 b51 Δ0 (λ Ψ. Ψ) at57 (Lifetime.g-forget 𝓤 H A W E G74 16 Ro.dead Pa.refl) (Ty.g-pre 𝓤 H A W 𝓣 E G75 G76 b51 Δ0 (λ Ψ. Ψ) at56 (Lifetime.g-end 𝓤 H A W E G75 17 Pa.refl) (Ty.g-pre 𝓤 H A W 𝓣 E G76 G77 b51 Δ0 (Ty.ask s74) at55 (WayLend.g-way-back 𝓤 H A W E (Frozen.fz-open Sy.erased 6 (κs .1 .1 .1 .1 .1 .1 .0) (Ro.lease (κs .1 .1 .1 .1 .1 .1 .0) (qs .1 .1 .1 .1 .1 .1 .0)) (AsSlice.fz-lent-sl (Rf.rtF (Rf.fInt Sy.w8)) 8388608 17)) G76 30 7 row·8 ty·59 (Ro.setLife 6 (Ro.lease (κs .1 .1 .1 .1 .1 .1 .0) (qs .1 .1 .1 .1 .1 .1 .0)) (G76 .slots)) (λ x. x) (λ x. x) (λ x. x) (Reads.as-is 𝓤 H A row·16) (Reads.as-is 𝓤 H A (Frozen.held (Frozen.fz-open Sy.erased 6 (κs .1 .1 .1 .1 .1 .1 .0) (Ro.lease (κs .1 .1 .1 .1 .1 .1 .0) (qs .1 .1 .1 .1 .1 .1 .0)) (AsSlice.fz-lent-sl (Rf.rtF (Rf.fInt Sy.w8)) 8388608 17)))) Pa.refl (WayLend.puts-open 𝓤 H A Sy.erased 6 (κs .1 .1 .1 .1 .1 .1 .0) (Ro.lease (κs .1 .1 .1 .1 .1 .1 .0) (qs .1 .1 .1 .1 .1 .1 .0)) (AsSlice.fz-lent-sl (Rf.rtF (Rf.fInt Sy.w8)) 8388608 17) (G76 .slots) (G76 .slots) (Ro.setLife 6 (Ro.lease (κs .1 .1 .1 .1 .1 .1 .0) (qs .1 .1 .1 .1 .1 .1 .0)) (G76 .slots)) (AsSlice.puts-none-sl 𝓤 H A (Rf.rtF (Rf.fInt Sy.w8)) 8388608 17 (G76 .slots)) (Open.puts-whole 𝓤 H A W 6 (Ro.lease (κs .1 .1 .1 .1 .1 .1 .0) (qs .1 .1 .1 .1 .1 .1 .0)) (G76 .slots) Pa.refl)) λ ρ pins. Local.mref-mem 𝓤 H A W Sy.erased (κs .1 .1 .1 .1 .1 .1 .0) (Array.Array (Rf.rtF (Rf.fInt Sy.w8)) 8388608) 6 (Sy.tyRef (Sy.named 6) Sy.mut ty·67) Pa.refl ρ (pins .0)) (Ty.g-pre 𝓤 H A W 𝓣 E G77 G78 b51 Δ0 (λ Ψ. Ψ) at54 (Lifetime.g-forget 𝓤 H A W E G77 17 Ro.dead Pa.refl) (Ty.g-pre 𝓤 H A W 𝓣 E G78 G79 b51 Δ0 (λ Ψ. Ψ) at53 (Lifetime.g-end 𝓤 H A W E G78 18 Pa.refl) (Ty.g-pre 𝓤 H A W 𝓣 E G79 G80 b51 Δ0 (Ty.ask s77) at52 (WayLend.g-way-back 𝓤 H A W E (Frozen.fz-open Sy.erased 7 (κs .1 .1 .1 .1 .1 .1 .1 .0) (Ro.lease (κs .1 .1 .1 .1 .1 .1 .1 .0) (qs .1 .1 .1 .1 .1 .1 .1 .0)) (AsSlice.fz-lent-sl (Rf.rtF (Rf.fInt Sy.w8)) 65536 18)) G79 32 8 row·7 ty·59 (Ro.setLife 7 (Ro.lease (κs .1 .1 .1 .1 .1 .1 .1 .0) (qs .1 .1 .1 .1 .1 .1 .1 .0)) (G79 .slots)) (λ x. x) (λ x. x) (λ x. x) (Reads.as-is 𝓤 H A row·16) (Reads.as-is 𝓤 H A (Frozen.held (Frozen.fz-open Sy.erased 7 (κs .1 .1 .1 .1 .1 .1 .1 .0) (Ro.lease (κs .1 .1 .1 .1 .1 .1 .1 .0) (qs .1 .1 .1 .1 .1 .1 .1 .0)) (AsSlice.fz-lent-sl (Rf.rtF (Rf.fInt Sy.w8)) 65536 18)))) Pa.refl (WayLend.puts-open 𝓤 H A Sy.erased 7 (κs .1 .1 .1 .1 .1 .1 .1 .0) (Ro.lease (κs .1 .1 .1 .1 .1 .1 .1 .0) (qs .1 .1 .1 .1 .1 .1 .1 .0)) (AsSlice.fz-lent-sl (Rf.rtF (Rf.fInt Sy.w8)) 65536 18) (G79 .slots) (G79 .slots) (Ro.setLife 7 (Ro.lease (κs .1 .1 .1 .1 .1 .1 .1 .0) (qs .1 .1 .1 .1 .1 .1 .1 .0)) (G79 .slots)) (AsSlice.puts-none-sl 𝓤 H A (Rf.rtF (Rf.fInt Sy.w8)) 65536 18 (G79 .slots)) (Open.puts-whole 𝓤 H A W 7 (Ro.lease (κs .1 .1 .1 .1 .1 .1 .1 .0) (qs .1 .1 .1 .1 .1 .1 .1 .0)) (G79 .slots) Pa.refl)) λ ρ pins. Local.mref-mem 𝓤 H A W Sy.erased (κs .1 .1 .1 .1 .1 .1 .1 .0) (Array.Array (Rf.rtF (Rf.fInt Sy.w8)) 65536) 7 ty·70 Pa.refl ρ (pins .0)) (Ty.g-pre 𝓤 H A W 𝓣 E G80 G81 b51 Δ0 (λ Ψ. Ψ) at51 (Lifetime.g-forget 𝓤 H A W E G80 18 Ro.dead Pa.refl) (Ty.g-pre 𝓤 H A W 𝓣 E G81 G82 b51 Δ0 (λ Ψ. Ψ) at50 (Lifetime.g-begin 𝓤 H A W E G81 19 (tt, (tt, (tt, (tt, (tt, (tt, (tt, (tt, (tt, (tt, (tt, (tt, (tt, (tt, (tt, (tt, (tt, (tt, (tt, (tt, (tt, (tt, (tt, (tt, (tt, (tt, (tt, (tt, (tt, (tt, (tt, (tt, (tt, (tt, (tt, (tt, (tt, (tt, (tt, (tt, (tt, (tt, (tt, tt)))))))))))))))))))))))))))))))))))))))))))) (Ty.s-seq 𝓤 H A W 𝓣 E G82 G83 b29 b50 Δ0 (Ty.both s80) at49 (LendAt.t-way-share 𝓤 H A W E 𝓣 (Array.Array (Rf.rtF (Rf.fInt Sy.w16)) 349526) (λ ρ. Pa._≡_ (Ro.lft ρ 3) (κs .1 .1 .1 .0)) G82 (Ro.out 4 (G82 .locals)) (λ u. Ro.drop 4 (G82 .locals) u) (Ro.setLife 3 Ro.off (G82 .slots)) 4 (λ t. Li._∷_ (Sy.deref (Sy.tyInt Sy.w16)) t) (Sy.tyInt Sy.w16) ty·62 33 19 (λ u. u .1 .1 .1 .1 .0 .now) (λ u. u .1 .1 .1 .1 .0 .ptr) (λ T′. record { locals = Ro.setRow 4 (4, Frozen.held (Frozen.fz-open Sy.erased 3 (κs .1 .1 .1 .0) (Ro.lease (κs .1 .1 .1 .0) (qs .1 .1 .1 .0)) (LendAt.fz-shr (Array.Array (Rf.rtF (Rf.fInt Sy.w16)) 349526) 19))) T′; slots = Ro.setLife 3 Ro.off (G82 .slots) }) (λ u γ T′ m′. Ro.set 4 (4, Frozen.held (Frozen.fz-open Sy.erased 3 (κs .1 .1 .1 .0) (Ro.lease (κs .1 .1 .1 .0) (qs .1 .1 .1 .0)) (LendAt.fz-shr (Array.Array (Rf.rtF (Rf.fInt Sy.w16)) 349526) 19))) (u .1 .1 .1 .1 .0, γ) T′ m′) (λ u. Unit) (Call.pin-lease 𝓤 H A W 3 (G82 .slots) (κs .1 .1 .1 .0) (qs .1 .1 .1 .0) Pa.refl) (λ ρ told u asked. WayLend.wt-mut 𝓤 H A W E Sy.erased 3 (κs .1 .1 .1 .0) (Ro.lease (κs .1 .1 .1 .0) (qs .1 .1 .1 .0)) (LendAt.fz-shr (Array.Array (Rf.rtF (Rf.fInt Sy.w16)) 349526) 19) ty·68 (Sy.tyInt Sy.w16) (u .1 .1 .1 .1 .0) (Wp.spotOf 𝓤 H E 4 .1, 0) (WayLend.wt-mref 𝓤 H A W E Sy.erased (κs .1 .1 .1 .0) (Array.Array (Rf.rtF (Rf.fInt Sy.w16)) 349526) 3 ty·68 (Frozen.fz-open Sy.erased 3 (κs .1 .1 .1 .0) (Ro.lease (κs .1 .1 .1 .0) (qs .1 .1 .1 .0)) (LendAt.fz-shr (Array.Array (Rf.rtF (Rf.fInt Sy.w16)) 349526) 19)) Pa.refl G82 ρ u (Ro.setLife 3 Ro.off (G82 .slots)) 4 (λ x. x) told (Reads.as-is 𝓤 H A row·11)) Pa.refl (Ro.setLife 3 Ro.off (G82 .slots)) (Open.takes-whole 𝓤 H A W 3 (G82 .slots) (Ro.lease (κs .1 .1 .1 .0) (qs .1 .1 .1 .0)) Pa.refl tt) told) (Reads.room-gone 𝓤 H A ty·62) Pa.refl λ b o. tt) (Ty.g-pre 𝓤 H A W 𝓣 E G83 G84 b50 Δ0 (Ty.give s81) at48 (AsSlice.g-sref-as-slice 𝓤 H A W E G83 33 19 (Rf.rtF (Rf.fInt Sy.w16)) tt 349526 (Dec'.lit< tt, Dec'.lit< tt) (Copies.halves 𝓤 H A W (Copies.cArr (Rf.rtF (Rf.fInt Sy.w16)) (Copies.cRf (Rf.fInt Sy.w16)) 349526)) ty·62 Ro.alive (λ x. x) (Reads.as-is 𝓤 H A (Rows'.sref (Array.Array (Rf.rtF (Rf.fInt Sy.w16)) 349526) ty·62 19)) Pa.refl tt) (Ty.s-seq 𝓤 H A W 𝓣 E G84 G85 b30 b49 Δ0 (Ty.ask s82) at47 (Relend.t-sl-aggregate 𝓤 H A W E (Rf.rtF (Rf.fInt Sy.w16)) 𝓣 (Relend.asShr (Rf.rtF (Rf.fInt Sy.w16))) G84 33 34 19 ty·62 ty·62 (λ x. x) (Sc.oBig Sy.w64 349526) (Reads.as-is 𝓤 H A (Relend.ssptr (Rf.rtF (Rf.fInt Sy.w16)) ty·62 19)) (Reads.room-gone 𝓤 H A (Sy.tyStruct (Li._∷_ 38 (Li._∷_ 91 (Li._∷_ 93 Li.[]))) (Sy.tcons ty·62 (Sy.tcons (Sy.tyInt Sy.w64) Sy.tnil)))) record { lower = record { fits = Dec'.lit< tt } } Pa.refl Pa.refl λ b o k. tt) (Ty.g-pre 𝓤 H A W 𝓣 E G85 G86 b49 Δ0 (λ Ψ. Ψ) at46 (Lifetime.g-begin 𝓤 H A W E G85 20 (tt, (tt, (tt, (tt, ((tt, tt), (tt, (tt, (tt, (tt, (tt, (tt, (tt, (tt, (tt, (tt, (tt, (tt, (tt, (tt, (tt, (tt, (tt, (tt, (tt, (tt, (tt, (tt, (tt, (tt, (tt, (tt, (tt, (tt, (tt, (tt, (tt, (tt, (tt, (tt, (tt, (tt, (tt, (tt, tt)))))))))))))))))))))))))))))))))))))))))))) (Ty.s-seq 𝓤 H A W 𝓣 E G86 G87 b31 b48 Δ0 (Ty.both s84) at45 (LendAt.t-way-share 𝓤 H A W E 𝓣 (Array.Array (Rf.rtF (Rf.fInt Sy.w8)) 349526) (λ ρ. Pa._≡_ (Ro.lft ρ 4) (κs .1 .1 .1 .1 .0)) G86 (Ro.out 5 (G86 .locals)) (λ u. Ro.drop 5 (G86 .locals) u) (Ro.setLife 4 Ro.off (G86 .slots)) 5 (λ t. Li._∷_ (Sy.deref (Sy.tyInt Sy.w8)) t) (Sy.tyInt Sy.w8) ty·58 35 20 (λ u. u .1 .1 .1 .1 .1 .0 .now) (λ u. u .1 .1 .1 .1 .1 .0 .ptr) (λ T′. record { locals = Ro.setRow 5 (5, Frozen.held (Frozen.fz-open Sy.erased 4 (κs .1 .1 .1 .1 .0) (Ro.lease (κs .1 .1 .1 .1 .0) (qs .1 .1 .1 .1 .0)) (LendAt.fz-shr (Array.Array (Rf.rtF (Rf.fInt Sy.w8)) 349526) 20))) T′; slots = Ro.setLife 4 Ro.off (G86 .slots) }) (λ u γ T′ m′. Ro.set 5 (5, Frozen.held (Frozen.fz-open Sy.erased 4 (κs .1 .1 .1 .1 .0) (Ro.lease (κs .1 .1 .1 .1 .0) (qs .1 .1 .1 .1 .0)) (LendAt.fz-shr (Array.Array (Rf.rtF (Rf.fInt Sy.w8)) 349526) 20))) (u .1 .1 .1 .1 .1 .0, γ) T′ m′) (λ u. Unit) (Call.pin-lease 𝓤 H A W 4 (G86 .slots) (κs .1 .1 .1 .1 .0) (qs .1 .1 .1 .1 .0) Pa.refl) (λ ρ told u asked. WayLend.wt-mut 𝓤 H A W E Sy.erased 4 (κs .1 .1 .1 .1 .0) (Ro.lease (κs .1 .1 .1 .1 .0) (qs .1 .1 .1 .1 .0)) (LendAt.fz-shr (Array.Array (Rf.rtF (Rf.fInt Sy.w8)) 349526) 20) ty·69 (Sy.tyInt Sy.w8) (u .1 .1 .1 .1 .1 .0) (Wp.spotOf 𝓤 H E 5 .1, 0) (WayLend.wt-mref 𝓤 H A W E Sy.erased (κs .1 .1 .1 .1 .0) (Array.Array (Rf.rtF (Rf.fInt Sy.w8)) 349526) 4 ty·69 (Frozen.fz-open Sy.erased 4 (κs .1 .1 .1 .1 .0) (Ro.lease (κs .1 .1 .1 .1 .0) (qs .1 .1 .1 .1 .0)) (LendAt.fz-shr (Array.Array (Rf.rtF (Rf.fInt Sy.w8)) 349526) 20)) Pa.refl G86 ρ u (Ro.setLife 4 Ro.off (G86 .slots)) 5 (λ x. x) told (Reads.as-is 𝓤 H A row·12)) Pa.refl (Ro.setLife 4 Ro.off (G86 .slots)) (Open.takes-whole 𝓤 H A W 4 (G86 .slots) (Ro.lease (κs .1 .1 .1 .1 .0) (qs .1 .1 .1 .1 .0)) Pa.refl tt) told) (Reads.room-gone 𝓤 H A ty·58) Pa.refl λ b o. tt) (Ty.g-pre 𝓤 H A W 𝓣 E G87 G88 b48 Δ0 (Ty.give s85) at44 (AsSlice.g-sref-as-slice 𝓤 H A W E G87 35 20 (Rf.rtF (Rf.fInt Sy.w8)) tt 349526 (Dec'.lit< tt, Dec'.lit< tt) (Copies.halves 𝓤 H A W (Copies.cArr (Rf.rtF (Rf.fInt Sy.w8)) (Copies.cRf (Rf.fInt Sy.w8)) 349526)) ty·58 Ro.alive (λ x. x) (Reads.as-is 𝓤 H A (Rows'.sref (Array.Array (Rf.rtF (Rf.fInt Sy.w8)) 349526) ty·58 20)) Pa.refl tt) (Ty.s-seq 𝓤 H A W 𝓣 E G88 G89 b32 b47 Δ0 (Ty.ask s86) at43 (Relend.t-sl-aggregate 𝓤 H A W E (Rf.rtF (Rf.fInt Sy.w8)) 𝓣 (Relend.asShr (Rf.rtF (Rf.fInt Sy.w8))) G88 35 36 20 ty·58 ty·58 (λ x. x) (Sc.oBig Sy.w64 349526) (Reads.as-is 𝓤 H A (Relend.ssptr (Rf.rtF (Rf.fInt Sy.w8)) ty·58 20)) (Reads.room-gone 𝓤 H A (Sy.tyStruct (Li._∷_ 38 (Li._∷_ 91 (Li._∷_ 93 Li.[]))) (Sy.tcons ty·58 (Sy.tcons (Sy.tyInt Sy.w64) Sy.tnil)))) record { lower = record { fits = Dec'.lit< tt } } Pa.refl Pa.refl λ b o k. tt) (Ty.g-pre 𝓤 H A W 𝓣 E G89 G90 b47 Δ0 (λ Ψ. Ψ) at42 (Lifetime.g-begin 𝓤 H A W E G89 21 (tt, (tt, (tt, (tt, ((tt, tt), ((tt, tt), (tt, (tt, (tt, (tt, (tt, (tt, (tt, (tt, (tt, (tt, (tt, (tt, (tt, (tt, (tt, (tt, (tt, (tt, (tt, (tt, (tt, (tt, (tt, (tt, (tt, (tt, (tt, (tt, (tt, (tt, (tt, (tt, (tt, (tt, (tt, (tt, (tt, tt)))))))))))))))))))))))))))))))))))))))))))) (Ty.s-seq 𝓤 H A W 𝓣 E G90 G91 b33 b46 Δ0 (Ty.both s88) at41 (LendAt.t-way-share 𝓤 H A W E 𝓣 (Array.Array (Rf.rtF (Rf.fInt Sy.w8)) 8388608) (λ ρ. Pa._≡_ (Ro.lft ρ 5) (κs .1 .1 .1 .1 .1 .0)) G90 (Ro.out 6 (G90 .locals)) (λ u. Ro.drop 6 (G90 .locals) u) (Ro.setLife 5 Ro.off (G90 .slots)) 6 (λ t. Li._∷_ (Sy.deref (Sy.tyInt Sy.w8)) t) (Sy.tyInt Sy.w8) ty·58 37 21 (λ u. u .1 .1 .1 .1 .1 .1 .0 .now) (λ u. u .1 .1 .1 .1 .1 .1 .0 .ptr) (λ T′. record { locals = Ro.setRow 6 (6, Frozen.held (Frozen.fz-open Sy.erased 5 (κs .1 .1 .1 .1 .1 .0) (Ro.lease (κs .1 .1 .1 .1 .1 .0) (qs .1 .1 .1 .1 .1 .0)) (LendAt.fz-shr (Array.Array (Rf.rtF (Rf.fInt Sy.w8)) 8388608) 21))) T′; slots = Ro.setLife 5 Ro.off (G90 .slots) }) (λ u γ T′ m′. Ro.set 6 (6, Frozen.held (Frozen.fz-open Sy.erased 5 (κs .1 .1 .1 .1 .1 .0) (Ro.lease (κs .1 .1 .1 .1 .1 .0) (qs .1 .1 .1 .1 .1 .0)) (LendAt.fz-shr (Array.Array (Rf.rtF (Rf.fInt Sy.w8)) 8388608) 21))) (u .1 .1 .1 .1 .1 .1 .0, γ) T′ m′) (λ u. Unit) (Call.pin-lease 𝓤 H A W 5 (G90 .slots) (κs .1 .1 .1 .1 .1 .0) (qs .1 .1 .1 .1 .1 .0) Pa.refl) (λ ρ told u asked. WayLend.wt-mut 𝓤 H A W E Sy.erased 5 (κs .1 .1 .1 .1 .1 .0) (Ro.lease (κs .1 .1 .1 .1 .1 .0) (qs .1 .1 .1 .1 .1 .0)) (LendAt.fz-shr (Array.Array (Rf.rtF (Rf.fInt Sy.w8)) 8388608) 21) (Sy.tyRef (Sy.named 5) Sy.mut ty·67) (Sy.tyInt Sy.w8) (u .1 .1 .1 .1 .1 .1 .0) (Wp.spotOf 𝓤 H E 6 .1, 0) (WayLend.wt-mref 𝓤 H A W E Sy.erased (κs .1 .1 .1 .1 .1 .0) (Array.Array (Rf.rtF (Rf.fInt Sy.w8)) 8388608) 5 (Sy.tyRef (Sy.named 5) Sy.mut ty·67) (Frozen.fz-open Sy.erased 5 (κs .1 .1 .1 .1 .1 .0) (Ro.lease (κs .1 .1 .1 .1 .1 .0) (qs .1 .1 .1 .1 .1 .0)) (LendAt.fz-shr (Array.Array (Rf.rtF (Rf.fInt Sy.w8)) 8388608) 21)) Pa.refl G90 ρ u (Ro.setLife 5 Ro.off (G90 .slots)) 6 (λ x. x) told (Reads.as-is 𝓤 H A row·10)) Pa.refl (Ro.setLife 5 Ro.off (G90 .slots)) (Open.takes-whole 𝓤 H A W 5 (G90 .slots) (Ro.lease (κs .1 .1 .1 .1 .1 .0) (qs .1 .1 .1 .1 .1 .0)) Pa.refl tt) told) (Reads.room-gone 𝓤 H A ty·58) Pa.refl λ b o. tt) (Ty.g-pre 𝓤 H A W 𝓣 E G91 G92 b46 Δ0 (Ty.give s89) at40 (AsSlice.g-sref-as-slice 𝓤 H A W E G91 37 21 (Rf.rtF (Rf.fInt Sy.w8)) tt 8388608 (Dec'.lit< tt, Dec'.lit< tt) (Copies.halves 𝓤 H A W (Copies.cArr (Rf.rtF (Rf.fInt Sy.w8)) (Copies.cRf (Rf.fInt Sy.w8)) 8388608)) ty·58 Ro.alive (λ x. x) (Reads.as-is 𝓤 H A (Rows'.sref (Array.Array (Rf.rtF (Rf.fInt Sy.w8)) 8388608) ty·58 21)) Pa.refl tt) (Ty.s-seq 𝓤 H A W 𝓣 E G92 G93 b34 b45 Δ0 (Ty.ask s90) at39 (Relend.t-sl-aggregate 𝓤 H A W E (Rf.rtF (Rf.fInt Sy.w8)) 𝓣 (Relend.asShr (Rf.rtF (Rf.fInt Sy.w8))) G92 37 38 21 ty·58 ty·58 (λ x. x) (Sc.oBig Sy.w64 8388608) (Reads.as-is 𝓤 H A (Relend.ssptr (Rf.rtF (Rf.fInt Sy.w8)) ty·58 21)) (Reads.room-gone 𝓤 H A (Sy.tyStruct (Li._∷_ 38 (Li._∷_ 91 (Li._∷_ 93 Li.[]))) (Sy.tcons ty·58 (Sy.tcons (Sy.tyInt Sy.w64) Sy.tnil)))) record { lower = record { fits = Dec'.lit< tt } } Pa.refl Pa.refl λ b o k. tt) (Ty.g-pre 𝓤 H A W 𝓣 E G93 G94 b45 Δ0 (λ Ψ. Ψ) at38 (Lifetime.g-begin 𝓤 H A W E G93 22 (tt, (tt, (tt, (tt, ((tt, tt), ((tt, tt), ((tt, tt), (tt, (tt, (tt, (tt, (tt, (tt, (tt, (tt, (tt, (tt, (tt, (tt, (tt, (tt, (tt, (tt, (tt, (tt, (tt, (tt, (tt, (tt, (tt, (tt, (tt, (tt, (tt, (tt, (tt, (tt, (tt, (tt, (tt, (tt, (tt, (tt, tt)))))))))))))))))))))))))))))))))))))))))))) (Ty.s-seq 𝓤 H A W 𝓣 E G94 G95 b35 b44 Δ0 (Ty.both s92) at37 (LendAt.t-way-share 𝓤 H A W E 𝓣 (Array.Array (Rf.rtF (Rf.fInt Sy.w8)) 8388608) (λ ρ. Pa._≡_ (Ro.lft ρ 6) (κs .1 .1 .1 .1 .1 .1 .0)) G94 (Ro.out 7 (G94 .locals)) (λ u. Ro.drop 7 (G94 .locals) u) (Ro.setLife 6 Ro.off (G94 .slots)) 7 (λ t. Li._∷_ (Sy.deref (Sy.tyInt Sy.w8)) t) (Sy.tyInt Sy.w8) ty·58 39 22 (λ u. u .1 .1 .1 .1 .1 .1 .1 .0 .now) (λ u. u .1 .1 .1 .1 .1 .1 .1 .0 .ptr) (λ T′. record { locals = Ro.setRow 7 (7, Frozen.held (Frozen.fz-open Sy.erased 6 (κs .1 .1 .1 .1 .1 .1 .0) (Ro.lease (κs .1 .1 .1 .1 .1 .1 .0) (qs .1 .1 .1 .1 .1 .1 .0)) (LendAt.fz-shr (Array.Array (Rf.rtF (Rf.fInt Sy.w8)) 8388608) 22))) T′; slots = Ro.setLife 6 Ro.off (G94 .slots) }) (λ u γ T′ m′. Ro.set 7 (7, Frozen.held (Frozen.fz-open Sy.erased 6 (κs .1 .1 .1 .1 .1 .1 .0) (Ro.lease (κs .1 .1 .1 .1 .1 .1 .0) (qs .1 .1 .1 .1 .1 .1 .0)) (LendAt.fz-shr (Array.Array (Rf.rtF (Rf.fInt Sy.w8)) 8388608) 22))) (u .1 .1 .1 .1 .1 .1 .1 .0, γ) T′ m′) (λ u. Unit) (Call.pin-lease 𝓤 H A W 6 (G94 .slots) (κs .1 .1 .1 .1 .1 .1 .0) (qs .1 .1 .1 .1 .1 .1 .0) Pa.refl) (λ ρ told u asked. WayLend.wt-mut 𝓤 H A W E Sy.erased 6 (κs .1 .1 .1 .1 .1 .1 .0) (Ro.lease (κs .1 .1 .1 .1 .1 .1 .0) (qs .1 .1 .1 .1 .1 .1 .0)) (LendAt.fz-shr (Array.Array (Rf.rtF (Rf.fInt Sy.w8)) 8388608) 22) (Sy.tyRef (Sy.named 6) Sy.mut ty·67) (Sy.tyInt Sy.w8) (u .1 .1 .1 .1 .1 .1 .1 .0) (Wp.spotOf 𝓤 H E 7 .1, 0) (WayLend.wt-mref 𝓤 H A W E Sy.erased (κs .1 .1 .1 .1 .1 .1 .0) (Array.Array (Rf.rtF (Rf.fInt Sy.w8)) 8388608) 6 (Sy.tyRef (Sy.named 6) Sy.mut ty·67) (Frozen.fz-open Sy.erased 6 (κs .1 .1 .1 .1 .1 .1 .0) (Ro.lease (κs .1 .1 .1 .1 .1 .1 .0) (qs .1 .1 .1 .1 .1 .1 .0)) (LendAt.fz-shr (Array.Array (Rf.rtF (Rf.fInt Sy.w8)) 8388608) 22)) Pa.refl G94 ρ u (Ro.setLife 6 Ro.off (G94 .slots)) 7 (λ x. x) told (Reads.as-is 𝓤 H A row·8)) Pa.refl (Ro.setLife 6 Ro.off (G94 .slots)) (Open.takes-whole 𝓤 H A W 6 (G94 .slots) (Ro.lease (κs .1 .1 .1 .1 .1 .1 .0) (qs .1 .1 .1 .1 .1 .1 .0)) Pa.refl tt) told) (Reads.room-gone 𝓤 H A ty·58) Pa.refl λ b o. tt) (Ty.g-pre 𝓤 H A W 𝓣 E G95 G96 b44 Δ0 (Ty.give s93) at36 (AsSlice.g-sref-as-slice 𝓤 H A W E G95 39 22 (Rf.rtF (Rf.fInt Sy.w8)) tt 8388608 (Dec'.lit< tt, Dec'.lit< tt) (Copies.halves 𝓤 H A W (Copies.cArr (Rf.rtF (Rf.fInt Sy.w8)) (Copies.cRf (Rf.fInt Sy.w8)) 8388608)) ty·58 Ro.alive (λ x. x) (Reads.as-is 𝓤 H A (Rows'.sref (Array.Array (Rf.rtF (Rf.fInt Sy.w8)) 8388608) ty·58 22)) Pa.refl tt) (Ty.s-seq 𝓤 H A W 𝓣 E G96 G97 b36 b43 Δ0 (Ty.ask s94) at35 (Relend.t-sl-aggregate 𝓤 H A W E (Rf.rtF (Rf.fInt Sy.w8)) 𝓣 (Relend.asShr (Rf.rtF (Rf.fInt Sy.w8))) G96 39 40 22 ty·58 ty·58 (λ x. x) (Sc.oBig Sy.w64 8388608) (Reads.as-is 𝓤 H A (Relend.ssptr (Rf.rtF (Rf.fInt Sy.w8)) ty·58 22)) (Reads.room-gone 𝓤 H A (Sy.tyStruct (Li._∷_ 38 (Li._∷_ 91 (Li._∷_ 93 Li.[]))) (Sy.tcons ty·58 (Sy.tcons (Sy.tyInt Sy.w64) Sy.tnil)))) record { lower = record { fits = Dec'.lit< tt } } Pa.refl Pa.refl λ b o k. tt) (Ty.g-pre 𝓤 H A W 𝓣 E G97 G98 b43 Δ0 (λ Ψ. Ψ) at34 (Lifetime.g-begin 𝓤 H A W E G97 23 (tt, (tt, (tt, (tt, ((tt, tt), ((tt, tt), ((tt, tt), ((tt, tt), (tt, (tt, (tt, (tt, (tt, (tt, (tt, (tt, (tt, (tt, (tt, (tt, (tt, (tt, (tt, (tt, (tt, (tt, (tt, (tt, (tt, (tt, (tt, (tt, (tt, (tt, (tt, (tt, (tt, (tt, (tt, (tt, (tt, (tt, (tt, tt)))))))))))))))))))))))))))))))))))))))))))) (Ty.s-seq 𝓤 H A W 𝓣 E G98 G99 b37 b42 Δ0 (Ty.both s96) at33 (LendAt.t-way-share 𝓤 H A W E 𝓣 (Array.Array (Rf.rtF (Rf.fInt Sy.w8)) 65536) (λ ρ. Pa._≡_ (Ro.lft ρ 7) (κs .1 .1 .1 .1 .1 .1 .1 .0)) G98 (Ro.out 8 (G98 .locals)) (λ u. Ro.drop 8 (G98 .locals) u) (Ro.setLife 7 Ro.off (G98 .slots)) 8 (λ t. Li._∷_ (Sy.deref (Sy.tyInt Sy.w8)) t) (Sy.tyInt Sy.w8) ty·58 41 23 (λ u. u .1 .1 .1 .1 .1 .1 .1 .1 .0 .now) (λ u. u .1 .1 .1 .1 .1 .1 .1 .1 .0 .ptr) (λ T′. record { locals = Ro.setRow 8 (8, Frozen.held (Frozen.fz-open Sy.erased 7 (κs .1 .1 .1 .1 .1 .1 .1 .0) (Ro.lease (κs .1 .1 .1 .1 .1 .1 .1 .0) (qs .1 .1 .1 .1 .1 .1 .1 .0)) (LendAt.fz-shr (Array.Array (Rf.rtF (Rf.fInt Sy.w8)) 65536) 23))) T′; slots = Ro.setLife 7 Ro.off (G98 .slots) }) (λ u γ T′ m′. Ro.set 8 (8, Frozen.held (Frozen.fz-open Sy.erased 7 (κs .1 .1 .1 .1 .1 .1 .1 .0) (Ro.lease (κs .1 .1 .1 .1 .1 .1 .1 .0) (qs .1 .1 .1 .1 .1 .1 .1 .0)) (LendAt.fz-shr (Array.Array (Rf.rtF (Rf.fInt Sy.w8)) 65536) 23))) (u .1 .1 .1 .1 .1 .1 .1 .1 .0, γ) T′ m′) (λ u. Unit) (Call.pin-lease 𝓤 H A W 7 (G98 .slots) (κs .1 .1 .1 .1 .1 .1 .1 .0) (qs .1 .1 .1 .1 .1 .1 .1 .0) Pa.refl) (λ ρ told u asked. WayLend.wt-mut 𝓤 H A W E Sy.erased 7 (κs .1 .1 .1 .1 .1 .1 .1 .0) (Ro.lease (κs .1 .1 .1 .1 .1 .1 .1 .0) (qs .1 .1 .1 .1 .1 .1 .1 .0)) (LendAt.fz-shr (Array.Array (Rf.rtF (Rf.fInt Sy.w8)) 65536) 23) ty·70 (Sy.tyInt Sy.w8) (u .1 .1 .1 .1 .1 .1 .1 .1 .0) (Wp.spotOf 𝓤 H E 8 .1, 0) (WayLend.wt-mref 𝓤 H A W E Sy.erased (κs .1 .1 .1 .1 .1 .1 .1 .0) (Array.Array (Rf.rtF (Rf.fInt Sy.w8)) 65536) 7 ty·70 (Frozen.fz-open Sy.erased 7 (κs .1 .1 .1 .1 .1 .1 .1 .0) (Ro.lease (κs .1 .1 .1 .1 .1 .1 .1 .0) (qs .1 .1 .1 .1 .1 .1 .1 .0)) (LendAt.fz-shr (Array.Array (Rf.rtF (Rf.fInt Sy.w8)) 65536) 23)) Pa.refl G98 ρ u (Ro.setLife 7 Ro.off (G98 .slots)) 8 (λ x. x) told (Reads.as-is 𝓤 H A row·7)) Pa.refl (Ro.setLife 7 Ro.off (G98 .slots)) (Open.takes-whole 𝓤 H A W 7 (G98 .slots) (Ro.lease (κs .1 .1 .1 .1 .1 .1 .1 .0) (qs .1 .1 .1 .1 .1 .1 .1 .0)) Pa.refl tt) told) (Reads.room-gone 𝓤 H A ty·58) Pa.refl λ b o. tt) (Ty.g-pre 𝓤 H A W 𝓣 E G99 G100 b42 Δ0 (Ty.give s97) at32 (AsSlice.g-sref-as-slice 𝓤 H A W E G99 41 23 (Rf.rtF (Rf.fInt Sy.w8)) tt 65536 (Dec'.lit< tt, Dec'.lit< tt) (Copies.halves 𝓤 H A W (Copies.cArr (Rf.rtF (Rf.fInt Sy.w8)) (Copies.cRf (Rf.fInt Sy.w8)) 65536)) ty·58 Ro.alive (λ x. x) (Reads.as-is 𝓤 H A (Rows'.sref (Array.Array (Rf.rtF (Rf.fInt Sy.w8)) 65536) ty·58 23)) Pa.refl tt) (Ty.s-seq 𝓤 H A W 𝓣 E G100 G101 b38 b41 Δ0 (Ty.ask s98) at31 (Relend.t-sl-aggregate 𝓤 H A W E (Rf.rtF (Rf.fInt Sy.w8)) 𝓣 (Relend.asShr (Rf.rtF (Rf.fInt Sy.w8))) G100 41 42 23 ty·58 ty·58 (λ x. x) (Sc.oBig Sy.w64 65536) (Reads.as-is 𝓤 H A (Relend.ssptr (Rf.rtF (Rf.fInt Sy.w8)) ty·58 23)) (Reads.room-gone 𝓤 H A (Sy.tyStruct (Li._∷_ 38 (Li._∷_ 91 (Li._∷_ 93 Li.[]))) (Sy.tcons ty·58 (Sy.tcons (Sy.tyInt Sy.w64) Sy.tnil)))) record { lower = record { fits = Dec'.lit< tt } } Pa.refl Pa.refl λ b o k. tt) (Ty.s-seq 𝓤 H A W 𝓣 E G101 G102 b39 b6 Δ0 (Ty.both s99) at30 (Plain.t-call-plain 𝓤 H A W 𝓣 5 ps·3 r·3 (claims· .6) (claims· .7) "replay::line::print_outcome" (known .3) E (λ pos β. β) G101 (record { pos = 12; st = Li.[]; d = 0; at = λ x. x }, (record { pos = 34; ty = Sy.tyRef Sy.erased Sy.imm (Sy.tyInt Sy.w16); ref = λ x. x }, (record { pos = 36; ty = Sy.tyRef Sy.erased Sy.imm (Sy.tyInt Sy.w8); ref = λ x. x }, (record { pos = 38; ty = Sy.tyRef Sy.erased Sy.imm (Sy.tyInt Sy.w8); ref = λ x. x }, (record { pos = 40; ty = Sy.tyRef Sy.erased Sy.imm (Sy.tyInt Sy.w8); ref = λ x. x }, (record { pos = 42; ty = Sy.tyRef Sy.erased Sy.imm (Sy.tyInt Sy.w8); ref = λ x. x }, tt)))))) 0 (Li._∷_ 19 (Li._∷_ 20 (Li._∷_ 21 (Li._∷_ 22 (Li._∷_ 23 Li.[]))))) (Call.sub-id 𝓤 H A W (G101 .slots)) ((Yields.yields-copy 𝓤 H A W (λ ρ. Unit) (Declared.row Outcome.the-type) Pa.refl (Copies.cEnum Outcome.the-type Laws.the-laws Laws.the-copy .copy 𝓤 H A W) row·26 (λ x. x) (λ x. x) (λ ρ told. Local.mem-whole 𝓤 H A W (Declared.row Outcome.the-type) ρ) λ ρ told. Local.whole-mem 𝓤 H A W (Declared.row Outcome.the-type) ρ, Pa.refl), (ShrSlice.spares-sslice 𝓤 H A W (Rf.rtF (Rf.fInt Sy.w16)) ty·62 19, Shared.reads-sslice 𝓤 H A W (Rf.rtF (Rf.fInt Sy.w16)) ty·62 19, Pa.refl, (ShrSlice.spares-sslice 𝓤 H A W (Rf.rtF (Rf.fInt Sy.w8)) ty·58 20, Shared.reads-sslice 𝓤 H A W (Rf.rtF (Rf.fInt Sy.w8)) ty·58 20, Pa.refl, (ShrSlice.spares-sslice 𝓤 H A W (Rf.rtF (Rf.fInt Sy.w8)) ty·58 21, Shared.reads-sslice 𝓤 H A W (Rf.rtF (Rf.fInt Sy.w8)) ty·58 21, Pa.refl, (ShrSlice.spares-sslice 𝓤 H A W (Rf.rtF (Rf.fInt Sy.w8)) ty·58 22, Shared.reads-sslice 𝓤 H A W (Rf.rtF (Rf.fInt Sy.w8)) ty·58 22, Pa.refl, (ShrSlice.spares-sslice 𝓤 H A W (Rf.rtF (Rf.fInt Sy.w8)) ty·58 23, Shared.reads-sslice 𝓤 H A W (Rf.rtF (Rf.fInt Sy.w8)) ty·58 23, Pa.refl, tt)))))) (Reads.room-gone 𝓤 H A Sy.tyBool) (tt, (tt, (tt, (tt, (tt, tt))))) Pa.refl) (Ty.g-pre 𝓤 H A W 𝓣 E G102 G103 b6 Δ0 (Ty.pass T102 T103 s100) at29 (Sc.g-room 𝓤 H A W E G102 34 (Sy.tyStruct (Li._∷_ 38 (Li._∷_ 91 (Li._∷_ 93 Li.[]))) (Sy.tcons ty·62 (Sy.tcons (Sy.tyInt Sy.w64) Sy.tnil))) (Shared.room-sslice 𝓤 H A W (Rf.rtF (Rf.fInt Sy.w16)) ty·62 19)) (Ty.g-pre 𝓤 H A W 𝓣 E G103 G104 b6 Δ0 (Ty.pass T103 T104 s101) at28 (Sc.g-room 𝓤 H A W E G103 36 (Sy.tyStruct (Li._∷_ 38 (Li._∷_ 91 (Li._∷_ 93 Li.[]))) (Sy.tcons ty·58 (Sy.tcons (Sy.tyInt Sy.w64) Sy.tnil))) (Shared.room-sslice 𝓤 H A W (Rf.rtF (Rf.fInt Sy.w8)) ty·58 20)) (Ty.g-pre 𝓤 H A W 𝓣 E G104 G105 b6 Δ0 (Ty.pass T104 T105 s102) at27 (Sc.g-room 𝓤 H A W E G104 38 (Sy.tyStruct (Li._∷_ 38 (Li._∷_ 91 (Li._∷_ 93 Li.[]))) (Sy.tcons ty·58 (Sy.tcons (Sy.tyInt Sy.w64) Sy.tnil))) (Shared.room-sslice 𝓤 H A W (Rf.rtF (Rf.fInt Sy.w8)) ty·58 21)) (Ty.g-pre 𝓤 H A W 𝓣 E G105 G106 b6 Δ0 (Ty.pass T105 T106 s103) at26 (Sc.g-room 𝓤 H A W E G105 40 (Sy.tyStruct (Li._∷_ 38 (Li._∷_ 91 (Li._∷_ 93 Li.[]))) (Sy.tcons ty·58 (Sy.tcons (Sy.tyInt Sy.w64) Sy.tnil))) (Shared.room-sslice 𝓤 H A W (Rf.rtF (Rf.fInt Sy.w8)) ty·58 22)) (Ty.g-pre 𝓤 H A W 𝓣 E G106 G107 b6 Δ0 (Ty.pass T106 T107 s104) at25 (Sc.g-room 𝓤 H A W E G106 42 (Sy.tyStruct (Li._∷_ 38 (Li._∷_ 91 (Li._∷_ 93 Li.[]))) (Sy.tcons ty·58 (Sy.tcons (Sy.tyInt Sy.w64) Sy.tnil))) (Shared.room-sslice 𝓤 H A W (Rf.rtF (Rf.fInt Sy.w8)) ty·58 23)) (Ty.g-pre 𝓤 H A W 𝓣 E G107 G108 b6 Δ0 (Ty.pass T107 T108 s105) at24 (Sc.g-room 𝓤 H A W E G107 10 (Sy.tyInt Sy.w64) (Sc.room-sc 𝓤 H A W (Ro.sInt Sy.w64))) (Ty.g-pre 𝓤 H A W 𝓣 E G108 G109 b6 Δ0 (Ty.pass T108 T109 s106) at23 (Sc.g-room 𝓤 H A W E G108 12 Laws.mir (Local.room-whole 𝓤 H A W (Declared.row Outcome.the-type) Laws.mir Pa.refl)) (Ty.g-pre 𝓤 H A W 𝓣 E G109 G110 b6 Δ0 (λ Ψ. Ψ) at22 (Lifetime.g-end 𝓤 H A W E G109 19 Pa.refl) (Ty.g-pre 𝓤 H A W 𝓣 E G110 G111 b6 Δ0 (Ty.ask s108) at21 (LendAt.g-way-back-shr 𝓤 H A W E (Frozen.fz-open Sy.erased 3 (κs .1 .1 .1 .0) (Ro.lease (κs .1 .1 .1 .0) (qs .1 .1 .1 .0)) (LendAt.fz-shr (Array.Array (Rf.rtF (Rf.fInt Sy.w16)) 349526) 19)) (LendAt.as-was-open Sy.erased 3 (κs .1 .1 .1 .0) (Ro.lease (κs .1 .1 .1 .0) (qs .1 .1 .1 .0)) (LendAt.fz-shr (Array.Array (Rf.rtF (Rf.fInt Sy.w16)) 349526) 19) (LendAt.as-was-shr (Array.Array (Rf.rtF (Rf.fInt Sy.w16)) 349526) 19)) G110 4 row·11 (Ro.setLife 3 (Ro.lease (κs .1 .1 .1 .0) (qs .1 .1 .1 .0)) (G110 .slots)) (λ x. x) (λ x. x) (Reads.as-is 𝓤 H A (Frozen.held (Frozen.fz-open Sy.erased 3 (κs .1 .1 .1 .0) (Ro.lease (κs .1 .1 .1 .0) (qs .1 .1 .1 .0)) (LendAt.fz-shr (Array.Array (Rf.rtF (Rf.fInt Sy.w16)) 349526) 19)))) Pa.refl (WayLend.puts-open 𝓤 H A Sy.erased 3 (κs .1 .1 .1 .0) (Ro.lease (κs .1 .1 .1 .0) (qs .1 .1 .1 .0)) (LendAt.fz-shr (Array.Array (Rf.rtF (Rf.fInt Sy.w16)) 349526) 19) (G110 .slots) (G110 .slots) (Ro.setLife 3 (Ro.lease (κs .1 .1 .1 .0) (qs .1 .1 .1 .0)) (G110 .slots)) (LendAt.puts-none-shr 𝓤 H A (Array.Array (Rf.rtF (Rf.fInt Sy.w16)) 349526) 19 (G110 .slots)) (Open.puts-whole 𝓤 H A W 3 (Ro.lease (κs .1 .1 .1 .0) (qs .1 .1 .1 .0)) (G110 .slots) Pa.refl)) λ ρ pins. Local.mref-mem 𝓤 H A W Sy.erased (κs .1 .1 .1 .0) (Array.Array (Rf.rtF (Rf.fInt Sy.w16)) 349526) 3 ty·68 Pa.refl ρ (pins .0)) (Ty.g-pre 𝓤 H A W 𝓣 E G111 G112 b6 Δ0 (λ Ψ. Ψ) at20 (Lifetime.g-forget 𝓤 H A W E G111 19 Ro.dead Pa.refl) (Ty.g-pre 𝓤 H A W 𝓣 E G112 G113 b6 Δ0 (λ Ψ. Ψ) at19 (Lifetime.g-end 𝓤 H A W E G112 20 Pa.refl) (Ty.g-pre 𝓤 H A W 𝓣 E G113 G114 b6 Δ0 (Ty.ask s111) at18 (LendAt.g-way-back-shr 𝓤 H A W E (Frozen.fz-open Sy.erased 4 (κs .1 .1 .1 .1 .0) (Ro.lease (κs .1 .1 .1 .1 .0) (qs .1 .1 .1 .1 .0)) (LendAt.fz-shr (Array.Array (Rf.rtF (Rf.fInt Sy.w8)) 349526) 20)) (LendAt.as-was-open Sy.erased 4 (κs .1 .1 .1 .1 .0) (Ro.lease (κs .1 .1 .1 .1 .0) (qs .1 .1 .1 .1 .0)) (LendAt.fz-shr (Array.Array (Rf.rtF (Rf.fInt Sy.w8)) 349526) 20) (LendAt.as-was-shr (Array.Array (Rf.rtF (Rf.fInt Sy.w8)) 349526) 20)) G113 5 row·12 (Ro.setLife 4 (Ro.lease (κs .1 .1 .1 .1 .0) (qs .1 .1 .1 .1 .0)) (G113 .slots)) (λ x. x) (λ x. x) (Reads.as-is 𝓤 H A (Frozen.held (Frozen.fz-open Sy.erased 4 (κs .1 .1 .1 .1 .0) (Ro.lease (κs .1 .1 .1 .1 .0) (qs .1 .1 .1 .1 .0)) (LendAt.fz-shr (Array.Array (Rf.rtF (Rf.fInt Sy.w8)) 349526) 20)))) Pa.refl (WayLend.puts-open 𝓤 H A Sy.erased 4 (κs .1 .1 .1 .1 .0) (Ro.lease (κs .1 .1 .1 .1 .0) (qs .1 .1 .1 .1 .0)) (LendAt.fz-shr (Array.Array (Rf.rtF (Rf.fInt Sy.w8)) 349526) 20) (G113 .slots) (G113 .slots) (Ro.setLife 4 (Ro.lease (κs .1 .1 .1 .1 .0) (qs .1 .1 .1 .1 .0)) (G113 .slots)) (LendAt.puts-none-shr 𝓤 H A (Array.Array (Rf.rtF (Rf.fInt Sy.w8)) 349526) 20 (G113 .slots)) (Open.puts-whole 𝓤 H A W 4 (Ro.lease (κs .1 .1 .1 .1 .0) (qs .1 .1 .1 .1 .0)) (G113 .slots) Pa.refl)) λ ρ pins. Local.mref-mem 𝓤 H A W Sy.erased (κs .1 .1 .1 .1 .0) (Array.Array (Rf.rtF (Rf.fInt Sy.w8)) 349526) 4 ty·69 Pa.refl ρ (pins .0)) (Ty.g-pre 𝓤 H A W 𝓣 E G114 G115 b6 Δ0 (λ Ψ. Ψ) at17 (Lifetime.g-forget 𝓤 H A W E G114 20 Ro.dead Pa.refl) (Ty.g-pre 𝓤 H A W 𝓣 E G115 G116 b6 Δ0 (λ Ψ. Ψ) at16 (Lifetime.g-end 𝓤 H A W E G115 21 Pa.refl) (Ty.g-pre 𝓤 H A W 𝓣 E G116 G117 b6 Δ0 (Ty.ask s114) at15 (LendAt.g-way-back-shr 𝓤 H A W E (Frozen.fz-open Sy.erased 5 (κs .1 .1 .1 .1 .1 .0) (Ro.lease (κs .1 .1 .1 .1 .1 .0) (qs .1 .1 .1 .1 .1 .0)) (LendAt.fz-shr (Array.Array (Rf.rtF (Rf.fInt Sy.w8)) 8388608) 21)) (LendAt.as-was-open Sy.erased 5 (κs .1 .1 .1 .1 .1 .0) (Ro.lease (κs .1 .1 .1 .1 .1 .0) (qs .1 .1 .1 .1 .1 .0)) (LendAt.fz-shr (Array.Array (Rf.rtF (Rf.fInt Sy.w8)) 8388608) 21) (LendAt.as-was-shr (Array.Array (Rf.rtF (Rf.fInt Sy.w8)) 8388608) 21)) G116 6 row·10 (Ro.setLife 5 (Ro.lease (κs .1 .1 .1 .1 .1 .0) (qs .1 .1 .1 .1 .1 .0)) (G116 .slots)) (λ x. x) (λ x. x) (Reads.as-is 𝓤 H A (Frozen.held (Frozen.fz-open Sy.erased 5 (κs .1 .1 .1 .1 .1 .0) (Ro.lease (κs .1 .1 .1 .1 .1 .0) (qs .1 .1 .1 .1 .1 .0)) (LendAt.fz-shr (Array.Array (Rf.rtF (Rf.fInt Sy.w8)) 8388608) 21)))) Pa.refl (WayLend.puts-open 𝓤 H A Sy.erased 5 (κs .1 .1 .1 .1 .1 .0) (Ro.lease (κs .1 .1 .1 .1 .1 .0) (qs .1 .1 .1 .1 .1 .0)) (LendAt.fz-shr (Array.Array (Rf.rtF (Rf.fInt Sy.w8)) 8388608) 21) (G116 .slots) (G116 .slots) (Ro.setLife 5 (Ro.lease (κs .1 .1 .1 .1 .1 .0) (qs .1 .1 .1 .1 .1 .0)) (G116 .slots)) (LendAt.puts-none-shr 𝓤 H A (Array.Array (Rf.rtF (Rf.fInt Sy.w8)) 8388608) 21 (G116 .slots)) (Open.puts-whole 𝓤 H A W 5 (Ro.lease (κs .1 .1 .1 .1 .1 .0) (qs .1 .1 .1 .1 .1 .0)) (G116 .slots) Pa.refl)) λ ρ pins. Local.mref-mem 𝓤 H A W Sy.erased (κs .1 .1 .1 .1 .1 .0) (Array.Array (Rf.rtF (Rf.fInt Sy.w8)) 8388608) 5 (Sy.tyRef (Sy.named 5) Sy.mut ty·67) Pa.refl ρ (pins .0)) (Ty.g-pre 𝓤 H A W 𝓣 E G117 G118 b6 Δ0 (λ Ψ. Ψ) at14 (Lifetime.g-forget 𝓤 H A W E G117 21 Ro.dead Pa.refl) (Ty.g-pre 𝓤 H A W 𝓣 E G118 G119 b6 Δ0 (λ Ψ. Ψ) at13 (Lifetime.g-end 𝓤 H A W E G118 22 Pa.refl) (Ty.g-pre 𝓤 H A W 𝓣 E G119 G120 b6 Δ0 (Ty.ask s117) at12 (LendAt.g-way-back-shr 𝓤 H A W E (Frozen.fz-open Sy.erased 6 (κs .1 .1 .1 .1 .1 .1 .0) (Ro.lease (κs .1 .1 .1 .1 .1 .1 .0) (qs .1 .1 .1 .1 .1 .1 .0)) (LendAt.fz-shr (Array.Array (Rf.rtF (Rf.fInt Sy.w8)) 8388608) 22)) (LendAt.as-was-open Sy.erased 6 (κs .1 .1 .1 .1 .1 .1 .0) (Ro.lease (κs .1 .1 .1 .1 .1 .1 .0) (qs .1 .1 .1 .1 .1 .1 .0)) (LendAt.fz-shr (Array.Array (Rf.rtF (Rf.fInt Sy.w8)) 8388608) 22) (LendAt.as-was-shr (Array.Array (Rf.rtF (Rf.fInt Sy.w8)) 8388608) 22)) G119 7 row·8 (Ro.setLife 6 (Ro.lease (κs .1 .1 .1 .1 .1 .1 .0) (qs .1 .1 .1 .1 .1 .1 .0)) (G119 .slots)) (λ x. x) (λ x. x) (Reads.as-is 𝓤 H A (Frozen.held (Frozen.fz-open Sy.erased 6 (κs .1 .1 .1 .1 .1 .1 .0) (Ro.lease (κs .1 .1 .1 .1 .1 .1 .0) (qs .1 .1 .1 .1 .1 .1 .0)) (LendAt.fz-shr (Array.Array (Rf.rtF (Rf.fInt Sy.w8)) 8388608) 22)))) Pa.refl (WayLend.puts-open 𝓤 H A Sy.erased 6 (κs .1 .1 .1 .1 .1 .1 .0) (Ro.lease (κs .1 .1 .1 .1 .1 .1 .0) (qs .1 .1 .1 .1 .1 .1 .0)) (LendAt.fz-shr (Array.Array (Rf.rtF (Rf.fInt Sy.w8)) 8388608) 22) (G119 .slots) (G119 .slots) (Ro.setLife 6 (Ro.lease (κs .1 .1 .1 .1 .1 .1 .0) (qs .1 .1 .1 .1 .1 .1 .0)) (G119 .slots)) (LendAt.puts-none-shr 𝓤 H A (Array.Array (Rf.rtF (Rf.fInt Sy.w8)) 8388608) 22 (G119 .slots)) (Open.puts-whole 𝓤 H A W 6 (Ro.lease (κs .1 .1 .1 .1 .1 .1 .0) (qs .1 .1 .1 .1 .1 .1 .0)) (G119 .slots) Pa.refl)) λ ρ pins. Local.mref-mem 𝓤 H A W Sy.erased (κs .1 .1 .1 .1 .1 .1 .0) (Array.Array (Rf.rtF (Rf.fInt Sy.w8)) 8388608) 6 (Sy.tyRef (Sy.named 6) Sy.mut ty·67) Pa.refl ρ (pins .0)) (Ty.g-pre 𝓤 H A W 𝓣 E G120 G121 b6 Δ0 (λ Ψ. Ψ) at11 (Lifetime.g-forget 𝓤 H A W E G120 22 Ro.dead Pa.refl) (Ty.g-pre 𝓤 H A W 𝓣 E G121 G122 b6 Δ0 (λ Ψ. Ψ) at10 (Lifetime.g-end 𝓤 H A W E G121 23 Pa.refl) (Ty.g-pre 𝓤 H A W 𝓣 E G122 G123 b6 Δ0 (Ty.ask s120) at9 (LendAt.g-way-back-shr 𝓤 H A W E (Frozen.fz-open Sy.erased 7 (κs .1 .1 .1 .1 .1 .1 .1 .0) (Ro.lease (κs .1 .1 .1 .1 .1 .1 .1 .0) (qs .1 .1 .1 .1 .1 .1 .1 .0)) (LendAt.fz-shr (Array.Array (Rf.rtF (Rf.fInt Sy.w8)) 65536) 23)) (LendAt.as-was-open Sy.erased 7 (κs .1 .1 .1 .1 .1 .1 .1 .0) (Ro.lease (κs .1 .1 .1 .1 .1 .1 .1 .0) (qs .1 .1 .1 .1 .1 .1 .1 .0)) (LendAt.fz-shr (Array.Array (Rf.rtF (Rf.fInt Sy.w8)) 65536) 23) (LendAt.as-was-shr (Array.Array (Rf.rtF (Rf.fInt Sy.w8)) 65536) 23)) G122 8 row·7 (Ro.setLife 7 (Ro.lease (κs .1 .1 .1 .1 .1 .1 .1 .0) (qs .1 .1 .1 .1 .1 .1 .1 .0)) (G122 .slots)) (λ x. x) (λ x. x) (Reads.as-is 𝓤 H A (Frozen.held (Frozen.fz-open Sy.erased 7 (κs .1 .1 .1 .1 .1 .1 .1 .0) (Ro.lease (κs .1 .1 .1 .1 .1 .1 .1 .0) (qs .1 .1 .1 .1 .1 .1 .1 .0)) (LendAt.fz-shr (Array.Array (Rf.rtF (Rf.fInt Sy.w8)) 65536) 23)))) Pa.refl (WayLend.puts-open 𝓤 H A Sy.erased 7 (κs .1 .1 .1 .1 .1 .1 .1 .0) (Ro.lease (κs .1 .1 .1 .1 .1 .1 .1 .0) (qs .1 .1 .1 .1 .1 .1 .1 .0)) (LendAt.fz-shr (Array.Array (Rf.rtF (Rf.fInt Sy.w8)) 65536) 23) (G122 .slots) (G122 .slots) (Ro.setLife 7 (Ro.lease (κs .1 .1 .1 .1 .1 .1 .1 .0) (qs .1 .1 .1 .1 .1 .1 .1 .0)) (G122 .slots)) (LendAt.puts-none-shr 𝓤 H A (Array.Array (Rf.rtF (Rf.fInt Sy.w8)) 65536) 23 (G122 .slots)) (Open.puts-whole 𝓤 H A W 7 (Ro.lease (κs .1 .1 .1 .1 .1 .1 .1 .0) (qs .1 .1 .1 .1 .1 .1 .1 .0)) (G122 .slots) Pa.refl)) λ ρ pins. Local.mref-mem 𝓤 H A W Sy.erased (κs .1 .1 .1 .1 .1 .1 .1 .0) (Array.Array (Rf.rtF (Rf.fInt Sy.w8)) 65536) 7 ty·70 Pa.refl ρ (pins .0)) (Ty.g-pre 𝓤 H A W 𝓣 E G123 G1 b6 Δ0 (λ Ψ. Ψ) at8 (Lifetime.g-forget 𝓤 H A W E G123 23 Ro.dead Pa.refl) (Ty.t-return 𝓤 H A W 𝓣 E Δ0 tt)))))))))))))))))))))))))))))))))))))))))))))))))))))))))))))))))))))))))))))))))))))))))))))))))))))))))))))))))))))))
+          typed = (Ty.s-seq 𝓤 H A W 𝓣 E G0 G2 b0 b75 Δ0 (Ty.pass T0 T2 s0) at125 (Repeat.t-repeat 𝓤 H A W E 𝓣 (Rf.rtF (Rf.fInt Sy.w8)) (Plain'.uint-lawful 𝓤 H A W Sy.w8) (Copies.cRf (Rf.fInt Sy.w8) .copy 𝓤 H A W) (Plain'.uint-makes 𝓤 H A W Sy.w8) 25 G0 9 (Sc.oInt Sy.w8 0) (λ m. 0) (Reads.room-gone 𝓤 H A ty·60) tt Pa.refl λ m wa. (Pa.refl, Dec'.lit< tt)) (Ty.g-pre 𝓤 H A W 𝓣 E G2 G3 b75 Δ0 (Ty.pass T2 T3 s1) at124 (AtSlots.g-as-by 𝓤 H A W E (λ ρ. Unit) G2 9 row·55 (λ x. x) (Own.told-none 𝓤 H A (G2 .slots)) λ ρ told. Repeat.whole-arr 𝓤 H A W (Rf.rtF (Rf.fInt Sy.w8)) 25 tt ρ) (Ty.g-pre 𝓤 H A W 𝓣 E G3 G4 b75 Δ0 (λ Ψ. Ψ) at123 (Lifetime.g-begin 𝓤 H A W E G3 8 (tt, (tt, (tt, (tt, (tt, (tt, (tt, (tt, (tt, (tt, (tt, (tt, (tt, (tt, (tt, (tt, (tt, (tt, (tt, (tt, (tt, (tt, (tt, (tt, (tt, (tt, (tt, (tt, (tt, (tt, (tt, (tt, (tt, (tt, (tt, (tt, (tt, (tt, (tt, (tt, (tt, (tt, (tt, tt)))))))))))))))))))))))))))))))))))))))))))) (Ty.s-seq 𝓤 H A W 𝓣 E G4 G5 b1 b74 Δ0 (Ty.give s3) at122 (Reborrow.t-mref-relend 𝓤 H A W E 𝓣 G4 1 13 0 8 (Array.Array (Rf.rtF (Rf.fInt Sy.w8)) 1114112) ty·61 (Sy.tyRef (Sy.named 0) Sy.mut ty·61) (Sy.tyRef Sy.erased Sy.mut ty·61) (Ro.lease (κs .0) (qs .0)) (λ x. x) (Reads.as-is 𝓤 H A row·3) (Reads.room-gone 𝓤 H A (Sy.tyRef Sy.erased Sy.mut ty·61)) Pa.refl tt Pa.refl Pa.refl λ b o. tt) (Ty.g-pre 𝓤 H A W 𝓣 E G5 G6 b74 Δ0 (λ Ψ. Ψ) at121 (Lifetime.g-begin 𝓤 H A W E G5 9 (tt, ((tt, tt), (tt, (tt, (tt, (tt, (tt, (tt, (tt, (tt, (tt, (tt, (tt, (tt, (tt, (tt, (tt, (tt, (tt, (tt, (tt, (tt, (tt, (tt, (tt, (tt, (tt, (tt, (tt, (tt, (tt, (tt, (tt, (tt, (tt, (tt, (tt, (tt, (tt, (tt, (tt, (tt, (tt, tt)))))))))))))))))))))))))))))))))))))))))))) (Ty.s-seq 𝓤 H A W 𝓣 E G6 G7 b2 b73 Δ0 (Ty.give s5) at120 (Local.t-sc-borrow 𝓤 H A W E 𝓣 G6 9 14 9 (Array.Array (Rf.rtF (Rf.fInt Sy.w8)) 25) (Sy.tyRef Sy.erased Sy.mut ty·60) (λ x. x) (Whole.mem-arr 𝓤 H A W (Rf.rtF (Rf.fInt Sy.w8)) 25) (Reads.room-gone 𝓤 H A (Sy.tyRef Sy.erased Sy.mut ty·60)) Pa.refl λ b o. tt) (Ty.s-seq 𝓤 H A W 𝓣 E G7 G8 b3 b72 Δ0 (Ty.both s6) at119 (Plain.t-call-plain 𝓤 H A W 𝓣 2 ps·0 r·0 (claims· .0) (claims· .1) "replay::packed::next_packed" (known .0) E (λ pos β. β) G7 (record { pos = 13; ty = Sy.tyRef Sy.erased Sy.mut ty·61; ref = λ x. x }, (record { pos = 14; ty = Sy.tyRef Sy.erased Sy.mut ty·60; ref = λ x. x }, tt)) 10 (Li._∷_ 8 (Li._∷_ 9 Li.[])) (Call.sub-id 𝓤 H A W (G7 .slots)) (Reads.as-is 𝓤 H A row·52, Reads.reads-mref 𝓤 H A W (Array.Array (Rf.rtF (Rf.fInt Sy.w8)) 1114112) (Sy.tyRef Sy.erased Sy.mut ty·61) 8, Pa.refl, (Reads.as-is 𝓤 H A (Rows'.mref (Array.Array (Rf.rtF (Rf.fInt Sy.w8)) 25) (Sy.tyRef Sy.erased Sy.mut ty·60) 9), Reads.reads-mref 𝓤 H A W (Array.Array (Rf.rtF (Rf.fInt Sy.w8)) 25) (Sy.tyRef Sy.erased Sy.mut ty·60) 9, Pa.refl, tt)) (Reads.room-gone 𝓤 H A (Sy.tyInt Sy.w64)) (tt, (tt, tt)) Pa.refl) (Ty.g-pre 𝓤 H A W 𝓣 E G8 G9 b72 Δ0 (λ Ψ. Ψ) at118 (Lifetime.g-end 𝓤 H A W E G8 8 Pa.refl) (Ty.g-pre 𝓤 H A W 𝓣 E G9 G10 b72 Δ0 (Ty.ask s8) at117 (Reborrow.g-back-mref 𝓤 H A W E G9 13 1 0 8 (Array.Array (Rf.rtF (Rf.fInt Sy.w8)) 1114112) (Sy.tyRef (Sy.named 0) Sy.mut ty·61) (Sy.tyRef Sy.erased Sy.mut ty·61) (Ro.lease (κs .0) (qs .0)) (λ x. x) (λ x. x) (Reads.as-is 𝓤 H A (Rows'.mleft (Array.Array (Rf.rtF (Rf.fInt Sy.w8)) 1114112) (Sy.tyRef Sy.erased Sy.mut ty·61))) (Reads.as-is 𝓤 H A (Rows'.mref-owed (Array.Array (Rf.rtF (Rf.fInt Sy.w8)) 1114112) (Sy.tyRef (Sy.named 0) Sy.mut ty·61) 0 8 (Ro.lease (κs .0) (qs .0)))) Pa.refl Pa.refl) (Ty.g-pre 𝓤 H A W 𝓣 E G10 G11 b72 Δ0 (λ Ψ. Ψ) at116 (Lifetime.g-forget 𝓤 H A W E G10 8 Ro.dead Pa.refl) (Ty.g-pre 𝓤 H A W 𝓣 E G11 G12 b72 Δ0 (λ Ψ. Ψ) at115 (Lifetime.g-end 𝓤 H A W E G11 9 Pa.refl) (Ty.g-pre 𝓤 H A W 𝓣 E G12 G13 b72 Δ0 (Ty.ask s11) at114 (Local.g-back-sc 𝓤 H A W E G12 14 9 9 (Array.Array (Rf.rtF (Rf.fInt Sy.w8)) 25) (Sy.tyRef Sy.erased Sy.mut ty·60) row·55 (λ x. x) (λ x. x) (λ x. x) (Reads.as-is 𝓤 H A (Rows'.mleft (Array.Array (Rf.rtF (Rf.fInt Sy.w8)) 25) (Sy.tyRef Sy.erased Sy.mut ty·60))) (Reads.as-is 𝓤 H A row·56) (Whole.arr-mem 𝓤 H A W (Rf.rtF (Rf.fInt Sy.w8)) 25 tt) Pa.refl) (Ty.g-pre 𝓤 H A W 𝓣 E G13 G14 b72 Δ0 (λ Ψ. Ψ) at113 (Lifetime.g-forget 𝓤 H A W E G13 9 Ro.dead Pa.refl) (Ty.s-seq 𝓤 H A W 𝓣 E G14 G15 b4 b71 Δ0 (Ty.ask s13) at112 (Sc.t-op2 𝓤 H A W E 𝓣 G14 (Sy.lt Sy.unsigned) (Sc.oBig Sy.w64 1114112) (Sc.oAt 10 (Sy.tyInt Sy.w64) (Ro.valS (Ro.sInt Sy.w64))) 15 (Rows'.sc-here Ro.sBool) Sy.tyBool (Ro.valS Ro.sBool) (Ro.sBool .of) record { lower = record { fits = Dec'.lit< tt } } (Sc.reads-sc 𝓤 H A W (Ro.sInt Sy.w64), Pa.refl) (Reads.room-gone 𝓤 H A Sy.tyBool) (Sc.holds-sc 𝓤 H A W Ro.sBool) Pa.refl (λ u. Pa.refl) λ u. tt) (Ty.t-seq 𝓤 H A W 𝓣 E G15 G14 b9 b70 Δ0 at7 at111 (Sc.t-cond 𝓤 H A W E 𝓣 G15 15 (λ x. x) b7 b8 Δ1 at4 at6 (Sc.reads-sc 𝓤 H A W Ro.sBool) Pa.refl (Ty.g-pre 𝓤 H A W 𝓣 E G15 G17 b7 Δ1 (Ty.pass T15 T17 s14) at3 (Sc.g-room 𝓤 H A W E G15 9 ty·60 (Init.room-arr 𝓤 H A W (Rf.rtF (Rf.fInt Sy.w8)) 25 0 25 Pa.refl)) (Ty.g-pre 𝓤 H A W 𝓣 E G17 G18 b7 Δ1 (Ty.pass T17 T18 s15) at2 (Sc.g-room 𝓤 H A W E G17 15 Sy.tyBool (Sc.room-sc 𝓤 H A W Ro.sBool)) (Ty.s-seq 𝓤 H A W 𝓣 E G18 G19 b5 b6 Δ1 (Ty.pass T18 T19 s16) at1 (Sc.t-use 𝓤 H A W E 𝓣 G18 (Sc.oBool Bool'.false) 0 (Rows'.sc-here Ro.sBool) Sy.tyBool (Ro.valS Ro.sBool) (Ro.sBool .of) tt (Reads.room-gone 𝓤 H A Sy.tyBool) (Sc.holds-sc 𝓤 H A W Ro.sBool) Pa.refl (λ u. Pa.refl) λ u. tt) (Ty.g-pre 𝓤 H A W 𝓣 E G19 G1 b6 Δ1 (Ty.pass T19 T1 s17) at0 (Sc.g-room 𝓤 H A W E G19 10 (Sy.tyInt Sy.w64) (Sc.room-sc 𝓤 H A W (Ro.sInt Sy.w64))) (Ty.t-return 𝓤 H A W 𝓣 E Δ1 tt))))) (Ty.g-pre 𝓤 H A W 𝓣 E G15 G14 b8 Δ1 (Ty.pass T15 T13 s18) at5 (Sc.g-room 𝓤 H A W E G15 15 Sy.tyBool (Sc.room-sc 𝓤 H A W Ro.sBool)) (Ty.t-skip 𝓤 H A W 𝓣 E Δ1 tt))) (Ty.g-pre 𝓤 H A W 𝓣 E G14 G22 b70 Δ0 (λ Ψ. Ψ) at110 (Lifetime.g-begin 𝓤 H A W E G14 10 (tt, (tt, (tt, (tt, (tt, (tt, (tt, (tt, (tt, (tt, (tt, (tt, (tt, (tt, (tt, (tt, (tt, (tt, (tt, (tt, (tt, (tt, (tt, (tt, (tt, (tt, (tt, (tt, (tt, (tt, (tt, (tt, (tt, (tt, (tt, (tt, (tt, (tt, (tt, (tt, (tt, (tt, (tt, tt)))))))))))))))))))))))))))))))))))))))))))) (Ty.s-seq 𝓤 H A W 𝓣 E G22 G23 b10 b69 Δ0 (Ty.give s20) at109 (Local.t-sc-share 𝓤 H A W E 𝓣 G22 9 16 10 (Array.Array (Rf.rtF (Rf.fInt Sy.w8)) 25) (Sy.tyRef Sy.erased Sy.imm ty·60) (λ x. x) (Whole.mem-arr 𝓤 H A W (Rf.rtF (Rf.fInt Sy.w8)) 25) (Reads.room-gone 𝓤 H A (Sy.tyRef Sy.erased Sy.imm ty·60)) Pa.refl λ b o. tt) (Ty.s-seq 𝓤 H A W 𝓣 E G23 G24 b11 b68 Δ0 (Ty.both s21) at108 (Plain.t-call-plain 𝓤 H A W 𝓣 1 ps·1 r·1 (claims· .2) (claims· .3) "replay::packed::lent_of" (known .1) E (λ pos β. β) G23 (record { pos = 16; ty = Sy.tyRef Sy.erased Sy.imm ty·60; ref = λ x. x }, tt) 11 (Li._∷_ 10 Li.[]) (Call.sub-id 𝓤 H A W (G23 .slots)) (ShrRef.spares-sref 𝓤 H A W (Array.Array (Rf.rtF (Rf.fInt Sy.w8)) 25) (Sy.tyRef Sy.erased Sy.imm ty·60) 10, Reads.reads-sref 𝓤 H A W (Array.Array (Rf.rtF (Rf.fInt Sy.w8)) 25) (Sy.tyRef Sy.erased Sy.imm ty·60) 10, Pa.refl, tt) (Reads.room-gone 𝓤 H A Laws'.mir) (tt, tt) Pa.refl) (Ty.g-pre 𝓤 H A W 𝓣 E G24 G25 b68 Δ0 (Ty.pass T24 T25 s22) at107 (Local.g-drop-sref 𝓤 H A W E G24 16 10 (Array.Array (Rf.rtF (Rf.fInt Sy.w8)) 25) (Sy.tyRef Sy.erased Sy.imm ty·60) (λ x. x) (Reads.as-is 𝓤 H A (Rows'.sref (Array.Array (Rf.rtF (Rf.fInt Sy.w8)) 25) (Sy.tyRef Sy.erased Sy.imm ty·60) 10))) (Ty.g-pre 𝓤 H A W 𝓣 E G25 G26 b68 Δ0 (λ Ψ. Ψ) at106 (Lifetime.g-end 𝓤 H A W E G25 10 Pa.refl) (Ty.g-pre 𝓤 H A W 𝓣 E G26 G27 b68 Δ0 (Ty.pass T25 T27 s24) at105 (Local.g-back-shr 𝓤 H A W E G26 9 10 row·55 (Array.Array (Rf.rtF (Rf.fInt Sy.w8)) 25) (λ x. x) (λ x. x) (Reads.as-is 𝓤 H A (Rows'.sc-shr row·55 (Array.Array (Rf.rtF (Rf.fInt Sy.w8)) 25) (λ x. x) 10)) (Local.home-of 𝓤 H A row·55 (Array.Array (Rf.rtF (Rf.fInt Sy.w8)) 25) (λ x. x) (λ x. x) (Whole.arr-mem 𝓤 H A W (Rf.rtF (Rf.fInt Sy.w8)) 25 tt) λ x k. Pa.refl) Pa.refl) (Ty.g-pre 𝓤 H A W 𝓣 E G27 G28 b68 Δ0 (λ Ψ. Ψ) at104 (Lifetime.g-forget 𝓤 H A W E G27 10 Ro.dead Pa.refl) (Ty.g-pre 𝓤 H A W 𝓣 E G28 G29 b68 Δ0 (Ty.pass T27 T29 s26) at103 (Sc.g-room 𝓤 H A W E G28 9 ty·60 (Init.room-arr 𝓤 H A W (Rf.rtF (Rf.fInt Sy.w8)) 25 0 25 Pa.refl)) (Ty.g-pre 𝓤 H A W 𝓣 E G29 G30 b68 Δ0 (λ Ψ. Ψ) at102 (Lifetime.g-begin 𝓤 H A W E G29 11 (tt, (tt, (tt, (tt, (tt, (tt, (tt, (tt, (tt, (tt, (tt, (tt, (tt, (tt, (tt, (tt, (tt, (tt, (tt, (tt, (tt, (tt, (tt, (tt, (tt, (tt, (tt, (tt, (tt, (tt, (tt, (tt, (tt, (tt, (tt, (tt, (tt, (tt, (tt, (tt, (tt, (tt, (tt, tt)))))))))))))))))))))))))))))))))))))))))))) (Ty.s-seq 𝓤 H A W 𝓣 E G30 G31 b12 b67 Δ0 (Ty.both s28) at101 (LendAt.t-way-share 𝓤 H A W E 𝓣 (Array.Array (Rf.rtF (Rf.fInt Sy.w8)) 1114112) (λ ρ. Pa._≡_ (Ro.lft ρ 0) (κs .0)) G30 (Ro.out 1 (G30 .locals)) (λ u. Ro.drop 1 (G30 .locals) u) (Ro.setLife 0 Ro.off (G30 .slots)) 1 (λ t. Li._∷_ (Sy.deref (Sy.tyInt Sy.w8)) t) (Sy.tyInt Sy.w8) ty·58 17 11 (λ u. u .1 .0 .now) (λ u. u .1 .0 .ptr) (λ T′. record { locals = Ro.setRow 1 (1, Frozen.held (Frozen.fz-open Sy.erased 0 (κs .0) (Ro.lease (κs .0) (qs .0)) (LendAt.fz-shr (Array.Array (Rf.rtF (Rf.fInt Sy.w8)) 1114112) 11))) T′; slots = Ro.setLife 0 Ro.off (G30 .slots) }) (λ u γ T′ m′. Ro.set 1 (1, Frozen.held (Frozen.fz-open Sy.erased 0 (κs .0) (Ro.lease (κs .0) (qs .0)) (LendAt.fz-shr (Array.Array (Rf.rtF (Rf.fInt Sy.w8)) 1114112) 11))) (u .1 .0, γ) T′ m′) (λ u. Unit) (Call.pin-lease 𝓤 H A W 0 (G30 .slots) (κs .0) (qs .0) Pa.refl) (λ ρ told u asked. WayLend.wt-mut 𝓤 H A W E Sy.erased 0 (κs .0) (Ro.lease (κs .0) (qs .0)) (LendAt.fz-shr (Array.Array (Rf.rtF (Rf.fInt Sy.w8)) 1114112) 11) (Sy.tyRef (Sy.named 0) Sy.mut ty·61) (Sy.tyInt Sy.w8) (u .1 .0) (Wp.spotOf 𝓤 H E 1 .1, 0) (WayLend.wt-mref 𝓤 H A W E Sy.erased (κs .0) (Array.Array (Rf.rtF (Rf.fInt Sy.w8)) 1114112) 0 (Sy.tyRef (Sy.named 0) Sy.mut ty·61) (Frozen.fz-open Sy.erased 0 (κs .0) (Ro.lease (κs .0) (qs .0)) (LendAt.fz-shr (Array.Array (Rf.rtF (Rf.fInt Sy.w8)) 1114112) 11)) Pa.refl G30 ρ u (Ro.setLife 0 Ro.off (G30 .slots)) 1 (λ x. x) told (Reads.as-is 𝓤 H A row·3)) Pa.refl (Ro.setLife 0 Ro.off (G30 .slots)) (Open.takes-whole 𝓤 H A W 0 (G30 .slots) (Ro.lease (κs .0) (qs .0)) Pa.refl tt) told) (Reads.room-gone 𝓤 H A ty·58) Pa.refl λ b o. tt) (Ty.g-pre 𝓤 H A W 𝓣 E G31 G32 b67 Δ0 (Ty.give s29) at100 (AsSlice.g-sref-as-slice 𝓤 H A W E G31 17 11 (Rf.rtF (Rf.fInt Sy.w8)) tt 1114112 (Dec'.lit< tt, Dec'.lit< tt) (Copies.halves 𝓤 H A W (Copies.cArr (Rf.rtF (Rf.fInt Sy.w8)) (Copies.cRf (Rf.fInt Sy.w8)) 1114112)) ty·58 Ro.alive (λ x. x) (Reads.as-is 𝓤 H A (Rows'.sref (Array.Array (Rf.rtF (Rf.fInt Sy.w8)) 1114112) ty·58 11)) Pa.refl tt) (Ty.s-seq 𝓤 H A W 𝓣 E G32 G33 b13 b66 Δ0 (Ty.ask s30) at99 (Relend.t-sl-aggregate 𝓤 H A W E (Rf.rtF (Rf.fInt Sy.w8)) 𝓣 (Relend.asShr (Rf.rtF (Rf.fInt Sy.w8))) G32 17 18 11 ty·58 ty·58 (λ x. x) (Sc.oBig Sy.w64 1114112) (Reads.as-is 𝓤 H A (Relend.ssptr (Rf.rtF (Rf.fInt Sy.w8)) ty·58 11)) (Reads.room-gone 𝓤 H A (Sy.tyStruct (Li._∷_ 38 (Li._∷_ 91 (Li._∷_ 93 Li.[]))) (Sy.tcons ty·58 (Sy.tcons (Sy.tyInt Sy.w64) Sy.tnil)))) record { lower = record { fits = Dec'.lit< tt } } Pa.refl Pa.refl λ b o k. tt) (Ty.g-pre 𝓤 H A W 𝓣 E G33 G34 b66 Δ0 (λ Ψ. Ψ) at98 (Lifetime.g-begin 𝓤 H A W E G33 12 (tt, ((tt, tt), (tt, (tt, (tt, (tt, (tt, (tt, (tt, (tt, (tt, (tt, (tt, (tt, (tt, (tt, (tt, (tt, (tt, (tt, (tt, (tt, (tt, (tt, (tt, (tt, (tt, (tt, (tt, (tt, (tt, (tt, (tt, (tt, (tt, (tt, (tt, (tt, (tt, (tt, (tt, (tt, (tt, tt)))))))))))))))))))))))))))))))))))))))))))) (Ty.s-seq 𝓤 H A W 𝓣 E G34 G35 b14 b65 Δ0 (Ty.both s32) at97 (AsSlice.t-way-lend-slice 𝓤 H A W E 𝓣 (Rf.rtF (Rf.fInt Sy.w32)) tt 1201024 (Dec'.lit< tt, Dec'.lit< tt) (λ ρ. Pa._≡_ (Ro.lft ρ 1) (κs .1 .0)) G34 (Ro.out 2 (G34 .locals)) (λ u. Ro.drop 2 (G34 .locals) u) (Ro.setLife 1 Ro.off (G34 .slots)) 2 (λ t. Li._∷_ (Sy.deref (Sy.tyInt Sy.w32)) t) (Sy.tyInt Sy.w32) ty·63 19 12 (λ u. u .1 .1 .0 .now) (λ u. u .1 .1 .0 .ptr) (λ T′. record { locals = Ro.setRow 2 (2, Frozen.held (Frozen.fz-open Sy.erased 1 (κs .1 .0) (Ro.lease (κs .1 .0) (qs .1 .0)) (AsSlice.fz-lent-sl (Rf.rtF (Rf.fInt Sy.w32)) 1201024 12))) T′; slots = Ro.setLife 1 Ro.off (G34 .slots) }) (λ u γ T′ m′. Ro.set 2 (2, Frozen.held (Frozen.fz-open Sy.erased 1 (κs .1 .0) (Ro.lease (κs .1 .0) (qs .1 .0)) (AsSlice.fz-lent-sl (Rf.rtF (Rf.fInt Sy.w32)) 1201024 12))) (u .1 .1 .0, γ) T′ m′) (λ u. Unit) (Call.pin-lease 𝓤 H A W 1 (G34 .slots) (κs .1 .0) (qs .1 .0) Pa.refl) (λ ρ told u asked. WayLend.wt-mut 𝓤 H A W E Sy.erased 1 (κs .1 .0) (Ro.lease (κs .1 .0) (qs .1 .0)) (AsSlice.fz-lent-sl (Rf.rtF (Rf.fInt Sy.w32)) 1201024 12) ty·69 (Sy.tyInt Sy.w32) (u .1 .1 .0) (Wp.spotOf 𝓤 H E 2 .1, 0) (WayLend.wt-mref 𝓤 H A W E Sy.erased (κs .1 .0) (Array.Array (Rf.rtF (Rf.fInt Sy.w32)) 1201024) 1 ty·69 (Frozen.fz-open Sy.erased 1 (κs .1 .0) (Ro.lease (κs .1 .0) (qs .1 .0)) (AsSlice.fz-lent-sl (Rf.rtF (Rf.fInt Sy.w32)) 1201024 12)) Pa.refl G34 ρ u (Ro.setLife 1 Ro.off (G34 .slots)) 2 (λ x. x) told (Reads.as-is 𝓤 H A row·2)) Pa.refl (Ro.setLife 1 Ro.off (G34 .slots)) (Open.takes-whole 𝓤 H A W 1 (G34 .slots) (Ro.lease (κs .1 .0) (qs .1 .0)) Pa.refl tt) told) (Reads.room-gone 𝓤 H A ty·63) Pa.refl λ b o. tt) (Ty.s-seq 𝓤 H A W 𝓣 E G35 G36 b15 b64 Δ0 (Ty.ask s33) at96 (Relend.t-sl-aggregate 𝓤 H A W E (Rf.rtF (Rf.fInt Sy.w32)) 𝓣 (Relend.asMut (Rf.rtF (Rf.fInt Sy.w32))) G35 19 20 12 ty·63 ty·63 (λ x. x) (Sc.oBig Sy.w64 1201024) (Reads.as-is 𝓤 H A (Relend.msptr (Rf.rtF (Rf.fInt Sy.w32)) ty·63 12)) (Reads.room-gone 𝓤 H A (Sy.tyStruct (Li._∷_ 38 (Li._∷_ 91 (Li._∷_ 93 Li.[]))) (Sy.tcons ty·63 (Sy.tcons (Sy.tyInt Sy.w64) Sy.tnil)))) record { lower = record { fits = Dec'.lit< tt } } Pa.refl Pa.refl λ b o k. tt) (Ty.g-pre 𝓤 H A W 𝓣 E G36 G37 b64 Δ0 (λ Ψ. Ψ) at95 (Lifetime.g-begin 𝓤 H A W E G36 13 (tt, ((tt, tt), ((tt, tt), (tt, (tt, (tt, (tt, (tt, (tt, (tt, (tt, (tt, (tt, (tt, (tt, (tt, (tt, (tt, (tt, (tt, (tt, (tt, (tt, (tt, (tt, (tt, (tt, (tt, (tt, (tt, (tt, (tt, (tt, (tt, (tt, (tt, (tt, (tt, (tt, (tt, (tt, (tt, (tt, tt)))))))))))))))))))))))))))))))))))))))))))) (Ty.s-seq 𝓤 H A W 𝓣 E G37 G38 b16 b63 Δ0 (Ty.give s35) at94 (Relend.t-sl-relend 𝓤 H A W E Gap_.row 𝓣 G37 3 21 2 13 ty·66 ty·67 (Ro.lease (κs .1 .1 .0) (qs .1 .1 .0)) 0 (λ x. x) (Reads.as-is 𝓤 H A row·15) (Reads.room-gone 𝓤 H A ty·67) Pa.refl tt Pa.refl Pa.refl Pa.refl λ b o. tt) (Ty.s-seq 𝓤 H A W 𝓣 E G38 G39 b17 b62 Δ0 (Ty.ask s36) at93 (Relend.t-sl-aggregate 𝓤 H A W E Gap_.row 𝓣 (Relend.asMut Gap_.row) G38 21 22 13 ty·67 ty·67 (λ x. x) (Sc.oFld 3 (Li._∷_ (Sy.field 1) Li.[]) (Sy.tyInt Sy.w64) 8 λ v. Shared.lenV (v .0)) (Reads.as-is 𝓤 H A (Relend.msptr Gap_.row ty·67 13)) (Reads.room-gone 𝓤 H A (Sy.tyStruct (Li._∷_ 38 (Li._∷_ 91 (Li._∷_ 93 Li.[]))) (Sy.tcons ty·67 (Sy.tcons (Sy.tyInt Sy.w64) Sy.tnil)))) (Relend.reads-owed-len 𝓤 H A W Gap_.row ty·66 2 13 (Ro.lease (κs .1 .1 .0) (qs .1 .1 .0)) 8 Pa.refl, Pa.refl) Pa.refl Pa.refl λ b o k. tt) (Ty.g-pre 𝓤 H A W 𝓣 E G39 G40 b62 Δ0 (λ Ψ. Ψ) at92 (Lifetime.g-begin 𝓤 H A W E G39 14 (tt, ((tt, tt), ((tt, tt), ((tt, tt), (tt, (tt, (tt, (tt, (tt, (tt, (tt, (tt, (tt, (tt, (tt, (tt, (tt, (tt, (tt, (tt, (tt, (tt, (tt, (tt, (tt, (tt, (tt, (tt, (tt, (tt, (tt, (tt, (tt, (tt, (tt, (tt, (tt, (tt, (tt, (tt, (tt, (tt, (tt, tt)))))))))))))))))))))))))))))))))))))))))))) (Ty.s-seq 𝓤 H A W 𝓣 E G40 G41 b18 b61 Δ0 (Ty.both s38) at91 (AsSlice.t-way-lend-slice 𝓤 H A W E 𝓣 (Rf.rtF (Rf.fInt Sy.w16)) tt 65536 (Dec'.lit< tt, Dec'.lit< tt) (λ ρ. Pa._≡_ (Ro.lft ρ 3) (κs .1 .1 .1 .0)) G40 (Ro.out 4 (G40 .locals)) (λ u. Ro.drop 4 (G40 .locals) u) (Ro.setLife 3 Ro.off (G40 .slots)) 4 (λ t. Li._∷_ (Sy.deref (Sy.tyInt Sy.w16)) t) (Sy.tyInt Sy.w16) ty·65 23 14 (λ u. u .1 .1 .1 .1 .0 .now) (λ u. u .1 .1 .1 .1 .0 .ptr) (λ T′. record { locals = Ro.setRow 4 (4, Frozen.held (Frozen.fz-open Sy.erased 3 (κs .1 .1 .1 .0) (Ro.lease (κs .1 .1 .1 .0) (qs .1 .1 .1 .0)) (AsSlice.fz-lent-sl (Rf.rtF (Rf.fInt Sy.w16)) 65536 14))) T′; slots = Ro.setLife 3 Ro.off (G40 .slots) }) (λ u γ T′ m′. Ro.set 4 (4, Frozen.held (Frozen.fz-open Sy.erased 3 (κs .1 .1 .1 .0) (Ro.lease (κs .1 .1 .1 .0) (qs .1 .1 .1 .0)) (AsSlice.fz-lent-sl (Rf.rtF (Rf.fInt Sy.w16)) 65536 14))) (u .1 .1 .1 .1 .0, γ) T′ m′) (λ u. Unit) (Call.pin-lease 𝓤 H A W 3 (G40 .slots) (κs .1 .1 .1 .0) (qs .1 .1 .1 .0) Pa.refl) (λ ρ told u asked. WayLend.wt-mut 𝓤 H A W E Sy.erased 3 (κs .1 .1 .1 .0) (Ro.lease (κs .1 .1 .1 .0) (qs .1 .1 .1 .0)) (AsSlice.fz-lent-sl (Rf.rtF (Rf.fInt Sy.w16)) 65536 14) ty·68 (Sy.tyInt Sy.w16) (u .1 .1 .1 .1 .0) (Wp.spotOf 𝓤 H E 4 .1, 0) (WayLend.wt-mref 𝓤 H A W E Sy.erased (κs .1 .1 .1 .0) (Array.Array (Rf.rtF (Rf.fInt Sy.w16)) 65536) 3 ty·68 (Frozen.fz-open Sy.erased 3 (κs .1 .1 .1 .0) (Ro.lease (κs .1 .1 .1 .0) (qs .1 .1 .1 .0)) (AsSlice.fz-lent-sl (Rf.rtF (Rf.fInt Sy.w16)) 65536 14)) Pa.refl G40 ρ u (Ro.setLife 3 Ro.off (G40 .slots)) 4 (λ x. x) told (Reads.as-is 𝓤 H A row·11)) Pa.refl (Ro.setLife 3 Ro.off (G40 .slots)) (Open.takes-whole 𝓤 H A W 3 (G40 .slots) (Ro.lease (κs .1 .1 .1 .0) (qs .1 .1 .1 .0)) Pa.refl tt) told) (Reads.room-gone 𝓤 H A ty·65) Pa.refl λ b o. tt) (Ty.s-seq 𝓤 H A W 𝓣 E G41 G42 b19 b60 Δ0 (Ty.ask s39) at90 (Relend.t-sl-aggregate 𝓤 H A W E (Rf.rtF (Rf.fInt Sy.w16)) 𝓣 (Relend.asMut (Rf.rtF (Rf.fInt Sy.w16))) G41 23 24 14 ty·65 ty·65 (λ x. x) (Sc.oBig Sy.w64 65536) (Reads.as-is 𝓤 H A (Relend.msptr (Rf.rtF (Rf.fInt Sy.w16)) ty·65 14)) (Reads.room-gone 𝓤 H A (Sy.tyStruct (Li._∷_ 38 (Li._∷_ 91 (Li._∷_ 93 Li.[]))) (Sy.tcons ty·65 (Sy.tcons (Sy.tyInt Sy.w64) Sy.tnil)))) record { lower = record { fits = Dec'.lit< tt } } Pa.refl Pa.refl λ b o k. tt) (Ty.g-pre 𝓤 H A W 𝓣 E G42 G43 b60 Δ0 (λ Ψ. Ψ) at89 (Lifetime.g-begin 𝓤 H A W E G42 15 (tt, ((tt, tt), ((tt, tt), ((tt, tt), ((tt, tt), (tt, (tt, (tt, (tt, (tt, (tt, (tt, (tt, (tt, (tt, (tt, (tt, (tt, (tt, (tt, (tt, (tt, (tt, (tt, (tt, (tt, (tt, (tt, (tt, (tt, (tt, (tt, (tt, (tt, (tt, (tt, (tt, (tt, (tt, (tt, (tt, (tt, (tt, tt)))))))))))))))))))))))))))))))))))))))))))) (Ty.s-seq 𝓤 H A W 𝓣 E G43 G44 b20 b59 Δ0 (Ty.both s41) at88 (AsSlice.t-way-lend-slice 𝓤 H A W E 𝓣 (Rf.rtF (Rf.fInt Sy.w8)) tt 65536 (Dec'.lit< tt, Dec'.lit< tt) (λ ρ. Pa._≡_ (Ro.lft ρ 4) (κs .1 .1 .1 .1 .0)) G43 (Ro.out 5 (G43 .locals)) (λ u. Ro.drop 5 (G43 .locals) u) (Ro.setLife 4 Ro.off (G43 .slots)) 5 (λ t. Li._∷_ (Sy.deref (Sy.tyInt Sy.w8)) t) (Sy.tyInt Sy.w8) ty·59 25 15 (λ u. u .1 .1 .1 .1 .1 .0 .now) (λ u. u .1 .1 .1 .1 .1 .0 .ptr) (λ T′. record { locals = Ro.setRow 5 (5, Frozen.held (Frozen.fz-open Sy.erased 4 (κs .1 .1 .1 .1 .0) (Ro.lease (κs .1 .1 .1 .1 .0) (qs .1 .1 .1 .1 .0)) (AsSlice.fz-lent-sl (Rf.rtF (Rf.fInt Sy.w8)) 65536 15))) T′; slots = Ro.setLife 4 Ro.off (G43 .slots) }) (λ u γ T′ m′. Ro.set 5 (5, Frozen.held (Frozen.fz-open Sy.erased 4 (κs .1 .1 .1 .1 .0) (Ro.lease (κs .1 .1 .1 .1 .0) (qs .1 .1 .1 .1 .0)) (AsSlice.fz-lent-sl (Rf.rtF (Rf.fInt Sy.w8)) 65536 15))) (u .1 .1 .1 .1 .1 .0, γ) T′ m′) (λ u. Unit) (Call.pin-lease 𝓤 H A W 4 (G43 .slots) (κs .1 .1 .1 .1 .0) (qs .1 .1 .1 .1 .0) Pa.refl) (λ ρ told u asked. WayLend.wt-mut 𝓤 H A W E Sy.erased 4 (κs .1 .1 .1 .1 .0) (Ro.lease (κs .1 .1 .1 .1 .0) (qs .1 .1 .1 .1 .0)) (AsSlice.fz-lent-sl (Rf.rtF (Rf.fInt Sy.w8)) 65536 15) (Sy.tyRef (Sy.named 4) Sy.mut ty·64) (Sy.tyInt Sy.w8) (u .1 .1 .1 .1 .1 .0) (Wp.spotOf 𝓤 H E 5 .1, 0) (WayLend.wt-mref 𝓤 H A W E Sy.erased (κs .1 .1 .1 .1 .0) (Array.Array (Rf.rtF (Rf.fInt Sy.w8)) 65536) 4 (Sy.tyRef (Sy.named 4) Sy.mut ty·64) (Frozen.fz-open Sy.erased 4 (κs .1 .1 .1 .1 .0) (Ro.lease (κs .1 .1 .1 .1 .0) (qs .1 .1 .1 .1 .0)) (AsSlice.fz-lent-sl (Rf.rtF (Rf.fInt Sy.w8)) 65536 15)) Pa.refl G43 ρ u (Ro.setLife 4 Ro.off (G43 .slots)) 5 (λ x. x) told (Reads.as-is 𝓤 H A row·12)) Pa.refl (Ro.setLife 4 Ro.off (G43 .slots)) (Open.takes-whole 𝓤 H A W 4 (G43 .slots) (Ro.lease (κs .1 .1 .1 .1 .0) (qs .1 .1 .1 .1 .0)) Pa.refl tt) told) (Reads.room-gone 𝓤 H A ty·59) Pa.refl λ b o. tt) (Ty.s-seq 𝓤 H A W 𝓣 E G44 G45 b21 b58 Δ0 (Ty.ask s42) at87 (Relend.t-sl-aggregate 𝓤 H A W E (Rf.rtF (Rf.fInt Sy.w8)) 𝓣 (Relend.asMut (Rf.rtF (Rf.fInt Sy.w8))) G44 25 26 15 ty·59 ty·59 (λ x. x) (Sc.oBig Sy.w64 65536) (Reads.as-is 𝓤 H A (Relend.msptr (Rf.rtF (Rf.fInt Sy.w8)) ty·59 15)) (Reads.room-gone 𝓤 H A (Sy.tyStruct (Li._∷_ 38 (Li._∷_ 91 (Li._∷_ 93 Li.[]))) (Sy.tcons ty·59 (Sy.tcons (Sy.tyInt Sy.w64) Sy.tnil)))) record { lower = record { fits = Dec'.lit< tt } } Pa.refl Pa.refl λ b o k. tt) (Ty.g-pre 𝓤 H A W 𝓣 E G45 G46 b58 Δ0 (λ Ψ. Ψ) at86 (Lifetime.g-begin 𝓤 H A W E G45 16 (tt, ((tt, tt), ((tt, tt), ((tt, tt), ((tt, tt), ((tt, tt), (tt, (tt, (tt, (tt, (tt, (tt, (tt, (tt, (tt, (tt, (tt, (tt, (tt, (tt, (tt, (tt, (tt, (tt, (tt, (tt, (tt, (tt, (tt, (tt, (tt, (tt, (tt, (tt, (tt, (tt, (tt, (tt, (tt, (tt, (tt, (tt, (tt, tt)))))))))))))))))))))))))))))))))))))))))))) (Ty.s-seq 𝓤 H A W 𝓣 E G46 G47 b22 b57 Δ0 (Ty.both s44) at85 (AsSlice.t-way-lend-slice 𝓤 H A W E 𝓣 (Rf.rtF (Rf.fInt Sy.w8)) tt 65536 (Dec'.lit< tt, Dec'.lit< tt) (λ ρ. Pa._≡_ (Ro.lft ρ 5) (κs .1 .1 .1 .1 .1 .0)) G46 (Ro.out 6 (G46 .locals)) (λ u. Ro.drop 6 (G46 .locals) u) (Ro.setLife 5 Ro.off (G46 .slots)) 6 (λ t. Li._∷_ (Sy.deref (Sy.tyInt Sy.w8)) t) (Sy.tyInt Sy.w8) ty·59 27 16 (λ u. u .1 .1 .1 .1 .1 .1 .0 .now) (λ u. u .1 .1 .1 .1 .1 .1 .0 .ptr) (λ T′. record { locals = Ro.setRow 6 (6, Frozen.held (Frozen.fz-open Sy.erased 5 (κs .1 .1 .1 .1 .1 .0) (Ro.lease (κs .1 .1 .1 .1 .1 .0) (qs .1 .1 .1 .1 .1 .0)) (AsSlice.fz-lent-sl (Rf.rtF (Rf.fInt Sy.w8)) 65536 16))) T′; slots = Ro.setLife 5 Ro.off (G46 .slots) }) (λ u γ T′ m′. Ro.set 6 (6, Frozen.held (Frozen.fz-open Sy.erased 5 (κs .1 .1 .1 .1 .1 .0) (Ro.lease (κs .1 .1 .1 .1 .1 .0) (qs .1 .1 .1 .1 .1 .0)) (AsSlice.fz-lent-sl (Rf.rtF (Rf.fInt Sy.w8)) 65536 16))) (u .1 .1 .1 .1 .1 .1 .0, γ) T′ m′) (λ u. Unit) (Call.pin-lease 𝓤 H A W 5 (G46 .slots) (κs .1 .1 .1 .1 .1 .0) (qs .1 .1 .1 .1 .1 .0) Pa.refl) (λ ρ told u asked. WayLend.wt-mut 𝓤 H A W E Sy.erased 5 (κs .1 .1 .1 .1 .1 .0) (Ro.lease (κs .1 .1 .1 .1 .1 .0) (qs .1 .1 .1 .1 .1 .0)) (AsSlice.fz-lent-sl (Rf.rtF (Rf.fInt Sy.w8)) 65536 16) (Sy.tyRef (Sy.named 5) Sy.mut ty·64) (Sy.tyInt Sy.w8) (u .1 .1 .1 .1 .1 .1 .0) (Wp.spotOf 𝓤 H E 6 .1, 0) (WayLend.wt-mref 𝓤 H A W E Sy.erased (κs .1 .1 .1 .1 .1 .0) (Array.Array (Rf.rtF (Rf.fInt Sy.w8)) 65536) 5 (Sy.tyRef (Sy.named 5) Sy.mut ty·64) (Frozen.fz-open Sy.erased 5 (κs .1 .1 .1 .1 .1 .0) (Ro.lease (κs .1 .1 .1 .1 .1 .0) (qs .1 .1 .1 .1 .1 .0)) (AsSlice.fz-lent-sl (Rf.rtF (Rf.fInt Sy.w8)) 65536 16)) Pa.refl G46 ρ u (Ro.setLife 5 Ro.off (G46 .slots)) 6 (λ x. x) told (Reads.as-is 𝓤 H A row·10)) Pa.refl (Ro.setLife 5 Ro.off (G46 .slots)) (Open.takes-whole 𝓤 H A W 5 (G46 .slots) (Ro.lease (κs .1 .1 .1 .1 .1 .0) (qs .1 .1 .1 .1 .1 .0)) Pa.refl tt) told) (Reads.room-gone 𝓤 H A ty·59) Pa.refl λ b o. tt) (Ty.s-seq 𝓤 H A W 𝓣 E G47 G48 b23 b56 Δ0 (Ty.ask s45) at84 (Relend.t-sl-aggregate 𝓤 H A W E (Rf.rtF (Rf.fInt Sy.w8)) 𝓣 (Relend.asMut (Rf.rtF (Rf.fInt Sy.w8))) G47 27 28 16 ty·59 ty·59 (λ x. x) (Sc.oBig Sy.w64 65536) (Reads.as-is 𝓤 H A (Relend.msptr (Rf.rtF (Rf.fInt Sy.w8)) ty·59 16)) (Reads.room-gone 𝓤 H A (Sy.tyStruct (Li._∷_ 38 (Li._∷_ 91 (Li._∷_ 93 Li.[]))) (Sy.tcons ty·59 (Sy.tcons (Sy.tyInt Sy.w64) Sy.tnil)))) record { lower = record { fits = Dec'.lit< tt } } Pa.refl Pa.refl λ b o k. tt) (Ty.g-pre 𝓤 H A W 𝓣 E G48 G49 b56 Δ0 (λ Ψ. Ψ) at83 (Lifetime.g-begin 𝓤 H A W E G48 17 (tt, ((tt, tt), ((tt, tt), ((tt, tt), ((tt, tt), ((tt, tt), ((tt, tt), (tt, (tt, (tt, (tt, (tt, (tt, (tt, (tt, (tt, (tt, (tt, (tt, (tt, (tt, (tt, (tt, (tt, (tt, (tt, (tt, (tt, (tt, (tt, (tt, (tt, (tt, (tt, (tt, (tt, (tt, (tt, (tt, (tt, (tt, (tt, (tt, tt)))))))))))))))))))))))))))))))))))))))))))) (Ty.s-seq 𝓤 H A W 𝓣 E G49 G50 b24 b55 Δ0 (Ty.both s47) at82 (AsSlice.t-way-lend-slice 𝓤 H A W E 𝓣 (Rf.rtF (Rf.fInt Sy.w8)) tt 65536 (Dec'.lit< tt, Dec'.lit< tt) (λ ρ. Pa._≡_ (Ro.lft ρ 6) (κs .1 .1 .1 .1 .1 .1 .0)) G49 (Ro.out 7 (G49 .locals)) (λ u. Ro.drop 7 (G49 .locals) u) (Ro.setLife 6 Ro.off (G49 .slots)) 7 (λ t. Li._∷_ (Sy.deref (Sy.tyInt Sy.w8)) t) (Sy.tyInt Sy.w8) ty·59 29 17 (λ u. u .1 .1 .1 .1 .1 .1 .1 .0 .now) (λ u. u .1 .1 .1 .1 .1 .1 .1 .0 .ptr) (λ T′. record { locals = Ro.setRow 7 (7, Frozen.held (Frozen.fz-open Sy.erased 6 (κs .1 .1 .1 .1 .1 .1 .0) (Ro.lease (κs .1 .1 .1 .1 .1 .1 .0) (qs .1 .1 .1 .1 .1 .1 .0)) (AsSlice.fz-lent-sl (Rf.rtF (Rf.fInt Sy.w8)) 65536 17))) T′; slots = Ro.setLife 6 Ro.off (G49 .slots) }) (λ u γ T′ m′. Ro.set 7 (7, Frozen.held (Frozen.fz-open Sy.erased 6 (κs .1 .1 .1 .1 .1 .1 .0) (Ro.lease (κs .1 .1 .1 .1 .1 .1 .0) (qs .1 .1 .1 .1 .1 .1 .0)) (AsSlice.fz-lent-sl (Rf.rtF (Rf.fInt Sy.w8)) 65536 17))) (u .1 .1 .1 .1 .1 .1 .1 .0, γ) T′ m′) (λ u. Unit) (Call.pin-lease 𝓤 H A W 6 (G49 .slots) (κs .1 .1 .1 .1 .1 .1 .0) (qs .1 .1 .1 .1 .1 .1 .0) Pa.refl) (λ ρ told u asked. WayLend.wt-mut 𝓤 H A W E Sy.erased 6 (κs .1 .1 .1 .1 .1 .1 .0) (Ro.lease (κs .1 .1 .1 .1 .1 .1 .0) (qs .1 .1 .1 .1 .1 .1 .0)) (AsSlice.fz-lent-sl (Rf.rtF (Rf.fInt Sy.w8)) 65536 17) (Sy.tyRef (Sy.named 6) Sy.mut ty·64) (Sy.tyInt Sy.w8) (u .1 .1 .1 .1 .1 .1 .1 .0) (Wp.spotOf 𝓤 H E 7 .1, 0) (WayLend.wt-mref 𝓤 H A W E Sy.erased (κs .1 .1 .1 .1 .1 .1 .0) (Array.Array (Rf.rtF (Rf.fInt Sy.w8)) 65536) 6 (Sy.tyRef (Sy.named 6) Sy.mut ty·64) (Frozen.fz-open Sy.erased 6 (κs .1 .1 .1 .1 .1 .1 .0) (Ro.lease (κs .1 .1 .1 .1 .1 .1 .0) (qs .1 .1 .1 .1 .1 .1 .0)) (AsSlice.fz-lent-sl (Rf.rtF (Rf.fInt Sy.w8)) 65536 17)) Pa.refl G49 ρ u (Ro.setLife 6 Ro.off (G49 .slots)) 7 (λ x. x) told (Reads.as-is 𝓤 H A row·9)) Pa.refl (Ro.setLife 6 Ro.off (G49 .slots)) (Open.takes-whole 𝓤 H A W 6 (G49 .slots) (Ro.lease (κs .1 .1 .1 .1 .1 .1 .0) (qs .1 .1 .1 .1 .1 .1 .0)) Pa.refl tt) told) (Reads.room-gone 𝓤 H A ty·59) Pa.refl λ b o. tt) (Ty.s-seq 𝓤 H A W 𝓣 E G50 G51 b25 b54 Δ0 (Ty.ask s48) at81 (Relend.t-sl-aggregate 𝓤 H A W E (Rf.rtF (Rf.fInt Sy.w8)) 𝓣 (Relend.asMut (Rf.rtF (Rf.fInt Sy.w8))) G50 29 30 17 ty·59 ty·59 (λ x. x) (Sc.oBig Sy.w64 65536) (Reads.as-is 𝓤 H A (Relend.msptr (Rf.rtF (Rf.fInt Sy.w8)) ty·59 17)) (Reads.room-gone 𝓤 H A (Sy.tyStruct (Li._∷_ 38 (Li._∷_ 91 (Li._∷_ 93 Li.[]))) (Sy.tcons ty·59 (Sy.tcons (Sy.tyInt Sy.w64) Sy.tnil)))) record { lower = record { fits = Dec'.lit< tt } } Pa.refl Pa.refl λ b o k. tt) (Ty.g-pre 𝓤 H A W 𝓣 E G51 G52 b54 Δ0 (λ Ψ. Ψ) at80 (Lifetime.g-begin 𝓤 H A W E G51 18 (tt, ((tt, tt), ((tt, tt), ((tt, tt), ((tt, tt), ((tt, tt), ((tt, tt), ((tt, tt), (tt, (tt, (tt, (tt, (tt, (tt, (tt, (tt, (tt, (tt, (tt, (tt, (tt, (tt, (tt, (tt, (tt, (tt, (tt, (tt, (tt, (tt, (tt, (tt, (tt, (tt, (tt, (tt, (tt, (tt, (tt, (tt, (tt, (tt, (tt, tt)))))))))))))))))))))))))))))))))))))))))))) (Ty.s-seq 𝓤 H A W 𝓣 E G52 G53 b26 b53 Δ0 (Ty.both s50) at79 (AsSlice.t-way-lend-slice 𝓤 H A W E 𝓣 (Rf.rtF (Rf.fInt Sy.w8)) tt 65536 (Dec'.lit< tt, Dec'.lit< tt) (λ ρ. Pa._≡_ (Ro.lft ρ 7) (κs .1 .1 .1 .1 .1 .1 .1 .0)) G52 (Ro.out 8 (G52 .locals)) (λ u. Ro.drop 8 (G52 .locals) u) (Ro.setLife 7 Ro.off (G52 .slots)) 8 (λ t. Li._∷_ (Sy.deref (Sy.tyInt Sy.w8)) t) (Sy.tyInt Sy.w8) ty·59 31 18 (λ u. u .1 .1 .1 .1 .1 .1 .1 .1 .0 .now) (λ u. u .1 .1 .1 .1 .1 .1 .1 .1 .0 .ptr) (λ T′. record { locals = Ro.setRow 8 (8, Frozen.held (Frozen.fz-open Sy.erased 7 (κs .1 .1 .1 .1 .1 .1 .1 .0) (Ro.lease (κs .1 .1 .1 .1 .1 .1 .1 .0) (qs .1 .1 .1 .1 .1 .1 .1 .0)) (AsSlice.fz-lent-sl (Rf.rtF (Rf.fInt Sy.w8)) 65536 18))) T′; slots = Ro.setLife 7 Ro.off (G52 .slots) }) (λ u γ T′ m′. Ro.set 8 (8, Frozen.held (Frozen.fz-open Sy.erased 7 (κs .1 .1 .1 .1 .1 .1 .1 .0) (Ro.lease (κs .1 .1 .1 .1 .1 .1 .1 .0) (qs .1 .1 .1 .1 .1 .1 .1 .0)) (AsSlice.fz-lent-sl (Rf.rtF (Rf.fInt Sy.w8)) 65536 18))) (u .1 .1 .1 .1 .1 .1 .1 .1 .0, γ) T′ m′) (λ u. Unit) (Call.pin-lease 𝓤 H A W 7 (G52 .slots) (κs .1 .1 .1 .1 .1 .1 .1 .0) (qs .1 .1 .1 .1 .1 .1 .1 .0) Pa.refl) (λ ρ told u asked. WayLend.wt-mut 𝓤 H A W E Sy.erased 7 (κs .1 .1 .1 .1 .1 .1 .1 .0) (Ro.lease (κs .1 .1 .1 .1 .1 .1 .1 .0) (qs .1 .1 .1 .1 .1 .1 .1 .0)) (AsSlice.fz-lent-sl (Rf.rtF (Rf.fInt Sy.w8)) 65536 18) (Sy.tyRef (Sy.named 7) Sy.mut ty·64) (Sy.tyInt Sy.w8) (u .1 .1 .1 .1 .1 .1 .1 .1 .0) (Wp.spotOf 𝓤 H E 8 .1, 0) (WayLend.wt-mref 𝓤 H A W E Sy.erased (κs .1 .1 .1 .1 .1 .1 .1 .0) (Array.Array (Rf.rtF (Rf.fInt Sy.w8)) 65536) 7 (Sy.tyRef (Sy.named 7) Sy.mut ty·64) (Frozen.fz-open Sy.erased 7 (κs .1 .1 .1 .1 .1 .1 .1 .0) (Ro.lease (κs .1 .1 .1 .1 .1 .1 .1 .0) (qs .1 .1 .1 .1 .1 .1 .1 .0)) (AsSlice.fz-lent-sl (Rf.rtF (Rf.fInt Sy.w8)) 65536 18)) Pa.refl G52 ρ u (Ro.setLife 7 Ro.off (G52 .slots)) 8 (λ x. x) told (Reads.as-is 𝓤 H A row·7)) Pa.refl (Ro.setLife 7 Ro.off (G52 .slots)) (Open.takes-whole 𝓤 H A W 7 (G52 .slots) (Ro.lease (κs .1 .1 .1 .1 .1 .1 .1 .0) (qs .1 .1 .1 .1 .1 .1 .1 .0)) Pa.refl tt) told) (Reads.room-gone 𝓤 H A ty·59) Pa.refl λ b o. tt) (Ty.s-seq 𝓤 H A W 𝓣 E G53 G54 b27 b52 Δ0 (Ty.ask s51) at78 (Relend.t-sl-aggregate 𝓤 H A W E (Rf.rtF (Rf.fInt Sy.w8)) 𝓣 (Relend.asMut (Rf.rtF (Rf.fInt Sy.w8))) G53 31 32 18 ty·59 ty·59 (λ x. x) (Sc.oBig Sy.w64 65536) (Reads.as-is 𝓤 H A (Relend.msptr (Rf.rtF (Rf.fInt Sy.w8)) ty·59 18)) (Reads.room-gone 𝓤 H A (Sy.tyStruct (Li._∷_ 38 (Li._∷_ 91 (Li._∷_ 93 Li.[]))) (Sy.tcons ty·59 (Sy.tcons (Sy.tyInt Sy.w64) Sy.tnil)))) record { lower = record { fits = Dec'.lit< tt } } Pa.refl Pa.refl λ b o k. tt) (Ty.s-seq 𝓤 H A W 𝓣 E G54 G55 b28 b51 Δ0 (Ty.both s52) at77 (Plain.t-call-plain 𝓤 H A W 𝓣 8 ps·2 r·2 (claims· .4) (claims· .5) "replay::run_lent" (known .2) E (λ pos β. β) G54 (record { pos = 18; ty = Sy.tyRef Sy.erased Sy.imm (Sy.tyInt Sy.w8); ref = λ x. x }, (Num.vAt 10 λ x. x, (record { pos = 11; st = Li.[]; d = 0; at = λ x. x }, (record { pos = 20; ty = Sy.tyRef Sy.erased Sy.mut (Sy.tyInt Sy.w32); ref = λ x. x }, (record { pos = 22; ty = Sy.tyRef Sy.erased Sy.mut Gap_.behind; ref = λ x. x }, (record { pos = 24; ty = Sy.tyRef Sy.erased Sy.mut (Sy.tyInt Sy.w16); ref = λ x. x }, (record { pos = 26; ty = Sy.tyRef Sy.erased Sy.mut (Sy.tyInt Sy.w8); ref = λ x. x }, (record { pos = 28; ty = Sy.tyRef Sy.erased Sy.mut (Sy.tyInt Sy.w8); ref = λ x. x }, (record { pos = 30; ty = Sy.tyRef Sy.erased Sy.mut (Sy.tyInt Sy.w8); ref = λ x. x }, (record { pos = 32; ty = Sy.tyRef Sy.erased Sy.mut (Sy.tyInt Sy.w8); ref = λ x. x }, tt)))))))))) 12 (Li._∷_ 11 (Li._∷_ 12 (Li._∷_ 13 (Li._∷_ 14 (Li._∷_ 15 (Li._∷_ 16 (Li._∷_ 17 (Li._∷_ 18 Li.[])))))))) (Call.sub-id 𝓤 H A W (G54 .slots)) (ShrSlice.spares-sslice 𝓤 H A W (Rf.rtF (Rf.fInt Sy.w8)) ty·58 11, Shared.reads-sslice 𝓤 H A W (Rf.rtF (Rf.fInt Sy.w8)) ty·58 11, Pa.refl, ((Sc.reads-sc 𝓤 H A W (Ro.sInt Sy.w64), Pa.refl), ((Yields.yields-copy 𝓤 H A W (λ ρ. Unit) (Declared'.row Lent.the-type) Pa.refl (Copies.cStruct Lent.the-type Laws'.the-laws Laws'.the-copy .copy 𝓤 H A W) row·40 (λ x. x) (λ x. x) (λ ρ told. Local.mem-whole 𝓤 H A W (Declared'.row Lent.the-type) ρ) λ ρ told. Local.whole-mem 𝓤 H A W (Declared'.row Lent.the-type) ρ, Pa.refl), (Reads.as-is 𝓤 H A row·38, Mut.reads-mslice 𝓤 H A W (Rf.rtF (Rf.fInt Sy.w32)) ty·63 12, Pa.refl, (Reads.as-is 𝓤 H A row·48, Mut.reads-mslice 𝓤 H A W Gap_.row ty·67 13, Pa.refl, (Reads.as-is 𝓤 H A row·45, Mut.reads-mslice 𝓤 H A W (Rf.rtF (Rf.fInt Sy.w16)) ty·65 14, Pa.refl, (Reads.as-is 𝓤 H A row·50, Mut.reads-mslice 𝓤 H A W (Rf.rtF (Rf.fInt Sy.w8)) ty·59 15, Pa.refl, (Reads.as-is 𝓤 H A row·54, Mut.reads-mslice 𝓤 H A W (Rf.rtF (Rf.fInt Sy.w8)) ty·59 16, Pa.refl, (Reads.as-is 𝓤 H A (Mut.mslice (Rf.rtF (Rf.fInt Sy.w8)) ty·59 17), Mut.reads-mslice 𝓤 H A W (Rf.rtF (Rf.fInt Sy.w8)) ty·59 17, Pa.refl, (Reads.as-is 𝓤 H A (Mut.mslice (Rf.rtF (Rf.fInt Sy.w8)) ty·59 18), Mut.reads-mslice 𝓤 H A W (Rf.rtF (Rf.fInt Sy.w8)) ty·59 18, Pa.refl, tt)))))))))) (Reads.room-gone 𝓤 H A Laws.mir) (tt, (tt, (tt, (tt, (tt, (tt, (tt, (tt, tt)))))))) Pa.refl) (Ty.g-pre 𝓤 H A W 𝓣 E G55 G56 b51 Δ0 (Ty.pass T55 T56 s53) at76 (Sc.g-room 𝓤 H A W E G55 18 (Sy.tyStruct (Li._∷_ 38 (Li._∷_ 91 (Li._∷_ 93 Li.[]))) (Sy.tcons ty·58 (Sy.tcons (Sy.tyInt Sy.w64) Sy.tnil))) (Shared.room-sslice 𝓤 H A W (Rf.rtF (Rf.fInt Sy.w8)) ty·58 11)) (Ty.g-pre 𝓤 H A W 𝓣 E G56 G57 b51 Δ0 (Ty.pass T56 T57 s54) at75 (Sc.g-room 𝓤 H A W E G56 11 Laws'.mir (Local.room-whole 𝓤 H A W (Declared'.row Lent.the-type) Laws'.mir Pa.refl)) (Ty.g-pre 𝓤 H A W 𝓣 E G57 G58 b51 Δ0 (λ Ψ. Ψ) at74 (Lifetime.g-end 𝓤 H A W E G57 11 Pa.refl) (Ty.g-pre 𝓤 H A W 𝓣 E G58 G59 b51 Δ0 (Ty.ask s56) at73 (LendAt.g-way-back-shr 𝓤 H A W E (Frozen.fz-open Sy.erased 0 (κs .0) (Ro.lease (κs .0) (qs .0)) (LendAt.fz-shr (Array.Array (Rf.rtF (Rf.fInt Sy.w8)) 1114112) 11)) (LendAt.as-was-open Sy.erased 0 (κs .0) (Ro.lease (κs .0) (qs .0)) (LendAt.fz-shr (Array.Array (Rf.rtF (Rf.fInt Sy.w8)) 1114112) 11) (LendAt.as-was-shr (Array.Array (Rf.rtF (Rf.fInt Sy.w8)) 1114112) 11)) G58 1 row·3 (Ro.setLife 0 (Ro.lease (κs .0) (qs .0)) (G58 .slots)) (λ x. x) (λ x. x) (Reads.as-is 𝓤 H A (Frozen.held (Frozen.fz-open Sy.erased 0 (κs .0) (Ro.lease (κs .0) (qs .0)) (LendAt.fz-shr (Array.Array (Rf.rtF (Rf.fInt Sy.w8)) 1114112) 11)))) Pa.refl (WayLend.puts-open 𝓤 H A Sy.erased 0 (κs .0) (Ro.lease (κs .0) (qs .0)) (LendAt.fz-shr (Array.Array (Rf.rtF (Rf.fInt Sy.w8)) 1114112) 11) (G58 .slots) (G58 .slots) (Ro.setLife 0 (Ro.lease (κs .0) (qs .0)) (G58 .slots)) (LendAt.puts-none-shr 𝓤 H A (Array.Array (Rf.rtF (Rf.fInt Sy.w8)) 1114112) 11 (G58 .slots)) (Open.puts-whole 𝓤 H A W 0 (Ro.lease (κs .0) (qs .0)) (G58 .slots) Pa.refl)) λ ρ pins. Local.mref-mem 𝓤 H A W Sy.erased (κs .0) (Array.Array (Rf.rtF (Rf.fInt Sy.w8)) 1114112) 0 (Sy.tyRef (Sy.named 0) Sy.mut ty·61) Pa.refl ρ (pins .0)) (Ty.g-pre 𝓤 H A W 𝓣 E G59 G60 b51 Δ0 (λ Ψ. Ψ) at72 (Lifetime.g-forget 𝓤 H A W E G59 11 Ro.dead Pa.refl) (Ty.g-pre 𝓤 H A W 𝓣 E G60 G61 b51 Δ0 (λ Ψ. Ψ) at71 (Lifetime.g-end 𝓤 H A W E G60 12 Pa.refl) (Ty.g-pre 𝓤 H A W 𝓣 E G61 G62 b51 Δ0 (Ty.ask s59) at70 (WayLend.g-way-back 𝓤 H A W E (Frozen.fz-open Sy.erased 1 (κs .1 .0) (Ro.lease (κs .1 .0) (qs .1 .0)) (AsSlice.fz-lent-sl (Rf.rtF (Rf.fInt Sy.w32)) 1201024 12)) G61 20 2 row·2 ty·63 (Ro.setLife 1 (Ro.lease (κs .1 .0) (qs .1 .0)) (G61 .slots)) (λ x. x) (λ x. x) (λ x. x) (Reads.as-is 𝓤 H A (Mut.msleft (Rf.rtF (Rf.fInt Sy.w32)) ty·63)) (Reads.as-is 𝓤 H A (Frozen.held (Frozen.fz-open Sy.erased 1 (κs .1 .0) (Ro.lease (κs .1 .0) (qs .1 .0)) (AsSlice.fz-lent-sl (Rf.rtF (Rf.fInt Sy.w32)) 1201024 12)))) Pa.refl (WayLend.puts-open 𝓤 H A Sy.erased 1 (κs .1 .0) (Ro.lease (κs .1 .0) (qs .1 .0)) (AsSlice.fz-lent-sl (Rf.rtF (Rf.fInt Sy.w32)) 1201024 12) (G61 .slots) (G61 .slots) (Ro.setLife 1 (Ro.lease (κs .1 .0) (qs .1 .0)) (G61 .slots)) (AsSlice.puts-none-sl 𝓤 H A (Rf.rtF (Rf.fInt Sy.w32)) 1201024 12 (G61 .slots)) (Open.puts-whole 𝓤 H A W 1 (Ro.lease (κs .1 .0) (qs .1 .0)) (G61 .slots) Pa.refl)) λ ρ pins. Local.mref-mem 𝓤 H A W Sy.erased (κs .1 .0) (Array.Array (Rf.rtF (Rf.fInt Sy.w32)) 1201024) 1 ty·69 Pa.refl ρ (pins .0)) (Ty.g-pre 𝓤 H A W 𝓣 E G62 G63 b51 Δ0 (λ Ψ. Ψ) at69 (Lifetime.g-forget 𝓤 H A W E G62 12 Ro.dead Pa.refl) (Ty.g-pre 𝓤 H A W 𝓣 E G63 G64 b51 Δ0 (λ Ψ. Ψ) at68 (Lifetime.g-end 𝓤 H A W E G63 13 Pa.refl) (Ty.g-pre 𝓤 H A W 𝓣 E G64 G65 b51 Δ0 (Ty.both s62) at67 (Relend.g-back-sl 𝓤 H A W E Gap_.row G64 22 3 2 13 ty·66 ty·67 (Ro.lease (κs .1 .1 .0) (qs .1 .1 .0)) (λ x. x) (λ x. x) (Reads.as-is 𝓤 H A row·57) (Reads.as-is 𝓤 H A (Relend.mslice-owed Gap_.row ty·66 2 13 (Ro.lease (κs .1 .1 .0) (qs .1 .1 .0)))) Pa.refl Pa.refl) (Ty.g-pre 𝓤 H A W 𝓣 E G65 G66 b51 Δ0 (λ Ψ. Ψ) at66 (Lifetime.g-forget 𝓤 H A W E G65 13 Ro.dead Pa.refl) (Ty.g-pre 𝓤 H A W 𝓣 E G66 G67 b51 Δ0 (λ Ψ. Ψ) at65 (Lifetime.g-end 𝓤 H A W E G66 14 Pa.refl) (Ty.g-pre 𝓤 H A W 𝓣 E G67 G68 b51 Δ0 (Ty.ask s65) at64 (WayLend.g-way-back 𝓤 H A W E (Frozen.fz-open Sy.erased 3 (κs .1 .1 .1 .0) (Ro.lease (κs .1 .1 .1 .0) (qs .1 .1 .1 .0)) (AsSlice.fz-lent-sl (Rf.rtF (Rf.fInt Sy.w16)) 65536 14)) G67 24 4 row·11 ty·65 (Ro.setLife 3 (Ro.lease (κs .1 .1 .1 .0) (qs .1 .1 .1 .0)) (G67 .slots)) (λ x. x) (λ x. x) (λ x. x) (Reads.as-is 𝓤 H A row·51) (Reads.as-is 𝓤 H A (Frozen.held (Frozen.fz-open Sy.erased 3 (κs .1 .1 .1 .0) (Ro.lease (κs .1 .1 .1 .0) (qs .1 .1 .1 .0)) (AsSlice.fz-lent-sl (Rf.rtF (Rf.fInt Sy.w16)) 65536 14)))) Pa.refl (WayLend.puts-open 𝓤 H A Sy.erased 3 (κs .1 .1 .1 .0) (Ro.lease (κs .1 .1 .1 .0) (qs .1 .1 .1 .0)) (AsSlice.fz-lent-sl (Rf.rtF (Rf.fInt Sy.w16)) 65536 14) (G67 .slots) (G67 .slots) (Ro.setLife 3 (Ro.lease (κs .1 .1 .1 .0) (qs .1 .1 .1 .0)) (G67 .slots)) (AsSlice.puts-none-sl 𝓤 H A (Rf.rtF (Rf.fInt Sy.w16)) 65536 14 (G67 .slots)) (Open.puts-whole 𝓤 H A W 3 (Ro.lease (κs .1 .1 .1 .0) (qs .1 .1 .1 .0)) (G67 .slots) Pa.refl)) λ ρ pins. Local.mref-mem 𝓤 H A W Sy.erased (κs .1 .1 .1 .0) (Array.Array (Rf.rtF (Rf.fInt Sy.w16)) 65536) 3 ty·68 Pa.refl ρ (pins .0)) (Ty.g-pre 𝓤 H A W 𝓣 E G68 G69 b51 Δ0 (λ Ψ. Ψ) at63 (Lifetime.g-forget 𝓤 H A W E G68 14 Ro.dead Pa.refl) (Ty.g-pre 𝓤 H A W 𝓣 E G69 G70 b51 Δ0 (λ Ψ. Ψ) at62 (Lifetime.g-end 𝓤 H A W E G69 15 Pa.refl) (Ty.g-pre 𝓤 H A W 𝓣 E G70 G71 b51 Δ0 (Ty.ask s68) at61 (WayLend.g-way-back 𝓤 H A W E (Frozen.fz-open Sy.erased 4 (κs .1 .1 .1 .1 .0) (Ro.lease (κs .1 .1 .1 .1 .0) (qs .1 .1 .1 .1 .0)) (AsSlice.fz-lent-sl (Rf.rtF (Rf.fInt Sy.w8)) 65536 15)) G70 26 5 row·12 ty·59 (Ro.setLife 4 (Ro.lease (κs .1 .1 .1 .1 .0) (qs .1 .1 .1 .1 .0)) (G70 .slots)) (λ x. x) (λ x. x) (λ x. x) (Reads.as-is 𝓤 H A row·16) (Reads.as-is 𝓤 H A (Frozen.held (Frozen.fz-open Sy.erased 4 (κs .1 .1 .1 .1 .0) (Ro.lease (κs .1 .1 .1 .1 .0) (qs .1 .1 .1 .1 .0)) (AsSlice.fz-lent-sl (Rf.rtF (Rf.fInt Sy.w8)) 65536 15)))) Pa.refl (WayLend.puts-open 𝓤 H A Sy.erased 4 (κs .1 .1 .1 .1 .0) (Ro.lease (κs .1 .1 .1 .1 .0) (qs .1 .1 .1 .1 .0)) (AsSlice.fz-lent-sl (Rf.rtF (Rf.fInt Sy.w8)) 65536 15) (G70 .slots) (G70 .slots) (Ro.setLife 4 (Ro.lease (κs .1 .1 .1 .1 .0) (qs .1 .1 .1 .1 .0)) (G70 .slots)) (AsSlice.puts-none-sl 𝓤 H A (Rf.rtF (Rf.fInt Sy.w8)) 65536 15 (G70 .slots)) (Open.puts-whole 𝓤 H A W 4 (Ro.lease (κs .1 .1 .1 .1 .0) (qs .1 .1 .1 .1 .0)) (G70 .slots) Pa.refl)) λ ρ pins. Local.mref-mem 𝓤 H A W Sy.erased (κs .1 .1 .1 .1 .0) (Array.Array (Rf.rtF (Rf.fInt Sy.w8)) 65536) 4 (Sy.tyRef (Sy.named 4) Sy.mut ty·64) Pa.refl ρ (pins .0)) (Ty.g-pre 𝓤 H A W 𝓣 E G71 G72 b51 Δ0 (λ Ψ. Ψ) at60 (Lifetime.g-forget 𝓤 H A W E G71 15 Ro.dead Pa.refl) (Ty.g-pre 𝓤 H A W 𝓣 E G72 G73 b51 Δ0 (λ Ψ. Ψ) at59 (Lifetime.g-end 𝓤 H A W E G72 16 Pa.refl) (Ty.g-pre 𝓤 H A W 𝓣 E G73 G74 b51 Δ0 (Ty.ask s71) at58 (WayLend.g-way-back 𝓤 H A W E (Frozen.fz-open Sy.erased 5 (κs .1 .1 .1 .1 .1 .0) (Ro.lease (κs .1 .1 .1 .1 .1 .0) (qs .1 .1 .1 .1 .1 .0)) (AsSlice.fz-lent-sl (Rf.rtF (Rf.fInt Sy.w8)) 65536 16)) G73 28 6 row·10 ty·59 (Ro.setLife 5 (Ro.lease (κs .1 .1 .1 .1 .1 .0) (qs .1 .1 .1 .1 .1 .0)) (G73 .slots)) (λ x. x) (λ x. x) (λ x. x) (Reads.as-is 𝓤 H A row·16) (Reads.as-is 𝓤 H A (Frozen.held (Frozen.fz-open Sy.erased 5 (κs .1 .1 .1 .1 .1 .0) (Ro.lease (κs .1 .1 .1 .1 .1 .0) (qs .1 .1 .1 .1 .1 .0)) (AsSlice.fz-lent-sl (Rf.rtF (Rf.fInt Sy.w8)) 65536 16)))) Pa.refl (WayLend.puts-open 𝓤 H A Sy.erased 5 (κs .1 .1 .1 .1 .1 .0) (Ro.lease (κs .1 .1 .1 .1 .1 .0) (qs .1 .1 .1 .1 .1 .0)) (AsSlice.fz-lent-sl (Rf.rtF (Rf.fInt Sy.w8)) 65536 16) (G73 .slots) (G73 .slots) (Ro.setLife 5 (Ro.lease (κs .1 .1 .1 .1 .1 .0) (qs .1 .1 .1 .1 .1 .0)) (G73 .slots)) (AsSlice.puts-none-sl 𝓤 H A (Rf.rtF (Rf.fInt Sy.w8)) 65536 16 (G73 .slots)) (Open.puts-whole 𝓤 H A W 5 (Ro.lease (κs .1 .1 .1 .1 .1 .0) (qs .1 .1 .1 .1 .1 .0)) (G73 .slots) Pa.refl)) λ ρ pins. Local.mref-mem 𝓤 H A W Sy.erased (κs .1 .1 .1 .1 .1 .0) (Array.Array (Rf.rtF (Rf.fInt Sy.w8)) 65536) 5 (Sy.tyRef (Sy.named 5) Sy.mut ty·64) Pa.refl ρ (pins .0)) (Ty.g-pre 𝓤 H A W 𝓣 E G74 G75 b51 Δ0 (λ Ψ. Ψ) at57 (Lifetime.g-forget 𝓤 H A W E G74 16 Ro.dead Pa.refl) (Ty.g-pre 𝓤 H A W 𝓣 E G75 G76 b51 Δ0 (λ Ψ. Ψ) at56 (Lifetime.g-end 𝓤 H A W E G75 17 Pa.refl) (Ty.g-pre 𝓤 H A W 𝓣 E G76 G77 b51 Δ0 (Ty.ask s74) at55 (WayLend.g-way-back 𝓤 H A W E (Frozen.fz-open Sy.erased 6 (κs .1 .1 .1 .1 .1 .1 .0) (Ro.lease (κs .1 .1 .1 .1 .1 .1 .0) (qs .1 .1 .1 .1 .1 .1 .0)) (AsSlice.fz-lent-sl (Rf.rtF (Rf.fInt Sy.w8)) 65536 17)) G76 30 7 row·9 ty·59 (Ro.setLife 6 (Ro.lease (κs .1 .1 .1 .1 .1 .1 .0) (qs .1 .1 .1 .1 .1 .1 .0)) (G76 .slots)) (λ x. x) (λ x. x) (λ x. x) (Reads.as-is 𝓤 H A row·16) (Reads.as-is 𝓤 H A (Frozen.held (Frozen.fz-open Sy.erased 6 (κs .1 .1 .1 .1 .1 .1 .0) (Ro.lease (κs .1 .1 .1 .1 .1 .1 .0) (qs .1 .1 .1 .1 .1 .1 .0)) (AsSlice.fz-lent-sl (Rf.rtF (Rf.fInt Sy.w8)) 65536 17)))) Pa.refl (WayLend.puts-open 𝓤 H A Sy.erased 6 (κs .1 .1 .1 .1 .1 .1 .0) (Ro.lease (κs .1 .1 .1 .1 .1 .1 .0) (qs .1 .1 .1 .1 .1 .1 .0)) (AsSlice.fz-lent-sl (Rf.rtF (Rf.fInt Sy.w8)) 65536 17) (G76 .slots) (G76 .slots) (Ro.setLife 6 (Ro.lease (κs .1 .1 .1 .1 .1 .1 .0) (qs .1 .1 .1 .1 .1 .1 .0)) (G76 .slots)) (AsSlice.puts-none-sl 𝓤 H A (Rf.rtF (Rf.fInt Sy.w8)) 65536 17 (G76 .slots)) (Open.puts-whole 𝓤 H A W 6 (Ro.lease (κs .1 .1 .1 .1 .1 .1 .0) (qs .1 .1 .1 .1 .1 .1 .0)) (G76 .slots) Pa.refl)) λ ρ pins. Local.mref-mem 𝓤 H A W Sy.erased (κs .1 .1 .1 .1 .1 .1 .0) (Array.Array (Rf.rtF (Rf.fInt Sy.w8)) 65536) 6 (Sy.tyRef (Sy.named 6) Sy.mut ty·64) Pa.refl ρ (pins .0)) (Ty.g-pre 𝓤 H A W 𝓣 E G77 G78 b51 Δ0 (λ Ψ. Ψ) at54 (Lifetime.g-forget 𝓤 H A W E G77 17 Ro.dead Pa.refl) (Ty.g-pre 𝓤 H A W 𝓣 E G78 G79 b51 Δ0 (λ Ψ. Ψ) at53 (Lifetime.g-end 𝓤 H A W E G78 18 Pa.refl) (Ty.g-pre 𝓤 H A W 𝓣 E G79 G80 b51 Δ0 (Ty.ask s77) at52 (WayLend.g-way-back 𝓤 H A W E (Frozen.fz-open Sy.erased 7 (κs .1 .1 .1 .1 .1 .1 .1 .0) (Ro.lease (κs .1 .1 .1 .1 .1 .1 .1 .0) (qs .1 .1 .1 .1 .1 .1 .1 .0)) (AsSlice.fz-lent-sl (Rf.rtF (Rf.fInt Sy.w8)) 65536 18)) G79 32 8 row·7 ty·59 (Ro.setLife 7 (Ro.lease (κs .1 .1 .1 .1 .1 .1 .1 .0) (qs .1 .1 .1 .1 .1 .1 .1 .0)) (G79 .slots)) (λ x. x) (λ x. x) (λ x. x) (Reads.as-is 𝓤 H A row·16) (Reads.as-is 𝓤 H A (Frozen.held (Frozen.fz-open Sy.erased 7 (κs .1 .1 .1 .1 .1 .1 .1 .0) (Ro.lease (κs .1 .1 .1 .1 .1 .1 .1 .0) (qs .1 .1 .1 .1 .1 .1 .1 .0)) (AsSlice.fz-lent-sl (Rf.rtF (Rf.fInt Sy.w8)) 65536 18)))) Pa.refl (WayLend.puts-open 𝓤 H A Sy.erased 7 (κs .1 .1 .1 .1 .1 .1 .1 .0) (Ro.lease (κs .1 .1 .1 .1 .1 .1 .1 .0) (qs .1 .1 .1 .1 .1 .1 .1 .0)) (AsSlice.fz-lent-sl (Rf.rtF (Rf.fInt Sy.w8)) 65536 18) (G79 .slots) (G79 .slots) (Ro.setLife 7 (Ro.lease (κs .1 .1 .1 .1 .1 .1 .1 .0) (qs .1 .1 .1 .1 .1 .1 .1 .0)) (G79 .slots)) (AsSlice.puts-none-sl 𝓤 H A (Rf.rtF (Rf.fInt Sy.w8)) 65536 18 (G79 .slots)) (Open.puts-whole 𝓤 H A W 7 (Ro.lease (κs .1 .1 .1 .1 .1 .1 .1 .0) (qs .1 .1 .1 .1 .1 .1 .1 .0)) (G79 .slots) Pa.refl)) λ ρ pins. Local.mref-mem 𝓤 H A W Sy.erased (κs .1 .1 .1 .1 .1 .1 .1 .0) (Array.Array (Rf.rtF (Rf.fInt Sy.w8)) 65536) 7 (Sy.tyRef (Sy.named 7) Sy.mut ty·64) Pa.refl ρ (pins .0)) (Ty.g-pre 𝓤 H A W 𝓣 E G80 G81 b51 Δ0 (λ Ψ. Ψ) at51 (Lifetime.g-forget 𝓤 H A W E G80 18 Ro.dead Pa.refl) (Ty.g-pre 𝓤 H A W 𝓣 E G81 G82 b51 Δ0 (λ Ψ. Ψ) at50 (Lifetime.g-begin 𝓤 H A W E G81 19 (tt, (tt, (tt, (tt, (tt, (tt, (tt, (tt, (tt, (tt, (tt, (tt, (tt, (tt, (tt, (tt, (tt, (tt, (tt, (tt, (tt, (tt, (tt, (tt, (tt, (tt, (tt, (tt, (tt, (tt, (tt, (tt, (tt, (tt, (tt, (tt, (tt, (tt, (tt, (tt, (tt, (tt, (tt, tt)))))))))))))))))))))))))))))))))))))))))))) (Ty.s-seq 𝓤 H A W 𝓣 E G82 G83 b29 b50 Δ0 (Ty.both s80) at49 (LendAt.t-way-share 𝓤 H A W E 𝓣 (Array.Array (Rf.rtF (Rf.fInt Sy.w16)) 65536) (λ ρ. Pa._≡_ (Ro.lft ρ 3) (κs .1 .1 .1 .0)) G82 (Ro.out 4 (G82 .locals)) (λ u. Ro.drop 4 (G82 .locals) u) (Ro.setLife 3 Ro.off (G82 .slots)) 4 (λ t. Li._∷_ (Sy.deref (Sy.tyInt Sy.w16)) t) (Sy.tyInt Sy.w16) ty·62 33 19 (λ u. u .1 .1 .1 .1 .0 .now) (λ u. u .1 .1 .1 .1 .0 .ptr) (λ T′. record { locals = Ro.setRow 4 (4, Frozen.held (Frozen.fz-open Sy.erased 3 (κs .1 .1 .1 .0) (Ro.lease (κs .1 .1 .1 .0) (qs .1 .1 .1 .0)) (LendAt.fz-shr (Array.Array (Rf.rtF (Rf.fInt Sy.w16)) 65536) 19))) T′; slots = Ro.setLife 3 Ro.off (G82 .slots) }) (λ u γ T′ m′. Ro.set 4 (4, Frozen.held (Frozen.fz-open Sy.erased 3 (κs .1 .1 .1 .0) (Ro.lease (κs .1 .1 .1 .0) (qs .1 .1 .1 .0)) (LendAt.fz-shr (Array.Array (Rf.rtF (Rf.fInt Sy.w16)) 65536) 19))) (u .1 .1 .1 .1 .0, γ) T′ m′) (λ u. Unit) (Call.pin-lease 𝓤 H A W 3 (G82 .slots) (κs .1 .1 .1 .0) (qs .1 .1 .1 .0) Pa.refl) (λ ρ told u asked. WayLend.wt-mut 𝓤 H A W E Sy.erased 3 (κs .1 .1 .1 .0) (Ro.lease (κs .1 .1 .1 .0) (qs .1 .1 .1 .0)) (LendAt.fz-shr (Array.Array (Rf.rtF (Rf.fInt Sy.w16)) 65536) 19) ty·68 (Sy.tyInt Sy.w16) (u .1 .1 .1 .1 .0) (Wp.spotOf 𝓤 H E 4 .1, 0) (WayLend.wt-mref 𝓤 H A W E Sy.erased (κs .1 .1 .1 .0) (Array.Array (Rf.rtF (Rf.fInt Sy.w16)) 65536) 3 ty·68 (Frozen.fz-open Sy.erased 3 (κs .1 .1 .1 .0) (Ro.lease (κs .1 .1 .1 .0) (qs .1 .1 .1 .0)) (LendAt.fz-shr (Array.Array (Rf.rtF (Rf.fInt Sy.w16)) 65536) 19)) Pa.refl G82 ρ u (Ro.setLife 3 Ro.off (G82 .slots)) 4 (λ x. x) told (Reads.as-is 𝓤 H A row·11)) Pa.refl (Ro.setLife 3 Ro.off (G82 .slots)) (Open.takes-whole 𝓤 H A W 3 (G82 .slots) (Ro.lease (κs .1 .1 .1 .0) (qs .1 .1 .1 .0)) Pa.refl tt) told) (Reads.room-gone 𝓤 H A ty·62) Pa.refl λ b o. tt) (Ty.g-pre 𝓤 H A W 𝓣 E G83 G84 b50 Δ0 (Ty.give s81) at48 (AsSlice.g-sref-as-slice 𝓤 H A W E G83 33 19 (Rf.rtF (Rf.fInt Sy.w16)) tt 65536 (Dec'.lit< tt, Dec'.lit< tt) (Copies.halves 𝓤 H A W (Copies.cArr (Rf.rtF (Rf.fInt Sy.w16)) (Copies.cRf (Rf.fInt Sy.w16)) 65536)) ty·62 Ro.alive (λ x. x) (Reads.as-is 𝓤 H A (Rows'.sref (Array.Array (Rf.rtF (Rf.fInt Sy.w16)) 65536) ty·62 19)) Pa.refl tt) (Ty.s-seq 𝓤 H A W 𝓣 E G84 G85 b30 b49 Δ0 (Ty.ask s82) at47 (Relend.t-sl-aggregate 𝓤 H A W E (Rf.rtF (Rf.fInt Sy.w16)) 𝓣 (Relend.asShr (Rf.rtF (Rf.fInt Sy.w16))) G84 33 34 19 ty·62 ty·62 (λ x. x) (Sc.oBig Sy.w64 65536) (Reads.as-is 𝓤 H A (Relend.ssptr (Rf.rtF (Rf.fInt Sy.w16)) ty·62 19)) (Reads.room-gone 𝓤 H A (Sy.tyStruct (Li._∷_ 38 (Li._∷_ 91 (Li._∷_ 93 Li.[]))) (Sy.tcons ty·62 (Sy.tcons (Sy.tyInt Sy.w64) Sy.tnil)))) record { lower = record { fits = Dec'.lit< tt } } Pa.refl Pa.refl λ b o k. tt) (Ty.g-pre 𝓤 H A W 𝓣 E G85 G86 b49 Δ0 (λ Ψ. Ψ) at46 (Lifetime.g-begin 𝓤 H A W E G85 20 (tt, (tt, (tt, (tt, ((tt, tt), (tt, (tt, (tt, (tt, (tt, (tt, (tt, (tt, (tt, (tt, (tt, (tt, (tt, (tt, (tt, (tt, (tt, (tt, (tt, (tt, (tt, (tt, (tt, (tt, (tt, (tt, (tt, (tt, (tt, (tt, (tt, (tt, (tt, (tt, (tt, (tt, (tt, (tt, tt)))))))))))))))))))))))))))))))))))))))))))) (Ty.s-seq 𝓤 H A W 𝓣 E G86 G87 b31 b48 Δ0 (Ty.both s84) at45 (LendAt.t-way-share 𝓤 H A W E 𝓣 (Array.Array (Rf.rtF (Rf.fInt Sy.w8)) 65536) (λ ρ. Pa._≡_ (Ro.lft ρ 4) (κs .1 .1 .1 .1 .0)) G86 (Ro.out 5 (G86 .locals)) (λ u. Ro.drop 5 (G86 .locals) u) (Ro.setLife 4 Ro.off (G86 .slots)) 5 (λ t. Li._∷_ (Sy.deref (Sy.tyInt Sy.w8)) t) (Sy.tyInt Sy.w8) ty·58 35 20 (λ u. u .1 .1 .1 .1 .1 .0 .now) (λ u. u .1 .1 .1 .1 .1 .0 .ptr) (λ T′. record { locals = Ro.setRow 5 (5, Frozen.held (Frozen.fz-open Sy.erased 4 (κs .1 .1 .1 .1 .0) (Ro.lease (κs .1 .1 .1 .1 .0) (qs .1 .1 .1 .1 .0)) (LendAt.fz-shr (Array.Array (Rf.rtF (Rf.fInt Sy.w8)) 65536) 20))) T′; slots = Ro.setLife 4 Ro.off (G86 .slots) }) (λ u γ T′ m′. Ro.set 5 (5, Frozen.held (Frozen.fz-open Sy.erased 4 (κs .1 .1 .1 .1 .0) (Ro.lease (κs .1 .1 .1 .1 .0) (qs .1 .1 .1 .1 .0)) (LendAt.fz-shr (Array.Array (Rf.rtF (Rf.fInt Sy.w8)) 65536) 20))) (u .1 .1 .1 .1 .1 .0, γ) T′ m′) (λ u. Unit) (Call.pin-lease 𝓤 H A W 4 (G86 .slots) (κs .1 .1 .1 .1 .0) (qs .1 .1 .1 .1 .0) Pa.refl) (λ ρ told u asked. WayLend.wt-mut 𝓤 H A W E Sy.erased 4 (κs .1 .1 .1 .1 .0) (Ro.lease (κs .1 .1 .1 .1 .0) (qs .1 .1 .1 .1 .0)) (LendAt.fz-shr (Array.Array (Rf.rtF (Rf.fInt Sy.w8)) 65536) 20) (Sy.tyRef (Sy.named 4) Sy.mut ty·64) (Sy.tyInt Sy.w8) (u .1 .1 .1 .1 .1 .0) (Wp.spotOf 𝓤 H E 5 .1, 0) (WayLend.wt-mref 𝓤 H A W E Sy.erased (κs .1 .1 .1 .1 .0) (Array.Array (Rf.rtF (Rf.fInt Sy.w8)) 65536) 4 (Sy.tyRef (Sy.named 4) Sy.mut ty·64) (Frozen.fz-open Sy.erased 4 (κs .1 .1 .1 .1 .0) (Ro.lease (κs .1 .1 .1 .1 .0) (qs .1 .1 .1 .1 .0)) (LendAt.fz-shr (Array.Array (Rf.rtF (Rf.fInt Sy.w8)) 65536) 20)) Pa.refl G86 ρ u (Ro.setLife 4 Ro.off (G86 .slots)) 5 (λ x. x) told (Reads.as-is 𝓤 H A row·12)) Pa.refl (Ro.setLife 4 Ro.off (G86 .slots)) (Open.takes-whole 𝓤 H A W 4 (G86 .slots) (Ro.lease (κs .1 .1 .1 .1 .0) (qs .1 .1 .1 .1 .0)) Pa.refl tt) told) (Reads.room-gone 𝓤 H A ty·58) Pa.refl λ b o. tt) (Ty.g-pre 𝓤 H A W 𝓣 E G87 G88 b48 Δ0 (Ty.give s85) at44 (AsSlice.g-sref-as-slice 𝓤 H A W E G87 35 20 (Rf.rtF (Rf.fInt Sy.w8)) tt 65536 (Dec'.lit< tt, Dec'.lit< tt) (Copies.halves 𝓤 H A W (Copies.cArr (Rf.rtF (Rf.fInt Sy.w8)) (Copies.cRf (Rf.fInt Sy.w8)) 65536)) ty·58 Ro.alive (λ x. x) (Reads.as-is 𝓤 H A (Rows'.sref (Array.Array (Rf.rtF (Rf.fInt Sy.w8)) 65536) ty·58 20)) Pa.refl tt) (Ty.s-seq 𝓤 H A W 𝓣 E G88 G89 b32 b47 Δ0 (Ty.ask s86) at43 (Relend.t-sl-aggregate 𝓤 H A W E (Rf.rtF (Rf.fInt Sy.w8)) 𝓣 (Relend.asShr (Rf.rtF (Rf.fInt Sy.w8))) G88 35 36 20 ty·58 ty·58 (λ x. x) (Sc.oBig Sy.w64 65536) (Reads.as-is 𝓤 H A (Relend.ssptr (Rf.rtF (Rf.fInt Sy.w8)) ty·58 20)) (Reads.room-gone 𝓤 H A (Sy.tyStruct (Li._∷_ 38 (Li._∷_ 91 (Li._∷_ 93 Li.[]))) (Sy.tcons ty·58 (Sy.tcons (Sy.tyInt Sy.w64) Sy.tnil)))) record { lower = record { fits = Dec'.lit< tt } } Pa.refl Pa.refl λ b o k. tt) (Ty.g-pre 𝓤 H A W 𝓣 E G89 G90 b47 Δ0 (λ Ψ. Ψ) at42 (Lifetime.g-begin 𝓤 H A W E G89 21 (tt, (tt, (tt, (tt, ((tt, tt), ((tt, tt), (tt, (tt, (tt, (tt, (tt, (tt, (tt, (tt, (tt, (tt, (tt, (tt, (tt, (tt, (tt, (tt, (tt, (tt, (tt, (tt, (tt, (tt, (tt, (tt, (tt, (tt, (tt, (tt, (tt, (tt, (tt, (tt, (tt, (tt, (tt, (tt, (tt, tt)))))))))))))))))))))))))))))))))))))))))))) (Ty.s-seq 𝓤 H A W 𝓣 E G90 G91 b33 b46 Δ0 (Ty.both s88) at41 (LendAt.t-way-share 𝓤 H A W E 𝓣 (Array.Array (Rf.rtF (Rf.fInt Sy.w8)) 65536) (λ ρ. Pa._≡_ (Ro.lft ρ 5) (κs .1 .1 .1 .1 .1 .0)) G90 (Ro.out 6 (G90 .locals)) (λ u. Ro.drop 6 (G90 .locals) u) (Ro.setLife 5 Ro.off (G90 .slots)) 6 (λ t. Li._∷_ (Sy.deref (Sy.tyInt Sy.w8)) t) (Sy.tyInt Sy.w8) ty·58 37 21 (λ u. u .1 .1 .1 .1 .1 .1 .0 .now) (λ u. u .1 .1 .1 .1 .1 .1 .0 .ptr) (λ T′. record { locals = Ro.setRow 6 (6, Frozen.held (Frozen.fz-open Sy.erased 5 (κs .1 .1 .1 .1 .1 .0) (Ro.lease (κs .1 .1 .1 .1 .1 .0) (qs .1 .1 .1 .1 .1 .0)) (LendAt.fz-shr (Array.Array (Rf.rtF (Rf.fInt Sy.w8)) 65536) 21))) T′; slots = Ro.setLife 5 Ro.off (G90 .slots) }) (λ u γ T′ m′. Ro.set 6 (6, Frozen.held (Frozen.fz-open Sy.erased 5 (κs .1 .1 .1 .1 .1 .0) (Ro.lease (κs .1 .1 .1 .1 .1 .0) (qs .1 .1 .1 .1 .1 .0)) (LendAt.fz-shr (Array.Array (Rf.rtF (Rf.fInt Sy.w8)) 65536) 21))) (u .1 .1 .1 .1 .1 .1 .0, γ) T′ m′) (λ u. Unit) (Call.pin-lease 𝓤 H A W 5 (G90 .slots) (κs .1 .1 .1 .1 .1 .0) (qs .1 .1 .1 .1 .1 .0) Pa.refl) (λ ρ told u asked. WayLend.wt-mut 𝓤 H A W E Sy.erased 5 (κs .1 .1 .1 .1 .1 .0) (Ro.lease (κs .1 .1 .1 .1 .1 .0) (qs .1 .1 .1 .1 .1 .0)) (LendAt.fz-shr (Array.Array (Rf.rtF (Rf.fInt Sy.w8)) 65536) 21) (Sy.tyRef (Sy.named 5) Sy.mut ty·64) (Sy.tyInt Sy.w8) (u .1 .1 .1 .1 .1 .1 .0) (Wp.spotOf 𝓤 H E 6 .1, 0) (WayLend.wt-mref 𝓤 H A W E Sy.erased (κs .1 .1 .1 .1 .1 .0) (Array.Array (Rf.rtF (Rf.fInt Sy.w8)) 65536) 5 (Sy.tyRef (Sy.named 5) Sy.mut ty·64) (Frozen.fz-open Sy.erased 5 (κs .1 .1 .1 .1 .1 .0) (Ro.lease (κs .1 .1 .1 .1 .1 .0) (qs .1 .1 .1 .1 .1 .0)) (LendAt.fz-shr (Array.Array (Rf.rtF (Rf.fInt Sy.w8)) 65536) 21)) Pa.refl G90 ρ u (Ro.setLife 5 Ro.off (G90 .slots)) 6 (λ x. x) told (Reads.as-is 𝓤 H A row·10)) Pa.refl (Ro.setLife 5 Ro.off (G90 .slots)) (Open.takes-whole 𝓤 H A W 5 (G90 .slots) (Ro.lease (κs .1 .1 .1 .1 .1 .0) (qs .1 .1 .1 .1 .1 .0)) Pa.refl tt) told) (Reads.room-gone 𝓤 H A ty·58) Pa.refl λ b o. tt) (Ty.g-pre 𝓤 H A W 𝓣 E G91 G92 b46 Δ0 (Ty.give s89) at40 (AsSlice.g-sref-as-slice 𝓤 H A W E G91 37 21 (Rf.rtF (Rf.fInt Sy.w8)) tt 65536 (Dec'.lit< tt, Dec'.lit< tt) (Copies.halves 𝓤 H A W (Copies.cArr (Rf.rtF (Rf.fInt Sy.w8)) (Copies.cRf (Rf.fInt Sy.w8)) 65536)) ty·58 Ro.alive (λ x. x) (Reads.as-is 𝓤 H A (Rows'.sref (Array.Array (Rf.rtF (Rf.fInt Sy.w8)) 65536) ty·58 21)) Pa.refl tt) (Ty.s-seq 𝓤 H A W 𝓣 E G92 G93 b34 b45 Δ0 (Ty.ask s90) at39 (Relend.t-sl-aggregate 𝓤 H A W E (Rf.rtF (Rf.fInt Sy.w8)) 𝓣 (Relend.asShr (Rf.rtF (Rf.fInt Sy.w8))) G92 37 38 21 ty·58 ty·58 (λ x. x) (Sc.oBig Sy.w64 65536) (Reads.as-is 𝓤 H A (Relend.ssptr (Rf.rtF (Rf.fInt Sy.w8)) ty·58 21)) (Reads.room-gone 𝓤 H A (Sy.tyStruct (Li._∷_ 38 (Li._∷_ 91 (Li._∷_ 93 Li.[]))) (Sy.tcons ty·58 (Sy.tcons (Sy.tyInt Sy.w64) Sy.tnil)))) record { lower = record { fits = Dec'.lit< tt } } Pa.refl Pa.refl λ b o k. tt) (Ty.g-pre 𝓤 H A W 𝓣 E G93 G94 b45 Δ0 (λ Ψ. Ψ) at38 (Lifetime.g-begin 𝓤 H A W E G93 22 (tt, (tt, (tt, (tt, ((tt, tt), ((tt, tt), ((tt, tt), (tt, (tt, (tt, (tt, (tt, (tt, (tt, (tt, (tt, (tt, (tt, (tt, (tt, (tt, (tt, (tt, (tt, (tt, (tt, (tt, (tt, (tt, (tt, (tt, (tt, (tt, (tt, (tt, (tt, (tt, (tt, (tt, (tt, (tt, (tt, (tt, tt)))))))))))))))))))))))))))))))))))))))))))) (Ty.s-seq 𝓤 H A W 𝓣 E G94 G95 b35 b44 Δ0 (Ty.both s92) at37 (LendAt.t-way-share 𝓤 H A W E 𝓣 (Array.Array (Rf.rtF (Rf.fInt Sy.w8)) 65536) (λ ρ. Pa._≡_ (Ro.lft ρ 6) (κs .1 .1 .1 .1 .1 .1 .0)) G94 (Ro.out 7 (G94 .locals)) (λ u. Ro.drop 7 (G94 .locals) u) (Ro.setLife 6 Ro.off (G94 .slots)) 7 (λ t. Li._∷_ (Sy.deref (Sy.tyInt Sy.w8)) t) (Sy.tyInt Sy.w8) ty·58 39 22 (λ u. u .1 .1 .1 .1 .1 .1 .1 .0 .now) (λ u. u .1 .1 .1 .1 .1 .1 .1 .0 .ptr) (λ T′. record { locals = Ro.setRow 7 (7, Frozen.held (Frozen.fz-open Sy.erased 6 (κs .1 .1 .1 .1 .1 .1 .0) (Ro.lease (κs .1 .1 .1 .1 .1 .1 .0) (qs .1 .1 .1 .1 .1 .1 .0)) (LendAt.fz-shr (Array.Array (Rf.rtF (Rf.fInt Sy.w8)) 65536) 22))) T′; slots = Ro.setLife 6 Ro.off (G94 .slots) }) (λ u γ T′ m′. Ro.set 7 (7, Frozen.held (Frozen.fz-open Sy.erased 6 (κs .1 .1 .1 .1 .1 .1 .0) (Ro.lease (κs .1 .1 .1 .1 .1 .1 .0) (qs .1 .1 .1 .1 .1 .1 .0)) (LendAt.fz-shr (Array.Array (Rf.rtF (Rf.fInt Sy.w8)) 65536) 22))) (u .1 .1 .1 .1 .1 .1 .1 .0, γ) T′ m′) (λ u. Unit) (Call.pin-lease 𝓤 H A W 6 (G94 .slots) (κs .1 .1 .1 .1 .1 .1 .0) (qs .1 .1 .1 .1 .1 .1 .0) Pa.refl) (λ ρ told u asked. WayLend.wt-mut 𝓤 H A W E Sy.erased 6 (κs .1 .1 .1 .1 .1 .1 .0) (Ro.lease (κs .1 .1 .1 .1 .1 .1 .0) (qs .1 .1 .1 .1 .1 .1 .0)) (LendAt.fz-shr (Array.Array (Rf.rtF (Rf.fInt Sy.w8)) 65536) 22) (Sy.tyRef (Sy.named 6) Sy.mut ty·64) (Sy.tyInt Sy.w8) (u .1 .1 .1 .1 .1 .1 .1 .0) (Wp.spotOf 𝓤 H E 7 .1, 0) (WayLend.wt-mref 𝓤 H A W E Sy.erased (κs .1 .1 .1 .1 .1 .1 .0) (Array.Array (Rf.rtF (Rf.fInt Sy.w8)) 65536) 6 (Sy.tyRef (Sy.named 6) Sy.mut ty·64) (Frozen.fz-open Sy.erased 6 (κs .1 .1 .1 .1 .1 .1 .0) (Ro.lease (κs .1 .1 .1 .1 .1 .1 .0) (qs .1 .1 .1 .1 .1 .1 .0)) (LendAt.fz-shr (Array.Array (Rf.rtF (Rf.fInt Sy.w8)) 65536) 22)) Pa.refl G94 ρ u (Ro.setLife 6 Ro.off (G94 .slots)) 7 (λ x. x) told (Reads.as-is 𝓤 H A row·9)) Pa.refl (Ro.setLife 6 Ro.off (G94 .slots)) (Open.takes-whole 𝓤 H A W 6 (G94 .slots) (Ro.lease (κs .1 .1 .1 .1 .1 .1 .0) (qs .1 .1 .1 .1 .1 .1 .0)) Pa.refl tt) told) (Reads.room-gone 𝓤 H A ty·58) Pa.refl λ b o. tt) (Ty.g-pre 𝓤 H A W 𝓣 E G95 G96 b44 Δ0 (Ty.give s93) at36 (AsSlice.g-sref-as-slice 𝓤 H A W E G95 39 22 (Rf.rtF (Rf.fInt Sy.w8)) tt 65536 (Dec'.lit< tt, Dec'.lit< tt) (Copies.halves 𝓤 H A W (Copies.cArr (Rf.rtF (Rf.fInt Sy.w8)) (Copies.cRf (Rf.fInt Sy.w8)) 65536)) ty·58 Ro.alive (λ x. x) (Reads.as-is 𝓤 H A (Rows'.sref (Array.Array (Rf.rtF (Rf.fInt Sy.w8)) 65536) ty·58 22)) Pa.refl tt) (Ty.s-seq 𝓤 H A W 𝓣 E G96 G97 b36 b43 Δ0 (Ty.ask s94) at35 (Relend.t-sl-aggregate 𝓤 H A W E (Rf.rtF (Rf.fInt Sy.w8)) 𝓣 (Relend.asShr (Rf.rtF (Rf.fInt Sy.w8))) G96 39 40 22 ty·58 ty·58 (λ x. x) (Sc.oBig Sy.w64 65536) (Reads.as-is 𝓤 H A (Relend.ssptr (Rf.rtF (Rf.fInt Sy.w8)) ty·58 22)) (Reads.room-gone 𝓤 H A (Sy.tyStruct (Li._∷_ 38 (Li._∷_ 91 (Li._∷_ 93 Li.[]))) (Sy.tcons ty·58 (Sy.tcons (Sy.tyInt Sy.w64) Sy.tnil)))) record { lower = record { fits = Dec'.lit< tt } } Pa.refl Pa.refl λ b o k. tt) (Ty.g-pre 𝓤 H A W 𝓣 E G97 G98 b43 Δ0 (λ Ψ. Ψ) at34 (Lifetime.g-begin 𝓤 H A W E G97 23 (tt, (tt, (tt, (tt, ((tt, tt), ((tt, tt), ((tt, tt), ((tt, tt), (tt, (tt, (tt, (tt, (tt, (tt, (tt, (tt, (tt, (tt, (tt, (tt, (tt, (tt, (tt, (tt, (tt, (tt, (tt, (tt, (tt, (tt, (tt, (tt, (tt, (tt, (tt, (tt, (tt, (tt, (tt, (tt, (tt, (tt, (tt, tt)))))))))))))))))))))))))))))))))))))))))))) (Ty.s-seq 𝓤 H A W 𝓣 E G98 G99 b37 b42 Δ0 (Ty.both s96) at33 (LendAt.t-way-share 𝓤 H A W E 𝓣 (Array.Array (Rf.rtF (Rf.fInt Sy.w8)) 65536) (λ ρ. Pa._≡_ (Ro.lft ρ 7) (κs .1 .1 .1 .1 .1 .1 .1 .0)) G98 (Ro.out 8 (G98 .locals)) (λ u. Ro.drop 8 (G98 .locals) u) (Ro.setLife 7 Ro.off (G98 .slots)) 8 (λ t. Li._∷_ (Sy.deref (Sy.tyInt Sy.w8)) t) (Sy.tyInt Sy.w8) ty·58 41 23 (λ u. u .1 .1 .1 .1 .1 .1 .1 .1 .0 .now) (λ u. u .1 .1 .1 .1 .1 .1 .1 .1 .0 .ptr) (λ T′. record { locals = Ro.setRow 8 (8, Frozen.held (Frozen.fz-open Sy.erased 7 (κs .1 .1 .1 .1 .1 .1 .1 .0) (Ro.lease (κs .1 .1 .1 .1 .1 .1 .1 .0) (qs .1 .1 .1 .1 .1 .1 .1 .0)) (LendAt.fz-shr (Array.Array (Rf.rtF (Rf.fInt Sy.w8)) 65536) 23))) T′; slots = Ro.setLife 7 Ro.off (G98 .slots) }) (λ u γ T′ m′. Ro.set 8 (8, Frozen.held (Frozen.fz-open Sy.erased 7 (κs .1 .1 .1 .1 .1 .1 .1 .0) (Ro.lease (κs .1 .1 .1 .1 .1 .1 .1 .0) (qs .1 .1 .1 .1 .1 .1 .1 .0)) (LendAt.fz-shr (Array.Array (Rf.rtF (Rf.fInt Sy.w8)) 65536) 23))) (u .1 .1 .1 .1 .1 .1 .1 .1 .0, γ) T′ m′) (λ u. Unit) (Call.pin-lease 𝓤 H A W 7 (G98 .slots) (κs .1 .1 .1 .1 .1 .1 .1 .0) (qs .1 .1 .1 .1 .1 .1 .1 .0) Pa.refl) (λ ρ told u asked. WayLend.wt-mut 𝓤 H A W E Sy.erased 7 (κs .1 .1 .1 .1 .1 .1 .1 .0) (Ro.lease (κs .1 .1 .1 .1 .1 .1 .1 .0) (qs .1 .1 .1 .1 .1 .1 .1 .0)) (LendAt.fz-shr (Array.Array (Rf.rtF (Rf.fInt Sy.w8)) 65536) 23) (Sy.tyRef (Sy.named 7) Sy.mut ty·64) (Sy.tyInt Sy.w8) (u .1 .1 .1 .1 .1 .1 .1 .1 .0) (Wp.spotOf 𝓤 H E 8 .1, 0) (WayLend.wt-mref 𝓤 H A W E Sy.erased (κs .1 .1 .1 .1 .1 .1 .1 .0) (Array.Array (Rf.rtF (Rf.fInt Sy.w8)) 65536) 7 (Sy.tyRef (Sy.named 7) Sy.mut ty·64) (Frozen.fz-open Sy.erased 7 (κs .1 .1 .1 .1 .1 .1 .1 .0) (Ro.lease (κs .1 .1 .1 .1 .1 .1 .1 .0) (qs .1 .1 .1 .1 .1 .1 .1 .0)) (LendAt.fz-shr (Array.Array (Rf.rtF (Rf.fInt Sy.w8)) 65536) 23)) Pa.refl G98 ρ u (Ro.setLife 7 Ro.off (G98 .slots)) 8 (λ x. x) told (Reads.as-is 𝓤 H A row·7)) Pa.refl (Ro.setLife 7 Ro.off (G98 .slots)) (Open.takes-whole 𝓤 H A W 7 (G98 .slots) (Ro.lease (κs .1 .1 .1 .1 .1 .1 .1 .0) (qs .1 .1 .1 .1 .1 .1 .1 .0)) Pa.refl tt) told) (Reads.room-gone 𝓤 H A ty·58) Pa.refl λ b o. tt) (Ty.g-pre 𝓤 H A W 𝓣 E G99 G100 b42 Δ0 (Ty.give s97) at32 (AsSlice.g-sref-as-slice 𝓤 H A W E G99 41 23 (Rf.rtF (Rf.fInt Sy.w8)) tt 65536 (Dec'.lit< tt, Dec'.lit< tt) (Copies.halves 𝓤 H A W (Copies.cArr (Rf.rtF (Rf.fInt Sy.w8)) (Copies.cRf (Rf.fInt Sy.w8)) 65536)) ty·58 Ro.alive (λ x. x) (Reads.as-is 𝓤 H A (Rows'.sref (Array.Array (Rf.rtF (Rf.fInt Sy.w8)) 65536) ty·58 23)) Pa.refl tt) (Ty.s-seq 𝓤 H A W 𝓣 E G100 G101 b38 b41 Δ0 (Ty.ask s98) at31 (Relend.t-sl-aggregate 𝓤 H A W E (Rf.rtF (Rf.fInt Sy.w8)) 𝓣 (Relend.asShr (Rf.rtF (Rf.fInt Sy.w8))) G100 41 42 23 ty·58 ty·58 (λ x. x) (Sc.oBig Sy.w64 65536) (Reads.as-is 𝓤 H A (Relend.ssptr (Rf.rtF (Rf.fInt Sy.w8)) ty·58 23)) (Reads.room-gone 𝓤 H A (Sy.tyStruct (Li._∷_ 38 (Li._∷_ 91 (Li._∷_ 93 Li.[]))) (Sy.tcons ty·58 (Sy.tcons (Sy.tyInt Sy.w64) Sy.tnil)))) record { lower = record { fits = Dec'.lit< tt } } Pa.refl Pa.refl λ b o k. tt) (Ty.s-seq 𝓤 H A W 𝓣 E G101 G102 b39 b6 Δ0 (Ty.both s99) at30 (Plain.t-call-plain 𝓤 H A W 𝓣 5 ps·3 r·3 (claims· .6) (claims· .7) "replay::line::print_outcome" (known .3) E (λ pos β. β) G101 (record { pos = 12; st = Li.[]; d = 0; at = λ x. x }, (record { pos = 34; ty = Sy.tyRef Sy.erased Sy.imm (Sy.tyInt Sy.w16); ref = λ x. x }, (record { pos = 36; ty = Sy.tyRef Sy.erased Sy.imm (Sy.tyInt Sy.w8); ref = λ x. x }, (record { pos = 38; ty = Sy.tyRef Sy.erased Sy.imm (Sy.tyInt Sy.w8); ref = λ x. x }, (record { pos = 40; ty = Sy.tyRef Sy.erased Sy.imm (Sy.tyInt Sy.w8); ref = λ x. x }, (record { pos = 42; ty = Sy.tyRef Sy.erased Sy.imm (Sy.tyInt Sy.w8); ref = λ x. x }, tt)))))) 0 (Li._∷_ 19 (Li._∷_ 20 (Li._∷_ 21 (Li._∷_ 22 (Li._∷_ 23 Li.[]))))) (Call.sub-id 𝓤 H A W (G101 .slots)) ((Yields.yields-copy 𝓤 H A W (λ ρ. Unit) (Declared.row Outcome.the-type) Pa.refl (Copies.cEnum Outcome.the-type Laws.the-laws Laws.the-copy .copy 𝓤 H A W) row·26 (λ x. x) (λ x. x) (λ ρ told. Local.mem-whole 𝓤 H A W (Declared.row Outcome.the-type) ρ) λ ρ told. Local.whole-mem 𝓤 H A W (Declared.row Outcome.the-type) ρ, Pa.refl), (ShrSlice.spares-sslice 𝓤 H A W (Rf.rtF (Rf.fInt Sy.w16)) ty·62 19, Shared.reads-sslice 𝓤 H A W (Rf.rtF (Rf.fInt Sy.w16)) ty·62 19, Pa.refl, (ShrSlice.spares-sslice 𝓤 H A W (Rf.rtF (Rf.fInt Sy.w8)) ty·58 20, Shared.reads-sslice 𝓤 H A W (Rf.rtF (Rf.fInt Sy.w8)) ty·58 20, Pa.refl, (ShrSlice.spares-sslice 𝓤 H A W (Rf.rtF (Rf.fInt Sy.w8)) ty·58 21, Shared.reads-sslice 𝓤 H A W (Rf.rtF (Rf.fInt Sy.w8)) ty·58 21, Pa.refl, (ShrSlice.spares-sslice 𝓤 H A W (Rf.rtF (Rf.fInt Sy.w8)) ty·58 22, Shared.reads-sslice 𝓤 H A W (Rf.rtF (Rf.fInt Sy.w8)) ty·58 22, Pa.refl, (ShrSlice.spares-sslice 𝓤 H A W (Rf.rtF (Rf.fInt Sy.w8)) ty·58 23, Shared.reads-sslice 𝓤 H A W (Rf.rtF (Rf.fInt Sy.w8)) ty·58 23, Pa.refl, tt)))))) (Reads.room-gone 𝓤 H A Sy.tyBool) (tt, (tt, (tt, (tt, (tt, tt))))) Pa.refl) (Ty.g-pre 𝓤 H A W 𝓣 E G102 G103 b6 Δ0 (Ty.pass T102 T103 s100) at29 (Sc.g-room 𝓤 H A W E G102 34 (Sy.tyStruct (Li._∷_ 38 (Li._∷_ 91 (Li._∷_ 93 Li.[]))) (Sy.tcons ty·62 (Sy.tcons (Sy.tyInt Sy.w64) Sy.tnil))) (Shared.room-sslice 𝓤 H A W (Rf.rtF (Rf.fInt Sy.w16)) ty·62 19)) (Ty.g-pre 𝓤 H A W 𝓣 E G103 G104 b6 Δ0 (Ty.pass T103 T104 s101) at28 (Sc.g-room 𝓤 H A W E G103 36 (Sy.tyStruct (Li._∷_ 38 (Li._∷_ 91 (Li._∷_ 93 Li.[]))) (Sy.tcons ty·58 (Sy.tcons (Sy.tyInt Sy.w64) Sy.tnil))) (Shared.room-sslice 𝓤 H A W (Rf.rtF (Rf.fInt Sy.w8)) ty·58 20)) (Ty.g-pre 𝓤 H A W 𝓣 E G104 G105 b6 Δ0 (Ty.pass T104 T105 s102) at27 (Sc.g-room 𝓤 H A W E G104 38 (Sy.tyStruct (Li._∷_ 38 (Li._∷_ 91 (Li._∷_ 93 Li.[]))) (Sy.tcons ty·58 (Sy.tcons (Sy.tyInt Sy.w64) Sy.tnil))) (Shared.room-sslice 𝓤 H A W (Rf.rtF (Rf.fInt Sy.w8)) ty·58 21)) (Ty.g-pre 𝓤 H A W 𝓣 E G105 G106 b6 Δ0 (Ty.pass T105 T106 s103) at26 (Sc.g-room 𝓤 H A W E G105 40 (Sy.tyStruct (Li._∷_ 38 (Li._∷_ 91 (Li._∷_ 93 Li.[]))) (Sy.tcons ty·58 (Sy.tcons (Sy.tyInt Sy.w64) Sy.tnil))) (Shared.room-sslice 𝓤 H A W (Rf.rtF (Rf.fInt Sy.w8)) ty·58 22)) (Ty.g-pre 𝓤 H A W 𝓣 E G106 G107 b6 Δ0 (Ty.pass T106 T107 s104) at25 (Sc.g-room 𝓤 H A W E G106 42 (Sy.tyStruct (Li._∷_ 38 (Li._∷_ 91 (Li._∷_ 93 Li.[]))) (Sy.tcons ty·58 (Sy.tcons (Sy.tyInt Sy.w64) Sy.tnil))) (Shared.room-sslice 𝓤 H A W (Rf.rtF (Rf.fInt Sy.w8)) ty·58 23)) (Ty.g-pre 𝓤 H A W 𝓣 E G107 G108 b6 Δ0 (Ty.pass T107 T108 s105) at24 (Sc.g-room 𝓤 H A W E G107 10 (Sy.tyInt Sy.w64) (Sc.room-sc 𝓤 H A W (Ro.sInt Sy.w64))) (Ty.g-pre 𝓤 H A W 𝓣 E G108 G109 b6 Δ0 (Ty.pass T108 T109 s106) at23 (Sc.g-room 𝓤 H A W E G108 12 Laws.mir (Local.room-whole 𝓤 H A W (Declared.row Outcome.the-type) Laws.mir Pa.refl)) (Ty.g-pre 𝓤 H A W 𝓣 E G109 G110 b6 Δ0 (λ Ψ. Ψ) at22 (Lifetime.g-end 𝓤 H A W E G109 19 Pa.refl) (Ty.g-pre 𝓤 H A W 𝓣 E G110 G111 b6 Δ0 (Ty.ask s108) at21 (LendAt.g-way-back-shr 𝓤 H A W E (Frozen.fz-open Sy.erased 3 (κs .1 .1 .1 .0) (Ro.lease (κs .1 .1 .1 .0) (qs .1 .1 .1 .0)) (LendAt.fz-shr (Array.Array (Rf.rtF (Rf.fInt Sy.w16)) 65536) 19)) (LendAt.as-was-open Sy.erased 3 (κs .1 .1 .1 .0) (Ro.lease (κs .1 .1 .1 .0) (qs .1 .1 .1 .0)) (LendAt.fz-shr (Array.Array (Rf.rtF (Rf.fInt Sy.w16)) 65536) 19) (LendAt.as-was-shr (Array.Array (Rf.rtF (Rf.fInt Sy.w16)) 65536) 19)) G110 4 row·11 (Ro.setLife 3 (Ro.lease (κs .1 .1 .1 .0) (qs .1 .1 .1 .0)) (G110 .slots)) (λ x. x) (λ x. x) (Reads.as-is 𝓤 H A (Frozen.held (Frozen.fz-open Sy.erased 3 (κs .1 .1 .1 .0) (Ro.lease (κs .1 .1 .1 .0) (qs .1 .1 .1 .0)) (LendAt.fz-shr (Array.Array (Rf.rtF (Rf.fInt Sy.w16)) 65536) 19)))) Pa.refl (WayLend.puts-open 𝓤 H A Sy.erased 3 (κs .1 .1 .1 .0) (Ro.lease (κs .1 .1 .1 .0) (qs .1 .1 .1 .0)) (LendAt.fz-shr (Array.Array (Rf.rtF (Rf.fInt Sy.w16)) 65536) 19) (G110 .slots) (G110 .slots) (Ro.setLife 3 (Ro.lease (κs .1 .1 .1 .0) (qs .1 .1 .1 .0)) (G110 .slots)) (LendAt.puts-none-shr 𝓤 H A (Array.Array (Rf.rtF (Rf.fInt Sy.w16)) 65536) 19 (G110 .slots)) (Open.puts-whole 𝓤 H A W 3 (Ro.lease (κs .1 .1 .1 .0) (qs .1 .1 .1 .0)) (G110 .slots) Pa.refl)) λ ρ pins. Local.mref-mem 𝓤 H A W Sy.erased (κs .1 .1 .1 .0) (Array.Array (Rf.rtF (Rf.fInt Sy.w16)) 65536) 3 ty·68 Pa.refl ρ (pins .0)) (Ty.g-pre 𝓤 H A W 𝓣 E G111 G112 b6 Δ0 (λ Ψ. Ψ) at20 (Lifetime.g-forget 𝓤 H A W E G111 19 Ro.dead Pa.refl) (Ty.g-pre 𝓤 H A W 𝓣 E G112 G113 b6 Δ0 (λ Ψ. Ψ) at19 (Lifetime.g-end 𝓤 H A W E G112 20 Pa.refl) (Ty.g-pre 𝓤 H A W 𝓣 E G113 G114 b6 Δ0 (Ty.ask s111) at18 (LendAt.g-way-back-shr 𝓤 H A W E (Frozen.fz-open Sy.erased 4 (κs .1 .1 .1 .1 .0) (Ro.lease (κs .1 .1 .1 .1 .0) (qs .1 .1 .1 .1 .0)) (LendAt.fz-shr (Array.Array (Rf.rtF (Rf.fInt Sy.w8)) 65536) 20)) (LendAt.as-was-open Sy.erased 4 (κs .1 .1 .1 .1 .0) (Ro.lease (κs .1 .1 .1 .1 .0) (qs .1 .1 .1 .1 .0)) (LendAt.fz-shr (Array.Array (Rf.rtF (Rf.fInt Sy.w8)) 65536) 20) (LendAt.as-was-shr (Array.Array (Rf.rtF (Rf.fInt Sy.w8)) 65536) 20)) G113 5 row·12 (Ro.setLife 4 (Ro.lease (κs .1 .1 .1 .1 .0) (qs .1 .1 .1 .1 .0)) (G113 .slots)) (λ x. x) (λ x. x) (Reads.as-is 𝓤 H A (Frozen.held (Frozen.fz-open Sy.erased 4 (κs .1 .1 .1 .1 .0) (Ro.lease (κs .1 .1 .1 .1 .0) (qs .1 .1 .1 .1 .0)) (LendAt.fz-shr (Array.Array (Rf.rtF (Rf.fInt Sy.w8)) 65536) 20)))) Pa.refl (WayLend.puts-open 𝓤 H A Sy.erased 4 (κs .1 .1 .1 .1 .0) (Ro.lease (κs .1 .1 .1 .1 .0) (qs .1 .1 .1 .1 .0)) (LendAt.fz-shr (Array.Array (Rf.rtF (Rf.fInt Sy.w8)) 65536) 20) (G113 .slots) (G113 .slots) (Ro.setLife 4 (Ro.lease (κs .1 .1 .1 .1 .0) (qs .1 .1 .1 .1 .0)) (G113 .slots)) (LendAt.puts-none-shr 𝓤 H A (Array.Array (Rf.rtF (Rf.fInt Sy.w8)) 65536) 20 (G113 .slots)) (Open.puts-whole 𝓤 H A W 4 (Ro.lease (κs .1 .1 .1 .1 .0) (qs .1 .1 .1 .1 .0)) (G113 .slots) Pa.refl)) λ ρ pins. Local.mref-mem 𝓤 H A W Sy.erased (κs .1 .1 .1 .1 .0) (Array.Array (Rf.rtF (Rf.fInt Sy.w8)) 65536) 4 (Sy.tyRef (Sy.named 4) Sy.mut ty·64) Pa.refl ρ (pins .0)) (Ty.g-pre 𝓤 H A W 𝓣 E G114 G115 b6 Δ0 (λ Ψ. Ψ) at17 (Lifetime.g-forget 𝓤 H A W E G114 20 Ro.dead Pa.refl) (Ty.g-pre 𝓤 H A W 𝓣 E G115 G116 b6 Δ0 (λ Ψ. Ψ) at16 (Lifetime.g-end 𝓤 H A W E G115 21 Pa.refl) (Ty.g-pre 𝓤 H A W 𝓣 E G116 G117 b6 Δ0 (Ty.ask s114) at15 (LendAt.g-way-back-shr 𝓤 H A W E (Frozen.fz-open Sy.erased 5 (κs .1 .1 .1 .1 .1 .0) (Ro.lease (κs .1 .1 .1 .1 .1 .0) (qs .1 .1 .1 .1 .1 .0)) (LendAt.fz-shr (Array.Array (Rf.rtF (Rf.fInt Sy.w8)) 65536) 21)) (LendAt.as-was-open Sy.erased 5 (κs .1 .1 .1 .1 .1 .0) (Ro.lease (κs .1 .1 .1 .1 .1 .0) (qs .1 .1 .1 .1 .1 .0)) (LendAt.fz-shr (Array.Array (Rf.rtF (Rf.fInt Sy.w8)) 65536) 21) (LendAt.as-was-shr (Array.Array (Rf.rtF (Rf.fInt Sy.w8)) 65536) 21)) G116 6 row·10 (Ro.setLife 5 (Ro.lease (κs .1 .1 .1 .1 .1 .0) (qs .1 .1 .1 .1 .1 .0)) (G116 .slots)) (λ x. x) (λ x. x) (Reads.as-is 𝓤 H A (Frozen.held (Frozen.fz-open Sy.erased 5 (κs .1 .1 .1 .1 .1 .0) (Ro.lease (κs .1 .1 .1 .1 .1 .0) (qs .1 .1 .1 .1 .1 .0)) (LendAt.fz-shr (Array.Array (Rf.rtF (Rf.fInt Sy.w8)) 65536) 21)))) Pa.refl (WayLend.puts-open 𝓤 H A Sy.erased 5 (κs .1 .1 .1 .1 .1 .0) (Ro.lease (κs .1 .1 .1 .1 .1 .0) (qs .1 .1 .1 .1 .1 .0)) (LendAt.fz-shr (Array.Array (Rf.rtF (Rf.fInt Sy.w8)) 65536) 21) (G116 .slots) (G116 .slots) (Ro.setLife 5 (Ro.lease (κs .1 .1 .1 .1 .1 .0) (qs .1 .1 .1 .1 .1 .0)) (G116 .slots)) (LendAt.puts-none-shr 𝓤 H A (Array.Array (Rf.rtF (Rf.fInt Sy.w8)) 65536) 21 (G116 .slots)) (Open.puts-whole 𝓤 H A W 5 (Ro.lease (κs .1 .1 .1 .1 .1 .0) (qs .1 .1 .1 .1 .1 .0)) (G116 .slots) Pa.refl)) λ ρ pins. Local.mref-mem 𝓤 H A W Sy.erased (κs .1 .1 .1 .1 .1 .0) (Array.Array (Rf.rtF (Rf.fInt Sy.w8)) 65536) 5 (Sy.tyRef (Sy.named 5) Sy.mut ty·64) Pa.refl ρ (pins .0)) (Ty.g-pre 𝓤 H A W 𝓣 E G117 G118 b6 Δ0 (λ Ψ. Ψ) at14 (Lifetime.g-forget 𝓤 H A W E G117 21 Ro.dead Pa.refl) (Ty.g-pre 𝓤 H A W 𝓣 E G118 G119 b6 Δ0 (λ Ψ. Ψ) at13 (Lifetime.g-end 𝓤 H A W E G118 22 Pa.refl) (Ty.g-pre 𝓤 H A W 𝓣 E G119 G120 b6 Δ0 (Ty.ask s117) at12 (LendAt.g-way-back-shr 𝓤 H A W E (Frozen.fz-open Sy.erased 6 (κs .1 .1 .1 .1 .1 .1 .0) (Ro.lease (κs .1 .1 .1 .1 .1 .1 .0) (qs .1 .1 .1 .1 .1 .1 .0)) (LendAt.fz-shr (Array.Array (Rf.rtF (Rf.fInt Sy.w8)) 65536) 22)) (LendAt.as-was-open Sy.erased 6 (κs .1 .1 .1 .1 .1 .1 .0) (Ro.lease (κs .1 .1 .1 .1 .1 .1 .0) (qs .1 .1 .1 .1 .1 .1 .0)) (LendAt.fz-shr (Array.Array (Rf.rtF (Rf.fInt Sy.w8)) 65536) 22) (LendAt.as-was-shr (Array.Array (Rf.rtF (Rf.fInt Sy.w8)) 65536) 22)) G119 7 row·9 (Ro.setLife 6 (Ro.lease (κs .1 .1 .1 .1 .1 .1 .0) (qs .1 .1 .1 .1 .1 .1 .0)) (G119 .slots)) (λ x. x) (λ x. x) (Reads.as-is 𝓤 H A (Frozen.held (Frozen.fz-open Sy.erased 6 (κs .1 .1 .1 .1 .1 .1 .0) (Ro.lease (κs .1 .1 .1 .1 .1 .1 .0) (qs .1 .1 .1 .1 .1 .1 .0)) (LendAt.fz-shr (Array.Array (Rf.rtF (Rf.fInt Sy.w8)) 65536) 22)))) Pa.refl (WayLend.puts-open 𝓤 H A Sy.erased 6 (κs .1 .1 .1 .1 .1 .1 .0) (Ro.lease (κs .1 .1 .1 .1 .1 .1 .0) (qs .1 .1 .1 .1 .1 .1 .0)) (LendAt.fz-shr (Array.Array (Rf.rtF (Rf.fInt Sy.w8)) 65536) 22) (G119 .slots) (G119 .slots) (Ro.setLife 6 (Ro.lease (κs .1 .1 .1 .1 .1 .1 .0) (qs .1 .1 .1 .1 .1 .1 .0)) (G119 .slots)) (LendAt.puts-none-shr 𝓤 H A (Array.Array (Rf.rtF (Rf.fInt Sy.w8)) 65536) 22 (G119 .slots)) (Open.puts-whole 𝓤 H A W 6 (Ro.lease (κs .1 .1 .1 .1 .1 .1 .0) (qs .1 .1 .1 .1 .1 .1 .0)) (G119 .slots) Pa.refl)) λ ρ pins. Local.mref-mem 𝓤 H A W Sy.erased (κs .1 .1 .1 .1 .1 .1 .0) (Array.Array (Rf.rtF (Rf.fInt Sy.w8)) 65536) 6 (Sy.tyRef (Sy.named 6) Sy.mut ty·64) Pa.refl ρ (pins .0)) (Ty.g-pre 𝓤 H A W 𝓣 E G120 G121 b6 Δ0 (λ Ψ. Ψ) at11 (Lifetime.g-forget 𝓤 H A W E G120 22 Ro.dead Pa.refl) (Ty.g-pre 𝓤 H A W 𝓣 E G121 G122 b6 Δ0 (λ Ψ. Ψ) at10 (Lifetime.g-end 𝓤 H A W E G121 23 Pa.refl) (Ty.g-pre 𝓤 H A W 𝓣 E G122 G123 b6 Δ0 (Ty.ask s120) at9 (LendAt.g-way-back-shr 𝓤 H A W E (Frozen.fz-open Sy.erased 7 (κs .1 .1 .1 .1 .1 .1 .1 .0) (Ro.lease (κs .1 .1 .1 .1 .1 .1 .1 .0) (qs .1 .1 .1 .1 .1 .1 .1 .0)) (LendAt.fz-shr (Array.Array (Rf.rtF (Rf.fInt Sy.w8)) 65536) 23)) (LendAt.as-was-open Sy.erased 7 (κs .1 .1 .1 .1 .1 .1 .1 .0) (Ro.lease (κs .1 .1 .1 .1 .1 .1 .1 .0) (qs .1 .1 .1 .1 .1 .1 .1 .0)) (LendAt.fz-shr (Array.Array (Rf.rtF (Rf.fInt Sy.w8)) 65536) 23) (LendAt.as-was-shr (Array.Array (Rf.rtF (Rf.fInt Sy.w8)) 65536) 23)) G122 8 row·7 (Ro.setLife 7 (Ro.lease (κs .1 .1 .1 .1 .1 .1 .1 .0) (qs .1 .1 .1 .1 .1 .1 .1 .0)) (G122 .slots)) (λ x. x) (λ x. x) (Reads.as-is 𝓤 H A (Frozen.held (Frozen.fz-open Sy.erased 7 (κs .1 .1 .1 .1 .1 .1 .1 .0) (Ro.lease (κs .1 .1 .1 .1 .1 .1 .1 .0) (qs .1 .1 .1 .1 .1 .1 .1 .0)) (LendAt.fz-shr (Array.Array (Rf.rtF (Rf.fInt Sy.w8)) 65536) 23)))) Pa.refl (WayLend.puts-open 𝓤 H A Sy.erased 7 (κs .1 .1 .1 .1 .1 .1 .1 .0) (Ro.lease (κs .1 .1 .1 .1 .1 .1 .1 .0) (qs .1 .1 .1 .1 .1 .1 .1 .0)) (LendAt.fz-shr (Array.Array (Rf.rtF (Rf.fInt Sy.w8)) 65536) 23) (G122 .slots) (G122 .slots) (Ro.setLife 7 (Ro.lease (κs .1 .1 .1 .1 .1 .1 .1 .0) (qs .1 .1 .1 .1 .1 .1 .1 .0)) (G122 .slots)) (LendAt.puts-none-shr 𝓤 H A (Array.Array (Rf.rtF (Rf.fInt Sy.w8)) 65536) 23 (G122 .slots)) (Open.puts-whole 𝓤 H A W 7 (Ro.lease (κs .1 .1 .1 .1 .1 .1 .1 .0) (qs .1 .1 .1 .1 .1 .1 .1 .0)) (G122 .slots) Pa.refl)) λ ρ pins. Local.mref-mem 𝓤 H A W Sy.erased (κs .1 .1 .1 .1 .1 .1 .1 .0) (Array.Array (Rf.rtF (Rf.fInt Sy.w8)) 65536) 7 (Sy.tyRef (Sy.named 7) Sy.mut ty·64) Pa.refl ρ (pins .0)) (Ty.g-pre 𝓤 H A W 𝓣 E G123 G1 b6 Δ0 (λ Ψ. Ψ) at8 (Lifetime.g-forget 𝓤 H A W E G123 23 Ro.dead Pa.refl) (Ty.t-return 𝓤 H A W 𝓣 E Δ0 tt)))))))))))))))))))))))))))))))))))))))))))))))))))))))))))))))))))))))))))))))))))))))))))))))))))))))))))))))))))))))
 
       module _ (κs : Lifetimes.Lfts 8) where
         pub record Args : Type 0 where
           pub job : Kinds.Den {n = 8} κs (Kinds.pMut (Array.Array (Rf.rtF (Rf.fInt Sy.w8)) 1114112) 0 tt)
-          pub work : Kinds.Den {n = 8} κs (Kinds.pMut (Array.Array (Rf.rtF (Rf.fInt Sy.w32)) 6292480) 1 tt)
+          pub work : Kinds.Den {n = 8} κs (Kinds.pMut (Array.Array (Rf.rtF (Rf.fInt Sy.w32)) 1201024) 1 tt)
           pub gaps : Kinds.Den {n = 8} κs (MutSlice.pMutS Gap_.row 2 tt)
-          pub answers : Kinds.Den {n = 8} κs (Kinds.pMut (Array.Array (Rf.rtF (Rf.fInt Sy.w16)) 349526) 3 tt)
-          pub marks : Kinds.Den {n = 8} κs (Kinds.pMut (Array.Array (Rf.rtF (Rf.fInt Sy.w8)) 349526) 4 tt)
-          pub pool : Kinds.Den {n = 8} κs (Kinds.pMut (Array.Array (Rf.rtF (Rf.fInt Sy.w8)) 8388608) 5 tt)
-          pub bootstraps : Kinds.Den {n = 8} κs (Kinds.pMut (Array.Array (Rf.rtF (Rf.fInt Sy.w8)) 8388608) 6 tt)
+          pub answers : Kinds.Den {n = 8} κs (Kinds.pMut (Array.Array (Rf.rtF (Rf.fInt Sy.w16)) 65536) 3 tt)
+          pub marks : Kinds.Den {n = 8} κs (Kinds.pMut (Array.Array (Rf.rtF (Rf.fInt Sy.w8)) 65536) 4 tt)
+          pub pool : Kinds.Den {n = 8} κs (Kinds.pMut (Array.Array (Rf.rtF (Rf.fInt Sy.w8)) 65536) 5 tt)
+          pub bootstraps : Kinds.Den {n = 8} κs (Kinds.pMut (Array.Array (Rf.rtF (Rf.fInt Sy.w8)) 65536) 6 tt)
           pub class-name : Kinds.Den {n = 8} κs (Kinds.pMut (Array.Array (Rf.rtF (Rf.fInt Sy.w8)) 65536) 7 tt)
 
         abbrev pub dens : (a : Args) → Kinds.Dens κs ps
@@ -2646,13 +2640,13 @@ module _ (claims· : Claims) where
         lay8 = λ c. ((Pa.refl, tt), ((Pa.refl, tt), ((Pa.refl, tt), ((Pa.refl, tt), ((Pa.refl, tt), ((Pa.refl, (Pa.refl, (MutSlice.fix-len (Ro.get 3 (T1 .locals) (m74 (c .before) (After-print-outcome·gave c)) .ptr) (Ro.get 3 (T1 .locals) (m74 (c .before) (After-print-outcome·gave c)) .name) (Ro.get 3 (T1 .locals) (m74 (c .before) (After-print-outcome·gave c)) .now) (dens (c .before .before .before .before .before .before .before .before .before .before .before .before .before .before .before .before .before .before .before .before .before .before .before .before .before .before .before .before .κs) (c .before .before .before .before .before .before .before .before .before .before .before .before .before .before .before .before .before .before .before .before .before .before .before .before .before .before .before .before .args) .1 .1 .0 .now) (same-length record { before = c .before; print-outcome = c .print-outcome }), (Pa.refl, (Pa.refl, (Pa.refl, (Pa.refl, (Pa.refl, tt)))))))), returns-2 record { before = c .before; print-outcome = c .print-outcome }))))))
 
         lay7 : (c : After-print-outcome-arg3) → at45 (W0 (c .before .before .before .before .before .before .before .before .before .before .before .before .before .before .before .before .before .before .before .before .κs) (c .before .before .before .before .before .before .before .before .before .before .before .before .before .before .before .before .before .before .before .before .args)) (m50 (c .before) (c .print-outcome-arg3 .given))
-        lay7 = λ c. λ g. (Relend.count-is T88 35 36 (λ x. x) (λ u. 349526) (m51 record { before = c .before; print-outcome-arg3 = c .print-outcome-arg3 } g) (Pa.sym (g .0)), (tt, λ g'. λ g''. (Relend.count-is T92 37 38 (λ x. x) (λ u. 8388608) (m54 record { before = record { before = record { before = c .before; print-outcome-arg3 = c .print-outcome-arg3 }; print-outcome-arg4 = record { given = g } }; print-outcome-arg5 = record { given = g' } } g'') (Pa.sym (g'' .0)), (tt, λ g'3. λ g'4. (Relend.count-is T96 39 40 (λ x. x) (λ u. 8388608) (m57 record { before = record { before = record { before = record { before = record { before = c .before; print-outcome-arg3 = c .print-outcome-arg3 }; print-outcome-arg4 = record { given = g } }; print-outcome-arg5 = record { given = g' } }; print-outcome-arg6 = record { given = g'' } }; print-outcome-arg7 = record { given = g'3 } } g'4) (Pa.sym (g'4 .0)), (tt, λ g'5. λ g'6. (Relend.count-is T100 41 42 (λ x. x) (λ u. 65536) (m60 record { before = record { before = record { before = record { before = record { before = record { before = record { before = c .before; print-outcome-arg3 = c .print-outcome-arg3 }; print-outcome-arg4 = record { given = g } }; print-outcome-arg5 = record { given = g' } }; print-outcome-arg6 = record { given = g'' } }; print-outcome-arg7 = record { given = g'3 } }; print-outcome-arg8 = record { given = g'4 } }; print-outcome-arg9 = record { given = g'5 } } g'6) (Pa.sym (g'6 .0)), (print-outcome-requires record { before = record { before = record { before = record { before = record { before = record { before = record { before = record { before = c .before; print-outcome-arg3 = c .print-outcome-arg3 }; print-outcome-arg4 = record { given = g } }; print-outcome-arg5 = record { given = g' } }; print-outcome-arg6 = record { given = g'' } }; print-outcome-arg7 = record { given = g'3 } }; print-outcome-arg8 = record { given = g'4 } }; print-outcome-arg9 = record { given = g'5 } }; print-outcome-arg10 = record { given = g'6 } }, λ g'7. lay8 record { before = record { before = record { before = record { before = record { before = record { before = record { before = record { before = record { before = c .before; print-outcome-arg3 = c .print-outcome-arg3 }; print-outcome-arg4 = record { given = g } }; print-outcome-arg5 = record { given = g' } }; print-outcome-arg6 = record { given = g'' } }; print-outcome-arg7 = record { given = g'3 } }; print-outcome-arg8 = record { given = g'4 } }; print-outcome-arg9 = record { given = g'5 } }; print-outcome-arg10 = record { given = g'6 } }; print-outcome = Called.called ps·3 r·3 (claims· .7) T101 (record { pos = 12; st = Li.[]; d = 0; at = λ x. x }, (record { pos = 34; ty = Sy.tyRef Sy.erased Sy.imm (Sy.tyInt Sy.w16); ref = λ x. x }, (record { pos = 36; ty = Sy.tyRef Sy.erased Sy.imm (Sy.tyInt Sy.w8); ref = λ x. x }, (record { pos = 38; ty = Sy.tyRef Sy.erased Sy.imm (Sy.tyInt Sy.w8); ref = λ x. x }, (record { pos = 40; ty = Sy.tyRef Sy.erased Sy.imm (Sy.tyInt Sy.w8); ref = λ x. x }, (record { pos = 42; ty = Sy.tyRef Sy.erased Sy.imm (Sy.tyInt Sy.w8); ref = λ x. x }, tt)))))) (m61 record { before = record { before = record { before = record { before = record { before = record { before = record { before = c .before; print-outcome-arg3 = c .print-outcome-arg3 }; print-outcome-arg4 = record { given = g } }; print-outcome-arg5 = record { given = g' } }; print-outcome-arg6 = record { given = g'' } }; print-outcome-arg7 = record { given = g'3 } }; print-outcome-arg8 = record { given = g'4 } }; print-outcome-arg9 = record { given = g'5 } } g'6) g'7 }))))))))
+        lay7 = λ c. λ g. (Relend.count-is T88 35 36 (λ x. x) (λ u. 65536) (m51 record { before = c .before; print-outcome-arg3 = c .print-outcome-arg3 } g) (Pa.sym (g .0)), (tt, λ g'. λ g''. (Relend.count-is T92 37 38 (λ x. x) (λ u. 65536) (m54 record { before = record { before = record { before = c .before; print-outcome-arg3 = c .print-outcome-arg3 }; print-outcome-arg4 = record { given = g } }; print-outcome-arg5 = record { given = g' } } g'') (Pa.sym (g'' .0)), (tt, λ g'3. λ g'4. (Relend.count-is T96 39 40 (λ x. x) (λ u. 65536) (m57 record { before = record { before = record { before = record { before = record { before = c .before; print-outcome-arg3 = c .print-outcome-arg3 }; print-outcome-arg4 = record { given = g } }; print-outcome-arg5 = record { given = g' } }; print-outcome-arg6 = record { given = g'' } }; print-outcome-arg7 = record { given = g'3 } } g'4) (Pa.sym (g'4 .0)), (tt, λ g'5. λ g'6. (Relend.count-is T100 41 42 (λ x. x) (λ u. 65536) (m60 record { before = record { before = record { before = record { before = record { before = record { before = record { before = c .before; print-outcome-arg3 = c .print-outcome-arg3 }; print-outcome-arg4 = record { given = g } }; print-outcome-arg5 = record { given = g' } }; print-outcome-arg6 = record { given = g'' } }; print-outcome-arg7 = record { given = g'3 } }; print-outcome-arg8 = record { given = g'4 } }; print-outcome-arg9 = record { given = g'5 } } g'6) (Pa.sym (g'6 .0)), (print-outcome-requires record { before = record { before = record { before = record { before = record { before = record { before = record { before = record { before = c .before; print-outcome-arg3 = c .print-outcome-arg3 }; print-outcome-arg4 = record { given = g } }; print-outcome-arg5 = record { given = g' } }; print-outcome-arg6 = record { given = g'' } }; print-outcome-arg7 = record { given = g'3 } }; print-outcome-arg8 = record { given = g'4 } }; print-outcome-arg9 = record { given = g'5 } }; print-outcome-arg10 = record { given = g'6 } }, λ g'7. lay8 record { before = record { before = record { before = record { before = record { before = record { before = record { before = record { before = record { before = c .before; print-outcome-arg3 = c .print-outcome-arg3 }; print-outcome-arg4 = record { given = g } }; print-outcome-arg5 = record { given = g' } }; print-outcome-arg6 = record { given = g'' } }; print-outcome-arg7 = record { given = g'3 } }; print-outcome-arg8 = record { given = g'4 } }; print-outcome-arg9 = record { given = g'5 } }; print-outcome-arg10 = record { given = g'6 } }; print-outcome = Called.called ps·3 r·3 (claims· .7) T101 (record { pos = 12; st = Li.[]; d = 0; at = λ x. x }, (record { pos = 34; ty = Sy.tyRef Sy.erased Sy.imm (Sy.tyInt Sy.w16); ref = λ x. x }, (record { pos = 36; ty = Sy.tyRef Sy.erased Sy.imm (Sy.tyInt Sy.w8); ref = λ x. x }, (record { pos = 38; ty = Sy.tyRef Sy.erased Sy.imm (Sy.tyInt Sy.w8); ref = λ x. x }, (record { pos = 40; ty = Sy.tyRef Sy.erased Sy.imm (Sy.tyInt Sy.w8); ref = λ x. x }, (record { pos = 42; ty = Sy.tyRef Sy.erased Sy.imm (Sy.tyInt Sy.w8); ref = λ x. x }, tt)))))) (m61 record { before = record { before = record { before = record { before = record { before = record { before = record { before = c .before; print-outcome-arg3 = c .print-outcome-arg3 }; print-outcome-arg4 = record { given = g } }; print-outcome-arg5 = record { given = g' } }; print-outcome-arg6 = record { given = g'' } }; print-outcome-arg7 = record { given = g'3 } }; print-outcome-arg8 = record { given = g'4 } }; print-outcome-arg9 = record { given = g'5 } } g'6) g'7 }))))))))
 
         lay6 : (c : After-run-lent) → at77 (W0 (c .before .before .before .before .before .before .before .before .before .before .before .before .before .before .before .before .κs) (c .before .before .before .before .before .before .before .before .before .before .before .before .before .before .before .before .args)) (m36 (c .before) (After-run-lent·gave c))
-        lay6 = λ c. ((Pa.refl, tt), (Pa.refl, (Pa.refl, λ g. (Pa.refl, (Pa.refl, (Pa.refl, (Pa.refl, (Pa.refl, (tt, λ g'. λ g''. (Relend.count-is T84 33 34 (λ x. x) (λ u. 349526) (m48 record { before = record { before = record { before = c .before; run-lent = c .run-lent }; gaps = record { given = g } }; print-outcome-arg = record { given = g' } } g'') (Pa.sym (g'' .0)), (tt, λ g'3. lay7 record { before = record { before = record { before = record { before = record { before = c .before; run-lent = c .run-lent }; gaps = record { given = g } }; print-outcome-arg = record { given = g' } }; print-outcome-arg2 = record { given = g'' } }; print-outcome-arg3 = record { given = g'3 } })))))))))))
+        lay6 = λ c. ((Pa.refl, tt), (Pa.refl, (Pa.refl, λ g. (Pa.refl, (Pa.refl, (Pa.refl, (Pa.refl, (Pa.refl, (tt, λ g'. λ g''. (Relend.count-is T84 33 34 (λ x. x) (λ u. 65536) (m48 record { before = record { before = record { before = c .before; run-lent = c .run-lent }; gaps = record { given = g } }; print-outcome-arg = record { given = g' } } g'') (Pa.sym (g'' .0)), (tt, λ g'3. lay7 record { before = record { before = record { before = record { before = record { before = c .before; run-lent = c .run-lent }; gaps = record { given = g } }; print-outcome-arg = record { given = g' } }; print-outcome-arg2 = record { given = g'' } }; print-outcome-arg3 = record { given = g'3 } })))))))))))
 
         lay5 : (c : After-lent-of) → at108 (W0 (c .before .before .before .before .before .before .κs) (c .before .before .before .before .before .before .args)) (m15 (c .before) (After-lent-of·gave c))
-        lay5 = λ c. (tt, λ g. λ g'. (Relend.count-is T32 17 18 (λ x. x) (λ u. 1114112) (m20 record { before = record { before = c .before; lent-of = c .lent-of }; run-lent-arg = record { given = g } } g') (Pa.sym (g' .0)), (tt, λ g''. (Relend.count-is T35 19 20 (λ x. x) (λ u. 6292480) (m22 record { before = record { before = record { before = c .before; lent-of = c .lent-of }; run-lent-arg = record { given = g } }; run-lent-arg2 = record { given = g' } } g'') (Pa.sym (g'' .0 .1)), λ g'3. (Pa.refl, (tt, λ g'4. (Relend.count-is T41 23 24 (λ x. x) (λ u. 349526) (m26 record { before = record { before = record { before = record { before = record { before = c .before; lent-of = c .lent-of }; run-lent-arg = record { given = g } }; run-lent-arg2 = record { given = g' } }; run-lent-arg3 = record { given = g'' } }; run-lent-arg4 = record { given = g'3 } } g'4) (Pa.sym (g'4 .0 .1)), (tt, λ g'5. (Relend.count-is T44 25 26 (λ x. x) (λ u. 349526) (m28 record { before = record { before = record { before = record { before = record { before = record { before = c .before; lent-of = c .lent-of }; run-lent-arg = record { given = g } }; run-lent-arg2 = record { given = g' } }; run-lent-arg3 = record { given = g'' } }; run-lent-arg4 = record { given = g'3 } }; run-lent-arg5 = record { given = g'4 } } g'5) (Pa.sym (g'5 .0 .1)), (tt, λ g'6. (Relend.count-is T47 27 28 (λ x. x) (λ u. 8388608) (m30 record { before = record { before = record { before = record { before = record { before = record { before = record { before = c .before; lent-of = c .lent-of }; run-lent-arg = record { given = g } }; run-lent-arg2 = record { given = g' } }; run-lent-arg3 = record { given = g'' } }; run-lent-arg4 = record { given = g'3 } }; run-lent-arg5 = record { given = g'4 } }; run-lent-arg6 = record { given = g'5 } } g'6) (Pa.sym (g'6 .0 .1)), (tt, λ g'7. (Relend.count-is T50 29 30 (λ x. x) (λ u. 8388608) (m32 record { before = record { before = record { before = record { before = record { before = record { before = record { before = record { before = c .before; lent-of = c .lent-of }; run-lent-arg = record { given = g } }; run-lent-arg2 = record { given = g' } }; run-lent-arg3 = record { given = g'' } }; run-lent-arg4 = record { given = g'3 } }; run-lent-arg5 = record { given = g'4 } }; run-lent-arg6 = record { given = g'5 } }; run-lent-arg7 = record { given = g'6 } } g'7) (Pa.sym (g'7 .0 .1)), (tt, λ g'8. (Relend.count-is T53 31 32 (λ x. x) (λ u. 65536) (m34 record { before = record { before = record { before = record { before = record { before = record { before = record { before = record { before = record { before = c .before; lent-of = c .lent-of }; run-lent-arg = record { given = g } }; run-lent-arg2 = record { given = g' } }; run-lent-arg3 = record { given = g'' } }; run-lent-arg4 = record { given = g'3 } }; run-lent-arg5 = record { given = g'4 } }; run-lent-arg6 = record { given = g'5 } }; run-lent-arg7 = record { given = g'6 } }; run-lent-arg8 = record { given = g'7 } } g'8) (Pa.sym (g'8 .0 .1)), (run-lent-requires record { before = record { before = record { before = record { before = record { before = record { before = record { before = record { before = record { before = record { before = c .before; lent-of = c .lent-of }; run-lent-arg = record { given = g } }; run-lent-arg2 = record { given = g' } }; run-lent-arg3 = record { given = g'' } }; run-lent-arg4 = record { given = g'3 } }; run-lent-arg5 = record { given = g'4 } }; run-lent-arg6 = record { given = g'5 } }; run-lent-arg7 = record { given = g'6 } }; run-lent-arg8 = record { given = g'7 } }; run-lent-arg9 = record { given = g'8 } }, λ g'9. lay6 record { before = record { before = record { before = record { before = record { before = record { before = record { before = record { before = record { before = record { before = record { before = c .before; lent-of = c .lent-of }; run-lent-arg = record { given = g } }; run-lent-arg2 = record { given = g' } }; run-lent-arg3 = record { given = g'' } }; run-lent-arg4 = record { given = g'3 } }; run-lent-arg5 = record { given = g'4 } }; run-lent-arg6 = record { given = g'5 } }; run-lent-arg7 = record { given = g'6 } }; run-lent-arg8 = record { given = g'7 } }; run-lent-arg9 = record { given = g'8 } }; run-lent = Called.called ps·2 r·2 (claims· .5) T54 (record { pos = 18; ty = Sy.tyRef Sy.erased Sy.imm (Sy.tyInt Sy.w8); ref = λ x. x }, (Num.vAt 10 λ x. x, (record { pos = 11; st = Li.[]; d = 0; at = λ x. x }, (record { pos = 20; ty = Sy.tyRef Sy.erased Sy.mut (Sy.tyInt Sy.w32); ref = λ x. x }, (record { pos = 22; ty = Sy.tyRef Sy.erased Sy.mut Gap_.behind; ref = λ x. x }, (record { pos = 24; ty = Sy.tyRef Sy.erased Sy.mut (Sy.tyInt Sy.w16); ref = λ x. x }, (record { pos = 26; ty = Sy.tyRef Sy.erased Sy.mut (Sy.tyInt Sy.w8); ref = λ x. x }, (record { pos = 28; ty = Sy.tyRef Sy.erased Sy.mut (Sy.tyInt Sy.w8); ref = λ x. x }, (record { pos = 30; ty = Sy.tyRef Sy.erased Sy.mut (Sy.tyInt Sy.w8); ref = λ x. x }, (record { pos = 32; ty = Sy.tyRef Sy.erased Sy.mut (Sy.tyInt Sy.w8); ref = λ x. x }, tt)))))))))) (m35 record { before = record { before = record { before = record { before = record { before = record { before = record { before = record { before = record { before = c .before; lent-of = c .lent-of }; run-lent-arg = record { given = g } }; run-lent-arg2 = record { given = g' } }; run-lent-arg3 = record { given = g'' } }; run-lent-arg4 = record { given = g'3 } }; run-lent-arg5 = record { given = g'4 } }; run-lent-arg6 = record { given = g'5 } }; run-lent-arg7 = record { given = g'6 } }; run-lent-arg8 = record { given = g'7 } } g'8) g'9 }))))))))))))))))
+        lay5 = λ c. (tt, λ g. λ g'. (Relend.count-is T32 17 18 (λ x. x) (λ u. 1114112) (m20 record { before = record { before = c .before; lent-of = c .lent-of }; run-lent-arg = record { given = g } } g') (Pa.sym (g' .0)), (tt, λ g''. (Relend.count-is T35 19 20 (λ x. x) (λ u. 1201024) (m22 record { before = record { before = record { before = c .before; lent-of = c .lent-of }; run-lent-arg = record { given = g } }; run-lent-arg2 = record { given = g' } } g'') (Pa.sym (g'' .0 .1)), λ g'3. (Pa.refl, (tt, λ g'4. (Relend.count-is T41 23 24 (λ x. x) (λ u. 65536) (m26 record { before = record { before = record { before = record { before = record { before = c .before; lent-of = c .lent-of }; run-lent-arg = record { given = g } }; run-lent-arg2 = record { given = g' } }; run-lent-arg3 = record { given = g'' } }; run-lent-arg4 = record { given = g'3 } } g'4) (Pa.sym (g'4 .0 .1)), (tt, λ g'5. (Relend.count-is T44 25 26 (λ x. x) (λ u. 65536) (m28 record { before = record { before = record { before = record { before = record { before = record { before = c .before; lent-of = c .lent-of }; run-lent-arg = record { given = g } }; run-lent-arg2 = record { given = g' } }; run-lent-arg3 = record { given = g'' } }; run-lent-arg4 = record { given = g'3 } }; run-lent-arg5 = record { given = g'4 } } g'5) (Pa.sym (g'5 .0 .1)), (tt, λ g'6. (Relend.count-is T47 27 28 (λ x. x) (λ u. 65536) (m30 record { before = record { before = record { before = record { before = record { before = record { before = record { before = c .before; lent-of = c .lent-of }; run-lent-arg = record { given = g } }; run-lent-arg2 = record { given = g' } }; run-lent-arg3 = record { given = g'' } }; run-lent-arg4 = record { given = g'3 } }; run-lent-arg5 = record { given = g'4 } }; run-lent-arg6 = record { given = g'5 } } g'6) (Pa.sym (g'6 .0 .1)), (tt, λ g'7. (Relend.count-is T50 29 30 (λ x. x) (λ u. 65536) (m32 record { before = record { before = record { before = record { before = record { before = record { before = record { before = record { before = c .before; lent-of = c .lent-of }; run-lent-arg = record { given = g } }; run-lent-arg2 = record { given = g' } }; run-lent-arg3 = record { given = g'' } }; run-lent-arg4 = record { given = g'3 } }; run-lent-arg5 = record { given = g'4 } }; run-lent-arg6 = record { given = g'5 } }; run-lent-arg7 = record { given = g'6 } } g'7) (Pa.sym (g'7 .0 .1)), (tt, λ g'8. (Relend.count-is T53 31 32 (λ x. x) (λ u. 65536) (m34 record { before = record { before = record { before = record { before = record { before = record { before = record { before = record { before = record { before = c .before; lent-of = c .lent-of }; run-lent-arg = record { given = g } }; run-lent-arg2 = record { given = g' } }; run-lent-arg3 = record { given = g'' } }; run-lent-arg4 = record { given = g'3 } }; run-lent-arg5 = record { given = g'4 } }; run-lent-arg6 = record { given = g'5 } }; run-lent-arg7 = record { given = g'6 } }; run-lent-arg8 = record { given = g'7 } } g'8) (Pa.sym (g'8 .0 .1)), (run-lent-requires record { before = record { before = record { before = record { before = record { before = record { before = record { before = record { before = record { before = record { before = c .before; lent-of = c .lent-of }; run-lent-arg = record { given = g } }; run-lent-arg2 = record { given = g' } }; run-lent-arg3 = record { given = g'' } }; run-lent-arg4 = record { given = g'3 } }; run-lent-arg5 = record { given = g'4 } }; run-lent-arg6 = record { given = g'5 } }; run-lent-arg7 = record { given = g'6 } }; run-lent-arg8 = record { given = g'7 } }; run-lent-arg9 = record { given = g'8 } }, λ g'9. lay6 record { before = record { before = record { before = record { before = record { before = record { before = record { before = record { before = record { before = record { before = record { before = c .before; lent-of = c .lent-of }; run-lent-arg = record { given = g } }; run-lent-arg2 = record { given = g' } }; run-lent-arg3 = record { given = g'' } }; run-lent-arg4 = record { given = g'3 } }; run-lent-arg5 = record { given = g'4 } }; run-lent-arg6 = record { given = g'5 } }; run-lent-arg7 = record { given = g'6 } }; run-lent-arg8 = record { given = g'7 } }; run-lent-arg9 = record { given = g'8 } }; run-lent = Called.called ps·2 r·2 (claims· .5) T54 (record { pos = 18; ty = Sy.tyRef Sy.erased Sy.imm (Sy.tyInt Sy.w8); ref = λ x. x }, (Num.vAt 10 λ x. x, (record { pos = 11; st = Li.[]; d = 0; at = λ x. x }, (record { pos = 20; ty = Sy.tyRef Sy.erased Sy.mut (Sy.tyInt Sy.w32); ref = λ x. x }, (record { pos = 22; ty = Sy.tyRef Sy.erased Sy.mut Gap_.behind; ref = λ x. x }, (record { pos = 24; ty = Sy.tyRef Sy.erased Sy.mut (Sy.tyInt Sy.w16); ref = λ x. x }, (record { pos = 26; ty = Sy.tyRef Sy.erased Sy.mut (Sy.tyInt Sy.w8); ref = λ x. x }, (record { pos = 28; ty = Sy.tyRef Sy.erased Sy.mut (Sy.tyInt Sy.w8); ref = λ x. x }, (record { pos = 30; ty = Sy.tyRef Sy.erased Sy.mut (Sy.tyInt Sy.w8); ref = λ x. x }, (record { pos = 32; ty = Sy.tyRef Sy.erased Sy.mut (Sy.tyInt Sy.w8); ref = λ x. x }, tt)))))))))) (m35 record { before = record { before = record { before = record { before = record { before = record { before = record { before = record { before = record { before = c .before; lent-of = c .lent-of }; run-lent-arg = record { given = g } }; run-lent-arg2 = record { given = g' } }; run-lent-arg3 = record { given = g'' } }; run-lent-arg4 = record { given = g'3 } }; run-lent-arg5 = record { given = g'4 } }; run-lent-arg6 = record { given = g'5 } }; run-lent-arg7 = record { given = g'6 } }; run-lent-arg8 = record { given = g'7 } } g'8) g'9 }))))))))))))))))
 
         lay4 : (c : Else1) → at111 (W0 (c .before .before .before .before .κs) (c .before .before .before .before .args)) (m13 (c .before))
         lay4 = λ c. λ g. (lent-of-requires record { before = record { before = c .before; if1 = c .if1 }; head2 = record { given = g } }, λ g'. lay5 record { before = record { before = record { before = c .before; if1 = c .if1 }; head2 = record { given = g } }; lent-of = Called.called ps·1 r·1 (claims· .3) T23 (record { pos = 16; ty = Sy.tyRef Sy.erased Sy.imm ty·60; ref = λ x. x }, tt) (m14 record { before = c .before; if1 = c .if1 } g) g' })
