@@ -9,8 +9,8 @@ use borrow.Author.Tests.{le-leb, lt-leb, eq-eqb, ne-eqb}
 use Rattle.definition.specs.Basics.{Result, good, bad, Refusal}
 use Rattle.definition.specs.Job.{Job}
 use Rattle.definition.specs.Form.{form}
-use Rattle.definition.specs.Numbering.{literals, numbered}
-use Rattle.definition.specs.Slots.{Gap, highestSlot}
+use Rattle.definition.specs.Numbering.{topOf, literals, numbered}
+use Rattle.definition.specs.Slots.{Gap}
 use Rattle.definition.specs.Layout.{Layout, layout}
 use Rattle.definition.specs.Run.{Built, render, Memory, lentOf, longestJob, enough, refusalOf, untouched, clearedAfter, outputAfter, memoryAfter}
 use Rattle.facts.proofs.Lists.{clash}
@@ -68,11 +68,11 @@ module _ (s : List ℕ) where
 -- the records in turn: a refusal, or what is given out
 module _ (s : List ℕ) (well : WellFormed s) (o : Outputs) (r : Outcome) where
   pub gave-unlaid :
-      (x : Refusal) → layout highestSlot (numbered (jobIn s)) ≡ bad x → Tells (bad x) r → Gave (onward (roomOf o) s) o o r
+      (x : Refusal) → layout (topOf (jobIn s)) (numbered (jobIn s)) ≡ bad x → Tells (bad x) r → Gave (onward (roomOf o) s) o o r
   gave-unlaid x e t = gave-refused _ o r x (not-laid (roomOf o) s (jobIn s) x (formed-job s well) e) t
 
   pub gave-laid :
-      (p : List ℕ) (u : Store) (l : Layout) (after : Outputs) → layout highestSlot (numbered (jobIn s)) ≡ good l →
+      (p : List ℕ) (u : Store) (l : Layout) (after : Outputs) → layout (topOf (jobIn s)) (numbered (jobIn s)) ≡ good l →
       Rendered s p u (render (literals (jobIn s)) l) → Gave (fitted (roomOf o) (placeCount u) (render (literals (jobIn s)) l)) o after r →
       Gave (onward (roomOf o) s) o after r
   gave-laid p u l after e h g = rw (laid (roomOf o) s (jobIn s) l (formed-job s well) e) (rw (h .place) at g)

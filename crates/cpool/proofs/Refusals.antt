@@ -1,44 +1,28 @@
--- The numbers that refusals have: at most 18, and behind refusals 1 and 2 neither of these. Assumes nothing.
+-- The numbers that refusals have: at most 18 or from 24 to 26, and behind refusals 1 and 2 neither of these. Assumes nothing.
 use mathlib.Core.Bool.{true, false}
 use mathlib.Core.List.{List}
-use mathlib.Core.Logic.{_⊎_, inl, inr, ⊎-elim}
+use mathlib.Core.Logic.{_⊎_, ⊎-elim}
 use mathlib.Core.Path.{_≡_, refl, _∙_}
 use Prim.Native.Nat.{ℕ, _+_, _*_, _/_, _≤_, _<_}
 use native.Mathlib.Omega.{arith}
 use borrow.Author.Tests.{leb-true, le-leb, ne-eqb}
 use lib.ListN.{length}
 use Rattle.definition.specs.Basics.{Result, good, bad, Refusal}
-use Rattle.definition.specs.Job.{Job}
-use Rattle.definition.specs.Numbering.{numbered}
-use Rattle.definition.specs.Slots.{highestSlot}
+use Rattle.definition.specs.Numbering.{topOf, numbered}
 use Rattle.definition.specs.Layout.{layout}
 use Rattle.definition.specs.Run.{Built, Lent, longestJob, enough, run, untouched}
 use Rattle.facts.proofs.Lists.{both-true}
 use Rattle.laws.specs.Statements.{IsBytes}
 use Rattle.causes.specs.CauseStatement.{CauseOf, tooLong, tooLittle, notFormed, defining, resolving, slots, noRoom}
 use Rattle.causes.proofs.CauseForm.{form-bounds}
-use Rattle.causes.proofs.Cause.{definition-bounds, resolving-bounds, slot-bounds, cause}
-use Rattle.laws.proofs.runs.StepsOfRuns.{LayoutRefused, early, sixteen, atSlot, atRow}
-use Rattle.laws.proofs.runs.StepRefusals.{allocate-refused, noSlot-low, rowIndex-refused}
-use Rattle.laws.proofs.runs.RunRefused.{RunRefused, outside, inLayout, runRefused}
+use Rattle.causes.proofs.Cause.{definition-bounds, resolving-bounds, slot-bounds, cause, causePlaced}
 use Rattle.store.specs.JobIn.{WellFormed, jobIn}
 use Rattle.store.proofs.Bounds.{formed-job, formed-short}
 use Rattle.cpool.proofs.Running.{goes-on, not-laid}
 
--- a refusal's number is at most 18
-pub code-high : (lent : Lent) (bytes : List ℕ) (q : Refusal) → run lent bytes ≡ bad q → q .code ≤ 18
-code-high lent bytes q e = ways (runRefused lent bytes q e)
-  where
-    laid : (job : Job ℕ) → LayoutRefused highestSlot job (q .code) → q .code ≤ 18
-    laid job (early h) = omega arith
-    laid job (sixteen h) = omega arith
-    laid job (atSlot nodes ldc k p asks refusal) = omega (arith, allocate-refused nodes ldc k (q .code) p refusal .1, noSlot-low ldc)
-    laid job (atRow row rows asks refusal) = omega (arith, rowIndex-refused row (q .code) rows refusal)
-
-    ways : RunRefused bytes (q .code) → q .code ≤ 18
-    ways (outside (inl h)) = omega arith
-    ways (outside (inr h)) = omega arith
-    ways (inLayout job formed h) = laid (numbered job) h
+-- a refusal's number is one that there is
+pub code-high : (lent : Lent) (bytes : List ℕ) (q : Refusal) → IsBytes bytes → run lent bytes ≡ bad q → (q .code ≤ 18) ⊎ ((24 ≤ q .code) × (q .code ≤ 26))
+code-high lent bytes q are e = causePlaced lent bytes q are e .1
 
 -- so that of a record fits a word
 just-enough : ℕ → Lent
@@ -48,10 +32,11 @@ is-enough : (n : ℕ) → enough n (just-enough n) ≡ true
 unfolding enough just-enough
 is-enough n = rw (le-leb (6 * n + 1024) (6 * n + 1024) (omega arith)) (le-leb (n / 5 + 2) (n / 5 + 2) (omega arith))
 
-pub layout-word : (s : List ℕ) → WellFormed s → (r : Refusal) → layout highestSlot (numbered (jobIn s)) ≡ bad r → r .code ≤ 18
-layout-word s well r e =
+pub layout-word : (s : List ℕ) → IsBytes s → WellFormed s → (r : Refusal) → layout (topOf (jobIn s)) (numbered (jobIn s)) ≡ bad r → r .code ≤ 26
+layout-word s are well r e =
     let lent = just-enough (length s) in
-    code-high lent s r (goes-on lent s (formed-short s well) (is-enough (length s)) ∙ not-laid lent s (jobIn s) r (formed-job s well) e)
+    let ran = goes-on lent s (formed-short s well) (is-enough (length s)) ∙ not-laid lent s (jobIn s) r (formed-job s well) e in
+    ⊎-elim (λ (low : r .code ≤ 18). omega arith) (λ (high : (24 ≤ r .code) × (r .code ≤ 26)). high .1) (code-high lent s r are ran)
 
 -- work and gaps are cleared after every number from 3 on
 pub late-cleared : (q : Refusal) → 3 ≤ q .code → untouched (bad q) ≡ false

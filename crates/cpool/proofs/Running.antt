@@ -8,8 +8,7 @@ use lib.ListN.{length}
 use Rattle.definition.specs.Basics.{good, bad, Refusal}
 use Rattle.definition.specs.Job.{Job}
 use Rattle.definition.specs.Form.{form}
-use Rattle.definition.specs.Numbering.{literals, numbered}
-use Rattle.definition.specs.Slots.{highestSlot}
+use Rattle.definition.specs.Numbering.{topOf, literals, numbered}
 use Rattle.definition.specs.Layout.{Layout, layout}
 use Rattle.definition.specs.Run.{render, build, Lent, lentOf, longestJob, enough, fits, run}
 use Rattle.facts.proofs.Results.{passes, refuses}
@@ -36,12 +35,12 @@ module _ (lent : Lent) (s : List ℕ) where
   not-formed r e = rw e
 
   -- a record is refused, or all are laid out
-  pub not-laid : (job : Job (List ℕ)) (r : Refusal) → form s ≡ good job → layout highestSlot (numbered job) ≡ bad r → onward lent s ≡ bad r
+  pub not-laid : (job : Job (List ℕ)) (r : Refusal) → form s ≡ good job → layout (topOf job) (numbered job) ≡ bad r → onward lent s ≡ bad r
   unfolding onward build
   not-laid job r e f = rw (e, f)
 
   pub laid :
-      (job : Job (List ℕ)) (l : Layout) → form s ≡ good job → layout highestSlot (numbered job) ≡ good l →
+      (job : Job (List ℕ)) (l : Layout) → form s ≡ good job → layout (topOf job) (numbered job) ≡ good l →
       onward lent s ≡ fitted lent (suc (length (job .definitions) + length (job .requests))) (render (literals job) l)
   unfolding onward build
   laid job l e f = rw (e, f)

@@ -13,8 +13,7 @@ use Rattle.definition.specs.Basics.{good}
 use Rattle.definition.specs.Shapes.{bootstrapTag}
 use Rattle.definition.specs.Job.{Job}
 use Rattle.definition.specs.Form.{form}
-use Rattle.definition.specs.Numbering.{literals, numbered}
-use Rattle.definition.specs.Slots.{highestSlot}
+use Rattle.definition.specs.Numbering.{topOf, literals, numbered}
 use Rattle.definition.specs.Layout.{Layout, layout}
 use Rattle.definition.specs.Run.{shown, Built, render, lentOf}
 use Rattle.jvms.specs.Pool.{Slot, BootstrapMethod, read-pool, read-bootstrap-methods}
@@ -64,10 +63,10 @@ pub record BuiltRun (before after : Slices) (n : Numbers) : Type 0 where
   pub class : PrefixOnly (n .classBytes) (before .class) (after .class)
   pub cleared : Cleared before after
 
--- a job that is refused has a number from 1 to 18, and writes nothing
+-- a job that is refused has a number from 1 to 18 or from 24 to 26, and writes nothing
 pub record RefusedRun (before after : Slices) (n : Numbers) : Type 0 where
   pub low : 1 ≤ n .code
-  pub high : n .code ≤ 18
+  pub high : (n .code ≤ 18) ⊎ ((24 ≤ n .code) × (n .code ≤ 26))
   pub answers : after .answers ≡ before .answers
   pub marks : after .marks ≡ before .marks
   pub pool : after .pool ≡ before .pool
@@ -87,7 +86,7 @@ EveryJob =
 abbrev pub CodeReads : Type 0
 CodeReads =
     (job : List ℕ) (before after : Slices) (r : Outcome) → IsBytes job → Ran job before after r → isBuilt r ≡ true →
-    (records : Job (List ℕ)) × (l : Layout) × (form job ≡ good records) × (layout highestSlot (numbered records) ≡ good l)
+    (records : Job (List ℕ)) × (l : Layout) × (form job ≡ good records) × (layout (topOf records) (numbered records) ≡ good l)
     × (handed r after ≡ render (literals records) l)
     × (Option·map (map asShown) (read-pool (handed r after .pool)) ≡ some (map (shown (literals records)) (l .contents)))
     × (Option·map (map asRow) (read-bootstrap-methods (handed r after .bootstrapCount) (handed r after .bootstraps))

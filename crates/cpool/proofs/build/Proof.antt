@@ -21,7 +21,7 @@ slice-aggregate-refused : tie.Need-slice-aggregate-refused
 slice-aggregate-refused c = search needs
 
 refused-requires : tie.Need-refused-requires
-refused-requires c κs = let a = c .before .before .before .before .before .before .before .before .before .before .before .before .before .before .before .before .before .before .args in let l = c .before .before .before .before .before .before .before .lay-out .ensures in (l .places .1, omega (arith, work-sizes _ _ (l .places .0) .counts), omega (arith, layout-word (a .job .now) (c .before .before .before .before .before .before .before .before .before .before .before .before .before .before .before .before .before .before .pre .0) _ (l .refused (omega (arith, c .before .before .if1 .taken)))))
+refused-requires c κs = let a = c .before .before .before .before .before .before .before .before .before .before .before .before .before .before .before .before .before .before .args in let l = c .before .before .before .before .before .before .before .lay-out .ensures in (l .places .1, omega (arith, work-sizes _ _ (l .places .0) .counts), omega (arith, layout-word (a .job .now) (λ i. c .before .before .before .before .before .before .before .before .before .before .before .before .before .before .before .before .before .shared-slice-known .given i .fits) (c .before .before .before .before .before .before .before .before .before .before .before .before .before .before .before .before .before .before .pre .0) _ (l .refused (omega (arith, c .before .before .if1 .taken)))))
 
 same-length : tie.Need-same-length
 same-length c = search needs
