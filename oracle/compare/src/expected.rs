@@ -20,8 +20,8 @@ pub struct Expected {
     pub at_end_of_definitions: AtEndOfDefinitions,
 }
 
-/// Runs the job through one copy of the module, or through both. The error says what document 01 has no number for, or where the model
-/// differs from the module, which it can only with records 47 to 49.
+/// Runs the job through one copy of the module, or through both. The error says what document 01 has no number for, or of a job with
+/// records 47 to 49 that the model ends otherwise than the module.
 pub fn expected(job: &[u8], of_model: &End, both_copies: bool) -> Result<Expected, String> {
     match JobWithSettings::of(job) {
         None => of_module(driver::expected::expected(job, both_copies)?),
@@ -29,7 +29,7 @@ pub fn expected(job: &[u8], of_model: &End, both_copies: bool) -> Result<Expecte
     }
 }
 
-/// The model's end. Where 47 and 48 don't end the job, and there is no 49, it must be the module's without these records.
+/// The model's end. Where the records 47 to 49 change nothing, it must be the module's without them.
 fn with_model(
     job: &JobWithSettings,
     of_model: &End,
