@@ -1,7 +1,8 @@
 //! Makes the stored files of crates/replay: packed jobs in `stdin`, the Rust's lines for them in `stdout`.
 //!
-//! `make GENERATE DRIVER FOLDER`, where the first two are oracle/'s programs. Jobs come from the generators with fixed seeds, and
-//! a few are made here. Lines come from the driver, but for refusals 2 and 18, which the Rust doesn't have: there document 01
+//! `make GENERATE DRIVER MODEL FOLDER`, where the first three are oracle/'s programs. Jobs come from the generators with fixed seeds, and
+//! a few are made here. Lines come from the driver, but for jobs with records 47 to 49, which the Rust doesn't know: these have the
+//! model's, as all others do too. Nor does it know refusals 2 and 18: there document 01
 //! says what the line is. A job is left out if its line is long, if it is long itself but not too long for any memory, or if it is
 //! refused with 12 or 13 at record 50 and has several raw definitions, where the Rust's number can change from run to run.
 
@@ -20,6 +21,8 @@ const SEEDED: &[(&str, &str, &str, usize)] = &[
     ("pairs", "7103", "500", 600),
     ("orders", "7104", "500", 600),
     ("ldcfull", "7105", "100", 60),
+    ("settings", "7106", "500", 300),
+    ("settings_damaged", "7107", "300", 200),
 ];
 
 /// The longest lines and the longest packed job that are stored.
@@ -41,21 +44,22 @@ const NO_PLACE: usize = 0xffff;
 
 fn main() -> Result<(), Trouble> {
     let words: Vec<String> = std::env::args().skip(1).collect();
-    let [generate, driver, folder] = &words[..] else {
-        return Err("usage: make GENERATE DRIVER FOLDER".into());
+    let [generate, driver, model, folder] = &words[..] else {
+        return Err("usage: make GENERATE DRIVER MODEL FOLDER".into());
     };
+    let answered = |jobs| answered(driver, model, jobs);
     let mut store = Store::default();
     for (kind, seed, count, most) in SEEDED {
         let jobs = frames(&output(generate, &[kind, seed, count], &[])?)?;
         let line = if *kind == "ldcfull" { LDC_LINE } else { LINE };
-        store.add(answered(driver, jobs)?, line, *most);
+        store.add(answered(jobs)?, line, *most);
     }
     store.add(
-        answered(driver, frames(&output(generate, &["heavy"], &[])?)?)?,
+        answered(frames(&output(generate, &["heavy"], &[])?)?)?,
         HEAVY_LINE,
         78,
     );
-    store.add(answered(driver, own_jobs())?, LINE, 4);
+    store.add(answered(own_jobs())?, LINE, 4);
     store.add_lent()?;
     store.tell();
     fs::write(format!("{folder}/stdin"), &store.jobs)?;
@@ -79,25 +83,34 @@ struct Answered {
     form: String,
 }
 
-fn answered(driver: &str, jobs: Vec<Vec<u8>>) -> Result<Vec<Answered>, Trouble> {
+fn answered(driver: &str, model: &str, jobs: Vec<Vec<u8>>) -> Result<Vec<Answered>, Trouble> {
     let stream: Vec<u8> = jobs.iter().flat_map(|job| framed(job)).collect();
-    let lines = String::from_utf8(output(driver, &[], &stream)?)?;
-    let forms = String::from_utf8(output(driver, &["form"], &stream)?)?;
-    if lines.lines().count() != jobs.len() || forms.lines().count() != jobs.len() {
-        return Err("the driver has another number of lines".into());
-    }
-    let said = lines.lines().zip(forms.lines());
-    let all = jobs.into_iter().zip(said);
-    Ok(all
-        .map(|(job, (line, form))| Answered {
-            job,
-            line: line.to_string(),
-            form: form.to_string(),
-        })
-        .collect())
+    let said = |program: &str, words: &[&str]| -> Result<Vec<String>, Trouble> {
+        let text = String::from_utf8(output(program, words, &stream)?)?;
+        let lines: Vec<String> = text.lines().map(String::from).collect();
+        match lines.len() == jobs.len() {
+            true => Ok(lines),
+            false => Err(format!("{program} has another number of lines").into()),
+        }
+    };
+    let (lines, forms) = (said(driver, &[])?, said(driver, &["form"])?);
+    let models = said(model, &[])?;
+    let all = jobs.into_iter().zip(lines).zip(forms).zip(models);
+    all.map(|(((job, line), form), model)| Answered { job, line, form }.held_to(model))
+        .collect()
 }
 
 impl Answered {
+    /// With the model's line, which may be another only where the Rust's own changes, or where a record can be one of 47 to 49.
+    fn held_to(self, model: String) -> Result<Answered, Trouble> {
+        let may_set = self.job.iter().any(|byte| (0x47..=0x49).contains(byte));
+        if self.line != model && !self.varies() && !may_set {
+            return Err(format!("the driver says {}, the model {model}", self.line).into());
+        }
+        let line = if may_set { model } else { self.line };
+        Ok(Answered { line, ..self })
+    }
+
     /// The counts of a well-formed job: definitions, constants, bootstraps, references, names, raw constants, raw bootstraps,
     /// requests.
     fn counts(&self) -> Option<Vec<usize>> {
@@ -230,7 +243,7 @@ impl Store {
             .count();
         let (all, out) = (self.lines.lines().count(), self.left_out);
         println!("{all} jobs stored, {out} left out; built {built}");
-        for code in 1..=18 {
+        for code in (1..=18).chain(24..=26) {
             println!("refused {code}: {}", count(code.to_string()));
         }
         println!(

@@ -27,12 +27,12 @@ fn the_starred_table_has_the_drivers_texts() {
     hold(&rows);
 }
 
-/// The decided points of document 02, No. 6.
+/// The first are the decided points of document 02, No. 6; the Rust doesn't know the records of the others.
 #[test]
-fn the_readings_have_the_drivers_texts() {
+fn the_readings_of_marks_have_the_drivers_texts() {
     let rows = rows("Readings.antt");
-    assert_eq!(rows.len(), 6);
-    hold(&rows);
+    assert_eq!(rows.len(), 42);
+    hold(&rows[..6]);
 }
 
 fn hold(rows: &[Row]) {
