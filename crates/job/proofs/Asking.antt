@@ -21,7 +21,7 @@ use Rattle.job.specs.declared.Formed.{Formed}
 use Rattle.job.specs.declared.Formed.the-variants as formed
 use Rattle.job.specs.declared.Skipped.{Skipped}
 use Rattle.job.specs.declared.Skipped.the-variants.{To, Cut}
-use Rattle.job.specs.Forms.{Read, Skips, referencesIn, versionFrom, highestFrom, brokenFrom, more, Bounded, tablesIn, Moved, formedBuild}
+use Rattle.job.specs.Forms.{Read, Skips, referencesIn, versionFrom, highestFrom, more, Bounded, tablesIn, Moved, formedBuild}
 use Rattle.job.proofs.Laws.{one-at, one-cut, mapped}
 use Rattle.facts.proofs.Tables.{NoKey, lookup-none}
 
@@ -60,7 +60,7 @@ Requested c =
     }
 
 pub requested : (c : JobCounts) → more c [] 1 ≡ Requested c
-unfolding more constantsOf bootstrapsOf entries only referencesIn versionFrom highestFrom brokenFrom
+unfolding more constantsOf bootstrapsOf entries only referencesIn versionFrom highestFrom
 requested c = simp add-zero
 
 module _ (c : JobCounts) (s : List ℕ) (at : ℕ) where

@@ -19,17 +19,17 @@ use Rattle.definition.specs.Numbering.{entries, isBootstrap, constantsOf, boots
 use Rattle.job.specs.declared.JobCounts.{JobCounts}
 use Rattle.job.specs.declared.Opening.{Opening}
 use Rattle.job.specs.declared.Opening.the-variants.{Constant, Bootstrap, NamedConstant, NamedBootstrap, RawConstant, RawBootstrap, Version, Texts, Highest}
-use Rattle.job.specs.Forms.{isNaming, isPlacing, isVersion, isHolding, isBroken, referencesIn, kidsIn, versionWith, versionFrom, highestWith, highestFrom, brokenFrom, countsOf, more, grown, countedAs, Bounded}
+use Rattle.job.specs.Forms.{isNaming, isPlacing, isVersion, isHolding, referencesIn, kidsIn, versionWith, versionFrom, highestWith, highestFrom, countsOf, more, grown, countedAs, Bounded}
 
 -- ---- nothing more, and nothing before
 
 pub more-none : (c : JobCounts) → more c [] 0 ≡ c
-unfolding more constantsOf bootstrapsOf entries only referencesIn versionFrom highestFrom brokenFrom
+unfolding more constantsOf bootstrapsOf entries only referencesIn versionFrom highestFrom
 more-none c = simp add-zero
 
 -- behind nothing stands what the list counts, if one record 49 at most, the first, says the highest slot
 pub none-more : (l : List (Definition (List ℕ))) (k : ℕ) → highestFrom highestSlot l ≡ highestOf (settings l) → more (countsOf [] 0) l k ≡ countsOf l k
-unfolding more countsOf constantsOf bootstrapsOf entries only referencesIn versionFrom brokenFrom settings highestOf
+unfolding more countsOf constantsOf bootstrapsOf entries only referencesIn versionFrom settings highestOf
 none-more l k h = rw h (simp zero-add)
 
 -- ---- one more in front of a list
@@ -47,7 +47,7 @@ added : (a b x y : ℕ) → x ≡ b + y → a + x ≡ a + b + y
 added a b x y h = omega (arith, h)
 
 pub more-cons : (c : JobCounts) (d : Definition (List ℕ)) (l : List (Definition (List ℕ))) → more c (d ∷ l) 0 ≡ more (more c (d ∷ []) 0) l 0
-unfolding more constantsOf bootstrapsOf referencesIn versionFrom highestFrom brokenFrom
+unfolding more constantsOf bootstrapsOf referencesIn versionFrom highestFrom
 more-cons c d l =
     let size = added (c .definitions) 1 (suc (length l)) (length l) (omega arith) in
     let kids = added (c .references) (kidsIn d + 0) (kidsIn d + referencesIn l) (referencesIn l) (omega arith) in
@@ -65,7 +65,7 @@ more-cons c d l =
       versions = added (c .versions) _ _ _ (only-more isVersion d l) i;
       version = versionFrom (versionWith d (c .version)) l;
       texts = added (c .texts) _ _ _ (only-more isHolding d l) i;
-      broken = brokenFrom (c .definitions) (c .broken) (d ∷ l);
+      broken = c .broken;
       highest = highestFrom (highestWith d (c .highest)) l;
     }
 
@@ -81,26 +81,26 @@ in-table e kind h = ways (eqb (e .tag) bootstrapTag) refl ∙ ap (sameKind boots
     ways false t = rw (t, kindOf)
 
 module _ (c : JobCounts) (e : Entry (List ℕ) Reference) where
-  pub one-constant : isBootstrap e ≡ false → more c (define e ∷ []) 0 ≡ grown 1 0 (length (e .kids)) 0 0 0 0 0 (c .version) (c .highest) (isBroken (define e)) c
-  unfolding more constantsOf bootstrapsOf entries referencesIn kidsIn only isNaming isPlacing isVersion isHolding versionFrom versionWith highestFrom highestWith brokenFrom
+  pub one-constant : isBootstrap e ≡ false → more c (define e ∷ []) 0 ≡ grown 1 0 (length (e .kids)) 0 0 0 0 0 (c .version) (c .highest) c
+  unfolding more constantsOf bootstrapsOf entries referencesIn kidsIn only isNaming isPlacing isVersion isHolding versionFrom versionWith highestFrom highestWith
   one-constant h = rw (only-here (λ e. not (isBootstrap e)) e [] (ap not h), only-later isBootstrap e [] h, add-zero (length (e .kids)))
 
-  pub one-bootstrap : isBootstrap e ≡ true → more c (define e ∷ []) 0 ≡ grown 0 1 (length (e .kids)) 0 0 0 0 0 (c .version) (c .highest) (isBroken (define e)) c
-  unfolding more constantsOf bootstrapsOf entries referencesIn kidsIn only isNaming isPlacing isVersion isHolding versionFrom versionWith highestFrom highestWith brokenFrom
+  pub one-bootstrap : isBootstrap e ≡ true → more c (define e ∷ []) 0 ≡ grown 0 1 (length (e .kids)) 0 0 0 0 0 (c .version) (c .highest) c
+  unfolding more constantsOf bootstrapsOf entries referencesIn kidsIn only isNaming isPlacing isVersion isHolding versionFrom versionWith highestFrom highestWith
   one-bootstrap h = rw (only-later (λ e. not (isBootstrap e)) e [] (ap not h), only-here isBootstrap e [] h, add-zero (length (e .kids)))
 
 -- ---- bounds
 
 pub bounded-one :
-    (opening : Opening) (c : JobCounts) (at k number : ℕ) (broken : Bool) (next : ℕ) → Bounded at c → at + 1 + k ≤ next →
-    Bounded next (countedAs opening k number broken c)
+    (opening : Opening) (c : JobCounts) (at k number next : ℕ) → Bounded at c → at + 1 + k ≤ next →
+    Bounded next (countedAs opening k number c)
 unfolding countedAs
-bounded-one (Constant fields) c at k number broken next b h = omega arith
-bounded-one Bootstrap c at k number broken next b h = omega arith
-bounded-one NamedConstant c at k number broken next b h = omega arith
-bounded-one NamedBootstrap c at k number broken next b h = omega arith
-bounded-one RawConstant c at k number broken next b h = omega arith
-bounded-one RawBootstrap c at k number broken next b h = omega arith
-bounded-one Version c at k number broken next b h = omega arith
-bounded-one Texts c at k number broken next b h = omega arith
-bounded-one Highest c at k number broken next b h = omega arith
+bounded-one (Constant fields) c at k number next b h = omega arith
+bounded-one Bootstrap c at k number next b h = omega arith
+bounded-one NamedConstant c at k number next b h = omega arith
+bounded-one NamedBootstrap c at k number next b h = omega arith
+bounded-one RawConstant c at k number next b h = omega arith
+bounded-one RawBootstrap c at k number next b h = omega arith
+bounded-one Version c at k number next b h = omega arith
+bounded-one Texts c at k number next b h = omega arith
+bounded-one Highest c at k number next b h = omega arith

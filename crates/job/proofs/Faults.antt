@@ -11,14 +11,11 @@ use types.Run.{OneOf, miss}
 use denote.Enum.Declared.{tagOf}
 use Rattle.facts.proofs.Lists.{true≢false}
 use Rattle.definition.specs.Settings.{isSlot}
-use Rattle.raw_const.specs.declared.Shape.{Shape}
-use Rattle.raw_const.specs.declared.Shape.the-variants.{Text, Bits, One, Two, Dynamic, KindOne, Unknown}
-use Rattle.raw_const.proofs.Shape.{the-type as shape-type}
 use Rattle.job.specs.declared.JobCounts.{JobCounts}
 use Rattle.job.specs.declared.Opening.{Opening}
 use Rattle.job.specs.declared.Opening.the-variants.{Constant, Bootstrap, NamedConstant, NamedBootstrap, RawConstant, RawBootstrap, Version, Texts, Highest}
 use Rattle.job.proofs.Opening.{the-type}
-use Rattle.job.specs.Forms.{isTextShape, opensText, numberOpened, brokenOpened, brokenWith, roomFor, highestFault, settingFault, faultBehind, faultOf}
+use Rattle.job.specs.Forms.{isSetting, numberOpened, brokenWith, roomFor, highestFault, settingFault, countedAs}
 
 -- ---- a text that isn't one
 
@@ -41,7 +38,7 @@ module _ (earlier place : ℕ) (broken : Bool) where
       ways zero false h = refl
       ways (suc earlier) t h = refl
 
--- ---- what opens neither a table's entry, nor a setting, nor a number, nor a text
+-- ---- what opens neither a table's entry, nor a setting, nor a number
 
 pub room-other : (o : Opening) (constants bootstraps : ℕ) → OneOf (2 ∷ 3 ∷ 4 ∷ 5 ∷ 6 ∷ 7 ∷ 8 ∷ []) (tagOf the-type o) → true ≡ roomFor o constants bootstraps
 unfolding roomFor
@@ -55,17 +52,17 @@ room-other Version constants bootstraps k = refl
 room-other Texts constants bootstraps k = refl
 room-other Highest constants bootstraps k = refl
 
-pub fault-other : (o : Opening) (number : ℕ) (c : JobCounts) → OneOf (0 ∷ 1 ∷ 2 ∷ 3 ∷ 4 ∷ 5 ∷ []) (tagOf the-type o) → 0 ≡ settingFault o number c
-unfolding settingFault
-fault-other (Constant shape) number c k = refl
-fault-other Bootstrap number c k = refl
-fault-other NamedConstant number c k = refl
-fault-other NamedBootstrap number c k = refl
-fault-other RawConstant number c k = refl
-fault-other RawBootstrap number c k = refl
-fault-other Version number c k = absurd (miss (0 ∷ 1 ∷ 2 ∷ 3 ∷ 4 ∷ 5 ∷ []) 6 tt k)
-fault-other Texts number c k = absurd (miss (0 ∷ 1 ∷ 2 ∷ 3 ∷ 4 ∷ 5 ∷ []) 7 tt k)
-fault-other Highest number c k = absurd (miss (0 ∷ 1 ∷ 2 ∷ 3 ∷ 4 ∷ 5 ∷ []) 8 tt k)
+pub setting-other : (o : Opening) → OneOf (0 ∷ 1 ∷ 2 ∷ 3 ∷ 4 ∷ 5 ∷ []) (tagOf the-type o) → false ≡ isSetting o
+unfolding isSetting
+setting-other (Constant shape) k = refl
+setting-other Bootstrap k = refl
+setting-other NamedConstant k = refl
+setting-other NamedBootstrap k = refl
+setting-other RawConstant k = refl
+setting-other RawBootstrap k = refl
+setting-other Version k = absurd (miss (0 ∷ 1 ∷ 2 ∷ 3 ∷ 4 ∷ 5 ∷ []) 6 tt k)
+setting-other Texts k = absurd (miss (0 ∷ 1 ∷ 2 ∷ 3 ∷ 4 ∷ 5 ∷ []) 7 tt k)
+setting-other Highest k = absurd (miss (0 ∷ 1 ∷ 2 ∷ 3 ∷ 4 ∷ 5 ∷ []) 8 tt k)
 
 pub number-other : (o : Opening) (s : List ℕ) (at : ℕ) → OneOf (0 ∷ 1 ∷ 2 ∷ 3 ∷ 4 ∷ 5 ∷ 7 ∷ []) (tagOf the-type o) → 0 ≡ numberOpened o s at
 unfolding numberOpened
@@ -78,29 +75,6 @@ number-other RawBootstrap s at k = refl
 number-other Version s at k = absurd (miss (0 ∷ 1 ∷ 2 ∷ 3 ∷ 4 ∷ 5 ∷ 7 ∷ []) 6 tt k)
 number-other Texts s at k = refl
 number-other Highest s at k = absurd (miss (0 ∷ 1 ∷ 2 ∷ 3 ∷ 4 ∷ 5 ∷ 7 ∷ []) 8 tt k)
-
-module _ (s : List ℕ) (at next : ℕ) where
-  pub unbroken-other : (o : Opening) → OneOf (1 ∷ 2 ∷ 3 ∷ 4 ∷ 5 ∷ 6 ∷ 7 ∷ 8 ∷ []) (tagOf the-type o) → false ≡ brokenOpened o s at next
-  unfolding brokenOpened opensText
-  unbroken-other (Constant shape) k = absurd (miss (1 ∷ 2 ∷ 3 ∷ 4 ∷ 5 ∷ 6 ∷ 7 ∷ 8 ∷ []) 0 tt k)
-  unbroken-other Bootstrap k = refl
-  unbroken-other NamedConstant k = refl
-  unbroken-other NamedBootstrap k = refl
-  unbroken-other RawConstant k = refl
-  unbroken-other RawBootstrap k = refl
-  unbroken-other Version k = refl
-  unbroken-other Texts k = refl
-  unbroken-other Highest k = refl
-
-  pub unbroken-shape : (shape : Shape) → OneOf (1 ∷ 2 ∷ 3 ∷ 4 ∷ 5 ∷ 6 ∷ []) (tagOf shape-type shape) → false ≡ brokenOpened (Constant shape) s at next
-  unfolding brokenOpened opensText isTextShape
-  unbroken-shape Text k = absurd (miss (1 ∷ 2 ∷ 3 ∷ 4 ∷ 5 ∷ 6 ∷ []) 0 tt k)
-  unbroken-shape (Bits n) k = refl
-  unbroken-shape One k = refl
-  unbroken-shape Two k = refl
-  unbroken-shape Dynamic k = refl
-  unbroken-shape KindOne k = refl
-  unbroken-shape Unknown k = refl
 
 -- ---- 49 behind so many records
 
@@ -117,26 +91,40 @@ module _ (records number : ℕ) where
   unfolding highestFault
   highest-not e t = rw (eq-eqb records 0 e, t, highestFault)
 
--- ---- all tests of a definition
+-- ---- what is no setting has no setting's fault, and isn't told a number; a setting has room
 
-module _ (opening : Opening) (number : ℕ) (cited : Bool) (c : JobCounts) (fault : ℕ) (told : fault ≡ settingFault opening number c) where
-  pub fault-first : (fault ≡ 0 → ⊥) → fault ≡ faultOf opening number cited c
-  unfolding faultOf faultBehind
-  fault-first n = rw (← told) (ways fault n)
-    where
-      ways : (k : ℕ) → (k ≡ 0 → ⊥) → k ≡ faultBehind k (roomFor opening (c .constants) (c .bootstraps)) cited
-      ways zero n = absurd (n refl)
-      ways (suc k) n = refl
+pub fault-plain : (o : Opening) (number : ℕ) (c : JobCounts) → isSetting o ≡ false → settingFault o number c ≡ 0
+unfolding isSetting settingFault
+fault-plain (Constant shape) number c h = refl
+fault-plain Bootstrap number c h = refl
+fault-plain NamedConstant number c h = refl
+fault-plain NamedBootstrap number c h = refl
+fault-plain RawConstant number c h = refl
+fault-plain RawBootstrap number c h = refl
+fault-plain Version number c h = true≢false h
+fault-plain Texts number c h = true≢false h
+fault-plain Highest number c h = true≢false h
 
-  module _ (none : fault ≡ 0) (room : Bool) (has : room ≡ roomFor opening (c .constants) (c .bootstraps)) where
-    pub fault-full : room ≡ false → 5 ≡ faultOf opening number cited c
-    unfolding faultOf faultBehind
-    fault-full full = rw (← told, none, ← has, full)
+pub counted-plain : (o : Opening) (k number : ℕ) (c : JobCounts) → isSetting o ≡ false → countedAs o k 0 c ≡ countedAs o k number c
+unfolding isSetting countedAs
+counted-plain (Constant shape) k number c h = refl
+counted-plain Bootstrap k number c h = refl
+counted-plain NamedConstant k number c h = refl
+counted-plain NamedBootstrap k number c h = refl
+counted-plain RawConstant k number c h = refl
+counted-plain RawBootstrap k number c h = refl
+counted-plain Version k number c h = true≢false h
+counted-plain Texts k number c h = true≢false h
+counted-plain Highest k number c h = true≢false h
 
-    pub fault-none : room ≡ true → cited ≡ true → 0 ≡ faultOf opening number cited c
-    unfolding faultOf faultBehind
-    fault-none free there = rw (← told, none, ← has, free, there)
-
-    pub fault-cites : room ≡ true → cited ≡ false → 4 ≡ faultOf opening number cited c
-    unfolding faultOf faultBehind
-    fault-cites free missing = rw (← told, none, ← has, free, missing)
+pub room-setting : (o : Opening) (constants bootstraps : ℕ) → isSetting o ≡ true → roomFor o constants bootstraps ≡ true
+unfolding isSetting roomFor
+room-setting (Constant shape) constants bootstraps h = true≢false (sym h)
+room-setting Bootstrap constants bootstraps h = true≢false (sym h)
+room-setting NamedConstant constants bootstraps h = refl
+room-setting NamedBootstrap constants bootstraps h = refl
+room-setting RawConstant constants bootstraps h = refl
+room-setting RawBootstrap constants bootstraps h = refl
+room-setting Version constants bootstraps h = refl
+room-setting Texts constants bootstraps h = refl
+room-setting Highest constants bootstraps h = refl

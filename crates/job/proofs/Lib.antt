@@ -4,6 +4,7 @@ pub mod Entries
 pub mod Several
 pub mod Records
 pub mod Counting
+pub mod Blind
 pub mod Stepping
 pub mod Passes
 pub mod Asking

@@ -1,19 +1,19 @@
 -- A setting's number, and whether a text is one, are read behind the first byte as the definition reads them. Assumes nothing.
-use mathlib.Core.Bool.{Bool, false}
+use mathlib.Core.Bool.{Bool, true, false}
 use mathlib.Core.List.{List}
 use mathlib.Core.Path.{_≡_, refl, sym, ap, _∙_}
 use Prim.Native.Nat.{ℕ, _+_, _-_, _<_}
 use native.Mathlib.Omega.{arith}
 use lib.Dec.{eqb}
 use lib.ListN.{length, getD}
+use borrow.Author.Tests.{eqb-true}
 use Rattle.definition.specs.Basics.{lookup}
-use Rattle.definition.specs.Shapes.{Entry}
-use Rattle.definition.specs.Job.{Reference, Definition, define, bodies, readBody, readDefinition}
-use Rattle.raw_const.specs.declared.Shape.{Shape}
-use Rattle.raw_const.specs.declared.Shape.the-variants.{Text, Bits, One, Two, Dynamic, KindOne, Unknown}
+use Rattle.definition.specs.Shapes.{Entry, shapes}
+use Rattle.definition.specs.Job.{Reference, Definition, define, named, placed, setting, bodies, readBody, readDefinition}
+use Rattle.raw_const.specs.declared.Shape.the-variants.{Text}
 use Rattle.job.specs.declared.Opening.{Opening}
 use Rattle.job.specs.declared.Opening.the-variants.{Constant, Bootstrap, NamedConstant, NamedBootstrap, RawConstant, RawBootstrap, Version, Texts, Highest}
-use Rattle.job.specs.Forms.{Read, bodyOf, isTextShape, opensText, NumberRoom, numberOpened, numberIn, brokenOpened, isBroken}
+use Rattle.job.specs.Forms.{Read, entryBody, bodyOf, NumberRoom, numberOpened, numberIn, brokenAt, isBroken}
 use Rattle.job.specs.Stored.{Found, anyDefinition}
 use Rattle.job.proofs.Laws.{number, one-at}
 use Rattle.job.proofs.Table.{Right}
@@ -62,40 +62,38 @@ module _ (s : List ℕ) (at : ℕ) (opening : Opening) (right : Right (getD s at
         ways Texts h = rw (h .1)
         ways Highest h = rw (h .1)
 
-    -- an entry that is no text isn't a broken one
-    other :
-        (e : Entry (List ℕ) Reference) → d ≡ define e → (o : Opening) → opensText o ≡ false → opensText o ≡ eqb (getD s at 0) 1 →
-        brokenOpened o s at next ≡ isBroken d
-    unfolding brokenOpened isBroken
-    other e same o none-opened told = rw (none-opened, same, tag-there s at e next (rw same at f), ← told, none-opened)
+module _ (s : List ℕ) (at next : ℕ) where
+  -- what doesn't begin with 1 is no broken text
+  unbroken : (d : Definition (List ℕ)) → Found anyDefinition s at d next → eqb (getD s at 0) 1 ≡ false → isBroken d ≡ false
+  unfolding isBroken
+  unbroken (define e) f h = rw (tag-there s at e next f, h)
+  unbroken (named kind l r) f h = refl
+  unbroken (placed kind slot n) f h = refl
+  unbroken (setting rule) f h = refl
 
-    text-there : (e : Entry (List ℕ) Reference) → d ≡ define e → (shape : Shape) → Right (getD s at 0) (Constant shape) → brokenOpened (Constant shape) s at next ≡ isBroken d
-    unfolding opensText isTextShape brokenOpened isBroken
-    text-there e same Text r =
-        let g = rw same at f in
-        let tag = tag-there s at e next g in
-        let l = entry-there s at e next (Constant Text) g (r .0 ∙ ap (λ k. lookup k bodies) (sym tag)) in
-        let place : at + 1 + 2 ≡ at + 3 = omega arith in
-        let size : next - (at + 3) ≡ number s (at + 1) = omega (arith, l .end) in
-        rw (same, tag, ← r .2, size, ← place, l .literal)
-    text-there e same (Bits n) r = other e same (Constant (Bits n)) refl (r .2)
-    text-there e same One r = other e same (Constant One) refl (r .2)
-    text-there e same Two r = other e same (Constant Two) refl (r .2)
-    text-there e same Dynamic r = other e same (Constant Dynamic) refl (r .2)
-    text-there e same KindOne r = other e same (Constant KindOne) refl (r .2)
-    text-there e same Unknown r = other e same (Constant Unknown) refl (r .2)
+  -- 1 opens a text
+  opens-text : getD s at 0 ≡ 1 → bodyOf (Constant Text) ≡ lookup (getD s at 0) bodies
+  unfolding bodyOf entryBody lookup bodies shapes
+  opens-text h = rw h refl
 
-    pub broken-there : brokenOpened opening s at next ≡ isBroken d
-    unfolding opensText brokenOpened isBroken
-    broken-there = ways opening right opened
-      where
-        ways : (o : Opening) → Right (getD s at 0) o → DefinitionIs s at o d next → brokenOpened o s at next ≡ isBroken d
-        ways (Constant shape) r h = text-there (h .0) (h .1) shape r
-        ways Bootstrap r h = other (h .0) (h .1) Bootstrap refl (r .2)
-        ways NamedConstant r h = rw (h .5)
-        ways NamedBootstrap r h = rw (h .5)
-        ways RawConstant r h = rw (h .1)
-        ways RawBootstrap r h = rw (h .1)
-        ways Version r h = rw (h .1)
-        ways Texts r h = rw (h .1)
-        ways Highest r h = rw (h .1)
+  text-there :
+      (d : Definition (List ℕ)) (e : Entry (List ℕ) Reference) → d ≡ define e → Found anyDefinition s at d next → eqb (getD s at 0) 1 ≡ true →
+      brokenAt s at next ≡ isBroken d
+  unfolding brokenAt isBroken
+  text-there d e same f h =
+      let g = rw same at f in
+      let tag = tag-there s at e next g in
+      let l = entry-there s at e next (Constant Text) g (opens-text (eqb-true (getD s at 0) 1 h) ∙ ap (λ k. lookup k bodies) (sym tag)) in
+      let place : at + 1 + 2 ≡ at + 3 = omega arith in
+      let size : next - (at + 3) ≡ number s (at + 1) = omega (arith, l .end) in
+      rw (same, tag, h, size, ← place, l .literal)
+
+  pub broken-there : (d : Definition (List ℕ)) → Found anyDefinition s at d next → brokenAt s at next ≡ isBroken d
+  unfolding brokenAt
+  broken-there d f = ways (eqb (getD s at 0) 1) refl
+    where
+      ways : (b : Bool) → eqb (getD s at 0) 1 ≡ b → brokenAt s at next ≡ isBroken d
+      ways true h =
+          let r = definition-there s at d next (Constant Text) f (opens-text (eqb-true (getD s at 0) 1 h)) in
+          text-there d (r .0) (r .1) f h
+      ways false h = rw h (sym (unbroken d f h))

@@ -8,7 +8,7 @@ use native.Mathlib.Omega.{arith}
 use lib.Dec.{eqb}
 use lib.ListN.{getD, drop}
 use Rattle.laws.proofs.form.EmptyLiterals.{fields-keep}
-use Rattle.facts.proofs.Lists.{clash}
+use Rattle.facts.proofs.Lists.{clash, true≢false}
 use Rattle.facts.proofs.Results.{some-then}
 use Rattle.definition.specs.Basics.{Result, good, bad, _>>=_, unless, only}
 use Rattle.definition.specs.Bytes.{return, andThen, two}
@@ -23,8 +23,9 @@ use Rattle.raw_const.specs.Entries.{fieldsOf}
 use Rattle.raw_const.specs.declared.Shape.{Shape}
 use Rattle.job.specs.declared.Opening.{Opening}
 use Rattle.job.specs.declared.Opening.the-variants.{Constant, Bootstrap, NamedConstant, NamedBootstrap, RawConstant, RawBootstrap, Version, Texts, Highest}
-use Rattle.job.specs.Forms.{entryBody, Read, bodyOf, tableOf, isNaming, isPlacing, isVersion, isHolding, isBroken, numberIn, referencesIn, kidsIn, versionWith, versionFrom, highestWith, highestFrom, brokenFrom, more, countedAs, Bounded, roomFor, onceFault, highestFault, settingFault, faultBehind, faultOf, tablesIn, Moved}
+use Rattle.job.specs.Forms.{entryBody, Read, bodyOf, tableOf, isNaming, isPlacing, isVersion, isHolding, isSetting, numberIn, referencesIn, kidsIn, versionWith, versionFrom, highestWith, highestFrom, more, countedAs, Bounded, roomFor, onceFault, highestFault, settingFault, tablesIn, Moved}
 use Rattle.job.proofs.Table.{Right}
+use Rattle.job.proofs.Faults.{fault-plain, counted-plain, room-setting}
 use Rattle.job.proofs.Counting.{in-table, one-constant, one-bootstrap, bounded-one}
 
 -- what was read is the value
@@ -40,6 +41,11 @@ unfoldable pub tested : {A : Type 0} → ℕ → A → Result ℕ A
 tested zero a = good a
 tested (suc fault) a = bad (suc fault)
 
+-- a setting's fault, then 5, then 4; else 0
+unfoldable faultBehind : ℕ → Bool → Bool → ℕ
+faultBehind zero room cited = elim room [ true ↦ elim cited [ true ↦ 0 | false ↦ 4 ] | false ↦ 5 ]
+faultBehind (suc fault) room cited = suc fault
+
 test-all :
     {A : Type 0} (fault : ℕ) (room cited : Bool) (a : A) →
     (passing fault >>= λ _. unless room 5 >>= λ _. unless cited 4 >>= λ _. good a) ≡ tested (faultBehind fault room cited) a
@@ -48,6 +54,11 @@ test-all zero true true a = refl
 test-all zero true false a = refl
 test-all zero false cited a = refl
 test-all (suc fault) room cited a = refl
+
+alone : (fault : ℕ) → faultBehind fault true true ≡ fault
+unfolding faultBehind
+alone zero = refl
+alone (suc fault) = refl
 
 once-stands : (b : Bool) → unless b 3 ≡ passing (elim b [ true ↦ 0 | false ↦ 3 ])
 unfolding unless passing
@@ -64,7 +75,8 @@ highest-stands false t = refl
 pub record Fits (opening : Opening) (d : Definition (List ℕ)) : Type 0 where
   pub stands : (c : JobCounts) → mayStand (tablesIn c) d ≡ passing (settingFault opening (numberIn d) c)
   pub room : (n : Counts) → hasRoom n d ≡ roomFor opening (n .constants) (n .bootstraps)
-  pub counts : (c : JobCounts) → countedAs opening (kidsIn d) (numberIn d) (isBroken d) c ≡ more c (d ∷ []) 0
+  pub counts : (c : JobCounts) → countedAs opening (kidsIn d) (numberIn d) c ≡ more c (d ∷ []) 0
+  pub bare : isSetting opening ≡ true → (n : Counts) → citesEarlier n d ≡ true
 
 -- an entry has the tag that it was read from
 pub entry-read :
@@ -117,33 +129,33 @@ bare-read first rule l rest d h = value-is h
 
 module _ (first : ℕ) (l rest : List ℕ) (d : Definition (List ℕ)) where
   fits-constant : (shape : Shape) (fields : Option (List Field)) → constant ≡ kindOf first → readBody first (entryBody fields) l ≡ some (d, rest) → Fits (Constant shape) d
-  unfolding entryBody readBody mayStand settingFault passing hasRoom roomFor countedAs kidsIn countOf sameKind
+  unfolding entryBody readBody mayStand settingFault passing hasRoom roomFor countedAs kidsIn countOf isSetting sameKind
   fits-constant shape none t h = clash (cc)
   fits-constant shape (some fields) t h =
       let r = entry-read first fields l rest d h in
       let k : kindOf (r .0 .tag) ≡ constant = ap kindOf (r .2) ∙ sym t in
-      rw (r .1) (record { stands = λ c. refl; room = λ n. rw k; counts = λ c. sym (one-constant c (r .0) (in-table (r .0) constant k)) })
+      rw (r .1) (record { stands = λ c. refl; room = λ n. rw k; counts = λ c. sym (one-constant c (r .0) (in-table (r .0) constant k)); bare = λ t. true≢false (sym t) })
 
   pub fits-bootstrap : bootstrap ≡ kindOf first → readBody first (some (ofEntry bootstrapShape)) l ≡ some (d, rest) → Fits Bootstrap d
-  unfolding mayStand settingFault passing hasRoom roomFor countedAs kidsIn countOf sameKind
+  unfolding mayStand settingFault passing hasRoom roomFor countedAs kidsIn countOf isSetting sameKind
   fits-bootstrap t h =
       let r = entry-read first bootstrapShape l rest d h in
       let k : kindOf (r .0 .tag) ≡ bootstrap = ap kindOf (r .2) ∙ sym t in
-      rw (r .1) (record { stands = λ c. refl; room = λ n. rw k; counts = λ c. sym (one-bootstrap c (r .0) (in-table (r .0) bootstrap k)) })
+      rw (r .1) (record { stands = λ c. refl; room = λ n. rw k; counts = λ c. sym (one-bootstrap c (r .0) (in-table (r .0) bootstrap k)); bare = λ t. true≢false (sym t) })
 
   pub fits : (opening : Opening) → tableOf opening ≡ kindOf first → readBody first (bodyOf opening) l ≡ some (d, rest) → Fits opening d
-  unfolding bodyOf tableOf readBody mayStand settingFault onceFault highestFault passing hasRoom roomFor countedAs numberIn kidsIn isBroken more constantsOf bootstrapsOf entries referencesIn only isNaming isPlacing isVersion isHolding versionFrom versionWith highestFrom highestWith brokenFrom sameKind
+  unfolding bodyOf tableOf readBody mayStand settingFault onceFault highestFault passing hasRoom roomFor countedAs numberIn kidsIn isSetting citesEarlier more constantsOf bootstrapsOf entries referencesIn only isNaming isPlacing isVersion isHolding versionFrom versionWith highestFrom highestWith sameKind
   fits (Constant shape) t h = fits-constant shape (fieldsOf shape) t h
   fits Bootstrap t h = fits-bootstrap t h
-  fits NamedConstant t h = rw (name-read first constant l rest d h .2) (record { stands = λ c. refl; room = λ n. refl; counts = λ c. refl })
-  fits NamedBootstrap t h = rw (name-read first bootstrap l rest d h .2) (record { stands = λ c. refl; room = λ n. refl; counts = λ c. refl })
-  fits RawConstant t h = rw (raw-read first constant l rest d h .2) (record { stands = λ c. refl; room = λ n. refl; counts = λ c. refl })
-  fits RawBootstrap t h = rw (raw-read first bootstrap l rest d h .2) (record { stands = λ c. refl; room = λ n. refl; counts = λ c. refl })
-  fits Version t h = rw (setting-read first version l rest d h .1) (record { stands = λ c. once-stands (eqb (c .versions) 0); room = λ n. refl; counts = λ c. refl })
-  fits Texts t h = rw (bare-read first texts l rest d h) (record { stands = λ c. once-stands (eqb (c .texts) 0); room = λ n. refl; counts = λ c. refl })
+  fits NamedConstant t h = rw (name-read first constant l rest d h .2) (record { stands = λ c. refl; room = λ n. refl; counts = λ c. refl; bare = λ t. true≢false (sym t) })
+  fits NamedBootstrap t h = rw (name-read first bootstrap l rest d h .2) (record { stands = λ c. refl; room = λ n. refl; counts = λ c. refl; bare = λ t. true≢false (sym t) })
+  fits RawConstant t h = rw (raw-read first constant l rest d h .2) (record { stands = λ c. refl; room = λ n. refl; counts = λ c. refl; bare = λ t. true≢false (sym t) })
+  fits RawBootstrap t h = rw (raw-read first bootstrap l rest d h .2) (record { stands = λ c. refl; room = λ n. refl; counts = λ c. refl; bare = λ t. true≢false (sym t) })
+  fits Version t h = rw (setting-read first version l rest d h .1) (record { stands = λ c. once-stands (eqb (c .versions) 0); room = λ n. refl; counts = λ c. refl; bare = λ t n. refl })
+  fits Texts t h = rw (bare-read first texts l rest d h) (record { stands = λ c. once-stands (eqb (c .texts) 0); room = λ n. refl; counts = λ c. refl; bare = λ t n. refl })
   fits Highest t h =
       let r = setting-read first highest l rest d h in
-      rw (r .1) (record { stands = λ c. highest-stands (eqb (c .definitions) 0) (isSlot (r .0)); room = λ n. refl; counts = λ c. refl })
+      rw (r .1) (record { stands = λ c. highest-stands (eqb (c .definitions) 0) (isSlot (r .0)); room = λ n. refl; counts = λ c. refl; bare = λ t n. refl })
 
 -- ---- the step
 
@@ -156,30 +168,64 @@ module _ (c : JobCounts) (s : List ℕ) (at : ℕ) (opening : Opening) (right : 
     of-opening : Fits opening (v .value)
     of-opening = fits (getD s at 0) (drop (at + 1) s) (drop next s) (v .value) opening (right .1) (v .read)
 
+    -- the tests are those of the opening
     step-tested :
-        formDefinition (tablesIn c) (getD s at 0) (drop (at + 1) s) ≡ tested (faultOf opening (numberIn (v .value)) cited c) (v .value, drop next s)
-    unfolding formDefinition readDefinition whole faultOf
+        formDefinition (tablesIn c) (getD s at 0) (drop (at + 1) s)
+        ≡ tested (faultBehind (settingFault opening (numberIn (v .value)) c) (roomFor opening (c .constants) (c .bootstraps)) cited) (v .value, drop next s)
+    unfolding formDefinition readDefinition whole
     step-tested =
         rw (← right .0, v .read, of-opening .stands c, of-opening .room (tablesIn c), ← v .cites)
         (test-all (settingFault opening (numberIn (v .value)) c) (roomFor opening (c .constants) (c .bootstraps)) cited (v .value, drop next s))
 
-    pub step-refused :
-        (fault : ℕ) → fault ≡ faultOf opening (numberIn (v .value)) cited c → (fault ≡ 0 → ⊥) →
-        formDefinition (tablesIn c) (getD s at 0) (drop (at + 1) s) ≡ bad fault
-    unfolding tested
-    step-refused zero e n = absurd (n refl)
-    step-refused (suc fault) e n = step-tested ∙ rw (← e)
-
-    pub step-to :
-        (fault : ℕ) → fault ≡ faultOf opening (numberIn (v .value)) cited c → fault ≡ 0 → Bounded at c →
-        Moved (formDefinition (tablesIn c)) (λ d. d ∷ []) 0 s at c next (countedAs opening references (numberIn (v .value)) (isBroken (v .value)) c)
-    unfolding tested
-    step-to fault e z bounded =
+    -- what was read, once no test fails
+    step-moved :
+        formDefinition (tablesIn c) (getD s at 0) (drop (at + 1) s) ≡ good (v .value, drop next s) → Bounded at c →
+        Moved (formDefinition (tablesIn c)) (λ d. d ∷ []) 0 s at c next (countedAs opening references (numberIn (v .value)) c)
+    step-moved e bounded =
         record {
           value = v .value;
-          read = step-tested ∙ rw (← e, z);
+          read = e;
           count = rw (v .count) (of-opening .counts c);
           past = omega arith;
           within = v .within;
-          bounded = bounded-one opening c at references (numberIn (v .value)) (isBroken (v .value)) next bounded (v .past);
+          bounded = bounded-one opening c at references (numberIn (v .value)) next bounded (v .past);
         }
+
+    -- what is no setting
+    module _ (plain : isSetting opening ≡ false) where
+      pub plain-full : roomFor opening (c .constants) (c .bootstraps) ≡ false → formDefinition (tablesIn c) (getD s at 0) (drop (at + 1) s) ≡ bad 5
+      unfolding faultBehind tested
+      plain-full full = step-tested ∙ rw (fault-plain opening (numberIn (v .value)) c plain, full)
+
+      module _ (free : roomFor opening (c .constants) (c .bootstraps) ≡ true) where
+        pub plain-missing : cited ≡ false → formDefinition (tablesIn c) (getD s at 0) (drop (at + 1) s) ≡ bad 4
+        unfolding faultBehind tested
+        plain-missing missing = step-tested ∙ rw (fault-plain opening (numberIn (v .value)) c plain, free, missing)
+
+        pub plain-to :
+            cited ≡ true → Bounded at c → Moved (formDefinition (tablesIn c)) (λ d. d ∷ []) 0 s at c next (countedAs opening references 0 c)
+        unfolding faultBehind tested
+        plain-to there bounded =
+            rw (counted-plain opening references (numberIn (v .value)) c plain)
+            (step-moved (step-tested ∙ rw (fault-plain opening (numberIn (v .value)) c plain, free, there)) bounded)
+
+    -- a setting, with its fault
+    module _ (set : isSetting opening ≡ true) (fault : ℕ) (told : fault ≡ settingFault opening (numberIn (v .value)) c) where
+      setting-tested : formDefinition (tablesIn c) (getD s at 0) (drop (at + 1) s) ≡ tested fault (v .value, drop next s)
+      setting-tested =
+          step-tested
+          ∙ rw (← told, room-setting opening (c .constants) (c .bootstraps) set, v .cites, of-opening .bare set (tablesIn c), alone fault)
+
+      pub setting-refused : (fault ≡ 0 → ⊥) → formDefinition (tablesIn c) (getD s at 0) (drop (at + 1) s) ≡ bad fault
+      unfolding tested
+      setting-refused n = setting-tested ∙ ways fault n
+        where
+          ways : (k : ℕ) → (k ≡ 0 → ⊥) → tested {A = Definition (List ℕ) × List ℕ} k (v .value, drop next s) ≡ bad k
+          ways zero n = absurd (n refl)
+          ways (suc k) n = refl
+
+      pub setting-to :
+          fault ≡ 0 → Bounded at c →
+          Moved (formDefinition (tablesIn c)) (λ d. d ∷ []) 0 s at c next (countedAs opening references (numberIn (v .value)) c)
+      unfolding tested
+      setting-to z bounded = step-moved (setting-tested ∙ rw z) bounded

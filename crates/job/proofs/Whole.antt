@@ -1,5 +1,6 @@
 -- The form pass over a whole job: its definitions, then its requests and 60. Assumes nothing.
 use mathlib.Core.List.{List, []}
+use mathlib.Core.Option.{none}
 use mathlib.Core.Path.{_≡_, refl, sym, ap, _∙_}
 use Prim.Native.Nat.{ℕ, suc, _-_}
 use native.Mathlib.Nat.{add-zero, zero-add}
@@ -11,19 +12,20 @@ use Rattle.definition.specs.Basics.{Result, good, bad, _>>=_, Refusal, only}
 use Rattle.definition.specs.Settings.{highestOf}
 use Rattle.definition.specs.Slots.{highestSlot}
 use Rattle.definition.specs.Job.{Definition}
-use Rattle.definition.specs.Form.{Counts, nothingYet, Definitions, formDefinitions, Requests, formRequests, form}
+use Rattle.definition.specs.Form.{Counts, nothingYet, withBroken, Definitions, formDefinitions, Requests, formRequests, form}
 use Rattle.definition.specs.Numbering.{entries, constantsOf, bootstrapsOf, settings}
 use Rattle.job.specs.declared.JobCounts.{JobCounts}
 use Rattle.job.specs.declared.Formed.{Formed}
 use Rattle.job.specs.declared.Formed.the-variants as formed
-use Rattle.job.specs.Forms.{referencesIn, versionFrom, highestFrom, brokenFrom, countsOf, more, tablesIn, tallied, placeOf, formedRequests, formedOf}
+use Rattle.job.specs.Forms.{referencesIn, versionFrom, highestFrom, countsOf, more, tablesIn, tallied, placeOf, formedRequests, formedOf}
 use Rattle.job.proofs.Counting.{none-more}
+use Rattle.job.proofs.Blind.{requests-blind}
 use Rattle.job.proofs.Tops.{top-first}
 use Rattle.job.proofs.Passes.{RequestsLeft}
 
 -- requests are counted beside definitions
 pub beside : (l : List (Definition (List ℕ))) (k : ℕ) → countsOf l k ≡ more (countsOf l 0) [] k
-unfolding more countsOf constantsOf bootstrapsOf entries only referencesIn versionFrom highestFrom brokenFrom
+unfolding more countsOf constantsOf bootstrapsOf entries only referencesIn versionFrom highestFrom
 beside l k = simp (add-zero, zero-add)
 
 pub formed-job :
@@ -65,7 +67,8 @@ module _ (s : List ℕ) where
       let p = good-inj e in
       let counts : countsOf (d .list) 0 ≡ c = sym (none-more (d .list) 0 (top d refl)) ∙ ap (λ t. t .0) p in
       formed-job (d .list) (formRequests (length s) (d .counts) 0 (suc (length (d .list))) (d .rest))
-      ∙ requests-start s (d .rest) (d .list) (d .counts)
+      ∙ ap (formedRequests (countsOf (d .list) 0)) (sym (requests-blind (d .counts) none (length s) 0 (suc (length (d .list))) (d .rest)))
+      ∙ requests-start s (d .rest) (d .list) (withBroken none (d .counts))
       ∙ rw (counts, ap (λ t. t .1) p, ap (λ t. t .2) p)
   after-good (bad other) c next top e = clash (cc)
 

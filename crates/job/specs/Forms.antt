@@ -6,20 +6,18 @@ use mathlib.Core.Path.{_≡_}
 use Prim.Native.Nat.{ℕ, zero, suc, _+_, _*_, _-_, _^_, _≤_, _<_}
 use lib.Dec.{eqb, ltb}
 use lib.ListN.{length, getD, take, drop}
-use Rattle.definition.specs.Basics.{Result, good, bad, Refusal, every, only}
+use Rattle.definition.specs.Basics.{Result, good, bad, Refusal, every, lookup, only}
 use Rattle.definition.specs.Bytes.{Parser}
 use Rattle.definition.specs.Settings.{version, texts, highest, isSlot, highestOf, newest}
 use Rattle.definition.specs.Shapes.{Kind, constant, bootstrap, Field, bootstrapShape, readEntry}
 use Rattle.definition.specs.Texts.{between, isText}
-use Rattle.definition.specs.Job.{Definition, define, named, placed, setting, Build, Job, Body, ofEntry, ofName, ofRaw, ofNumber, ofNothing, reference, readBody}
-use Rattle.definition.specs.Form.{Counts, countOf, cites, citesEarlier, tableSize, Definitions, Requests}
+use Rattle.definition.specs.Job.{Definition, define, named, placed, setting, Build, Job, Body, ofEntry, ofName, ofRaw, ofNumber, ofNothing, bodies, reference, readBody}
+use Rattle.definition.specs.Form.{Counts, countOf, kindOf, withBroken, cites, citesEarlier, tableSize, Definitions, Requests}
 use Rattle.definition.specs.Numbering.{constantsOf, bootstrapsOf, settings}
 use Rattle.definition.specs.Definitions.{sameKind}
 use Rattle.raw_const.specs.Entries.{fieldsOf}
 use Rattle.job.specs.declared.Opening.{Opening}
 use Rattle.job.specs.declared.Opening.the-variants.{Constant, Bootstrap, NamedConstant, NamedBootstrap, RawConstant, RawBootstrap, Version, Texts, Highest}
-use Rattle.raw_const.specs.declared.Shape.{Shape}
-use Rattle.raw_const.specs.declared.Shape.the-variants.{Text, Bits, One, Two, Dynamic, KindOne, Unknown}
 use Rattle.job.specs.declared.JobCounts.{JobCounts}
 use Rattle.job.specs.declared.Formed.{Formed}
 use Rattle.job.specs.declared.Formed.the-variants as formed
@@ -61,26 +59,20 @@ tableOf Version = constant
 tableOf Texts = constant
 tableOf Highest = constant
 
--- a text, and no other
-unfoldable pub isTextShape : Shape → Bool
-isTextShape Text = true
-isTextShape (Bits n) = false
-isTextShape One = false
-isTextShape Two = false
-isTextShape KindOne = false
-isTextShape Dynamic = false
-isTextShape Unknown = false
+unfoldable pub isSetting : Opening → Bool
+isSetting (Constant shape) = false
+isSetting Bootstrap = false
+isSetting NamedConstant = false
+isSetting NamedBootstrap = false
+isSetting RawConstant = false
+isSetting RawBootstrap = false
+isSetting Version = true
+isSetting Texts = true
+isSetting Highest = true
 
-unfoldable pub opensText : Opening → Bool
-opensText (Constant shape) = isTextShape shape
-opensText Bootstrap = false
-opensText NamedConstant = false
-opensText NamedBootstrap = false
-opensText RawConstant = false
-opensText RawBootstrap = false
-opensText Version = false
-opensText Texts = false
-opensText Highest = false
+-- the byte at a place opens this
+abbrev pub Opens : List ℕ → ℕ → Opening → Type 0
+Opens s at opening = (bodyOf opening ≡ lookup (getD s at 0) bodies) × (tableOf opening ≡ kindOf (getD s at 0))
 
 -- ---- skipping
 
@@ -167,9 +159,9 @@ unfoldable pub neededBehind : ℕ → ℕ → ℕ
 neededBehind b zero = neededFirst b
 neededBehind b (suc needed) = elim (between 0x80 0xbf b) [ true ↦ needed | false ↦ 3 ]
 
--- a text that isn't one, by what a definition's first byte opens, and by the definition
-unfoldable pub brokenOpened : Opening → List ℕ → ℕ → ℕ → Bool
-brokenOpened opening s at next = opensText opening && not (isText (take (next - (at + 3)) (drop (at + 3) s)))
+-- a text that isn't one, by the bytes from one place to another, and by the definition
+unfoldable pub brokenAt : List ℕ → ℕ → ℕ → Bool
+brokenAt s at next = eqb (getD s at 0) 1 && not (isText (take (next - (at + 3)) (drop (at + 3) s)))
 
 unfoldable pub isBroken : Definition (List ℕ) → Bool
 isBroken (define e) = eqb (e .tag) 1 && not (isText (e .literal))
@@ -245,11 +237,6 @@ unfoldable pub highestFrom : ℕ → List (Definition (List ℕ)) → ℕ
 highestFrom top [] = top
 highestFrom top (d ∷ rest) = highestFrom (highestWith d top) rest
 
--- the first text that isn't one, behind several definitions from a record on
-unfoldable pub brokenFrom : ℕ → ℕ → List (Definition (List ℕ)) → ℕ
-brokenFrom place earlier [] = earlier
-brokenFrom place earlier (d ∷ rest) = brokenFrom (place + 1) (brokenWith place (isBroken d) earlier) rest
-
 -- what a job with these definitions and so many requests counts
 unfoldable pub countsOf : List (Definition (List ℕ)) → ℕ → JobCounts
 countsOf list requests =
@@ -265,7 +252,7 @@ countsOf list requests =
       versions = length (only isVersion list);
       version = versionFrom newest list;
       texts = length (only isHolding list);
-      broken = brokenFrom 0 0 list;
+      broken = 0;
       highest = highestOf (settings list);
     }
 
@@ -289,13 +276,13 @@ more c list requests =
       versions = c .versions + length (only isVersion list);
       version = versionFrom (c .version) list;
       texts = c .texts + length (only isHolding list);
-      broken = brokenFrom (c .definitions) (c .broken) list;
+      broken = c .broken;
       highest = highestFrom (c .highest) list;
     }
 
 -- one definition more, which is so many constants, bootstraps, names and so on
-abbrev pub grown : ℕ → ℕ → ℕ → ℕ → ℕ → ℕ → ℕ → ℕ → ℕ → ℕ → Bool → JobCounts → JobCounts
-grown constants bootstraps references names raws indexes versions holding major top broken c =
+abbrev pub grown : ℕ → ℕ → ℕ → ℕ → ℕ → ℕ → ℕ → ℕ → ℕ → ℕ → JobCounts → JobCounts
+grown constants bootstraps references names raws indexes versions holding major top c =
     record {
       definitions = c .definitions + 1;
       constants = c .constants + constants;
@@ -308,21 +295,21 @@ grown constants bootstraps references names raws indexes versions holding major 
       versions = c .versions + versions;
       version = major;
       texts = c .texts + holding;
-      broken = brokenWith (c .definitions) broken (c .broken);
+      broken = c .broken;
       highest = top;
     }
 
 -- the counts with one definition so opened, with so many references, and this number if it is a setting
-unfoldable pub countedAs : Opening → ℕ → ℕ → Bool → JobCounts → JobCounts
-countedAs (Constant shape) k number broken c = grown 1 0 k 0 0 0 0 0 (c .version) (c .highest) broken c
-countedAs Bootstrap k number broken c = grown 0 1 k 0 0 0 0 0 (c .version) (c .highest) broken c
-countedAs NamedConstant k number broken c = grown 0 0 k 1 0 0 0 0 (c .version) (c .highest) broken c
-countedAs NamedBootstrap k number broken c = grown 0 0 k 1 0 0 0 0 (c .version) (c .highest) broken c
-countedAs RawConstant k number broken c = grown 0 0 k 0 1 0 0 0 (c .version) (c .highest) broken c
-countedAs RawBootstrap k number broken c = grown 0 0 k 0 0 1 0 0 (c .version) (c .highest) broken c
-countedAs Version k number broken c = grown 0 0 k 0 0 0 1 0 number (c .highest) broken c
-countedAs Texts k number broken c = grown 0 0 k 0 0 0 0 1 (c .version) (c .highest) broken c
-countedAs Highest k number broken c = grown 0 0 k 0 0 0 0 0 (c .version) number broken c
+unfoldable pub countedAs : Opening → ℕ → ℕ → JobCounts → JobCounts
+countedAs (Constant shape) k number c = grown 1 0 k 0 0 0 0 0 (c .version) (c .highest) c
+countedAs Bootstrap k number c = grown 0 1 k 0 0 0 0 0 (c .version) (c .highest) c
+countedAs NamedConstant k number c = grown 0 0 k 1 0 0 0 0 (c .version) (c .highest) c
+countedAs NamedBootstrap k number c = grown 0 0 k 1 0 0 0 0 (c .version) (c .highest) c
+countedAs RawConstant k number c = grown 0 0 k 0 1 0 0 0 (c .version) (c .highest) c
+countedAs RawBootstrap k number c = grown 0 0 k 0 0 1 0 0 (c .version) (c .highest) c
+countedAs Version k number c = grown 0 0 k 0 0 0 1 0 number (c .highest) c
+countedAs Texts k number c = grown 0 0 k 0 0 0 0 1 (c .version) (c .highest) c
+countedAs Highest k number c = grown 0 0 k 0 0 0 0 0 (c .version) number c
 
 -- no count is above m, nor are definitions and requests together
 pub record Bounded (m : ℕ) (c : JobCounts) : Type 0 where
@@ -372,20 +359,13 @@ settingFault Version number c = onceFault (c .versions)
 settingFault Texts number c = onceFault (c .texts)
 settingFault Highest number c = highestFault (c .definitions) number
 
--- what is wrong with a definition that was read: a setting's fault, then 5, then 4; else 0
-unfoldable pub faultBehind : ℕ → Bool → Bool → ℕ
-faultBehind zero room cited = elim room [ true ↦ elim cited [ true ↦ 0 | false ↦ 4 ] | false ↦ 5 ]
-faultBehind (suc fault) room cited = suc fault
-
-unfoldable pub faultOf : Opening → ℕ → Bool → JobCounts → ℕ
-faultOf opening number cited c = faultBehind (settingFault opening number c) (roomFor opening (c .constants) (c .bootstraps)) cited
-
--- no record 48 stands with a text that isn't one
-unfoldable pub textsHold : JobCounts → Bool
-textsHold c = eqb (c .broken) 0 || eqb (c .texts) 0
+-- no record 48 stands with a text that isn't one, where there are so many, and one more than the record of the first such text is this
+unfoldable pub textsHold : ℕ → ℕ → Bool
+textsHold holding broken = eqb broken 0 || eqb holding 0
 
 -- ---- a record, and all of them
 
+-- what was counted, without the first text that isn't one: only textsHeld asks for it
 abbrev pub tablesIn : JobCounts → Counts
 tablesIn c =
     record {
@@ -394,7 +374,7 @@ tablesIn c =
       records = c .definitions;
       versions = c .versions;
       texts = c .texts;
-      broken = asBroken (c .broken);
+      broken = none;
     }
 
 -- a record was read at a place, and the definitions and requests that it is were counted
@@ -411,9 +391,10 @@ abbrev pub Steps : {A : Type 0} → (ℕ → List ℕ → Result ℕ (A × List 
 Steps f list requests s at c (step.To next d) = Moved f list requests s at c next d
 Steps f list requests s at c (step.Refused code) = f (getD s at 0) (drop (at + 1) s) ≡ bad code
 
--- what is seen of all definitions: what they count, beside what was counted before them, the entries, and the bytes behind 50
+-- what is seen of all definitions: what they count, beside what was counted before them, the entries, and the bytes behind 50; not the
+-- first text that isn't one
 unfoldable pub tallied : JobCounts → Result Refusal Definitions → Result Refusal (JobCounts × Counts × List ℕ)
-tallied c (good d) = good (more c (d .list) 0, d .counts, d .rest)
+tallied c (good d) = good (more c (d .list) 0, withBroken none (d .counts), d .rest)
 tallied c (bad refusal) = bad refusal
 
 abbrev pub definedAs : List ℕ → Defined → Result Refusal (JobCounts × Counts × List ℕ)

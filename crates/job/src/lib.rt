@@ -1,12 +1,12 @@
-// The form pass (document 01, "A job"): goes over a job's records once, keeps nothing of them, and counts them. Behind it, readers of
-// entries, references and names at stored places.
+// The form pass (document 01, "A job"): goes over a job's records once, twice if there is a record 48, keeps nothing of them, and
+// counts them. Behind it, readers of entries, references and names at stored places.
 use raw_const::Shape;
 ghost use mathlib.Core.Path.{_≡_};
-ghost use mathlib.Core.Bool.{true};
+ghost use mathlib.Core.Bool.{true, false};
 ghost use mathlib.Core.List.{List, [], _∷_};
 ghost use mathlib.Core.Option.{some};
 ghost use Prim.Native.Nat.{ℕ, _+_, _-_, _^_, _<_, _≤_};
-ghost use lib.Dec.{eqb, ltb};
+ghost use lib.Dec.{ltb};
 ghost use lib.ListN.{length, take, drop};
 ghost use Rattle.definition.specs.Basics.{every, lookup};
 ghost use Rattle.definition.specs.Bytes.{one, two, many};
@@ -15,7 +15,7 @@ ghost use Rattle.definition.specs.Job.{Reference, define, shortName, referenceF
 ghost use Rattle.definition.specs.Form.{Counts, nothingYet, countOf, cites, kindOf, citesRequest, formDefinition, formDefinitions, formRequest, formBuild, formRequests, form};
 ghost use Rattle.definition.specs.Texts.{isText};
 ghost use Rattle.raw_const.specs.Entries.{fieldsOf};
-ghost use Rattle.job.specs.Forms.{Skips, SkipsReference, SkipsEntry, SkipsDefinition, SkipsAfter, entryBody, bodyOf, tableOf, opensText, roomFor, NumberRoom, numberOpened, onceFault, highestFault, settingFault, faultOf, neededFirst, neededBehind, brokenOpened, brokenWith, textsHold, Bounded, Room, countedAs, countsOf, tablesIn, Steps, tallied, definedAs, Within, placeOf, formedBuild, formedRequests, formedOf};
+ghost use Rattle.job.specs.Forms.{Skips, SkipsReference, SkipsEntry, SkipsDefinition, SkipsAfter, entryBody, bodyOf, tableOf, isSetting, Opens, roomFor, NumberRoom, numberOpened, onceFault, highestFault, settingFault, neededFirst, neededBehind, brokenAt, brokenWith, textsHold, Bounded, Room, countedAs, countsOf, tablesIn, Steps, tallied, definedAs, Within, placeOf, formedBuild, formedRequests, formedOf};
 ghost use Rattle.job.specs.Stored.{Found, Stands, WhatStands, ReferenceStands, WhatReference, EntryStands, WhatEntry, Spans, Tells, anyDefinition, KidAt};
 
 // How many entries each table takes.
@@ -43,8 +43,9 @@ pub struct JobCounts {
     // The records 47, and the version that constants are held to: the newest without one.
     pub versions: usize,
     pub version: usize,
-    // The records 48, and one more than the record of the first text that isn't one: 0 if each is.
+    // The records 48.
     pub texts: usize,
+    // 0: a job with a record 48 that is accepted has no text that isn't one, and without one nobody asks.
     pub broken: usize,
     // The highest slot: what a record 49 says, else the last that there is.
     pub highest: usize,
@@ -94,7 +95,7 @@ enum Defined {
 }
 
 fn opening_of(first: u8) -> Opening
-    ensures { λ r. ⌜ (bodyOf r ≡ lookup first bodies) × (tableOf r ≡ kindOf first) × (opensText r ≡ eqb first 1) ⌝ }
+    ensures { λ r. ⌜ (bodyOf r ≡ lookup first bodies) × (tableOf r ≡ kindOf first) ⌝ }
 {
     match first {
         0x40 => Opening::Bootstrap,
@@ -456,23 +457,6 @@ fn has_room(opening: Opening, constants: usize, bootstraps: usize) -> bool
     }
 }
 
-// A definition that was read, with what was found of it: 3 or 26 if it is a setting that mayn't stand there, then 5 if its table is
-// full, then 4 if it cites what isn't there, else 0.
-fn fault_of(opening: Opening, number: usize, cited: bool, counts: JobCounts) -> u32
-    ensures { λ r. ⌜ r ≡ faultOf opening number cited counts ⌝ }
-{
-    let fault = setting_fault(opening, number, counts);
-    if fault != 0 {
-        return fault;
-    }
-    let constants = counts.constants;
-    let bootstraps = counts.bootstraps;
-    if !has_room(opening, constants, bootstraps) {
-        return 5;
-    }
-    if cited { 0 } else { 4 }
-}
-
 // How many bytes a unit of a text needs behind this byte, if with it it needs so many (0: it begins one); 3 if the byte can't stand
 // there (JVMS 4.4.7).
 fn needed_behind(b: u8, needed: usize) -> usize
@@ -521,17 +505,15 @@ pub fn is_text(job: &[u8], start: usize, end: usize) -> bool
     needed == 0
 }
 
-// A definition so opened, from one place to another, is a text that isn't one.
-fn is_broken(job: &[u8], at: usize, next: usize, opening: Opening) -> bool
+// The definition from one place to another is a text that isn't one.
+fn is_broken(job: &[u8], at: usize, next: usize) -> bool
     requires { ⌜ (at < length (now job)) × (next ≤ length (now job)) ⌝ }
-    ensures { λ r. ⌜ r ≡ brokenOpened opening (now (job .entry)) at next ⌝ }
+    ensures { λ r. ⌜ r ≡ brokenAt (now (job .entry)) at next ⌝ }
 {
-    let Opening::Constant(shape) = opening else {
-        return false;
-    };
-    match shape {
-        Shape::Text => !is_text(job, at + 3, next),
-        _ => false,
+    if writer::get_u8(job, at) == 1 {
+        !is_text(job, at + 3, next)
+    } else {
+        false
     }
 }
 
@@ -547,19 +529,12 @@ fn first_broken(earlier: usize, place: usize, broken: bool) -> usize
     }
 }
 
-// The counts with a definition so opened, which has so many references, this number if it is a setting, and is a broken text or not.
-fn counted(
-    counts: JobCounts,
-    opening: Opening,
-    references: usize,
-    number: usize,
-    broken: bool,
-) -> JobCounts
+// The counts with a definition so opened, which has so many references, and this number if it is a setting.
+fn counted(counts: JobCounts, opening: Opening, references: usize, number: usize) -> JobCounts
     requires { ⌜ Room counts references ⌝ }
-    ensures { λ r. ⌜ r ≡ countedAs opening references number broken counts ⌝ }
+    ensures { λ r. ⌜ r ≡ countedAs opening references number counts ⌝ }
 {
     let mut c = counts;
-    c.broken = first_broken(counts.broken, counts.definitions, broken);
     c.definitions += 1;
     c.references += references;
     match opening {
@@ -603,49 +578,97 @@ fn counted(
     }
 }
 
-// One definition: 3 if it is cut or unknown, then what else is wrong with it.
-fn form_definition(job: &[u8], at: usize, counts: JobCounts) -> Step
-    requires { ⌜ (at < length (now job)) × Bounded at counts ⌝ }
+// No record 48 stands with a text that isn't one.
+fn texts_hold(texts: usize, broken: usize) -> bool
+    ensures { λ r. ⌜ r ≡ textsHold texts broken ⌝ }
+{
+    (broken == 0) | (texts == 0)
+}
+
+// A setting is opened.
+fn is_setting(opening: Opening) -> bool
+    ensures { λ r. ⌜ r ≡ isSetting opening ⌝ }
+{
+    match opening {
+        Opening::Version => true,
+        Opening::Texts => true,
+        Opening::Highest => true,
+        _ => false,
+    }
+}
+
+// A definition so opened that is no setting: 3 if it is cut or unknown, then 5 if its table is full, then 4 if it cites what isn't there.
+fn form_entry(job: &[u8], at: usize, opening: Opening, counts: JobCounts) -> Step
+    requires { ⌜ (at < length (now job)) × Bounded at counts × Opens (now job) at opening × (isSetting opening ≡ false) ⌝ }
     ensures { λ r. ⌜ Steps (formDefinition (tablesIn counts)) (λ d. d ∷ []) 0 (now (job .entry)) at counts r ⌝ }
 {
     let constants = counts.constants;
     let bootstraps = counts.bootstraps;
-    let opening = opening_of(writer::get_u8(job, at));
     match skip_definition(job, at + 1, opening, constants, bootstraps) {
         Skipped::To {
             next,
             cited,
             references,
         } => {
-            let number = setting_number(job, at + 1, opening);
-            let fault = fault_of(opening, number, cited, counts);
-            if fault != 0 {
-                return Step::Refused(fault);
+            if !has_room(opening, constants, bootstraps) {
+                return Step::Refused(5);
             }
-            let broken = is_broken(job, at, next, opening);
+            if !cited {
+                return Step::Refused(4);
+            }
             Step::To {
                 next,
-                counts: counted(counts, opening, references, number, broken),
+                counts: counted(counts, opening, references, 0),
             }
         }
         Skipped::Cut => Step::Refused(3),
     }
 }
 
-// No record 48 stands with a text that isn't one.
-fn texts_hold(counts: JobCounts) -> bool
-    ensures { λ r. ⌜ r ≡ textsHold counts ⌝ }
+// A setting so opened: 3 if it is cut, then 3 or 26 if it mayn't stand there.
+fn form_setting(job: &[u8], at: usize, opening: Opening, counts: JobCounts) -> Step
+    requires { ⌜ (at < length (now job)) × Bounded at counts × Opens (now job) at opening × (isSetting opening ≡ true) ⌝ }
+    ensures { λ r. ⌜ Steps (formDefinition (tablesIn counts)) (λ d. d ∷ []) 0 (now (job .entry)) at counts r ⌝ }
 {
-    (counts.broken == 0) | (counts.texts == 0)
+    let constants = counts.constants;
+    let bootstraps = counts.bootstraps;
+    match skip_definition(job, at + 1, opening, constants, bootstraps) {
+        Skipped::To {
+            next,
+            cited: _,
+            references,
+        } => {
+            let number = setting_number(job, at + 1, opening);
+            let fault = setting_fault(opening, number, counts);
+            if fault != 0 {
+                return Step::Refused(fault);
+            }
+            Step::To {
+                next,
+                counts: counted(counts, opening, references, number),
+            }
+        }
+        Skipped::Cut => Step::Refused(3),
+    }
 }
 
-// The definitions and 50; 25 as soon as a record 48 and a text that isn't one stand, at that text.
-fn form_definitions(job: &[u8]) -> Defined
-    ensures { λ r. ⌜ tallied (countsOf [] 0) (formDefinitions (length (now (job .entry))) nothingYet 0 (now (job .entry))) ≡ definedAs (now (job .entry)) r ⌝ }
-    ensures { λ r. ⌜ Within (now (job .entry)) r ⌝ }
+// One definition: most jobs have no setting, so that what only settings need stands apart.
+fn form_definition(job: &[u8], at: usize, counts: JobCounts) -> Step
+    requires { ⌜ (at < length (now job)) × Bounded at counts ⌝ }
+    ensures { λ r. ⌜ Steps (formDefinition (tablesIn counts)) (λ d. d ∷ []) 0 (now (job .entry)) at counts r ⌝ }
 {
-    let mut at = 0;
-    let mut counts = JobCounts {
+    let opening = opening_of(writer::get_u8(job, at));
+    if is_setting(opening) {
+        form_setting(job, at, opening, counts)
+    } else {
+        form_entry(job, at, opening, counts)
+    }
+}
+
+fn nothing_yet() -> JobCounts
+    ensures { λ r. ⌜ r ≡ countsOf [] 0 ⌝ }
+{
+    JobCounts {
         definitions: 0,
         constants: 0,
         bootstraps: 0,
@@ -659,7 +682,17 @@ fn form_definitions(job: &[u8]) -> Defined
         texts: 0,
         broken: 0,
         highest: HIGHEST_SLOT,
-    };
+    }
+}
+
+// The definitions and 50 of a job with a record 48; 25 as soon as it and a text that isn't one stand, at that text.
+fn form_held(job: &[u8]) -> Defined
+    ensures { λ r. ⌜ tallied (countsOf [] 0) (formDefinitions (length (now (job .entry))) nothingYet 0 (now (job .entry))) ≡ definedAs (now (job .entry)) r ⌝ }
+    ensures { λ r. ⌜ Within (now (job .entry)) r ⌝ }
+{
+    let mut at = 0;
+    let mut counts = nothing_yet();
+    let mut broken = 0;
     while at < job.len() {
         if writer::get_u8(job, at) == 0x50 {
             return Defined::To {
@@ -669,11 +702,49 @@ fn form_definitions(job: &[u8]) -> Defined
         }
         match form_definition(job, at, counts) {
             Step::To { next, counts: more } => {
-                if !texts_hold(more) {
+                let here = is_broken(job, at, next);
+                broken = first_broken(broken, counts.definitions, here);
+                if !texts_hold(more.texts, broken) {
                     return Defined::Refused {
                         code: 25,
-                        place: more.broken - 1,
+                        place: broken - 1,
                     };
+                }
+                at = next;
+                counts = more;
+            }
+            Step::Refused(code) => {
+                return Defined::Refused {
+                    code,
+                    place: counts.definitions,
+                };
+            }
+        }
+    }
+    Defined::Refused {
+        code: 3,
+        place: counts.definitions,
+    }
+}
+
+// The definitions and 50. No text is tested before a record 48 stands: then the job is read from its start again.
+fn form_definitions(job: &[u8]) -> Defined
+    ensures { λ r. ⌜ tallied (countsOf [] 0) (formDefinitions (length (now (job .entry))) nothingYet 0 (now (job .entry))) ≡ definedAs (now (job .entry)) r ⌝ }
+    ensures { λ r. ⌜ Within (now (job .entry)) r ⌝ }
+{
+    let mut at = 0;
+    let mut counts = nothing_yet();
+    while at < job.len() {
+        if writer::get_u8(job, at) == 0x50 {
+            return Defined::To {
+                next: at + 1,
+                counts,
+            };
+        }
+        match form_definition(job, at, counts) {
+            Step::To { next, counts: more } => {
+                if more.texts != 0 {
+                    return form_held(job);
                 }
                 at = next;
                 counts = more;

@@ -5,9 +5,6 @@ use borrow.Author.Needs.{needs}
 use Rattle.job.proofs.counted.Statement.{statement}
 use Rattle.job.proofs.counted.Tie as tie
 
-first-broken-requires : tie.Need-first-broken-requires
-first-broken-requires c κs = search needs
-
 add-c : tie.Need-add-c
 add-c c = search needs
 
@@ -67,45 +64,44 @@ enum-told-9 c = search needs
 
 returns : tie.Need-returns
 unfolding countedAs
-returns c = rw (c .before .enum-told .given .1, c .before .before .before .before .before .first-broken .ensures) (simp add-zero)
+returns c = rw (c .before .enum-told .given .1) (simp add-zero)
 
 returns-2 : tie.Need-returns-2
 unfolding countedAs
-returns-2 c = rw (c .before .enum-told2 .given .1, c .before .before .before .before .before .first-broken .ensures) (simp add-zero)
+returns-2 c = rw (c .before .enum-told2 .given .1) (simp add-zero)
 
 returns-3 : tie.Need-returns-3
 unfolding countedAs
-returns-3 c = rw (c .before .enum-told3 .given .1, c .before .before .before .before .before .first-broken .ensures) (simp add-zero)
+returns-3 c = rw (c .before .enum-told3 .given .1) (simp add-zero)
 
 returns-4 : tie.Need-returns-4
 unfolding countedAs
-returns-4 c = rw (c .before .enum-told4 .given .1, c .before .before .before .before .before .first-broken .ensures) (simp add-zero)
+returns-4 c = rw (c .before .enum-told4 .given .1) (simp add-zero)
 
 returns-5 : tie.Need-returns-5
 unfolding countedAs
-returns-5 c = rw (c .before .enum-told5 .given .1, c .before .before .before .before .before .first-broken .ensures) (simp add-zero)
+returns-5 c = rw (c .before .enum-told5 .given .1) (simp add-zero)
 
 returns-6 : tie.Need-returns-6
 unfolding countedAs
-returns-6 c = rw (c .before .enum-told6 .given .1, c .before .before .before .before .before .first-broken .ensures) (simp add-zero)
+returns-6 c = rw (c .before .enum-told6 .given .1) (simp add-zero)
 
 returns-7 : tie.Need-returns-7
 unfolding countedAs
-returns-7 c = rw (c .before .enum-told7 .given .1, c .before .before .before .before .before .first-broken .ensures) (simp add-zero)
+returns-7 c = rw (c .before .enum-told7 .given .1) (simp add-zero)
 
 returns-8 : tie.Need-returns-8
 unfolding countedAs
-returns-8 c = rw (c .before .enum-told8 .given .1, c .before .before .before .before .before .first-broken .ensures) (simp add-zero)
+returns-8 c = rw (c .before .enum-told8 .given .1) (simp add-zero)
 
 returns-9 : tie.Need-returns-9
 unfolding countedAs
-returns-9 c = rw (c .enum-told9 .given .1, c .before .before .before .before .first-broken .ensures) (simp add-zero)
+returns-9 c = rw (c .enum-told9 .given .1) (simp add-zero)
 
 pub counted-spec : {M : Type 1} → statement M
 counted-spec =
     tie.close
     (tie.spec
-    first-broken-requires
     add-c
     add-c-2
     enum-told

@@ -1,18 +1,14 @@
 -- `job::is_broken` meets its contract. Assumes nothing.
-use Rattle.job.specs.Forms.{brokenOpened, opensText, isTextShape}
-use Rattle.job.proofs.Faults.{unbroken-other, unbroken-shape}
+use mathlib.Core.Path.{sym, _∙_}
+use lib.ListN.{getD}
+use borrow.Author.Tests.{eq-eqb, ne-eqb}
+use Rattle.job.specs.Forms.{brokenAt}
 use borrow.Author.Needs.{needs}
 use Rattle.job.proofs.is_broken.Statement.{statement}
 use Rattle.job.proofs.is_broken.Tie as tie
 
-enum-known-opening : tie.Need-enum-known-opening
-enum-known-opening c = search needs
-
-returns : tie.Need-returns
-returns c = let a = c .before .before .args in unbroken-other (a .job .now) (a .at) (a .next) (a .opening) (c .match .keys2)
-
-enum-told : tie.Need-enum-told
-enum-told c = search needs
+get-u8-requires : tie.Need-get-u8-requires
+get-u8-requires c κs = search needs
 
 add-is-text : tie.Need-add-is-text
 add-is-text c = search needs
@@ -20,21 +16,20 @@ add-is-text c = search needs
 is-text-requires : tie.Need-is-text-requires
 is-text-requires c κs = search needs
 
-returns-2 : tie.Need-returns-2
-unfolding brokenOpened opensText isTextShape
-returns-2 c = let g = c .before .before .before .before .opening .given in rw (g .1, c .before .enum-told .given .1, c .is-text .ensures)
+returns : tie.Need-returns
+unfolding brokenAt
+returns c = let a = c .before .before .before .before .args in rw (eq-eqb (getD (a .job .now) (a .at) 0) 1 (sym (c .before .before .get-u8 .ensures) ∙ c .before .if1 .taken), c .is-text .ensures)
 
-returns-3 : tie.Need-returns-3
-returns-3 c = let a = c .before .before .before .before .before .args in let g = c .before .before .opening .given in rw (g .1) (unbroken-shape (a .job .now) (a .at) (a .next) (g .0 .0) (c .match2 .keys2))
+returns-2 : tie.Need-returns-2
+unfolding brokenAt
+returns-2 c = let a = c .before .before .before .args in rw (ne-eqb (getD (a .job .now) (a .at) 0) 1 (λ e. c .if1 .left (c .before .get-u8 .ensures ∙ e)))
 
 pub is-broken-spec : {M : Type 1} → statement M
 is-broken-spec =
     tie.close
     (tie.spec
-    enum-known-opening
-    returns
-    enum-told
+    get-u8-requires
     add-is-text
     is-text-requires
-    returns-2
-    returns-3)
+    returns
+    returns-2)

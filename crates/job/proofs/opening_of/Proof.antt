@@ -1,6 +1,6 @@
 -- `job::opening_of` meets its contract. Assumes nothing.
 use Rattle.job.proofs.Table.{tag-right}
-use Rattle.job.specs.Forms.{bodyOf, tableOf, opensText}
+use Rattle.job.specs.Forms.{bodyOf, tableOf}
 use Rattle.definition.specs.Basics.{lookup}
 use Rattle.definition.specs.Form.{kindOf}
 use Rattle.definition.specs.Job.{bodies}
@@ -14,36 +14,36 @@ shape-of-requires : tie.Need-shape-of-requires
 shape-of-requires c κs = search needs
 
 returns : tie.Need-returns
-unfolding bodyOf tableOf opensText lookup bodies shapes kindOf
-returns c = rw (c .match .keys1) (refl, refl, refl)
+unfolding bodyOf tableOf lookup bodies shapes kindOf
+returns c = rw (c .match .keys1) (refl, refl)
 
 returns-2 : tie.Need-returns-2
-unfolding bodyOf tableOf opensText lookup bodies shapes kindOf
-returns-2 c = rw (c .match .keys2) (refl, refl, refl)
+unfolding bodyOf tableOf lookup bodies shapes kindOf
+returns-2 c = rw (c .match .keys2) (refl, refl)
 
 returns-3 : tie.Need-returns-3
-unfolding bodyOf tableOf opensText lookup bodies shapes kindOf
-returns-3 c = rw (c .match .keys3) (refl, refl, refl)
+unfolding bodyOf tableOf lookup bodies shapes kindOf
+returns-3 c = rw (c .match .keys3) (refl, refl)
 
 returns-4 : tie.Need-returns-4
-unfolding bodyOf tableOf opensText lookup bodies shapes kindOf
-returns-4 c = rw (c .match .keys4) (refl, refl, refl)
+unfolding bodyOf tableOf lookup bodies shapes kindOf
+returns-4 c = rw (c .match .keys4) (refl, refl)
 
 returns-5 : tie.Need-returns-5
-unfolding bodyOf tableOf opensText lookup bodies shapes kindOf
-returns-5 c = rw (c .match .keys5) (refl, refl, refl)
+unfolding bodyOf tableOf lookup bodies shapes kindOf
+returns-5 c = rw (c .match .keys5) (refl, refl)
 
 returns-6 : tie.Need-returns-6
-unfolding bodyOf tableOf opensText lookup bodies shapes kindOf
-returns-6 c = rw (c .match .keys6) (refl, refl, refl)
+unfolding bodyOf tableOf lookup bodies shapes kindOf
+returns-6 c = rw (c .match .keys6) (refl, refl)
 
 returns-7 : tie.Need-returns-7
-unfolding bodyOf tableOf opensText lookup bodies shapes kindOf
-returns-7 c = rw (c .match .keys7) (refl, refl, refl)
+unfolding bodyOf tableOf lookup bodies shapes kindOf
+returns-7 c = rw (c .match .keys7) (refl, refl)
 
 returns-8 : tie.Need-returns-8
-unfolding bodyOf tableOf opensText lookup bodies shapes kindOf
-returns-8 c = rw (c .match .keys8) (refl, refl, refl)
+unfolding bodyOf tableOf lookup bodies shapes kindOf
+returns-8 c = rw (c .match .keys8) (refl, refl)
 
 returns-9 : tie.Need-returns-9
 returns-9 c =

@@ -1,0 +1,42 @@
+-- `job::is_setting` meets its contract. Assumes nothing.
+use Rattle.job.proofs.Faults.{setting-other}
+use Rattle.job.specs.Forms.{isSetting}
+use borrow.Author.Needs.{needs}
+use Rattle.job.proofs.is_setting.Statement.{statement}
+use Rattle.job.proofs.is_setting.Tie as tie
+
+enum-told : tie.Need-enum-told
+enum-told c = search needs
+
+enum-told-2 : tie.Need-enum-told-2
+enum-told-2 c = search needs
+
+enum-told-3 : tie.Need-enum-told-3
+enum-told-3 c = search needs
+
+returns : tie.Need-returns
+unfolding isSetting
+returns c = rw (c .enum-told .given .1)
+
+returns-2 : tie.Need-returns-2
+unfolding isSetting
+returns-2 c = rw (c .enum-told2 .given .1)
+
+returns-3 : tie.Need-returns-3
+unfolding isSetting
+returns-3 c = rw (c .enum-told3 .given .1)
+
+returns-4 : tie.Need-returns-4
+returns-4 c = setting-other (c .before .args .opening) (c .match .keys4)
+
+pub is-setting-spec : {M : Type 1} → statement M
+is-setting-spec =
+    tie.close
+    (tie.spec
+    enum-told
+    enum-told-2
+    enum-told-3
+    returns
+    returns-2
+    returns-3
+    returns-4)
