@@ -19,6 +19,8 @@ const SEEDED: &[(&str, u64, usize)] = &[
     ("pairs", 7003, 1_000),
     ("orders", 7004, 1_000),
     ("ldcfull", 7005, 1_000),
+    ("settings", 7006, 5_000),
+    ("settings_damaged", 7007, 5_000),
 ];
 
 const HEAVY: &str = "heavy";
