@@ -77,3 +77,18 @@ fn try_build_builds_and_refuses_as_build_does() {
     assert_eq!(try_build(&job).ok(), rotblossom::build(&job).ok());
     assert_eq!(try_build(&job[1..]), Err(Unbuilt::Refused(refusal(3, 0))));
 }
+
+/// A record 48, a full table of texts, and then one that isn't a text: that there is no room for it is told first.
+#[test]
+fn a_bad_text_too_many_is_one_too_many() {
+    let mut job = bytes("48");
+    job.extend(bytes("01 0000").repeat(65_536));
+    job.extend(bytes("01 0001 00  50 60 02 00 0000"));
+    assert_eq!(rotblossom::build(&job), Err(refusal(5, 65_537)));
+}
+
+/// Records 47 to 49 are counted as any others.
+#[test]
+fn a_second_version_is_3_at_its_own_record() {
+    assert_eq!(build("47 0000 47"), Err(refusal(3, 1)));
+}
