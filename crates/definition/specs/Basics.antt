@@ -16,12 +16,12 @@ abbrev pub _>>=_ : {E A B : Type 0} → Result E A → (A → Result E B) → Re
 _>>=_ (good a) f = f a
 _>>=_ (bad e) f = bad e
 
--- a refusal's number and its place: a record, or in a block file a block
+-- a refusal's number and its place: a record, in a block file a block, and while building a node
 pub record Refusal : Type 0 where
   pub code : ℕ
   pub place : ℕ
 
--- a refusal number, met while the record or block `place` is in turn
+-- a refusal number, met while the record, block or node `place` is in turn
 unfoldable pub atRecord : {A : Type 0} → ℕ → Result ℕ A → Result Refusal A
 atRecord place (good a) = good a
 atRecord place (bad code) = bad (record { code = code; place = place })

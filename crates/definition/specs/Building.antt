@@ -5,7 +5,7 @@ use mathlib.Core.Option.{Option, none, some}
 use Prim.Native.Nat.{ℕ, zero, suc, _+_, _-_}
 use lib.Dec.{eqb, ltb}
 use lib.ListN.{length, getD, getElem?, replicate}
-use Rattle.definition.specs.Basics.{Result, good, bad, _>>=_, unless, same, position, lookup}
+use Rattle.definition.specs.Basics.{Result, good, bad, _>>=_, Refusal, atRecord, unless, same, position, lookup}
 use Rattle.definition.specs.Settings.{known}
 use Rattle.definition.specs.Shapes.{bootstrapTag, Entry, withKids, isWide}
 use Rattle.definition.specs.Numbering.{attributeNumber}
@@ -57,11 +57,13 @@ markOf raw = 0
 markOf new = 1
 markOf old = 2
 
--- children's slots, left to right
-unfoldable pub slotsOf : List Node → List ℕ → Pool → Result ℕ (List ℕ × Pool)
+-- children's slots, left to right; from here on a refusal tells the node that it is met at
+unfoldable pub slotsOf : List Node → List ℕ → Pool → Result Refusal (List ℕ × Pool)
 slotsOf nodes [] p = good ([], p)
 slotsOf nodes (child ∷ children) p =
-    slotOf nodes false child p >>= λ r. slotsOf nodes children (r .1) >>= λ rest. good (r .0 ∷ rest .0, rest .1)
+    atRecord (child - firstNode) (slotOf nodes false child p) >>= λ r.
+    slotsOf nodes children (r .1) >>= λ rest.
+    good (r .0 ∷ rest .0, rest .1)
 
 -- a row of the bootstrap table: the handle's slot, then the arguments'
 abbrev pub Row : Type 0
@@ -114,21 +116,21 @@ unfoldable pub kidsOf : List Node → ℕ → List ℕ
 kidsOf nodes k = elim (getElem? nodes k) [ none ↦ [] | some n ↦ n .kids ]
 
 -- the number that stands for a node in its parent: an inline bootstrap's index, once its children have slots, or a slot
-unfoldable pub nodeNumber : List Node → ℕ → Pool → Rows → Result ℕ (ℕ × Pool × Rows)
+unfoldable pub nodeNumber : List Node → ℕ → Pool → Rows → Result Refusal (ℕ × Pool × Rows)
 nodeNumber nodes k p rows =
     elim (eqb (tagAt nodes k) bootstrapTag) [
       | true ↦
           slotsOf nodes (kidsOf nodes k) p >>= λ r.
-          rowIndex (r .0) rows >>= λ i.
+          atRecord k (rowIndex (r .0) rows) >>= λ i.
           good (i .0, r .1, i .1)
-      | false ↦ allocate nodes false k p >>= λ r. good (r .0, r .1, rows)
+      | false ↦ atRecord k (allocate nodes false k p) >>= λ r. good (r .0, r .1, rows)
     ]
 
-unfoldable pub childNumber : List Node → ℕ → Pool → Rows → Result ℕ (ℕ × Pool × Rows)
+unfoldable pub childNumber : List Node → ℕ → Pool → Rows → Result Refusal (ℕ × Pool × Rows)
 childNumber nodes child p rows =
     elim (ltb child firstNode) [ true ↦ good (child, p, rows) | false ↦ nodeNumber nodes (child - firstNode) p rows ]
 
-unfoldable pub childNumbers : List Node → List ℕ → Pool → Rows → Result ℕ (List ℕ × Pool × Rows)
+unfoldable pub childNumbers : List Node → List ℕ → Pool → Rows → Result Refusal (List ℕ × Pool × Rows)
 childNumbers nodes [] p rows = good ([], p, rows)
 childNumbers nodes (child ∷ children) p rows =
     childNumber nodes child p rows >>= λ r.
@@ -136,7 +138,7 @@ childNumbers nodes (child ∷ children) p rows =
     good (r .0 ∷ rest .0, rest .1, rest .2)
 
 -- a slot's node, taken from the stack: its children in field order, then the slot holds the finished entry
-unfoldable pub finish : List Node → ℕ → Made → Option Node → Result ℕ Made
+unfoldable pub finish : List Node → ℕ → Made → Option Node → Result Refusal Made
 finish nodes s m none = good m
 finish nodes s m (some n) =
     childNumbers nodes (n .kids) (m .pool) (m .rows) >>= λ r.
@@ -152,24 +154,24 @@ withPending pending m =
 
 -- takes from the building stack until it is empty: 24 unless the version has the constant's kind, then its children; 0 would tell that
 -- the fuel ran out
-unfoldable pub drain : ℕ → List Node → List (ℕ × ℕ) → Made → Result ℕ Made
+unfoldable pub drain : ℕ → List Node → List (ℕ × ℕ) → Made → Result Refusal Made
 drain zero nodes [] m = good m
-drain zero nodes (top ∷ pending) m = bad 0
+drain zero nodes (top ∷ pending) m = bad (record { code = 0; place = top .1 })
 drain (suc fuel) nodes [] m = good m
 drain (suc fuel) nodes (top ∷ pending) m =
-    unless (known (m .pool .version) (tagAt nodes (top .1))) 24 >>= λ _.
+    atRecord (top .1) (unless (known (m .pool .version) (tagAt nodes (top .1))) 24) >>= λ _.
     finish nodes (top .0) (withPending pending m) (getElem? nodes (top .1)) >>= λ m′.
     drain fuel nodes (m′ .pool .pending) m′
 
 -- raw bootstraps get their children's slots by falling index; given by falling index, the rows come out by rising index
-unfoldable pub rawRows : List Node → List (ℕ × ℕ) → Pool → List (ℕ × Row) → Result ℕ (List (ℕ × Row) × Pool)
+unfoldable pub rawRows : List Node → List (ℕ × ℕ) → Pool → List (ℕ × Row) → Result Refusal (List (ℕ × Row) × Pool)
 rawRows nodes [] p rows = good (rows, p)
 rawRows nodes (r ∷ falling) p rows =
     slotsOf nodes (kidsOf nodes (r .1)) p >>= λ row. rawRows nodes falling (row .1) ((r .0, row .0) ∷ rows)
 
 -- raw bootstraps, then the stack; each node gets at most one slot, so it is taken from no more often than it has items now and there
 -- are nodes
-unfoldable pub buildAll : List Node → List (ℕ × ℕ) → Pool → Result ℕ Made
+unfoldable pub buildAll : List Node → List (ℕ × ℕ) → Pool → Result Refusal Made
 buildAll nodes indexes p =
     rawRows nodes (reverse indexes) p [] >>= λ r.
     drain

@@ -11,6 +11,7 @@ use Rattle.definition.specs.Job.{Request, ClassSlot, slot, request, Buil
 use Rattle.definition.specs.Numbering.{constantsOf, bootstrapsOf}
 use Rattle.definition.specs.Definitions.{Held, starts, half, Naming, Defined, defineAll, nothingDefined}
 use Rattle.definition.specs.Resolving.{Goal, tableEntry, goalOf, Mark, firstNode, Resolved, childOf, resolve, resolveAll, linked, nothingResolved}
+use Rattle.definition.specs.Places.{tableRecords, atNodes}
 use Rattle.definition.specs.Slots.{highestLdc, gapsFrom, startSlots, countFrom}
 use Rattle.definition.specs.Building.{Pool, slotOf, Origin, originOf, Row, fillHoles, Made, buildAll, nameWanted, nameSlot, Content, contentOf, className}
 
@@ -102,12 +103,12 @@ layoutOf top answers origins visits class rows r =
       visits = visits;
     }
 
--- record 60
-unfoldable pub buildLayout : ℕ → List (ℕ × ℕ) → Build → List ℕ → Ready → Result ℕ Layout
-buildLayout top indexes b answers w = do
-  m ← buildAll (w .resolved .nodes) indexes (w .pool)
+-- record 60, which is record `place`; `records` are those of the table's entries
+unfoldable pub buildLayout : ℕ → List ℕ → ℕ → List (ℕ × ℕ) → Build → List ℕ → Ready → Result Refusal Layout
+buildLayout top records place indexes b answers w = do
+  m ← atNodes records (w .resolved .marks) (buildAll (w .resolved .nodes) indexes (w .pool))
   let rows = fillHoles (m .rows .written) (m .rows .waiting)
-  r ← nameSlot (nameWanted (b .nameByte) (length rows)) (w .resolved .nodes) m
+  r ← atRecord place (nameSlot (nameWanted (b .nameByte) (length rows)) (w .resolved .nodes) m)
   good (layoutOf top answers (w .origins) (w .resolved .visits) (b .class) rows r)
 
 -- the node of each raw bootstrap, by rising index
@@ -124,6 +125,11 @@ layout top job =
     let table = linked (d .names) size (constants ++ bootstrapsOf (job .definitions)) in
     atRecord ended (endDefinitions top table size d) >>= λ w.
     answerAll (d .names) size (suc ended) (job .requests) w >>= λ r.
-    atRecord
+    buildLayout
+    top
+    (tableRecords (job .definitions))
     (suc ended + length (job .requests))
-    (buildLayout top (indexNodes size (r .1 .resolved .marks) (d .indexes)) (job .build) (r .0) (r .1))
+    (indexNodes size (r .1 .resolved .marks) (d .indexes))
+    (job .build)
+    (r .0)
+    (r .1)

@@ -9,6 +9,7 @@ pub mod Form
 pub mod Numbering
 pub mod Definitions
 pub mod Resolving
+pub mod Places
 pub mod Slots
 pub mod Building
 pub mod Layout
