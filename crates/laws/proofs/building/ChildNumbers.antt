@@ -9,7 +9,7 @@ use Prim.Native.Nat.{ℕ, _-_, _≤_, _<_}
 use lib.Dec.{eqb, ltb}
 use lib.ListN.{length, getElem?}
 use borrow.Author.Tests.{eqb-true}
-use Rattle.definition.specs.Basics.{good, same, lookup, _>>=_}
+use Rattle.definition.specs.Basics.{good, same, lookup, _>>=_, atRecord}
 use Rattle.definition.specs.Shapes.{bootstrapTag, Entry, withKids}
 use Rattle.definition.specs.Definitions.{tagAt}
 use Rattle.definition.specs.Resolving.{Node, firstNode}
@@ -189,14 +189,14 @@ slotOf-node nodes ldc c p t = rw (t, slotOf)
 pub nodeNumber-row :
     (nodes : List Node) (k : ℕ) (p : Pool) (rows : Rows) →
     eqb (tagAt nodes k) bootstrapTag ≡ true →
-    nodeNumber nodes k p rows ≡ (slotsOf nodes (kidsOf nodes k) p >>= λ r. rowIndex (r .0) rows >>= λ i. good (i .0, r .1, i .1))
+    nodeNumber nodes k p rows ≡ (slotsOf nodes (kidsOf nodes k) p >>= λ r. atRecord k (rowIndex (r .0) rows) >>= λ i. good (i .0, r .1, i .1))
 unfolding nodeNumber
 nodeNumber-row nodes k p rows t = rw (t, nodeNumber)
 
 pub nodeNumber-slot :
     (nodes : List Node) (k : ℕ) (p : Pool) (rows : Rows) →
     eqb (tagAt nodes k) bootstrapTag ≡ false →
-    nodeNumber nodes k p rows ≡ (allocate nodes false k p >>= λ r. good (r .0, r .1, rows))
+    nodeNumber nodes k p rows ≡ (atRecord k (allocate nodes false k p) >>= λ r. good (r .0, r .1, rows))
 unfolding nodeNumber
 nodeNumber-slot nodes k p rows t = rw (t, nodeNumber)
 

@@ -8,13 +8,13 @@ use lib.Dec.{eqb, ltb}
 use lib.ListN.{getElem?}
 use borrow.Author.Tests.{eqb-true, eqb-false, ltb-false}
 use Rattle.definition.specs.Settings.{known}
-use Rattle.definition.specs.Basics.{good, unless}
+use Rattle.definition.specs.Basics.{good, unless, atRecord}
 use Rattle.definition.specs.Shapes.{bootstrapTag}
 use Rattle.definition.specs.Definitions.{tagAt}
 use Rattle.definition.specs.Resolving.{Node, firstNode}
 use Rattle.definition.specs.Building.{Pool, allocate, slotOf, slotsOf, Row, Rows, rowIndex, Made, kidsOf, nodeNumber, childNumber, childNumbers, finish, withPending, drain, rawRows, buildAll}
 use Rattle.facts.proofs.Each.{Each, each-reverse}
-use Rattle.facts.proofs.Results.{bad≢good, good-inj, good-then, decided}
+use Rattle.facts.proofs.Results.{bad≢good, good-inj, good-then, decided, atRecord-good}
 use Rattle.laws.proofs.resolving.NodesAndChildren.{Constant, ConstantChild, BootstrapKids}
 use Rattle.laws.proofs.slots.SlotRequest.{Met, old, new, met}
 
@@ -41,9 +41,9 @@ module _ (nodes : List Node) (bootstraps : BootstrapKids nodes) where
   unfolding slotsOf
   slotsOf-given [] p r c e h = subst (λ x. Given (x .1)) (good-inj e) h
   slotsOf-given (child ∷ children) p r c e h =
-      good-then (slotOf nodes false child p) _ r e λ a here e₁.
+      good-then (atRecord (child - firstNode) (slotOf nodes false child p)) _ r e λ a here e₁.
       good-then (slotsOf nodes children (a .1)) _ r e₁ λ rest there e₂.
-      subst (λ x. Given (x .1)) (good-inj e₂) (slotsOf-given children (a .1) rest (c .1) there (slotOf-given false child p a (c .0) here h))
+      subst (λ x. Given (x .1)) (good-inj e₂) (slotsOf-given children (a .1) rest (c .1) there (slotOf-given false child p a (c .0) (atRecord-good _ _ _ here) h))
 
   nodeNumber-given : (k : ℕ) (p : Pool) (rows : Rows) (r : ℕ × Pool × Rows) → nodeNumber nodes k p rows ≡ good r → Given p → Given (r .1)
   unfolding nodeNumber
@@ -51,11 +51,11 @@ module _ (nodes : List Node) (bootstraps : BootstrapKids nodes) where
       decided (eqb (tagAt nodes k) bootstrapTag) _ _ (good r) e
       (λ t e.
       good-then (slotsOf nodes (kidsOf nodes k) p) _ r e λ a here e₁.
-      good-then (rowIndex (a .0) rows) _ r e₁ λ i there e₂.
+      good-then (atRecord k (rowIndex (a .0) rows)) _ r e₁ λ i there e₂.
       subst (λ x. Given (x .1)) (good-inj e₂) (slotsOf-given (kidsOf nodes k) p a (bootstraps k (eqb-true (tagAt nodes k) bootstrapTag t)) here h))
       (λ t e.
-      good-then (allocate nodes false k p) _ r e λ a here e₁.
-      subst (λ x. Given (x .1)) (good-inj e₁) (allocate-given false k (a .0) p (a .1) (eqb-false (tagAt nodes k) bootstrapTag t) here h))
+      good-then (atRecord k (allocate nodes false k p)) _ r e λ a here e₁.
+      subst (λ x. Given (x .1)) (good-inj e₁) (allocate-given false k (a .0) p (a .1) (eqb-false (tagAt nodes k) bootstrapTag t) (atRecord-good _ _ _ here) h))
 
   childNumber-given : (child : ℕ) (p : Pool) (rows : Rows) (r : ℕ × Pool × Rows) → childNumber nodes child p rows ≡ good r → Given p → Given (r .1)
   unfolding childNumber
@@ -85,7 +85,7 @@ module _ (nodes : List Node) (bootstraps : BootstrapKids nodes) where
   drain-given zero (top ∷ pending) m m′ e h = bad≢good e
   drain-given (suc fuel) [] m m′ e h = subst (λ x. Given (x .pool)) (good-inj e) h
   drain-given (suc fuel) (top ∷ pending) m m′ e h =
-      good-then (unless (known (m .pool .version) (tagAt nodes (top .1))) 24) _ m′ e λ _ _ e.
+      good-then (atRecord (top .1) (unless (known (m .pool .version) (tagAt nodes (top .1))) 24)) _ m′ e λ _ _ e.
       good-then (finish nodes (top .0) (withPending pending m) (getElem? nodes (top .1))) _ m′ e λ r here e₁.
       drain-given fuel (r .pool .pending) r m′ e₁ (finish-given (top .0) (withPending pending m) r (getElem? nodes (top .1)) here h)
 

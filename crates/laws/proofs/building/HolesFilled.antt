@@ -11,7 +11,7 @@ use lib.Dec.{eqb, ltb}
 use lib.ListN.{length, getElem?, replicate, length-append}
 use borrow.Author.Tests.{eqb-true, eqb-false, ltb-true, ltb-false}
 use Rattle.definition.specs.Settings.{known}
-use Rattle.definition.specs.Basics.{Result, good, _>>=_, unless}
+use Rattle.definition.specs.Basics.{Result, good, _>>=_, unless, atRecord, Refusal}
 use Rattle.definition.specs.Shapes.{bootstrapTag}
 use Rattle.definition.specs.Definitions.{tagAt}
 use Rattle.definition.specs.Resolving.{Node, firstNode}
@@ -20,7 +20,7 @@ use Rattle.facts.specs.Lists.{Among, Rising, keys}
 use Rattle.facts.proofs.Lists.{order, found-inside, inside-found, append-at, length-filled, found-filled, found-replicate, among-cons, among-later, among-right}
 use Rattle.facts.proofs.Tables.{rising-from}
 use Rattle.facts.proofs.Each.{Both}
-use Rattle.facts.proofs.Results.{bad≢good, good-inj, good-first}
+use Rattle.facts.proofs.Results.{bad≢good, good-inj, good-first, atRecord-good}
 use Rattle.laws.proofs.resolving.NodesAndChildren.{KidsIn, kids-in}
 use Rattle.laws.proofs.slots.SlotsToHold.{toHold}
 use Rattle.laws.proofs.building.RowsThatOccur.{write-next, write-stop, row-old, row-new, take-some, take-none}
@@ -242,21 +242,21 @@ module _ (nodes : List Node) (indexes raws : List (ℕ × ℕ)) where
         n : ℕ
         n = c - firstNode
 
-        of-row : firstNode ≤ c → tagAt nodes n ≡ bootstrapTag → (slotsOf nodes (kidsOf nodes n) p >>= λ x. rowIndex (x .0) rows >>= λ i. good (i .0, x .1, i .1)) ≡ good r → After p (r .1, r .2)
+        of-row : firstNode ≤ c → tagAt nodes n ≡ bootstrapTag → (slotsOf nodes (kidsOf nodes n) p >>= λ x. atRecord n (rowIndex (x .0) rows) >>= λ i. good (i .0, x .1, i .1)) ≡ good r → After p (r .1, r .2)
         of-row high tag e′ =
-            let (x, isSlots, rest) = good-first (slotsOf nodes (kidsOf nodes n) p) (λ x. rowIndex (x .0) rows >>= λ i. good (i .0, x .1, i .1)) r e′ in
-            let (i, isRow, is) = good-first (rowIndex (x .0) rows) (λ i. good (i .0, x .1, i .1)) r rest in
+            let (x, isSlots, rest) = good-first (slotsOf nodes (kidsOf nodes n) p) (λ x. atRecord n (rowIndex (x .0) rows) >>= λ i. good (i .0, x .1, i .1)) r e′ in
+            let (i, isRow, is) = good-first (atRecord n (rowIndex (x .0) rows)) (λ i. good (i .0, x .1, i .1)) r rest in
             let slots = allSlotted nodes (kidsOf nodes n) p x (kids-in nodes kids n) isSlots in
             subst (λ (y : ℕ × Pool × Rows). After p (y .1, y .2)) (good-inj is) (
               slots .0,
-              told-row (x .1 .given) (x .0) rows i (s, k, nd, c, held-grown (slots .0) s k a, at, cited, high, tag, slots .1) (told-grown rows (slots .0) h) isRow,
+              told-row (x .1 .given) (x .0) rows i (s, k, nd, c, held-grown (slots .0) s k a, at, cited, high, tag, slots .1) (told-grown rows (slots .0) h) (atRecord-good _ _ _ isRow),
             )
 
-        of-slot : firstNode ≤ c → (allocate nodes false n p >>= λ x. good (x .0, x .1, rows)) ≡ good r → After p (r .1, r .2)
+        of-slot : firstNode ≤ c → (atRecord n (allocate nodes false n p) >>= λ x. good (x .0, x .1, rows)) ≡ good r → After p (r .1, r .2)
         of-slot high e′ =
-            let (x, isSlot, is) = good-first (allocate nodes false n p) (λ x. good (x .0, x .1, rows)) r e′ in
+            let (x, isSlot, is) = good-first (atRecord n (allocate nodes false n p)) (λ x. good (x .0, x .1, rows)) r e′ in
             let below = kids k nd at c cited high in
-            let got = allocated nodes false n p x (omega (arith, below, high)) isSlot in
+            let got = allocated nodes false n p x (omega (arith, below, high)) (atRecord-good _ _ _ isSlot) in
             subst (λ (y : ℕ × Pool × Rows). After p (y .1, y .2)) (good-inj is) (got .0, told-grown rows (got .0) h)
 
         of-node : firstNode ≤ c → nodeNumber nodes n p rows ≡ good r → (b : Bool) → eqb (tagAt nodes n) bootstrapTag ≡ b → After p (r .1, r .2)
@@ -310,14 +310,14 @@ module _ (nodes : List Node) (indexes raws : List (ℕ × ℕ)) where
   told-drained zero (top ∷ pending) m m′ kids b h e = bad≢good e
   told-drained (suc fuel) [] m m′ kids b h e = subst (λ (x : Made). Told (x .pool .given) (x .rows)) (good-inj e) h
   told-drained (suc fuel) (top ∷ pending) m m′ kids b h e =
-      let (x, isOne, rest) = good-first (finish nodes (top .0) (withPending pending m) (getElem? nodes (top .1))) (λ x. drain fuel nodes (x .pool .pending) x) m′ (good-first (unless (known (m .pool .version) (tagAt nodes (top .1))) 24) (λ _. finish nodes (top .0) (withPending pending m) (getElem? nodes (top .1)) >>= λ x. drain fuel nodes (x .pool .pending) x) m′ e .2) in
+      let (x, isOne, rest) = good-first (finish nodes (top .0) (withPending pending m) (getElem? nodes (top .1))) (λ x. drain fuel nodes (x .pool .pending) x) m′ (good-first (atRecord (top .1) (unless (known (m .pool .version) (tagAt nodes (top .1))) 24)) (λ _. finish nodes (top .0) (withPending pending m) (getElem? nodes (top .1)) >>= λ x. drain fuel nodes (x .pool .pending) x) m′ e .2) in
       told-drained fuel (x .pool .pending) x m′ kids (drained-one nodes indexes raws top pending m x kids b isOne .building) (told-finished top pending m x kids b h isOne) rest
 
   module _ (p : Pool) (m : Made) (starts : Starts nodes raws p) (done : buildAll nodes indexes p ≡ good m) where
     told-built : Told (m .pool .given) (m .rows)
     unfolding buildAll
     told-built =
-        let rest : List (ℕ × Row) × Pool → Result ℕ Made = λ r. drain (length (r .1 .pending) + length nodes) nodes (r .1 .pending) (startMade r) in
+        let rest : List (ℕ × Row) × Pool → Result Refusal Made = λ r. drain (length (r .1 .pending) + length nodes) nodes (r .1 .pending) (startMade r) in
         let (r, isRaw, drains) = good-first (rawRows nodes (reverse indexes) p []) rest m done in
         let raw = rawMade nodes (reverse indexes) [] p [] r (starts .kidsIn) tt isRaw in
         let each : RawEach nodes (r .1 .given) indexes (r .0) = rw (reverse-reverse indexes) at (raw .1) in

@@ -10,7 +10,7 @@ use lib.Dec.{eqb, ltb}
 use lib.ListN.{length, getElem?, replicate, length-append}
 use borrow.Author.Tests.{eqb-true, eqb-false, ltb-true, ltb-false}
 use Rattle.definition.specs.Settings.{known}
-use Rattle.definition.specs.Basics.{Result, good, lookup, _>>=_, unless}
+use Rattle.definition.specs.Basics.{Result, good, lookup, _>>=_, unless, atRecord, Refusal}
 use Rattle.definition.specs.Shapes.{bootstrapTag, Entry, withKids}
 use Rattle.definition.specs.Definitions.{Held, tagAt}
 use Rattle.definition.specs.Resolving.{Node, firstNode}
@@ -18,7 +18,7 @@ use Rattle.definition.specs.Building.{Pool, allocate, slotOf, slotsOf, Row, Row
 use Rattle.facts.specs.Lists.{Among, Rising, keys}
 use Rattle.facts.proofs.Lists.{inside-found, found-append, append-at, found-seam, found-replicate, found-filled, length-filled, among-nil, among-cons, among-later, among-left, among-right, among-either}
 use Rattle.facts.proofs.Each.{Both, both-map, both-first, both-second}
-use Rattle.facts.proofs.Results.{bad≢good, good-inj, good-first}
+use Rattle.facts.proofs.Results.{bad≢good, good-inj, good-first, atRecord-good}
 use Rattle.laws.specs.Statements.{Occurs, afterRequest, stackTaken}
 use Rattle.laws.proofs.resolving.NodesAndChildren.{InNodes, KidsIn, kids-in}
 use Rattle.laws.proofs.slots.SlotRequest.{Met, old, new, met}
@@ -124,10 +124,10 @@ module _ (nodes : List Node) where
   unfolding slotsOf
   allSlotted [] p r below e = subst (λ x. AllSlotted [] p x) (good-inj e) (grown-not, tt)
   allSlotted (c ∷ cs) p r below e =
-      let first = good-first (slotOf nodes false c p) (λ x. slotsOf nodes cs (x .1) >>= λ rest. good (x .0 ∷ rest .0, rest .1)) r e in
+      let first = good-first (atRecord (c - firstNode) (slotOf nodes false c p)) (λ x. slotsOf nodes cs (x .1) >>= λ rest. good (x .0 ∷ rest .0, rest .1)) r e in
       let x = first .0 in
       let others = good-first (slotsOf nodes cs (x .1)) (λ rest. good (x .0 ∷ rest .0, rest .1)) r (first .2) in
-      let one = slotted false c p x (below c (0, refl)) (first .1) in
+      let one = slotted false c p x (below c (0, refl)) (atRecord-good _ _ _ (first .1)) in
       let more = allSlotted cs (x .1) (others .0) (in-nodes-tail c cs below) (others .1) in
       subst
       (λ y. AllSlotted (c ∷ cs) p y)
@@ -457,15 +457,15 @@ module _ (nodes : List Node) where
         InlineThere rows →
         firstNode ≤ c →
         tagAt nodes (c - firstNode) ≡ bootstrapTag →
-        (slotsOf nodes (kidsOf nodes (c - firstNode)) p >>= λ x. rowIndex (x .0) rows >>= λ i. good (i .0, x .1, i .1)) ≡ good r →
+        (slotsOf nodes (kidsOf nodes (c - firstNode)) p >>= λ x. atRecord (c - firstNode) (rowIndex (x .0) rows) >>= λ i. good (i .0, x .1, i .1)) ≡ good r →
         Numbered c p rows r
     numbered-row c p rows r kids there node tag e =
         let k = c - firstNode in
-        let first = good-first (slotsOf nodes (kidsOf nodes k) p) (λ x. rowIndex (x .0) rows >>= λ i. good (i .0, x .1, i .1)) r e in
+        let first = good-first (slotsOf nodes (kidsOf nodes k) p) (λ x. atRecord k (rowIndex (x .0) rows) >>= λ i. good (i .0, x .1, i .1)) r e in
         let x = first .0 in
-        let second = good-first (rowIndex (x .0) rows) (λ i. good (i .0, x .1, i .1)) r (first .2) in
+        let second = good-first (atRecord k (rowIndex (x .0) rows)) (λ i. good (i .0, x .1, i .1)) r (first .2) in
         let slots = allSlotted (kidsOf nodes k) p x (kids-in nodes kids k) (first .1) in
-        let at = indexed (x .1 .given) (x .0) rows (second .0) there (second .1) in
+        let at = indexed (x .1 .given) (x .0) rows (second .0) there (atRecord-good _ _ _ (second .1)) in
         subst
         (λ y. Numbered c p rows y)
         (good-inj (second .2)) (
@@ -484,11 +484,11 @@ module _ (nodes : List Node) where
         firstNode ≤ c →
         c < firstNode + length nodes →
         (tagAt nodes (c - firstNode) ≡ bootstrapTag → ⊥) →
-        (allocate nodes false (c - firstNode) p >>= λ x. good (x .0, x .1, rows)) ≡ good r →
+        (atRecord (c - firstNode) (allocate nodes false (c - firstNode) p) >>= λ x. good (x .0, x .1, rows)) ≡ good r →
         Numbered c p rows r
     numbered-slot c p rows r there node below tag e =
-        let first = good-first (allocate nodes false (c - firstNode) p) (λ x. good (x .0, x .1, rows)) r e in
-        let got = allocated false (c - firstNode) p (first .0) (omega arith) (first .1) in
+        let first = good-first (atRecord (c - firstNode) (allocate nodes false (c - firstNode) p)) (λ x. good (x .0, x .1, rows)) r e in
+        let got = allocated false (c - firstNode) p (first .0) (omega arith) (atRecord-good _ _ _ (first .1)) in
         subst (λ y. Numbered c p rows y) (good-inj (first .2)) (stepped-pool rows there (got .0), inr (inl (node, tag, got .1)))
 
     numbered :
@@ -525,7 +525,7 @@ module _ (nodes : List Node) where
         (c : ℕ) (cs : List ℕ) (p : Pool) (rows : Rows) (x : ℕ × Pool × Rows) (rest r : List ℕ × Pool × Rows) →
         Numbered c p rows x →
         AllNumbered cs (x .1) (x .2) rest →
-        _≡_ {A = Result ℕ (List ℕ × Pool × Rows)} (good (x .0 ∷ rest .0, rest .1, rest .2)) (good r) →
+        _≡_ {A = Result Refusal (List ℕ × Pool × Rows)} (good (x .0 ∷ rest .0, rest .1, rest .2)) (good r) →
         AllNumbered (c ∷ cs) p rows r
     numbered-cons c cs p rows x rest r one more e =
         subst
@@ -684,7 +684,7 @@ module _ (nodes : List Node) where
     drained zero raws (top ∷ pending) m m′ kids h e = bad≢good e
     drained (suc fuel) raws [] m m′ kids h e = drained-not h (good-inj e)
     drained (suc fuel) raws (top ∷ pending) m m′ kids h e =
-        let first = good-first (finish nodes (top .0) (withPending pending m) (getElem? nodes (top .1))) (λ x. drain fuel nodes (x .pool .pending) x) m′ (good-first (unless (known (m .pool .version) (tagAt nodes (top .1))) 24) (λ _. finish nodes (top .0) (withPending pending m) (getElem? nodes (top .1)) >>= λ x. drain fuel nodes (x .pool .pending) x) m′ e .2) in
+        let first = good-first (finish nodes (top .0) (withPending pending m) (getElem? nodes (top .1))) (λ x. drain fuel nodes (x .pool .pending) x) m′ (good-first (atRecord (top .1) (unless (known (m .pool .version) (tagAt nodes (top .1))) 24)) (λ _. finish nodes (top .0) (withPending pending m) (getElem? nodes (top .1)) >>= λ x. drain fuel nodes (x .pool .pending) x) m′ e .2) in
         let x = first .0 in
         let one = drained-one raws top pending m x kids h (first .1) in
         drained-twice one (drained fuel raws (x .pool .pending) x m′ kids (one .building) (first .2))
@@ -721,7 +721,7 @@ module _ (nodes : List Node) where
     pub built : (raws : List (ℕ × ℕ)) (p : Pool) (m : Made) → Starts nodes raws p → buildAll nodes indexes p ≡ good m → Built raws p m
     unfolding buildAll
     built raws p m h e =
-        let rest : List (ℕ × Row) × Pool → Result ℕ Made =
+        let rest : List (ℕ × Row) × Pool → Result Refusal Made =
         λ r. drain (length (r .1 .pending) + length nodes) nodes (r .1 .pending) (startMade r) in
         let first = good-first (rawRows nodes (reverse indexes) p []) rest m e in
         let r = first .0 in

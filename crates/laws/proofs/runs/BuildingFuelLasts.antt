@@ -16,8 +16,8 @@ use Rattle.definition.specs.Slots.{Slots, slotFor}
 use Rattle.definition.specs.Building.{Pool, noSlot, give, allocate, slotOf, slotsOf, Row, Rows, writeRaw, indexOf, takeIndex, rowIndex, Made, kidsOf, nodeNumber, childNumber, childNumbers, finish, withPending, drain, rawRows, buildAll, attributeText, nameSlot}
 use Rattle.facts.proofs.Tables.{lookup-hit, lookup-miss}
 use Rattle.facts.proofs.Each.{Each, each-at, each-weaker}
-use Rattle.facts.proofs.Outcomes.{Ends, well, refused, next, Anything, unless-ends}
-use Rattle.laws.proofs.form.RefusalNumbers.{NonZero, nonZero}
+use Rattle.facts.proofs.Outcomes.{Ends, well, refused, next, Anything, unless-ends, atRecord-ends}
+use Rattle.laws.proofs.form.RefusalNumbers.{NonZero, nonZero, Coded}
 use Rattle.laws.proofs.resolving.OwedVisits.{Child}
 use Rattle.laws.proofs.runs.UpToBuilding.{allocate-ends}
 
@@ -147,11 +147,11 @@ slotOf-pays nodes ldc child p less = go (ltb child firstNode) refl
         rw (e, slotOf) (allocate-pays nodes ldc (child - firstNode) p less′)
 
 slotsOf-pays :
-    (nodes : List Node) (children : List ℕ) (p : Pool) → Each (There nodes) children → Ends NonZero (λ r. NoMore nodes p (r .1)) (slotsOf nodes children p)
+    (nodes : List Node) (children : List ℕ) (p : Pool) → Each (There nodes) children → Ends Coded (λ r. NoMore nodes p (r .1)) (slotsOf nodes children p)
 unfolding slotsOf NoMore
 slotsOf-pays nodes [] p there = well {a = ([], p)} (omega arith)
 slotsOf-pays nodes (child ∷ children) p there =
-    next _ (slotOf-pays nodes false child p (there .0)) λ r h.
+    next _ (atRecord-ends _ (slotOf-pays nodes false child p (there .0))) λ r h.
     next _ (slotsOf-pays nodes children (r .1) (there .1)) λ rest k.
     well {a = (r .0 ∷ rest .0, rest .1)} (omega arith)
 
@@ -175,27 +175,27 @@ nodeNumber-pays :
     (nodes : List Node) (k : ℕ) (p : Pool) (rows : Rows) →
     AllThere nodes →
     k < length nodes →
-    Ends NonZero (λ r. NoMore nodes p (r .1)) (nodeNumber nodes k p rows)
+    Ends Coded (λ r. NoMore nodes p (r .1)) (nodeNumber nodes k p rows)
 unfolding nodeNumber
 nodeNumber-pays nodes k p rows there less = go (eqb (tagAt nodes k) bootstrapTag) refl
   where
-    go : (b : Bool) → eqb (tagAt nodes k) bootstrapTag ≡ b → Ends NonZero (λ r. NoMore nodes p (r .1)) (nodeNumber nodes k p rows)
+    go : (b : Bool) → eqb (tagAt nodes k) bootstrapTag ≡ b → Ends Coded (λ r. NoMore nodes p (r .1)) (nodeNumber nodes k p rows)
     go true e =
         rw
         (e, nodeNumber)
         (next _ (slotsOf-pays nodes (kidsOf nodes k) p (kidsOf-there nodes k there)) λ r h.
-        next _ (rowIndex-ends (r .0) rows) λ i _. well {a = (i .0, r .1, i .1)} h)
-    go false e = rw (e, nodeNumber) (next _ (allocate-pays nodes false k p less) λ r h. well {a = (r .0, r .1, rows)} h)
+        next _ (atRecord-ends k (rowIndex-ends (r .0) rows)) λ i _. well {a = (i .0, r .1, i .1)} h)
+    go false e = rw (e, nodeNumber) (next _ (atRecord-ends k (allocate-pays nodes false k p less)) λ r h. well {a = (r .0, r .1, rows)} h)
 
 childNumber-pays :
     (nodes : List Node) (child : ℕ) (p : Pool) (rows : Rows) →
     AllThere nodes →
     There nodes child →
-    Ends NonZero (λ r. NoMore nodes p (r .1)) (childNumber nodes child p rows)
+    Ends Coded (λ r. NoMore nodes p (r .1)) (childNumber nodes child p rows)
 unfolding childNumber NoMore
 childNumber-pays nodes child p rows there less = go (ltb child firstNode) refl
   where
-    go : (b : Bool) → ltb child firstNode ≡ b → Ends NonZero (λ r. NoMore nodes p (r .1)) (childNumber nodes child p rows)
+    go : (b : Bool) → ltb child firstNode ≡ b → Ends Coded (λ r. NoMore nodes p (r .1)) (childNumber nodes child p rows)
     go true e = rw (e, childNumber) (well {a = (child, p, rows)} (omega arith))
     go false e =
         let high = ltb-false child firstNode e in
@@ -206,7 +206,7 @@ childNumbers-pay :
     (nodes : List Node) (children : List ℕ) (p : Pool) (rows : Rows) →
     AllThere nodes →
     Each (There nodes) children →
-    Ends NonZero (λ r. NoMore nodes p (r .1)) (childNumbers nodes children p rows)
+    Ends Coded (λ r. NoMore nodes p (r .1)) (childNumbers nodes children p rows)
 unfolding childNumbers NoMore
 childNumbers-pay nodes [] p rows there less = well {a = ([], p, rows)} (omega arith)
 childNumbers-pay nodes (child ∷ children) p rows there less =
@@ -218,7 +218,7 @@ finish-pays :
     (nodes : List Node) (s k : ℕ) (m : Made) (o : Option Node) →
     AllThere nodes →
     getElem? nodes k ≡ o →
-    Ends NonZero (λ m′. NoMore nodes (m .pool) (m′ .pool)) (finish nodes s m o)
+    Ends Coded (λ m′. NoMore nodes (m .pool) (m′ .pool)) (finish nodes s m o)
 unfolding finish NoMore AllThere
 finish-pays nodes s k m none there e = well {a = m} (omega arith)
 finish-pays nodes s k m (some n) there e =
@@ -231,25 +231,25 @@ drain-lasts :
     (fuel : ℕ) (nodes : List Node) (pending : List (ℕ × ℕ)) (m : Made) →
     AllThere nodes →
     length pending + slotless (m .pool .given) (length nodes) ≤ fuel →
-    Ends NonZero Anything (drain fuel nodes pending m)
+    Ends Coded Anything (drain fuel nodes pending m)
 unfolding drain withPending NoMore debt
 drain-lasts zero nodes [] m there h = well tt
 drain-lasts zero nodes (top ∷ pending) m there h = absurd (omega arith)
 drain-lasts (suc fuel) nodes [] m there h = well tt
 drain-lasts (suc fuel) nodes (top ∷ pending) m there h =
-    next _ (unless-ends _ 24 (nonZero 24 tt)) λ _ _.
+    next _ (atRecord-ends _ (unless-ends _ 24 (nonZero 24 tt))) λ _ _.
     next _ (finish-pays nodes (top .0) (top .1) (withPending pending m) (getElem? nodes (top .1)) there refl) λ m′ k.
     drain-lasts fuel nodes (m′ .pool .pending) m′ there (omega arith)
 
 rawRows-end :
-    (nodes : List Node) (falling : List (ℕ × ℕ)) (p : Pool) (rows : List (ℕ × Row)) → AllThere nodes → Ends NonZero Anything (rawRows nodes falling p rows)
+    (nodes : List Node) (falling : List (ℕ × ℕ)) (p : Pool) (rows : List (ℕ × Row)) → AllThere nodes → Ends Coded Anything (rawRows nodes falling p rows)
 unfolding rawRows
 rawRows-end nodes [] p rows there = well tt
 rawRows-end nodes (r ∷ falling) p rows there =
     next _ (slotsOf-pays nodes (kidsOf nodes (r .1)) p (kidsOf-there nodes (r .1) there)) λ row _.
     rawRows-end nodes falling (row .1) ((r .0, row .0) ∷ rows) there
 
-pub buildAll-lasts : (nodes : List Node) (indexes : List (ℕ × ℕ)) (p : Pool) → AllThere nodes → Ends NonZero Anything (buildAll nodes indexes p)
+pub buildAll-lasts : (nodes : List Node) (indexes : List (ℕ × ℕ)) (p : Pool) → AllThere nodes → Ends Coded Anything (buildAll nodes indexes p)
 unfolding buildAll
 buildAll-lasts nodes indexes p there =
     next _ (rawRows-end nodes (reverse indexes) p [] there) λ r _.

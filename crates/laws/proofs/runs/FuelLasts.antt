@@ -4,6 +4,7 @@ use Prim.Native.Nat.{ℕ, _+_}
 use native.Mathlib.Omega.{arith}
 use lib.Dec.{leb}
 use lib.ListN.{length}
+use Rattle.laws.proofs.building.LayoutStages.{atNodes-ends}
 use Rattle.definition.specs.Job.{Build, Job}
 use Rattle.definition.specs.Numbering.{topOf, entries, literals, numbered}
 use Rattle.definition.specs.Building.{fillHoles, nameWanted}
@@ -22,14 +23,14 @@ use Rattle.laws.proofs.runs.BuildingFuelLasts.{allThere, buildAll-lasts
 
 -- building, where no node has a child that isn't there
 buildLayout-lasts :
-    (n top : ℕ) (indexes : List (ℕ × ℕ)) (b : Build) (answers : List ℕ) (w : Ready) →
+    (n top : ℕ) (records : List ℕ) (place : ℕ) (indexes : List (ℕ × ℕ)) (b : Build) (answers : List ℕ) (w : Ready) →
     Runs (Unit {0}) n w →
-    Ends NonZero Anything (buildLayout top indexes b answers w)
+    Ends Coded Anything (buildLayout top records place indexes b answers w)
 unfolding buildLayout
-buildLayout-lasts n top indexes b answers w r =
-    next _ (buildAll-lasts (w .resolved .nodes) indexes (w .pool) (allThere (w .resolved .nodes) (r .fit tt .nodesFit))) λ m _.
+buildLayout-lasts n top records place indexes b answers w r =
+    next _ (atNodes-ends NonZero records (w .resolved .marks) (buildAll-lasts (w .resolved .nodes) indexes (w .pool) (allThere (w .resolved .nodes) (r .fit tt .nodesFit)))) λ m _.
     let rows = fillHoles (m .rows .written) (m .rows .waiting) in
-    next _ (nameSlot-ends (nameWanted (b .nameByte) (length rows)) (w .resolved .nodes) m) λ s _. well tt
+    next _ (atRecord-ends place (nameSlot-ends (nameWanted (b .nameByte) (length rows)) (w .resolved .nodes) m)) λ s _. well tt
 
 layout-lasts : (top : ℕ) (job : Job (List ℕ)) → JobLow job → Ends Coded Anything (layout top (numbered job))
 unfolding numbered

@@ -21,7 +21,7 @@ use Rattle.laws.proofs.form.RefusalNumbers.{Early, Late}
 use Rattle.laws.proofs.form.FormRefusals.{form-early}
 use Rattle.laws.proofs.definitions.DefinitionRefusals.{defineAll-ends}
 use Rattle.laws.proofs.resolving.ResolvingRefusals.{TableRefused, goalOf-early, linked-early, resolve-early, endDefinitions-early}
-use Rattle.laws.proofs.building.LayoutStages.{constantsIn, tableIn, rowsIn}
+use Rattle.laws.proofs.building.LayoutStages.{constantsIn, tableIn, rowsIn, known-nodes}
 use Rattle.laws.proofs.runs.StepsOfRuns.{goalFor, Reaches, afterFifty, afterAnswer, rawsAt, forRequest, forChild, forName, LayoutRefused, early, tooNew, sixteen, atSlot, atRow}
 use Rattle.laws.proofs.runs.StepsOfBuilding.{slotOf-by, buildAll-steps}
 
@@ -85,16 +85,16 @@ module _ (top : ℕ) (job : Job ℕ) where
         (ended (allocate (intern attributeText nodes) false k (m .pool)) (λ r e. tt) λ code e.
         atSlot (intern attributeText nodes) false k (m .pool) (forName d w m at made is) e) λ r _. well tt
 
-    buildLayout-steps : (answers : List ℕ) (w : Ready) → Reaches top job d [] w → Ends Z Anything (buildLayout top (rawsAt job d w) (job .build) answers w)
+    buildLayout-steps : (answers : List ℕ) (w : Ready) → Reaches top job d [] w → (records : List ℕ) (place : ℕ) → Ends (λ e. Z (e .code)) Anything (buildLayout top records place (rawsAt job d w) (job .build) answers w)
     unfolding buildLayout
-    buildLayout-steps answers w at =
+    buildLayout-steps answers w at records place =
         let nodes = w .resolved .nodes in
         next _
-        (known-good (buildAll nodes (rawsAt job d w) (w .pool))
+        (known-nodes Z records (w .resolved .marks) (buildAll nodes (rawsAt job d w) (w .pool))
         (buildAll-steps nodes (rawsAt job d w) (w .pool) Z Z-empty (tooNew refl)
         (λ k c code p o a high e. atSlot nodes false (c - firstNode) p (forChild d w k c p at o a high) e)
         (λ row code rows q is e. atRow row rows (record { defined = d; state = w; reached = at; rowsIn = q; rowOf = is }) e))) λ m k.
-        next _ (nameSlot-steps (nameWanted (job .build .nameByte) (length (rowsIn m))) w m at (k .1) refl) λ s _. well tt
+        next _ (atRecord-ends place (nameSlot-steps (nameWanted (job .build .nameByte) (length (rowsIn m))) w m at (k .1) refl)) λ s _. well tt
 
   layout-steps : Ends (λ e. Z (e .code)) Anything (layout top job)
   unfolding layout
@@ -107,7 +107,7 @@ module _ (top : ℕ) (job : Job ℕ) where
       (known-good (endDefinitions top (tableIn job d) size d)
       (endDefinitions-early Z-early Z-empty (tableIn job d) (linked-early Z-early Z-empty (d .names) size (constantsIn job ++ bootstrapsOf (job .definitions))) top size d))) λ w ready.
       next _ (answerAll-steps d _ (job .requests) w (afterFifty w (defined .1) (ready .1)) (ready .0)) λ r at.
-      atRecord-ends _ (buildLayout-steps d (r .0) (r .1) at)
+      buildLayout-steps d (r .0) (r .1) at _ _
 
 -- ---- and so does a run
 

@@ -7,14 +7,14 @@ use Prim.Native.Nat.{ℕ, zero, suc, _+_, _-_, _≤_}
 use lib.Dec.{eqb, ltb}
 use lib.ListN.{length, getElem?}
 use borrow.Author.Tests.{eqb-true, ltb-false}
-use Rattle.definition.specs.Basics.{good, bad}
+use Rattle.definition.specs.Basics.{good, bad, Refusal}
 use Rattle.definition.specs.Shapes.{bootstrapTag}
 use Rattle.definition.specs.Definitions.{tagAt}
 use Rattle.definition.specs.Resolving.{Node, firstNode}
 use Rattle.definition.specs.Building.{Pool, allocate, slotOf, slotsOf, Row, Rows, rowIndex, Made, kidsOf, nodeNumber, childNumber, childNumbers, finish, withPending, drain, rawRows, buildAll}
 use Rattle.facts.specs.Lists.{Among}
 use Rattle.facts.proofs.Each.{Each, each-from}
-use Rattle.facts.proofs.Outcomes.{Ends, well, refused, next, ended, known-good, unless-ends}
+use Rattle.facts.proofs.Outcomes.{Ends, well, refused, next, ended, known-good, unless-ends, atRecord-ends}
 use Rattle.laws.proofs.resolving.NodesAndChildren.{kids-found}
 use Rattle.laws.proofs.runs.StepsOfRuns.{PoolIn, atStart, afterChild, afterTaken, RowOf, RowsIn, rawOnes, afterInline}
 
@@ -66,11 +66,14 @@ module _
       (λ r e. afterChild (h .0) c (r .0) p (r .1) o (h .1) high e)
       (λ code e. noSlotFor (h .0) c code p o (h .1) high e)
 
-  slotsOf-steps : (children : List ℕ) (p : Pool) → Each Kid children → P p → Ends Z (λ r. P (r .1)) (slotsOf nodes children p)
+  abbrev ZC : Refusal → Type 0
+  ZC e = Z (e .code)
+
+  slotsOf-steps : (children : List ℕ) (p : Pool) → Each Kid children → P p → Ends ZC (λ r. P (r .1)) (slotsOf nodes children p)
   unfolding slotsOf
   slotsOf-steps [] p h o = well {a = ([], p)} o
   slotsOf-steps (c ∷ children) p h o =
-      next _ (slotOf-by nodes false c p o (λ high. child-steps c p (h .0) high o)) λ r o₁.
+      next _ (atRecord-ends _ (slotOf-by nodes false c p o (λ high. child-steps c p (h .0) high o))) λ r o₁.
       next _ (slotsOf-steps children (r .1) (h .1) o₁) λ rest o₂.
       well {a = (r .0 ∷ rest .0, rest .1)} o₂
 
@@ -80,7 +83,7 @@ module _
       firstNode ≤ c →
       P p →
       R rows →
-      Ends Z (λ r. P (r .1) × R (r .2)) (nodeNumber nodes (c - firstNode) p rows)
+      Ends ZC (λ r. P (r .1) × R (r .2)) (nodeNumber nodes (c - firstNode) p rows)
   unfolding nodeNumber
   nodeNumber-steps c p rows h high o q = go (eqb (tagAt nodes (c - firstNode)) bootstrapTag) refl
     where
@@ -93,23 +96,23 @@ module _
       go :
           (b : Bool) →
           eqb (tagAt nodes (c - firstNode)) bootstrapTag ≡ b →
-          Ends Z (λ r. P (r .1) × R (r .2)) (nodeNumber nodes (c - firstNode) p rows)
+          Ends ZC (λ r. P (r .1) × R (r .2)) (nodeNumber nodes (c - firstNode) p rows)
       go true t =
           rw
           (t, nodeNumber)
           (next _ (known-good (slotsOf nodes (kidsOf nodes k) p) (slotsOf-steps (kidsOf nodes k) p (kids-are k) o)) λ r o₁.
-          next _ (index-steps (r .0) (row-of r t (o₁ .1))) λ i q₁. well {a = (i .0, r .1, i .1)} (o₁ .0, q₁))
+          next _ (atRecord-ends k (index-steps (r .0) (row-of r t (o₁ .1)))) λ i q₁. well {a = (i .0, r .1, i .1)} (o₁ .0, q₁))
         where
           index-steps : (row : Row) → RowOf nodes start row → Ends Z (λ r. R (r .1)) (rowIndex row rows)
           index-steps row is =
               ended (rowIndex row rows) (λ r e. afterInline row (r .0) rows (r .1) q is e) (λ code e. noIndexFor row code rows q is e)
-      go false t = rw (t, nodeNumber) (next _ (child-steps c p h high o) λ r o₁. well {a = (r .0, r .1, rows)} (o₁, q))
+      go false t = rw (t, nodeNumber) (next _ (atRecord-ends k (child-steps c p h high o)) λ r o₁. well {a = (r .0, r .1, rows)} (o₁, q))
 
-  childNumber-steps : (c : ℕ) (p : Pool) (rows : Rows) → Kid c → P p → R rows → Ends Z (λ r. P (r .1) × R (r .2)) (childNumber nodes c p rows)
+  childNumber-steps : (c : ℕ) (p : Pool) (rows : Rows) → Kid c → P p → R rows → Ends ZC (λ r. P (r .1) × R (r .2)) (childNumber nodes c p rows)
   unfolding childNumber
   childNumber-steps c p rows h o q = go (ltb c firstNode) refl
     where
-      go : (b : Bool) → ltb c firstNode ≡ b → Ends Z (λ r. P (r .1) × R (r .2)) (childNumber nodes c p rows)
+      go : (b : Bool) → ltb c firstNode ≡ b → Ends ZC (λ r. P (r .1) × R (r .2)) (childNumber nodes c p rows)
       go true e = rw (e, childNumber) (well {a = (c, p, rows)} (o, q))
       go false e = rw (e, childNumber) (nodeNumber-steps c p rows h (ltb-false c firstNode e) o q)
 
@@ -118,7 +121,7 @@ module _
       Each Kid children →
       P p →
       R rows →
-      Ends Z (λ r. P (r .1) × R (r .2)) (childNumbers nodes children p rows)
+      Ends ZC (λ r. P (r .1) × R (r .2)) (childNumbers nodes children p rows)
   unfolding childNumbers
   childNumbers-step [] p rows h o q = well {a = ([], p, rows)} (o, q)
   childNumbers-step (c ∷ children) p rows h o q =
@@ -131,30 +134,30 @@ module _
       getElem? nodes k ≡ o →
       P (m .pool) →
       R (m .rows) →
-      Ends Z (λ m′. P (m′ .pool) × R (m′ .rows)) (finish nodes s m o)
+      Ends ZC (λ m′. P (m′ .pool) × R (m′ .rows)) (finish nodes s m o)
   unfolding finish
   finish-steps s k m none e o q = well {a = m} (o, q)
   finish-steps s k m (some n) e o q =
       next _ (childNumbers-step (n .kids) (m .pool) (m .rows) (subst (Each Kid) (kids-found nodes k n e) (kids-are k)) o q) λ r k₁. well k₁
 
   drain-steps :
-      (fuel : ℕ) (pending : List (ℕ × ℕ)) (m : Made) → P (m .pool) → R (m .rows) → Ends Z (λ m′. P (m′ .pool) × R (m′ .rows)) (drain fuel nodes pending m)
+      (fuel : ℕ) (pending : List (ℕ × ℕ)) (m : Made) → P (m .pool) → R (m .rows) → Ends ZC (λ m′. P (m′ .pool) × R (m′ .rows)) (drain fuel nodes pending m)
   unfolding drain withPending
   drain-steps zero [] m o q = well {a = m} (o, q)
   drain-steps zero (top ∷ pending) m o q = refused empty
   drain-steps (suc fuel) [] m o q = well {a = m} (o, q)
   drain-steps (suc fuel) (top ∷ pending) m o q =
-      next _ (unless-ends _ 24 tooNew) λ _ _.
+      next _ (atRecord-ends _ (unless-ends _ 24 tooNew)) λ _ _.
       next _ (finish-steps (top .0) (top .1) (withPending pending m) (getElem? nodes (top .1)) refl (afterTaken pending (m .pool) o) q) λ m′ k.
       drain-steps fuel (m′ .pool .pending) m′ (k .0) (k .1)
 
-  rawRows-step : (falling : List (ℕ × ℕ)) (p : Pool) (rows : List (ℕ × Row)) → P p → Ends Z (λ r. P (r .1)) (rawRows nodes falling p rows)
+  rawRows-step : (falling : List (ℕ × ℕ)) (p : Pool) (rows : List (ℕ × Row)) → P p → Ends ZC (λ r. P (r .1)) (rawRows nodes falling p rows)
   unfolding rawRows
   rawRows-step [] p rows o = well {a = (rows, p)} o
   rawRows-step (r ∷ falling) p rows o =
       next _ (slotsOf-steps (kidsOf nodes (r .1)) p (kids-are (r .1)) o) λ row o₁. rawRows-step falling (row .1) ((r .0, row .0) ∷ rows) o₁
 
-  pub buildAll-steps : Ends Z (λ m. P (m .pool) × R (m .rows)) (buildAll nodes indexes start)
+  pub buildAll-steps : Ends ZC (λ m. P (m .pool) × R (m .rows)) (buildAll nodes indexes start)
   unfolding buildAll
   buildAll-steps =
       next _ (known-good (rawRows nodes (reverse indexes) start []) (rawRows-step (reverse indexes) start [] atStart)) λ r k.

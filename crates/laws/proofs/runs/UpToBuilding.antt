@@ -142,7 +142,7 @@ pub layout-ends :
     (H → Each DefLow (job .definitions)) →
     (H → Each (λ q. RefLow (q .what)) (job .requests)) →
     priced (entries (job .definitions)) + raws (job .definitions) + length (job .requests) ≤ n →
-    ((indexes : List (ℕ × ℕ)) (b : Build) (answers : List ℕ) (w : Ready) → Runs H n w → Ends Z P (buildLayout top indexes b answers w)) →
+    ((records : List ℕ) (place : ℕ) (indexes : List (ℕ × ℕ)) (b : Build) (answers : List ℕ) (w : Ready) → Runs H n w → Ends (λ e. Z (e .code)) P (buildLayout top records place indexes b answers w)) →
     Ends (λ e. Z (e .code)) P (layout top job)
 unfolding layout nothingDefined starters
 layout-ends H Z P top n job z low asked h last =
@@ -175,4 +175,4 @@ layout-ends H Z P top n job z low asked h last =
     (λ a r′. r′)
     (answerAll-ends H (priced (entries l) + raws l) (d .names) (length (constantsOf l)) (suc (length l)) (job .requests) w (k .names) asked r))
     λ a r′.
-    atRecord-ends _ (last _ (job .build) (a .0) (a .1) (runs-more H (priced (entries l) + raws l + length (job .requests)) n (a .1) h r′))
+    last _ _ _ (job .build) (a .0) (a .1) (runs-more H (priced (entries l) + raws l + length (job .requests)) n (a .1) h r′)

@@ -5,6 +5,7 @@ use Prim.Native.Nat.{ℕ, _+_, _≤_}
 use native.Mathlib.Omega.{arith}
 use lib.Dec.{leb}
 use lib.ListN.{length}
+use Rattle.definition.specs.Places.{atNodes}
 use Rattle.definition.specs.Basics.{good, atRecord, unless, only, concat}
 use Rattle.definition.specs.Job.{Build, Job}
 use Rattle.definition.specs.Form.{form}
@@ -24,16 +25,16 @@ most job =
     length all + length (concat (map (λ e. e .kids) all)) + length (only isRaw (job .definitions)) + length (job .requests)
 
 buildLayout-visits :
-    (n top : ℕ) (indexes : List (ℕ × ℕ)) (b : Build) (answers : List ℕ) (w : Ready) →
+    (n top : ℕ) (records : List ℕ) (place : ℕ) (indexes : List (ℕ × ℕ)) (b : Build) (answers : List ℕ) (w : Ready) →
     Runs ⊥ n w →
-    Ends Anything (λ l. l .visits ≤ n) (buildLayout top indexes b answers w)
+    Ends Anything (λ l. l .visits ≤ n) (buildLayout top records place indexes b answers w)
 unfolding buildLayout layoutOf
-buildLayout-visits n top indexes b answers w r =
+buildLayout-visits n top records place indexes b answers w r =
     let c = r .counted in
     let h : w .resolved .visits ≤ n = omega arith in
-    next _ (anyhow (buildAll (w .resolved .nodes) indexes (w .pool))) λ m _.
+    next _ (anyhow (atNodes records (w .resolved .marks) (buildAll (w .resolved .nodes) indexes (w .pool)))) λ m _.
     let rows = fillHoles (m .rows .written) (m .rows .waiting) in
-    next _ (anyhow (nameSlot (nameWanted (b .nameByte) (length rows)) (w .resolved .nodes) m)) λ s _. well h
+    next _ (anyhow (atRecord place (nameSlot (nameWanted (b .nameByte) (length rows)) (w .resolved .nodes) m))) λ s _. well h
 
 layout-visits : (top : ℕ) (job : Job (List ℕ)) → Ends Anything (λ l. l .visits ≤ most job) (layout top (numbered job))
 unfolding most numbered
