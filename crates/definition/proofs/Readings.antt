@@ -2,7 +2,7 @@
 use mathlib.Core.List.{map}
 use mathlib.Core.Path.{_≡_, refl}
 use Rattle.definition.specs.Opened.{opened}
-use Rattle.definition.specs.Readings.{marked, limited, dated, spelled}
+use Rattle.definition.specs.Readings.{marked, limited, dated, spelled, pointed}
 use Rattle.definition.specs.Starred.{digit, bytes, prints, stated}
 
 -- every job of No. 6 has the marks of the reading chosen
@@ -24,3 +24,8 @@ datedHold = refl
 pub spelledHold : map prints spelled ≡ map stated spelled
 unfolding opened digit bytes prints stated spelled
 spelledHold = refl
+
+-- every job of No. 9
+pub pointedHold : map prints pointed ≡ map stated pointed
+unfolding opened digit bytes prints stated pointed
+pointedHold = refl

@@ -53,31 +53,31 @@ dated =
     -- any two bytes are a version
     job "470000506002000000" "answers 0\npool 2\n0001\nbootstraps 0 0\n\nname 0\nclass none\nvisits 0\n"
     -- 24 comes ahead of the 14 of the constant's own child
-    ∷ job "4900014700000100001001000050510100016002000000" "refused 24 6\n"
+    ∷ job "4900014700000100001001000050510100016002000000" "refused 24 3\n"
     -- and behind that of a raw bootstrap's child
-    ∷ job "4900014700001000000040010000000043000100004400000000506002000000" "refused 14 7\n"
+    ∷ job "4900014700001000000040010000000043000100004400000000506002000000" "refused 14 2\n"
     -- two constants are too new
-    ∷ job "47000010000000100000015051010000510100016002000000" "refused 24 6\n"
+    ∷ job "47000010000000100000015051010000510100016002000000" "refused 24 2\n"
     -- a raw constant that nobody asks for is judged
-    ∷ job "470000100000004300010000506002000000" "refused 24 4\n"
+    ∷ job "470000100000004300010000506002000000" "refused 24 1\n"
     -- ahead of the name's 14
-    ∷ job "490001470000100000004300010000506000000000" "refused 24 5\n"
+    ∷ job "490001470000100000004300010000506000000000" "refused 24 2\n"
     -- 50 lacks MethodHandle
-    ∷ job "4700320f0100000050510100006002000000" "refused 24 4\n"
+    ∷ job "4700320f0100000050510100006002000000" "refused 24 1\n"
     -- and MethodType
-    ∷ job "4700321000000050510100006002000000" "refused 24 4\n"
+    ∷ job "4700321000000050510100006002000000" "refused 24 1\n"
     -- and InvokeDynamic
-    ∷ job "4700321200000000000050510100006002000000" "refused 24 4\n"
+    ∷ job "4700321200000000000050510100006002000000" "refused 24 1\n"
     -- 51 has them
     ∷ job "4700330f010000001000000012000000000000505101000051010001510100026002000000" "answers 3\n1 new\n2 new\n3 new\npool 14\n00040f0100001000001200000000\nbootstraps 0 0\n\nname 0\nclass none\nvisits 10\n"
     -- 52 lacks Module
-    ∷ job "4700341300000050510100006002000000" "refused 24 4\n"
+    ∷ job "4700341300000050510100006002000000" "refused 24 1\n"
     -- and Package
-    ∷ job "4700341400000050510100006002000000" "refused 24 4\n"
+    ∷ job "4700341400000050510100006002000000" "refused 24 1\n"
     -- 53 has them
     ∷ job "47003513000000140000005051010000510100016002000000" "answers 2\n1 new\n2 new\npool 8\n0003130000140000\nbootstraps 0 0\n\nname 0\nclass none\nvisits 6\n"
     -- 54 lacks Dynamic
-    ∷ job "4700361100000000000050510100006002000000" "refused 24 4\n"
+    ∷ job "4700361100000000000050510100006002000000" "refused 24 1\n"
     -- 55 has it
     ∷ job "4700371100000000000050510100006002000000" "answers 1\n1 new\npool 7\n00021100000000\nbootstraps 0 0\n\nname 0\nclass none\nvisits 4\n"
     ∷ []
@@ -105,4 +105,29 @@ spelled =
     ∷ job "48010005c181e08181506002000000" "answers 0\npool 2\n0001\nbootstraps 0 0\n\nname 0\nclass none\nvisits 0\n"
     -- a text nobody uses is held too
     ∷ job "4801000100506002000000" "refused 25 1\n"
+    ∷ []
+
+-- No. 9: the record that a refusal is told at
+unfoldable pub pointed : List Case
+pointed =
+    -- an equal entry ahead that was never reached doesn't count
+    job "490001030000000003000000000801000150510100026002000000" "refused 14 2\n"
+    -- the lowest, not the first resolved
+    ∷ job "4900010300000000030000000008010001080100005051010002510100036002000000" "refused 14 1\n"
+    -- the entry, not the name that leads to it
+    ∷ job "4900010300000000410001000008020050510100016002000000" "refused 14 1\n"
+    -- the name's is the build record, though an equal text stands
+    ∷ job "490001010010426f6f7473747261704d6574686f64734300010000506000000000" "refused 14 4\n"
+    -- but not that of a child with the same text
+    ∷ job "490001010010426f6f7473747261704d6574686f64730701000050510100016002000000" "refused 14 1\n"
+    -- a raw constant's entry, not its record 43
+    ∷ job "470000100000004300010000506002000000" "refused 24 1\n"
+    -- or an equal entry ahead that was resolved
+    ∷ job "4700001000000010000000430001000150510100006002000000" "refused 24 1\n"
+    -- a request's own record
+    ∷ job "490001030000000003000000015051010000510100016002000000" "refused 14 5\n"
+    -- the child without a slot, not the constant that it is of
+    ∷ job "49000103000000000801000050510100016002000000" "refused 14 1\n"
+    -- 47, 48 and 49 are counted
+    ∷ job "47000047" "refused 3 1\n"
     ∷ []
