@@ -12,7 +12,7 @@ use Rattle.definition.specs.Resolving.{Node, sameNode, intern}
 use Rattle.store.specs.Store.{Store, Kept}
 use Rattle.store.specs.Chains.{mixed, headOf, Chains}
 use Rattle.store.specs.JobIn.{tableIn, entriesIn, numberedIn}
-use Rattle.store.specs.Regions.{COUNTS, NODE-HEADS, NODE-LINKS, OFFSETS, FIRSTS, SIZES, CHILDREN, NODES, NODE-COUNT}
+use Rattle.store.specs.Regions.{COUNTS, NODE-HEADS, NODE-LINKS, OFFSETS, FIRSTS, SIZES, CHILDREN, NODES, RECORDS, NODE-COUNT}
 use Rattle.store.specs.Words.{cut}
 use Rattle.store.specs.Entries.{Entered}
 
@@ -79,6 +79,10 @@ hashIn s t e = hashAt s (t FIRSTS) (t SIZES) (t CHILDREN) e
 
 abbrev pub nodesIn : List ℕ → Store → List Node
 nodesIn s t = map (nodeIn s t) (take (nodeCount t) (t NODES))
+
+-- the record that a node carries (document 02, No. 9)
+abbrev pub recordIn : Store → ℕ → ℕ
+recordIn t k = getD (t RECORDS) (getD (t NODES) k 0) 0
 
 -- entry e became node r: t before, u after
 pub record Interned (h : ℕ) (s : List ℕ) (t u : Store) (e r : ℕ) : Type 0 where
