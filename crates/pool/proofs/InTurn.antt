@@ -30,8 +30,8 @@ use Rattle.job.specs.Forms.{countsOf}
 use Rattle.interner.specs.Nodes.{nodeIn}
 use Rattle.resolver.specs.Resolved.{resolvedIn, visitsOwed}
 use Rattle.sym_refs.specs.Names.{CitedIn}
-use Rattle.pool.specs.Pooled.{gapsIn, PooledIn, LiveIn}
-use Rattle.pool.specs.Replying.{RequestAt, WhatRequest, goalFor, originWord, readySoFar, readyIn, Asking, askedCounters, askedRegions, Replied, placeCount, RequestsAt, answeredIn, RepliedAll}
+use Rattle.pool.specs.Pooled.{gapsIn, PooledIn, LiveIn, placeCount}
+use Rattle.pool.specs.Replying.{RequestAt, WhatRequest, goalFor, originWord, readySoFar, readyIn, Asking, askedCounters, askedRegions, Replied, RequestsAt, answeredIn, RepliedAll}
 use Rattle.pool.proofs.Words.{not-among}
 use Rattle.pool.proofs.Giving.{SameGaps, slots-same, gaps-live-same}
 
