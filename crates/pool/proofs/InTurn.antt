@@ -93,6 +93,7 @@ module _ (s p : List ℕ) (t : Store) (c n : ℕ) (low : c < 2) where
             record {
               nodes = rw (placed-same NODE-COUNT (omega arith)) (r .nodes);
               made = rw (placed-same NODE-COUNT (omega arith)) (r .made);
+              lowest = rw (placed-same NODE-COUNT (omega arith)) (r .lowest);
               room = rw (placed-same NODE-COUNT (omega arith)) (r .room);
               faithful = subst (Faithful (linkedIn s)) (sym placed-resolved) (r .faithful);
               owed = r .owed;
