@@ -10,7 +10,7 @@ use Rattle.job.specs.declared.JobCounts.{JobCounts}
 use Rattle.job.specs.Forms.{countsOf}
 use Rattle.store.specs.JobIn.{definitionsIn, countsIn, constantsIn}
 use Rattle.store.specs.Store.{Store, size, store, On}
-use Rattle.store.specs.Regions.{COUNTS, GIVEN, INDEXES, NAME-HEADS, RAW-HEADS, ROW-HEADS, OWNER-HEADS, NAME-LINKS, RAW-LINKS, NAME-PLACES, RAW-KEYS, RAW-ENTRIES, PLACE, AT, NAME-COUNT, RAW-COUNT, HELD-COUNT, Work, Started}
+use Rattle.store.specs.Regions.{COUNTS, GIVEN, INDEXES, NAME-HEADS, RAW-HEADS, ROW-HEADS, OWNER-HEADS, NAME-LINKS, RAW-LINKS, RECORDS, NAME-PLACES, RAW-KEYS, RAW-ENTRIES, PLACE, AT, NAME-COUNT, RAW-COUNT, HELD-COUNT, Work, Started}
 use Rattle.sym_refs.specs.Names.{nameCount}
 use Rattle.sym_refs.specs.Leading.{AllNames}
 use Rattle.raws.specs.Raws.{rawCount, heldCount, RawsIn}
@@ -19,6 +19,7 @@ use Rattle.definitions.specs.Ending.{Ended}
 use Rattle.definitions.specs.Begun.{fiftyIn, begunIn, Begun}
 use Rattle.definitions.proofs.Ends.{zero-beyond}
 use Rattle.definitions.proofs.Handing.{ended-good, ended-bad}
+use Rattle.definitions.proofs.Recorded.{records-are}
 
 -- what the start leaves is zero
 pub start-zeros : (c : JobCounts) (p before after : List ℕ) → Started c p before after → Zeros p (store p after)
@@ -77,6 +78,7 @@ module _ (p : List ℕ) (words top : ℕ) (s : List ℕ) (t u : Store) (places :
                   isDefined = all .is;
                   isReady = ended-good p top s u v d r ended e;
                   naming = all .naming;
+                  records = rw (ended .kept RECORDS refl) (records-are s (u RECORDS) (all .turns));
                   table = ended .table;
                   rest = ended .again e;
                   visits = rw fifty-count (ended .visits e);

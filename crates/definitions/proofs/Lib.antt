@@ -13,5 +13,6 @@ pub mod Ordering
 pub mod Linking
 pub mod Ends
 pub mod Handing
+pub mod Recorded
 pub mod Beginning
 pub mod Versions

@@ -6,17 +6,18 @@ use lib.ListN.{length, getD}
 use Rattle.definition.specs.Basics.{Result, good, bad, _>>=_, Refusal, atRecord}
 use Rattle.definition.specs.Definitions.{Defined}
 use Rattle.definition.specs.Resolving.{Resolved, fuelFor}
+use Rattle.definition.specs.Places.{tableRecords}
 use Rattle.definition.specs.Slots.{gapsFrom, startSlots}
 use Rattle.definition.specs.Layout.{starters, Ready, nodeAt, endDefinitions}
 use Rattle.job.specs.Stored.{Laid}
 use Rattle.store.specs.Store.{Store, size, On}
-use Rattle.store.specs.JobIn.{jobIn, definitionsIn, constantsIn, namingsIn, linkedIn}
-use Rattle.store.specs.Regions.{COUNTS, GIVEN, INDEXES, NAME-HEADS, NODE-HEADS, ROW-HEADS, OWNER-HEADS, NAME-GOALS, RAW-KEYS, RAW-ENTRIES, ORDER, AT, VISITS, Work}
+use Rattle.store.specs.JobIn.{jobIn, definitionsIn, constantsIn, entriesIn, namingsIn, linkedIn}
+use Rattle.store.specs.Regions.{COUNTS, GIVEN, INDEXES, NAME-HEADS, NODE-HEADS, ROW-HEADS, OWNER-HEADS, RECORDS, NAME-GOALS, RAW-KEYS, RAW-ENTRIES, ORDER, AT, VISITS, Work}
 use Rattle.sym_refs.specs.Names.{Goals}
 use Rattle.sym_refs.specs.Leading.{AllNames}
 use Rattle.raws.specs.Raws.{rawCount, RawsIn, Ordered}
 use Rattle.resolver.specs.Resolved.{resolvedIn, Table, AtRest, visitsOwed}
-use Rattle.definitions.specs.Defining.{definedIn, placeCount}
+use Rattle.definitions.specs.Defining.{recordsIn, definedIn, placeCount}
 
 -- what requests start from, when so much is resolved
 abbrev pub readyFrom : ℕ → List ℕ → Defined → Resolved → Ready
@@ -48,6 +49,8 @@ pub record AtFifty (p : List ℕ) (top : ℕ) (s : List ℕ) (u : Store) (d : De
   pub isDefined : definedIn top s ≡ good d
   pub isReady : endDefinitions top (linkedIn s) (constantsIn s) d ≡ good (readyFrom top s d (resolvedIn s u))
   pub naming : d .names ≡ namingsIn s
+  -- the record of each entry
+  pub records : (e : ℕ) → e < entriesIn s → getD (u RECORDS) e 0 ≡ getD (tableRecords (recordsIn s)) e 0
   pub table : Table s u
   pub rest : AtRest (size p NODE-HEADS) s u
   pub visits : visitsOwed s u ≤ fuelFor (linkedIn s) + rawCount u

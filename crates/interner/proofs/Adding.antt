@@ -11,7 +11,7 @@ use lib.Seq.{getD-set-same, getD-set-other, take-suc-set}
 use borrow.Author.Tests.{lt-ltb, le-ltb}
 use Rattle.definition.specs.Basics.{position}
 use Rattle.definition.specs.Resolving.{Node, sameNode, intern}
-use Rattle.facts.proofs.Lists.{order}
+use Rattle.facts.proofs.Lists.{equal, order}
 use Rattle.laws.proofs.resolving.Interning.{sameNode-equal, intern-old, intern-new}
 use Rattle.store.specs.Store.{Store, size, store, put}
 use Rattle.store.specs.JobIn.{countsIn, entriesIn}
@@ -22,8 +22,10 @@ use Rattle.store.proofs.Keeping.{kept-put}
 use Rattle.store.proofs.Laying.{work-sizes, entries-counted}
 use Rattle.store.proofs.Stores.{length-store}
 use Rattle.store.proofs.Walking.{chains-more}
-use Rattle.interner.specs.Nodes.{hashAt, nodeAt, Nodes, NodesIn, nodeCount, nodeIn, hashIn, Interned}
+use Rattle.interner.specs.Nodes.{hashAt, nodeAt, Nodes, NodesIn, nodeCount, EnteredIn, nodeIn, hashIn, nodesIn, Lowers, Interned}
 use Rattle.interner.proofs.Alike.{node-same}
+use Rattle.interner.proofs.Finding.{entry-keyed}
+use Rattle.interner.proofs.Lowering.{list-stays, nodes-stay}
 use Rattle.interner.proofs.Listed.{Is, list-length, position-old, position-new}
 use Rattle.interner.proofs.Reading.{node-heads, counter-there}
 
@@ -67,11 +69,14 @@ module _ (h : ℕ) (s firsts sizes children nodes heads links : List ℕ) (n e :
     entry-old : (i : ℕ) → i < n → getD (set nodes n e) i 0 ≡ getD nodes i 0
     entry-old i less = getD-set-other nodes n i e 0 (λ z. omega arith)
 
-    pub entries-more : (i : ℕ) → i < n + 1 → ((i < n) × (getD (set nodes n e) i 0 ≡ getD nodes i 0)) ⊎ (getD (set nodes n e) i 0 ≡ e)
+    pub entries-more :
+        (i : ℕ) → i < n + 1 →
+        ((i < n) × (getD (set nodes n e) i 0 ≡ getD nodes i 0) × (i ≡ n → getD nodes i 0 ≤ e))
+        ⊎ ((i ≡ n) × (getD (set nodes n e) i 0 ≡ e) × (i < n → e < getD nodes i 0))
     entries-more i less =
         ⊎-elim
-        (λ (l : i < n). inl (l, entry-old i l))
-        (λ (l : n ≤ i). let z : i ≡ n = omega arith in inr (rw z entry-new))
+        (λ (l : i < n). inl (l, entry-old i l, λ z. absurd (omega arith)))
+        (λ (l : n ≤ i). let z : i ≡ n = omega arith in inr (z, rw z entry-new, λ b. absurd (omega arith)))
         (order i n)
 
     -- the new one is none of the old
@@ -87,7 +92,7 @@ module _ (h : ℕ) (s firsts sizes children nodes heads links : List ℕ) (n e :
       nodes-more =
           record {
             few = omega arith;
-            inside = λ i less. ⊎-elim (λ l. rw (l .1) (g .inside i (l .0))) (λ l. rw l inside) (entries-more i less);
+            inside = λ i less. ⊎-elim (λ l. rw (l .1) (g .inside i (l .0))) (λ l. rw (l .1) inside) (entries-more i less);
             chains =
                 chains-more
                 (λ i. headOf h (hashAt s firsts sizes children (getD nodes i 0)))
@@ -117,18 +122,58 @@ module _ (h : ℕ) (s : List ℕ) (t : Store) (e : ℕ) (g : NodesIn h s t) (roo
   fits : nodeCount t ≤ length (t NODES)
   fits = omega (arith, g .few)
 
-  pub became-old : (r : ℕ) → Sought (Is s (t FIRSTS) (t SIZES) (t CHILDREN) (t NODES) (nodeIn s t e)) (nodeCount t) r → 0 < r → Interned h s t t e (r - 1)
-  became-old r sought pos =
-      record {
-        node = position-old h s (t FIRSTS) (t SIZES) (t CHILDREN) (t NODES) (t NODE-HEADS) (t NODE-LINKS) (nodeCount t) (nodeIn s t e) g fits r sought pos;
-        nodes = interned-old h s (t FIRSTS) (t SIZES) (t CHILDREN) (t NODES) (t NODE-HEADS) (t NODE-LINKS) (nodeCount t) e g fits r sought pos;
-        again = g;
-        low = omega (arith, sought .low);
-        count = omega arith;
-        made = λ i less. inl (less, refl);
-        counters = λ c other. refl;
-        kept = λ k other. refl;
-      }
+  -- AN OLD ONE, kept as its entry or as e
+  module _ (r : ℕ) (sought : Sought (Is s (t FIRSTS) (t SIZES) (t CHILDREN) (t NODES) (nodeIn s t e)) (nodeCount t) r) (pos : 0 < r) where
+    is-node : r - 1 ≡ position (sameNode (nodeIn s t e)) (nodesIn s t)
+    is-node = position-old h s (t FIRSTS) (t SIZES) (t CHILDREN) (t NODES) (t NODE-HEADS) (t NODE-LINKS) (nodeCount t) (nodeIn s t e) g fits r sought pos
+
+    is-list : nodesIn s t ≡ intern (nodeIn s t e) (nodesIn s t)
+    is-list = interned-old h s (t FIRSTS) (t SIZES) (t CHILDREN) (t NODES) (t NODE-HEADS) (t NODE-LINKS) (nodeCount t) e g fits r sought pos
+
+    low-node : r - 1 < nodeCount t
+    low-node = omega (arith, sought .low)
+
+    became-old : getD (t NODES) (r - 1) 0 ≤ e → Interned h s t t e (r - 1)
+    became-old below =
+        record {
+          node = is-node;
+          nodes = is-list;
+          again = g;
+          low = low-node;
+          count = omega arith;
+          made = λ i less. inl (less, refl, λ z. rw z below);
+          counters = λ c other. refl;
+          kept = λ k other. refl;
+        }
+
+    module _ (all : EnteredIn s t) (inside : e < entriesIn s) where
+      same : nodeIn s t e ≡ nodeIn s t (getD (t NODES) (r - 1) 0)
+      same = sameNode-equal (nodeIn s t e) (nodeIn s t (getD (t NODES) (r - 1) 0)) (sought .hit pos)
+
+      hash : hashIn s t e ≡ hashIn s t (getD (t NODES) (r - 1) 0)
+      hash = sym (entry-keyed h s t e all inside g (r - 1) low-node (sought .hit pos))
+
+      became-lower : e < getD (t NODES) (r - 1) 0 → Interned h s t (put t NODES (r - 1) e) e (r - 1)
+      became-lower below =
+          record {
+            node = is-node;
+            nodes = list-stays h s (t FIRSTS) (t SIZES) (t CHILDREN) (t NODES) (t NODE-HEADS) (t NODE-LINKS) (nodeCount t) (r - 1) e g fits low-node inside same hash ∙ is-list;
+            again = nodes-stay h s (t FIRSTS) (t SIZES) (t CHILDREN) (t NODES) (t NODE-HEADS) (t NODE-LINKS) (nodeCount t) (r - 1) e g fits low-node inside same hash;
+            low = low-node;
+            count = omega arith;
+            made =
+                λ i less.
+                ⊎-elim
+                (λ (z : i ≡ r - 1). inr (z, rw z (getD-set-same (t NODES) (r - 1) e 0 (omega (arith, low-node, fits))), λ _. rw z below))
+                (λ (z : i ≡ r - 1 → ⊥). inl (less, getD-set-other (t NODES) (r - 1) i e 0 z, λ q. absurd (z q)))
+                (equal i (r - 1));
+            counters = λ c other. refl;
+            kept = kept-put (COUNTS ∷ NODE-HEADS ∷ NODE-LINKS ∷ NODES ∷ []) t t NODES _ _ refl (λ k other. refl);
+          }
+
+      pub became-one : (u : Store) → Lowers t u (r - 1) e → Interned h s t u e (r - 1)
+      became-one u (inl (q, below)) = rw q (became-lower below)
+      became-one u (inr (q, below)) = rw q (became-old below)
 
   module _
       (p : List ℕ) (heads : h ≡ size p NODE-HEADS) (two : 1 < h) (all : length (t NODE-HEADS) ≡ h) (links : entriesIn s ≤ length (t NODE-LINKS))
@@ -189,8 +234,11 @@ module _ (s p w : List ℕ) (e : ℕ) (work : Work s p) (g : NodesIn (size p NOD
   wide : (k : ℕ) → size p k ≡ entriesOf (countsIn s) → entriesIn s ≤ length (store p w k)
   wide k q = omega (arith, length-store p w k, entries-counted s)
 
-  pub interned-found : 0 < r → Interned (size p NODE-HEADS) s (store p w) (store p w) e (r - 1)
-  interned-found pos = became-old (size p NODE-HEADS) s (store p w) e g (wide NODES (work-sizes s p work .nodes)) r sought pos
+  pub found-low : 0 < r → r - 1 < entriesIn s
+  found-low pos = omega (arith, sought .low, g .few)
+
+  pub interned-found : 0 < r → EnteredIn s (store p w) → e < entriesIn s → (u : Store) → Lowers (store p w) u (r - 1) e → Interned (size p NODE-HEADS) s (store p w) u e (r - 1)
+  interned-found = became-one (size p NODE-HEADS) s (store p w) e g (wide NODES (work-sizes s p work .nodes)) r sought
 
   pub interned-made :
       r ≤ 0 → e < entriesIn s → nodeCount (store p w) < entriesIn s → (hash k : ℕ) → hash ≡ hashIn s (store p w) e → k ≡ nodeCount (store p w) →

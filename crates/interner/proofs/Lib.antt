@@ -5,5 +5,6 @@ pub mod Alike
 pub mod Reading
 pub mod Listed
 pub mod Finding
+pub mod Lowering
 pub mod Adding
 pub mod Attribute

@@ -1,4 +1,4 @@
--- Nodes in the regions: a node is kept as the entry that it was made from, whose children stand in CHILDREN. Assumes nothing.
+-- Nodes in the regions: a node is kept as the lowest of the entries that it was made from, whose children stand in CHILDREN. Assumes nothing.
 use mathlib.Core.Bool.{false}
 use mathlib.Core.List.{List, [], _∷_, map}
 use mathlib.Core.Logic.{_⊎_}
@@ -9,10 +9,10 @@ use lib.ListN.{length, getD, getElem?, take}
 use Rattle.definition.specs.Basics.{position}
 use Rattle.definition.specs.Shapes.{Entry, withKids}
 use Rattle.definition.specs.Resolving.{Node, sameNode, intern}
-use Rattle.store.specs.Store.{Store, Kept}
+use Rattle.store.specs.Store.{Store, put, Kept}
 use Rattle.store.specs.Chains.{mixed, headOf, Chains}
 use Rattle.store.specs.JobIn.{tableIn, entriesIn, numberedIn}
-use Rattle.store.specs.Regions.{COUNTS, NODE-HEADS, NODE-LINKS, OFFSETS, FIRSTS, SIZES, CHILDREN, NODES, NODE-COUNT}
+use Rattle.store.specs.Regions.{COUNTS, NODE-HEADS, NODE-LINKS, OFFSETS, FIRSTS, SIZES, CHILDREN, NODES, RECORDS, NODE-COUNT}
 use Rattle.store.specs.Words.{cut}
 use Rattle.store.specs.Entries.{Entered}
 
@@ -80,6 +80,14 @@ hashIn s t e = hashAt s (t FIRSTS) (t SIZES) (t CHILDREN) e
 abbrev pub nodesIn : List ℕ → Store → List Node
 nodesIn s t = map (nodeIn s t) (take (nodeCount t) (t NODES))
 
+-- the record that a node carries (document 02, No. 9)
+abbrev pub recordIn : Store → ℕ → ℕ
+recordIn t k = getD (t RECORDS) (getD (t NODES) k 0) 0
+
+-- node k is kept as the lower one of its entry and e: t before, u after
+abbrev pub Lowers : Store → Store → ℕ → ℕ → Type 0
+Lowers t u k e = ((u ≡ put t NODES k e) × (e < getD (t NODES) k 0)) ⊎ ((u ≡ t) × (getD (t NODES) k 0 ≤ e))
+
 -- entry e became node r: t before, u after
 pub record Interned (h : ℕ) (s : List ℕ) (t u : Store) (e r : ℕ) : Type 0 where
   pub node : r ≡ position (sameNode (nodeIn s t e)) (nodesIn s t)
@@ -87,7 +95,10 @@ pub record Interned (h : ℕ) (s : List ℕ) (t u : Store) (e r : ℕ) : Type 0 
   pub again : NodesIn h s u
   pub low : r < nodeCount u
   pub count : nodeCount u ≤ nodeCount t + 1
-  -- a node is an old one, or made from e
-  pub made : (i : ℕ) → i < nodeCount u → ((i < nodeCount t) × (getD (u NODES) i 0 ≡ getD (t NODES) i 0)) ⊎ (getD (u NODES) i 0 ≡ e)
+  -- a node is an old one with its entry, not above e if it is r; or it is r with e, below its entry if it is an old one
+  pub made :
+      (i : ℕ) → i < nodeCount u →
+      ((i < nodeCount t) × (getD (u NODES) i 0 ≡ getD (t NODES) i 0) × (i ≡ r → getD (t NODES) i 0 ≤ e))
+      ⊎ ((i ≡ r) × (getD (u NODES) i 0 ≡ e) × (i < nodeCount t → e < getD (t NODES) i 0))
   pub counters : (c : ℕ) → (c ≡ NODE-COUNT → ⊥) → getD (u COUNTS) c 0 ≡ getD (t COUNTS) c 0
   pub kept : Kept (COUNTS ∷ NODE-HEADS ∷ NODE-LINKS ∷ NODES ∷ []) t u

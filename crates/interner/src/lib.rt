@@ -1,4 +1,4 @@
-// Krakatau's interner.rs: equal entries become one node. A node is kept as the entry that it was made from, whose children stand in
+// Krakatau's interner.rs: equal entries become one node. A node is kept as the lowest entry that it was made from, whose children stand in
 // CHILDREN.
 use store::CHILDREN;
 use store::COUNTS;
@@ -29,7 +29,7 @@ ghost use Rattle.store.specs.Chains.{Sought};
 ghost use Rattle.store.specs.JobIn.{entriesIn};
 ghost use Rattle.store.specs.Regions.{NODE-HEADS, CHILDREN, NODES, Work};
 ghost use Rattle.store.specs.Words.{cut};
-ghost use Rattle.interner.specs.Nodes.{hashBytes, hashWords, hashIn, nodeIn, nodeCount, nodesIn, EnteredIn, NodesIn, Interned};
+ghost use Rattle.interner.specs.Nodes.{hashBytes, hashWords, hashIn, nodeIn, nodeCount, nodesIn, EnteredIn, NodesIn, Lowers, Interned};
 
 // A hash of n bytes behind a seed, four at a time, then one at a time.
 pub fn hash_bytes(s: &[u8], start: usize, n: usize, seed: usize) -> usize
@@ -178,6 +178,17 @@ fn find_node(job: &[u8], w: &[u32], p: &[usize], e: usize, hash: usize) -> usize
     0
 }
 
+// Keeps node k as the lower one of its entry and e, whose record is then the lower one too.
+fn keep_lower(w: &mut [u32], p: &[usize], k: usize, e: usize)
+    requires { ⌜ On (now p) (length (now w)) × (k < size (now p) NODES) × IsWord e ⌝ }
+    ensures { λ _. ⌜ Lowers (store (now (p .entry)) (now (w .entry))) (store (now (p .entry)) (now (w .exit))) k e ⌝ }
+{
+    if load(w, p, NODES, k) <= e {
+        return;
+    }
+    save(w, p, NODES, k, e);
+}
+
 // The node of an entry whose children are known, a new one behind the others if there is no equal one.
 pub fn intern(job: &[u8], w: &mut [u32], p: &[usize], e: usize) -> usize
     requires { ⌜ On (now p) (length (now w)) × Work (now job) (now p) × EnteredIn (now job) (store (now p) (now w)) × NodesIn (size (now p) NODE-HEADS) (now job) (store (now p) (now w)) × (e < entriesIn (now job)) × (nodeCount (store (now p) (now w)) < entriesIn (now job)) ⌝ }
@@ -186,6 +197,7 @@ pub fn intern(job: &[u8], w: &mut [u32], p: &[usize], e: usize) -> usize
     let hash = hash_entry(job, w, p, e);
     let found = find_node(job, w, p, e, hash);
     if 0 < found {
+        keep_lower(w, p, found - 1, e);
         return found - 1;
     }
     let k = next_count(w, p, NODE_COUNT);

@@ -69,7 +69,7 @@ module _ (h : ℕ) (s : List ℕ) (t : Store) (goal : ℕ) (few : Small s) (rest
       record {
         running =
             record {
-              hold = record { nodes = rests .nodes; made = rests .made; room = rests .room };
+              hold = record { nodes = rests .nodes; made = rests .made; lowest = rests .lowest; room = rests .room };
               words = λ i l. let z : i ≡ 0 = omega arith in rw (z, getD-set-same (t STACK) 0 goal 0 room) (inl is);
               goal = goalWord goal;
               partial = record { marksLength = f .marksLength; nodeOf = f .nodeOf; fromEntry = f .fromEntry };
@@ -188,6 +188,7 @@ module _
             record {
               nodes = rw count-is (hold .nodes);
               made = rw count-is (hold .made);
+              lowest = rw count-is (hold .lowest);
               room = rw count-is (hold .room);
               faithful = faithful;
               owed = omega (arith, rests .owed, worked .paid);
@@ -211,7 +212,7 @@ resolves-whole h s t u goal x r k =
 -- and what held still holds
 pub rests-still : (h : ℕ) (s : List ℕ) (t : Store) (x : ℕ) → AtRest h s t → AtRest h s (put t STACK 0 x)
 rests-still h s t x k =
-    record { nodes = k .nodes; made = k .made; room = k .room; faithful = k .faithful; owed = k .owed }
+    record { nodes = k .nodes; made = k .made; lowest = k .lowest; room = k .room; faithful = k .faithful; owed = k .owed }
 
 pub table-still : (s : List ℕ) (t : Store) (x : ℕ) → Table s t → Table s (put t STACK 0 x)
 table-still s t x k = record { entered = k .entered; linked = k .linked }

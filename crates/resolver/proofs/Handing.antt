@@ -58,6 +58,7 @@ module _
               unlike = λ i j l k. absurd (omega arith);
             });
         made = λ i l. absurd (omega arith);
+        lowest = λ k l. absurd (omega arith);
         room = omega (arith, unfinished-most (t MARKS), ap length marks, length-replicate {A = ℕ} (entriesIn s) 0);
         faithful =
             subst (Faithful (linkedIn s)) (λ i. record { marks = sym marks-are i; nodes = nodes-are i; visits = getD (t COUNTS) VISITS 0 })

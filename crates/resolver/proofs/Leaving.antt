@@ -1,33 +1,34 @@
 -- Leaving an entry: its children change no other node, it becomes the definition's node, and the nodes hold again. Assumes nothing.
 use mathlib.Core.Bool.{Bool, true, false}
 use mathlib.Core.List.{List, [], _∷_, map}
-use mathlib.Core.Logic.{_⊎_, inl, inr}
+use mathlib.Core.Logic.{_⊎_, inl, inr, ⊎-elim}
 use mathlib.Core.Option.{none, some}
 use mathlib.Core.Path.{_≡_, refl, sym, ap, subst, _∙_}
 use Prim.Native.Nat.{ℕ, zero, suc, _+_, _≤_, _<_}
 use native.Mathlib.Omega.{arith}
-use lib.Dec.{eqb, ltb}
+use lib.Dec.{ltb}
 use lib.ListN.{length, getD, getElem?, set, take}
 use lib.Seq.{getD-set-same, getD-set-other, getD-take}
 use borrow.Author.Tests.{lt-ltb, le-ltb}
 use Rattle.definition.specs.Basics.{every, from, position}
 use Rattle.definition.specs.Shapes.{Entry, withKids}
 use Rattle.definition.specs.Resolving.{Goal, Node, done, sameNode, intern, childOf, leaveNode, leaving}
-use Rattle.facts.proofs.Lists.{found-inside, found-read, map-same, only-here, only-later, map-set}
+use Rattle.facts.proofs.Lists.{found-inside, found-read, map-same, only-here, only-later, map-set, equal, order}
 use Rattle.facts.proofs.Chunks.{from-same}
 use Rattle.laws.proofs.resolving.FaithfulToEntries.{leaving-some}
 use Rattle.store.specs.Store.{Store, put, IsWord}
-use Rattle.store.specs.Chains.{headOf, Chains}
+use Rattle.store.specs.Chains.{headOf}
 use Rattle.store.specs.JobIn.{tableIn, entriesIn, numberedIn, linkedIn}
 use Rattle.store.specs.Regions.{COUNTS, MARKS, NODE-HEADS, NODE-LINKS, OFFSETS, FIRSTS, SIZES, GOALS, CHILDREN, NODES, NODE-COUNT}
 use Rattle.store.specs.Words.{cut, goalWord, markWord}
 use Rattle.store.specs.Entries.{Apart, Entered}
-use Rattle.store.proofs.Walking.{last-ext}
 use Rattle.store.proofs.Keeping.{kept-put, kept-then, kept-more}
+use Rattle.interner.proofs.Lowering.{chains-ext}
 use Rattle.interner.specs.Nodes.{hashNode, hashAt, nodeAt, Nodes, nodeCount, NodesIn, nodeIn, nodesIn, Interned}
-use Rattle.resolver.specs.Resolved.{unfinished, Table}
+use Rattle.resolver.specs.Resolved.{unfinished, lowestOf, Table}
 use Rattle.resolver.specs.Moves.{stateAt, ToLeave, Written, NodesHold, Leaves}
 use Rattle.resolver.proofs.Meanings.{is-done, there}
+use Rattle.resolver.proofs.Lowest.{lowest-earlier, lowest-behind, lowest-aside, none-lowest}
 use Rattle.resolver.proofs.Tabled.{Row, row, kids-of, kids-there}
 
 -- UNFINISHED ENTRIES
@@ -59,16 +60,6 @@ unfinished-same (m ∷ marks) (suc e) x l g = ways (ltb m 2) refl (unfinished-sa
     ways false q ih = rw (only-later (λ m. ltb m 2) m marks q, only-later (λ m. ltb m 2) m (set marks e x) q) ih
 
 -- OTHER CHILDREN, of no node
-
-chains-ext : (hash hash′ : ℕ → ℕ) (heads links : List ℕ) (n : ℕ) → ((i : ℕ) → i < n → hash′ i ≡ hash i) → Chains hash heads links n → Chains hash′ heads links n
-chains-ext hash hash′ heads links n f c =
-    record {
-      first = λ k h. c .first k h ∙ sym (last-ext (λ i. eqb (hash′ i) k) (λ i. eqb (hash i) k) n (λ j l. ap (λ (y : ℕ). eqb y k) (f j l)));
-      next =
-          λ i h.
-          c .next i h
-          ∙ sym (last-ext (λ j. eqb (hash′ j) (hash′ i)) (λ j. eqb (hash j) (hash i)) i (λ j l. rw (f j (omega arith), f i h)));
-    }
 
 module _ (s firsts sizes old new : List ℕ) where
   -- the entry's children are as they were
@@ -221,30 +212,63 @@ module _
         let (x, at, _) = kids-there s (t OFFSETS) (t FIRSTS) (t SIZES) (t GOALS) (table .entered) (table .linked) e inside in
         leaving-some (linkedIn s) e x (stateAt s t visits) at ∙ made visits x at
 
+    -- as it was before the children were written
+    count-still : nodeCount v ≡ nodeCount t
+    count-still = ap (λ (l : List ℕ). getD l NODE-COUNT 0) (written .kept COUNTS refl)
+
+    entry-still : (i : ℕ) → getD (v NODES) i 0 ≡ getD (t NODES) i 0
+    entry-still i = ap (λ (l : List ℕ). getD l i 0) (written .kept NODES refl)
+
+    -- what is told of each node
+    abbrev Made : ℕ → Type 0
+    Made i =
+        ((i < nodeCount v) × (getD (w NODES) i 0 ≡ getD (v NODES) i 0) × (i ≡ k → getD (v NODES) i 0 ≤ e))
+        ⊎ ((i ≡ k) × (getD (w NODES) i 0 ≡ e) × (i < nodeCount v → e < getD (v NODES) i 0))
+
+    made-still : (i : ℕ) → Made i → 1 < getD (set (w MARKS) e (2 + k)) (getD (w NODES) i 0) 0
+    made-still i (inl (l, q, _)) =
+        let low : i < nodeCount t = omega (arith, count-still) in
+        rw (q ∙ entry-still i, getD-set-other (w MARKS) e (getD (t NODES) i 0) (2 + k) 0 (other i low), marks-still) (hold .made i low)
+    made-still i (inr (_, q, _)) = rw (q, marks-still, getD-set-same (t MARKS) e (2 + k) 0 there-still) (omega arith)
+
+    -- the entry was underway
+    unmade : getD (t MARKS) e 0 < 2
+    unmade = omega (arith, to .isUnderway)
+
+    lowest-still : (i : ℕ) → Made i → getD (w NODES) i 0 ≡ lowestOf i (set (t MARKS) e (2 + k))
+    lowest-still i (inl (l, q, above)) =
+        let is = hold .lowest i (omega (arith, count-still)) in
+        q ∙ entry-still i ∙ is
+        ∙ sym
+        (⊎-elim
+        (λ (z : i ≡ k). lowest-behind (t MARKS) e unmade k i z (omega (arith, above z, entry-still i)))
+        (λ (z : i ≡ k → ⊥). lowest-aside (t MARKS) e unmade k i z)
+        (equal i k))
+    lowest-still i (inr (z, q, below)) =
+        q
+        ∙ sym
+        (lowest-earlier (t MARKS) e unmade k i z
+        (⊎-elim
+        (λ (l : i < nodeCount t). omega (arith, below (omega (arith, count-still)), entry-still i, hold .lowest i l))
+        (λ (l : nodeCount t ≤ i). none-lowest (t MARKS) e i there-still (λ d. omega (arith, to .told d)))
+        (order i (nodeCount t))))
+
     hold-again : NodesHold h s (put w MARKS e (2 + k))
     hold-again =
         record {
           nodes = interned .again;
-          made = λ i l. ways i (interned .made i l);
+          made = λ i l. made-still i (interned .made i l);
+          lowest = λ i l. rw marks-still (lowest-still i (interned .made i l));
           room =
               rw marks-still
               (omega (
                 arith,
                 interned .count,
-                ap (λ (l : List ℕ). getD l NODE-COUNT 0) (written .kept COUNTS refl),
+                count-still,
                 hold .room,
-                unfinished-less (t MARKS) e (2 + k) there-still (omega (arith, to .isUnderway)) (omega arith),
+                unfinished-less (t MARKS) e (2 + k) there-still unmade (omega arith),
               ));
         }
-      where
-        ways :
-            (i : ℕ) → ((i < nodeCount v) × (getD (w NODES) i 0 ≡ getD (v NODES) i 0)) ⊎ (getD (w NODES) i 0 ≡ e) →
-            1 < getD (set (w MARKS) e (2 + k)) (getD (w NODES) i 0) 0
-        ways i (inl (l, q)) =
-            let low : i < nodeCount t = rw (written .kept COUNTS refl) at l in
-            let old : getD (w NODES) i 0 ≡ getD (t NODES) i 0 = q ∙ ap (λ (l : List ℕ). getD l i 0) (written .kept NODES refl) in
-            rw (old, getD-set-other (w MARKS) e (getD (t NODES) i 0) (2 + k) 0 (other i low), marks-still) (hold .made i low)
-        ways i (inr q) = rw (q, marks-still, getD-set-same (t MARKS) e (2 + k) 0 there-still) (omega arith)
 
     pub leaves : Leaves h s t (put w MARKS e (2 + k)) e
     unfolding every

@@ -1,4 +1,5 @@
 pub mod Meanings
+pub mod Lowest
 pub mod Tabled
 pub mod Stacks
 pub mod Children

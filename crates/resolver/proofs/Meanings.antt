@@ -119,7 +119,7 @@ there (x ∷ marks) (suc e) h = let ih = there marks e h in omega arith
 
 -- what a mark found tells of its word
 module _ (marks : List ℕ) (e : ℕ) where
-  found-word : (m : Mark) → getElem? (map markWord marks) e ≡ some m → markWord (getD marks e 0) ≡ m
+  pub found-word : (m : Mark) → getElem? (map markWord marks) e ≡ some m → markWord (getD marks e 0) ≡ m
   found-word m at =
       let f = map-some markWord marks e m at in
       rw (found-read marks e (f .0) 0 (f .1)) (f .2)

@@ -30,6 +30,7 @@ use Rattle.interner.specs.Nodes.{nodeAt, nodeCount, nodesIn}
 use Rattle.resolver.specs.Resolved.{Table}
 use Rattle.resolver.specs.Moves.{stateAt, stackOf, IsItem, Places, ToLeave, Pushed, Enters, NodesHold, Running, CountersKept, Leaves, Steps}
 use Rattle.resolver.proofs.Meanings.{goal-refused, goal-ok, item-goal, item-leave, is-fresh, is-underway, is-done, mark-at, found-underway, done-found, settled-became}
+use Rattle.resolver.proofs.Lowest.{lowest-entered}
 use Rattle.resolver.proofs.Tabled.{Kids, kids-there, word-kid, cited, table-ok, linked-count, fuel-counted}
 use Rattle.resolver.proofs.Stacks.{stack-length, stack-pushed, words-pushed}
 use Rattle.resolver.proofs.Leaving.{unfinished-same}
@@ -291,6 +292,9 @@ module _ (h : ℕ) (s : List ℕ) (t : Store) (n : ℕ) (few : Small s) (table :
                     let m = run .hold .made i l in
                     let other : getD (t NODES) i 0 ≡ e → ⊥ = λ q. omega (arith, ap (λ d. getD (t MARKS) d 0) q) in
                     rw (getD-set-other (t MARKS) e (getD (t NODES) i 0) 1 0 other) m;
+                lowest =
+                    rw (pushed .kept COUNTS refl, pushed .kept NODES refl, pushed .kept MARKS refl)
+                    (λ k l. run .hold .lowest k l ∙ sym (lowest-entered (t MARKS) e (omega arith) k));
                 room = rw (pushed .kept COUNTS refl, pushed .kept MARKS refl, unfinished-same (t MARKS) e 1 (omega arith) (omega arith)) (run .hold .room);
               }
 
@@ -354,15 +358,15 @@ module _ (h : ℕ) (s : List ℕ) (t : Store) (n : ℕ) (few : Small s) (table :
       ways (inl (inr (inr q))) = absurd (omega arith)
       ways (inr (a, b)) = omega arith
 
-  -- no mark tells of more nodes than there are entries
-  mark-low : (d : ℕ) → getD (t MARKS) d 0 < REFUSED
-  mark-low d =
+  -- a mark that is done tells of a node
+  mark-told : (d : ℕ) → getD (t MARKS) d 0 < 2 + nodeCount t
+  mark-told d =
       ⊎-elim
       (λ (l : 1 < getD (t MARKS) d 0).
       let k = getD (t MARKS) d 0 - 2 in
       let node = run .partial .nodeOf d k (done-found (t MARKS) d k (omega arith)) in
       let low = found-inside (nodesIn s t) k _ (node .2) in
-      omega (arith, length-map (take (nodeCount t) (t NODES)) (nodeAt s (t FIRSTS) (t SIZES) (t CHILDREN)), taken (nodeCount t) (t NODES), run .hold .nodes .few, few .entries))
+      omega (arith, length-map (take (nodeCount t) (t NODES)) (nodeAt s (t FIRSTS) (t SIZES) (t CHILDREN)), taken (nodeCount t) (t NODES)))
       (λ (l : getD (t MARKS) d 0 ≤ 1). omega arith)
       (order 1 (getD (t MARKS) d 0))
     where
@@ -370,6 +374,10 @@ module _ (h : ℕ) (s : List ℕ) (t : Store) (n : ℕ) (few : Small s) (table :
       taken zero l = omega arith
       taken (suc n) [] = omega arith
       taken (suc n) (x ∷ l) = let ih = taken n l in omega arith
+
+  -- and there aren't more nodes than entries
+  mark-low : (d : ℕ) → getD (t MARKS) d 0 < REFUSED
+  mark-low d = omega (arith, mark-told d, run .hold .nodes .few, few .entries)
 
   module _ (l : LEAVE ≤ getD (t STACK) n 0) (g : getD (t STACK) n 0 < REFUSED) where
     e : ℕ
@@ -393,6 +401,7 @@ module _ (h : ℕ) (s : List ℕ) (t : Store) (n : ℕ) (few : Small s) (table :
               settled-became (entriesIn s) (t MARKS) (getD (t GOALS) (getD (t FIRSTS) e 0 + i) 0) (few .entries) (k .words i b)
               (now-left .1 x at _ (word-kid s (t OFFSETS) (t FIRSTS) (t SIZES) (t GOALS) (table .entered) (table .linked) e x at i b));
           low = mark-low;
+          told = mark-told;
         }
 
     module _ (u : Store) (leaves : Leaves h s t u (getD (t STACK) n 0 - LEAVE)) where

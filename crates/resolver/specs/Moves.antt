@@ -13,7 +13,7 @@ use Rattle.store.specs.JobIn.{entriesIn, linkedIn}
 use Rattle.store.specs.Regions.{COUNTS, MARKS, NODE-HEADS, NODE-LINKS, FIRSTS, SIZES, GOALS, CHILDREN, NODES, STACK, NODE-COUNT}
 use Rattle.store.specs.Words.{LEAVE, REFUSED, markWord, goalWord, itemWord, IsGoal}
 use Rattle.interner.specs.Nodes.{NodesIn, nodeCount, nodesIn}
-use Rattle.resolver.specs.Resolved.{unfinished, Became}
+use Rattle.resolver.specs.Resolved.{unfinished, lowestOf, Became}
 
 -- the definition's state, with the visits counted apart
 abbrev pub stateAt : List ℕ → Store → ℕ → Resolved
@@ -36,11 +36,12 @@ pub record Places (p : List ℕ) (t : Store) (e : ℕ) : Type 0 where
   pub goals : getD (t FIRSTS) e 0 + getD (t SIZES) e 0 ≤ size p GOALS
   pub children : getD (t FIRSTS) e 0 + getD (t SIZES) e 0 ≤ size p CHILDREN
 
--- an entry that is left: its goals are done, and no mark is high
+-- an entry that is left: its goals are done, no mark is high, and each that is done tells of a node
 pub record ToLeave (t : Store) (e : ℕ) : Type 0 where
   pub isUnderway : getD (t MARKS) e 0 ≡ 1
   pub became : (i : ℕ) → i < getD (t SIZES) e 0 → Became (t MARKS) (getD (t GOALS) (getD (t FIRSTS) e 0 + i) 0)
   pub low : (d : ℕ) → getD (t MARKS) d 0 < REFUSED
+  pub told : (d : ℕ) → getD (t MARKS) d 0 < 2 + nodeCount t
 
 -- its children were written
 pub record Written (t u : Store) (e : ℕ) : Type 0 where
@@ -71,6 +72,7 @@ pub record Enters (t u : Store) (e n r : ℕ) : Type 0 where
 pub record NodesHold (h : ℕ) (s : List ℕ) (t : Store) : Type 0 where
   pub nodes : NodesIn h s t
   pub made : (i : ℕ) → i < nodeCount t → 1 < getD (t MARKS) (getD (t NODES) i 0) 0
+  pub lowest : (k : ℕ) → k < nodeCount t → getD (t NODES) k 0 ≡ lowestOf k (t MARKS)
   pub room : nodeCount t + unfinished (t MARKS) ≤ entriesIn s
 
 -- what holds while n items are on the stack

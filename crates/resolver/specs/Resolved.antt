@@ -5,8 +5,9 @@ use mathlib.Core.Path.{_≡_}
 use Prim.Native.Nat.{ℕ, zero, suc, _+_, _-_, _≤_, _<_}
 use lib.Dec.{eqb, ltb}
 use lib.ListN.{length, getD}
-use Rattle.definition.specs.Basics.{Result, good, bad, only}
+use Rattle.definition.specs.Basics.{Result, good, bad, only, position}
 use Rattle.definition.specs.Resolving.{Resolved, fuelFor, resolve}
+use Rattle.definition.specs.Places.{became}
 use Rattle.laws.specs.Faithful.{owing}
 use Rattle.laws.specs.Faithful.{Faithful}
 use Rattle.store.specs.Store.{Store, Kept}
@@ -29,6 +30,10 @@ pub record Became (marks : List ℕ) (x : ℕ) : Type 0 where
 abbrev pub unfinished : List ℕ → ℕ
 unfinished marks = length (only (λ m. ltb m 2) marks)
 
+-- the lowest entry that became node k, past all if none did
+abbrev pub lowestOf : ℕ → List ℕ → ℕ
+lowestOf k marks = position (became k) (map markWord marks)
+
 -- what stays while entries are resolved: where they stand, and where their references lead
 pub record Table (s : List ℕ) (t : Store) : Type 0 where
   pub entered : Entered s (t OFFSETS) (t FIRSTS) (t SIZES)
@@ -39,6 +44,8 @@ pub record AtRest (h : ℕ) (s : List ℕ) (t : Store) : Type 0 where
   pub nodes : NodesIn h s t
   -- every node was made from an entry that is done
   pub made : (i : ℕ) → i < nodeCount t → 1 < getD (t MARKS) (getD (t NODES) i 0) 0
+  -- and is kept as the lowest that became it
+  pub lowest : (k : ℕ) → k < nodeCount t → getD (t NODES) k 0 ≡ lowestOf k (t MARKS)
   pub room : nodeCount t + unfinished (t MARKS) ≤ entriesIn s
   pub faithful : Faithful (linkedIn s) (resolvedIn s t)
   pub owed : suc (owing (linkedIn s) (resolvedIn s t .marks)) ≤ fuelFor (linkedIn s)

@@ -1,5 +1,5 @@
 -- `interner::intern` meets its contract: an old node that is the same, or one more behind the others. Assumes nothing.
-use Rattle.interner.proofs.Adding.{interned-found, interned-made}
+use Rattle.interner.proofs.Adding.{found-low, interned-found, interned-made}
 use Rattle.interner.proofs.Reading.{places, node-heads, counter-there}
 use native.Mathlib.Omega.{arith}
 use borrow.Author.Needs.{needs}
@@ -12,6 +12,12 @@ hash-entry-requires c κs = search needs
 find-node-requires : tie.Need-find-node-requires
 find-node-requires c κs = search needs
 
+sub-keep-lower : tie.Need-sub-keep-lower
+sub-keep-lower c = search needs
+
+keep-lower-requires : tie.Need-keep-lower-requires
+keep-lower-requires c κs = let a = c .before .before .before .before .before .before .before .before .before .args in let q = c .before .before .before .before .before .before .before .before .before .pre in (search needs, places (a .job .now) (a .p .now) (q .1) _ (found-low (a .job .now) (a .p .now) (a .w .now) (a .e) (q .1) (q .3) (c .before .before .find-node .result) (c .before .before .find-node .ensures) (c .before .if1 .taken)) .nodes, omega (arith, places (a .job .now) (a .p .now) (q .1) (a .e) (q .4) .small))
+
 sub-result : tie.Need-sub-result
 sub-result c = search needs
 
@@ -19,7 +25,7 @@ same-length : tie.Need-same-length
 same-length c = search needs
 
 returns : tie.Need-returns
-returns c = let a = c .before .before .before .before .before .before .before .before .args in let q = c .before .before .before .before .before .before .before .before .pre in interned-found (a .job .now) (a .p .now) (a .w .now) (a .e) (q .1) (q .3) (c .before .find-node .result) (c .before .find-node .ensures) (c .if1 .taken)
+returns c = let a = c .before .before .before .before .before .before .before .before .before .before .before .before .args in let q = c .before .before .before .before .before .before .before .before .before .before .before .before .pre in interned-found (a .job .now) (a .p .now) (a .w .now) (a .e) (q .1) (q .3) (c .before .before .before .before .before .find-node .result) (c .before .before .before .before .before .find-node .ensures) (c .before .before .before .before .if1 .taken) (q .2) (q .4) _ (c .before .before .keep-lower .ensures)
 
 next-count-requires : tie.Need-next-count-requires
 next-count-requires c κs = let a = c .before .before .before .before .before .before .before .before .before .args in let q = c .before .before .before .before .before .before .before .before .before .pre in (search needs, counter-there (a .job .now) (a .p .now) (q .1), places (a .job .now) (a .p .now) (q .1) _ (q .5) .small)
@@ -42,6 +48,8 @@ intern-spec =
     (tie.spec
     hash-entry-requires
     find-node-requires
+    sub-keep-lower
+    keep-lower-requires
     sub-result
     same-length
     returns
