@@ -100,8 +100,8 @@ seam kids before after c e high =
     let q : c ≡ 65536 + (c - 65536) = omega (arith, high) in
     sym e ∙ ap (λ n. before ++ n ∷ after) q
 
--- Z is what is known of a refusal's number and the node that it is told at, and Lacks of a node that is refused a slot: for each place where building asks it is known if the
--- asking is refused there
+-- Z is what is known of a refusal's number and the node that it is met at, and Lacks of a node that is refused a slot: for each place where
+-- building asks it is known if the asking is refused there
 module _
     (nodes : List Node)
     (indexes : List (ℕ × ℕ))

@@ -643,3 +643,11 @@ abbrev pub NoCause : Type 0
 NoCause =
     (lent : Lent) (bytes : List ℕ) → IsBytes bytes →
     ((b : Built) × (run lent bytes ≡ good b)) ↔ ((code place : ℕ) → CauseOf lent bytes code place → ⊥)
+
+-- CAUSE LOWEST: a job of bytes whose run is refused while building (with 17 or 24, or with 14 at a definition) is refused at the lowest record
+-- for an entry: that of an entry that is reached, and no entry that is reached and the same stands at a lower one
+abbrev pub CauseLowest : Type 0
+CauseLowest =
+    (lent : Lent) (bytes : List ℕ) (job : Job (List ℕ)) (r : Refusal) → IsBytes bytes → form bytes ≡ good job → run lent bytes ≡ bad r →
+    ((r .code ≡ 14) × (r .place < length (job .definitions))) ⊎ ((r .code ≡ 17) ⊎ (r .code ≡ 24)) →
+    (e : ℕ) × LowestRecord job e (r .place)
