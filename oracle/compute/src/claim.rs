@@ -55,7 +55,9 @@ pub fn outcome(job: &[u8]) -> Outcome {
 
 fn as_outcome(of_model: model::Outcome) -> Outcome {
     match of_model {
-        model::Outcome::Refused(model::Refusal { code, place }) => Outcome::Refused { code, place },
+        model::Outcome::Refused(model::Refusal { code, place, .. }) => {
+            Outcome::Refused { code, place }
+        }
         model::Outcome::Built(built) => Outcome::Built(Built {
             answers: built.answers.iter().map(|(slot, _)| *slot).collect(),
             marks: built
