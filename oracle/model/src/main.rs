@@ -10,7 +10,7 @@ use std::io::{self, BufReader, BufWriter, Write};
 use std::process::ExitCode;
 
 const USAGE: &str = "usage: model | model hold heavy [NAME..] | model hold KIND SEED COUNT
-       KIND is small, damaged, pairs, orders, ldcfull, settings, settings_damaged or settings_pairs";
+       KIND is small, damaged, pairs, orders, ldcfull, settings, settings_damaged, settings_pairs, lowest, lowest_full or lowest_pairs";
 
 fn main() -> ExitCode {
     let arguments: Vec<String> = std::env::args().skip(1).collect();

@@ -36,7 +36,11 @@ impl Outcome {
     /// The same with the record in turn as a refusal's place: what document 01 has without No. 9 (document 02).
     pub fn in_turn(self) -> Self {
         match self {
-            Outcome::Refused(refusal) => Outcome::Refused(Refusal::at(refusal.code, refusal.turn)),
+            Outcome::Refused(Refusal {
+                code,
+                place,
+                building,
+            }) => Outcome::Refused(Refusal::at(code, building.unwrap_or(place))),
             built => built,
         }
     }

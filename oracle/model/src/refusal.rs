@@ -5,15 +5,19 @@
 pub struct Refusal {
     pub code: u8,
     pub place: usize,
-    /// The record in turn when it was met, which is the place but for some met while building (document 02, No. 9).
-    pub turn: usize,
+    /// The build record, if it was met while building: there the place can be another (document 02, No. 9).
+    pub building: Option<usize>,
 }
 
 impl Refusal {
     /// "A refusal giving the number of the record in turn."
     pub fn at(code: u8, place: usize) -> Self {
-        let turn = place;
-        Refusal { code, place, turn }
+        let building = None;
+        Refusal {
+            code,
+            place,
+            building,
+        }
     }
 }
 

@@ -79,7 +79,7 @@ impl<'a> Run<'a> {
     }
 
     /// 14, 17 and 24 give the lowest record number of what they are of, and the build record for the name.
-    fn build(mut self, record: &Record<'a>, turn: usize) -> Result<Built, Refusal> {
+    fn build(mut self, record: &Record<'a>, place: usize) -> Result<Built, Refusal> {
         let Record::Build { name, class } = *record else {
             unreachable!("the form pass leaves 60 as the last record");
         };
@@ -96,8 +96,8 @@ impl<'a> Run<'a> {
         let made = build(store, self.given, &self.raw_bootstraps, wish);
         let made = made.map_err(|Met { code, of }| Refusal {
             code,
-            place: of.map_or(turn, |id| self.resolver.store.lowest(id)),
-            turn,
+            place: of.map_or(place, |id| self.resolver.store.lowest(id)),
+            building: Some(place),
         })?;
         Ok(Built {
             answers: self.answers,

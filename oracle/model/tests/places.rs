@@ -104,9 +104,12 @@ fn all_indexes_raw(others: Vec<Record>, requests: Vec<Record>) -> Outcome {
 }
 
 /// 17 at this record, met at the build record.
-fn no_index(place: usize, turn: usize) -> Outcome {
-    let code = 17;
-    Outcome::Refused(Refusal { code, place, turn })
+fn no_index(place: usize, build_record: usize) -> Outcome {
+    Outcome::Refused(Refusal {
+        code: 17,
+        place,
+        building: Some(build_record),
+    })
 }
 
 /// 9k: equal numbers would share an index, but the stored bootstraps are apart. The Int gets slot 1.
@@ -133,12 +136,17 @@ fn an_inline_bootstrap_equal_to_a_raw_one_ahead() {
 /// The record in turn is kept beside the place.
 #[test]
 fn the_record_in_turn() {
-    let refused = |job: &str| match run(&bytes(job)) {
-        Outcome::Refused(Refusal { code, place, turn }) => (code, place, turn),
-        built => panic!("{built}"),
+    let both = |job: &str| {
+        let told = run(&bytes(job));
+        (told.to_string(), told.in_turn().to_string())
     };
-    let child = "49 0001 03 00000000 08 01 0000 50 51 01 0001 60 02 00 0000";
-    assert_eq!(refused(child), (14, 1, 5));
-    assert_eq!(refused("50 51 02 01 78 60 02 00 0000"), (12, 1, 1));
-    assert_eq!(run(&bytes(child)).in_turn().to_string(), "refused 14 5");
+    let refused = |told: &str, in_turn: &str| (told.to_string(), in_turn.to_string());
+    assert_eq!(
+        both("49 0001 03 00000000 08 01 0000 50 51 01 0001 60 02 00 0000"),
+        refused("refused 14 1", "refused 14 5")
+    );
+    assert_eq!(
+        both("50 51 02 01 78 60 02 00 0000"),
+        refused("refused 12 1", "refused 12 1")
+    );
 }
