@@ -41,6 +41,16 @@ fn one_line_a_job() {
     );
 }
 
+/// No. 9's place, and the record in turn.
+#[test]
+fn the_place_or_the_record_in_turn() {
+    let mut input = vec![];
+    let job = "49 0001 03 00000000 08 01 0000 50 51 01 0001 60 02 00 0000";
+    frame(&mut input, &bytes(job)).unwrap();
+    assert_eq!(text(&model(&[], &input).stdout), "refused 14 1\n");
+    assert_eq!(text(&model(&["in_turn"], &input).stdout), "refused 14 5\n");
+}
+
 #[test]
 fn cut_frames_and_other_arguments_are_refused() {
     assert!(!model(&[], &[0, 0, 0, 2, 7]).status.success());
