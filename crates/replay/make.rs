@@ -2,8 +2,8 @@
 //!
 //! `make GENERATE DRIVER MODEL FOLDER`, where the first three are oracle/'s programs. Jobs come from the generators with fixed seeds, and
 //! a few are made here. Lines come from the driver, but for jobs with records 47 to 49, which the Rust doesn't know: these have the
-//! model's, as all others do too. Nor does it know refusals 2 and 18: there document 01
-//! says what the line is. A job is left out if its line is long, if it is long itself but not too long for any memory, or if it is
+//! model's, as all others do too, but for the place of a refusal met while building, which the Rust tells at the build record: that is
+//! the model's alone. Nor does the Rust know refusals 2 and 18: there document 01 says what the line is. A job is left out if its line is long, if it is long itself but not too long for any memory, or if it is
 //! refused with 12 or 13 at record 50 and has several raw definitions, where the Rust's number can change from run to run.
 
 use std::error::Error;
@@ -23,6 +23,7 @@ const SEEDED: &[(&str, &str, &str, usize)] = &[
     ("ldcfull", "7105", "100", 60),
     ("settings", "7106", "500", 300),
     ("settings_damaged", "7107", "300", 200),
+    ("lowest", "7108", "300", 200),
 ];
 
 /// The longest lines and the longest packed job that are stored.
@@ -94,20 +95,24 @@ fn answered(driver: &str, model: &str, jobs: Vec<Vec<u8>>) -> Result<Vec<Answere
         }
     };
     let (lines, forms) = (said(driver, &[])?, said(driver, &["form"])?);
-    let models = said(model, &[])?;
+    let models = said(model, &[])?
+        .into_iter()
+        .zip(said(model, &["in_turn"])?);
     let all = jobs.into_iter().zip(lines).zip(forms).zip(models);
     all.map(|(((job, line), form), model)| Answered { job, line, form }.held_to(model))
         .collect()
 }
 
 impl Answered {
-    /// With the model's line, which may be another only where the Rust's own changes, or where a record can be one of 47 to 49.
-    fn held_to(self, model: String) -> Result<Answered, Trouble> {
+    /// With the model's line, which may be another only where the Rust's own changes, or where a record can be one of 47 to 49. Of a
+    /// refusal the Rust tells the record in turn.
+    fn held_to(self, (model, in_turn): (String, String)) -> Result<Answered, Trouble> {
         let may_set = self.job.iter().any(|byte| (0x47..=0x49).contains(byte));
-        if self.line != model && !self.varies() && !may_set {
-            return Err(format!("the driver says {}, the model {model}", self.line).into());
+        if self.line != in_turn && !self.varies() && !may_set {
+            return Err(format!("the driver says {}, the model {in_turn}", self.line).into());
         }
-        let line = if may_set { model } else { self.line };
+        let is_the_models = may_set || self.line == in_turn;
+        let line = if is_the_models { model } else { self.line };
         Ok(Answered { line, ..self })
     }
 

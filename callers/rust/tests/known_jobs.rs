@@ -160,11 +160,11 @@ fn k_all_slots_raw() {
     assert_eq!(with("52"), Err(refusal(15, 65_536)));
 }
 
-/// Records: the bootstrap, the Dynamic, raw definitions 2 to 65536, 50, the request, the build at 65539.
+/// Records: the bootstrap, the Dynamic, raw definitions 2 to 65536, 50, the request, the build, which tells the bootstrap's.
 #[test]
 fn k_all_indexes_raw_and_an_inline_bootstrap() {
     let mut job = bytes("40 00 0001 0000 11 01 0000 00 0001");
     job.extend(raw_definitions(0x44, 0..=65_534));
     job.extend(bytes("50 51 01 0000 60 02 00 0000"));
-    assert_eq!(rotblossom::build(&job), Err(refusal(17, 65_539)));
+    assert_eq!(rotblossom::build(&job), Err(refusal(17, 0)));
 }

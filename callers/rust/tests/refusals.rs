@@ -92,3 +92,31 @@ fn a_bad_text_too_many_is_one_too_many() {
 fn a_second_version_is_3_at_its_own_record() {
     assert_eq!(build("47 0000 47"), Err(refusal(3, 1)));
 }
+
+/// A bootstrap of raw slot 2, raw at all 65,535 indexes, and records behind it.
+fn all_indexes_raw(behind: &str) -> Vec<u8> {
+    let mut job = bytes("40 00 0002 0000");
+    job.extend(raw_definitions(0x44, 0..=65_534));
+    job.extend(bytes(behind));
+    job
+}
+
+/// Two bootstraps that would share an index, had there been one: 17 at the one in turn, though the other stands ahead.
+#[test]
+fn no_index_is_17_at_the_bootstrap_in_turn() {
+    let job = all_indexes_raw(
+        "03 00000000 40 00 0001 0000 40 01 0000 0000 11 01 0001 00 0001 11 01 0002 00 0001
+         50 51 01 0000 51 01 0001 51 01 0002 60 02 00 0000",
+    );
+    assert_eq!(rotblossom::build(&job), Err(refusal(17, 65_538)));
+}
+
+/// An inline bootstrap that equals a raw one's entry ahead: 17 at the lowest record of the two.
+#[test]
+fn no_index_is_17_at_the_lowest_of_equal_bootstraps() {
+    let job = all_indexes_raw(
+        "40 00 0002 0000 11 01 0001 00 0001
+         50 51 01 0000 60 02 00 0000",
+    );
+    assert_eq!(rotblossom::build(&job), Err(refusal(17, 0)));
+}

@@ -1,4 +1,5 @@
-//! What the library must say of a job: what the Rust says, and where that says nothing what the model does.
+//! What the library must say of a job: what the Rust says, and where that says nothing what the model does. Of a refusal met while
+//! building the Rust tells the build record, and so its place is the model's (document 02, No. 9).
 
 use crate::check::line;
 use driver::end_of_definitions::AtEndOfDefinitions;
@@ -13,6 +14,27 @@ pub enum End {
     Refused(Refusal),
 }
 
+/// How the model ends.
+#[derive(Clone, PartialEq)]
+pub struct OfModel {
+    pub end: End,
+    /// The build record, if the job is refused while building.
+    pub building: Option<usize>,
+}
+
+impl OfModel {
+    /// With the record in turn as a refusal's place, as the Rust has it.
+    fn in_turn(&self) -> End {
+        match (&self.end, self.building) {
+            (End::Refused(Refusal { code, .. }), Some(place)) => {
+                let code = *code;
+                End::Refused(Refusal { code, place })
+            }
+            (end, _) => end.clone(),
+        }
+    }
+}
+
 pub struct Expected {
     pub end: End,
     /// The number of the build record, in a job that is built.
@@ -20,11 +42,11 @@ pub struct Expected {
     pub at_end_of_definitions: AtEndOfDefinitions,
 }
 
-/// Runs the job through one copy of the module, or through both. The error says what document 01 has no number for, or of a job with
-/// records 47 to 49 that the model ends otherwise than the module.
-pub fn expected(job: &[u8], of_model: &End, both_copies: bool) -> Result<Expected, String> {
+/// Runs the job through one copy of the module, or through both. The error says what document 01 has no number for, or that the model
+/// ends otherwise than the module.
+pub fn expected(job: &[u8], of_model: &OfModel, both_copies: bool) -> Result<Expected, String> {
     match JobWithSettings::of(job) {
-        None => of_module(driver::expected::expected(job, both_copies)?),
+        None => hold_model(of_model, driver::expected::expected(job, both_copies)?),
         Some(with_settings) => with_model(&with_settings, of_model, both_copies),
     }
 }
@@ -32,22 +54,17 @@ pub fn expected(job: &[u8], of_model: &End, both_copies: bool) -> Result<Expecte
 /// The model's end. Where the records 47 to 49 change nothing, it must be the module's without them.
 fn with_model(
     job: &JobWithSettings,
-    of_model: &End,
+    of_model: &OfModel,
     both_copies: bool,
 ) -> Result<Expected, String> {
-    let theirs = match has_say(of_model) {
+    let theirs = match has_say(&of_model.end) {
         true => job.expected_without(both_copies),
         false => None,
     };
     match theirs {
-        Some(theirs) => {
-            let theirs = of_module(theirs?)?;
-            hold_model(of_model, &theirs.end)
-                .map_err(|text| format!("{}\n  {text}", line(&theirs.end)))?;
-            Ok(theirs)
-        }
+        Some(theirs) => hold_model(of_model, theirs?),
         None => Ok(Expected {
-            end: of_model.clone(),
+            end: of_model.end.clone(),
             build_record: job.last_record(),
             at_end_of_definitions: AtEndOfDefinitions::No,
         }),
@@ -62,19 +79,17 @@ fn has_say(end: &End) -> bool {
     }
 }
 
-/// The error tells the model's end, where it is another.
-pub fn hold_model(of_model: &End, end: &End) -> Result<(), String> {
-    match of_model == end {
-        true => Ok(()),
-        false => Err(format!("model: {}", line(of_model))),
+/// The model's end, which must be the module's. The error tells both, where they differ.
+fn hold_model(of_model: &OfModel, theirs: driver::expected::Expected) -> Result<Expected, String> {
+    let end = end(theirs.outcome)?;
+    let in_turn = of_model.in_turn();
+    if in_turn != end {
+        return Err(format!("{}\n  model: {}", line(&end), line(&in_turn)));
     }
-}
-
-fn of_module(expected: driver::expected::Expected) -> Result<Expected, String> {
     Ok(Expected {
-        end: end(expected.outcome)?,
-        build_record: expected.build_record,
-        at_end_of_definitions: expected.at_end_of_definitions,
+        end: of_model.end.clone(),
+        build_record: theirs.build_record,
+        at_end_of_definitions: theirs.at_end_of_definitions,
     })
 }
 
@@ -108,24 +123,30 @@ fn mark(mark: outcome::Mark) -> Mark {
     }
 }
 
-/// How the model ends.
-pub fn model_end(job: &[u8]) -> End {
+pub fn of_model(job: &[u8]) -> OfModel {
     match model::run(job) {
-        model::Outcome::Refused(refusal) => refused(refusal.code, refusal.place),
-        model::Outcome::Built(built) => End::Built(Built {
-            answers: built.answers.iter().map(|answer| answer.0).collect(),
-            marks: built
-                .answers
-                .iter()
-                .map(|answer| model_mark(answer.1))
-                .collect(),
-            pool: built.pool,
-            bootstrap_count: built.bootstrap_count,
-            bootstraps: built.bootstraps,
-            name_slot: built.name_slot.into(),
-            class_name: built.class_name,
-            visits: built.visits as usize,
-        }),
+        model::Outcome::Refused(refusal) => OfModel {
+            end: refused(refusal.code, refusal.place),
+            building: refusal.building,
+        },
+        model::Outcome::Built(built) => OfModel {
+            end: End::Built(built_by_model(built)),
+            building: None,
+        },
+    }
+}
+
+fn built_by_model(built: model::Built) -> Built {
+    let marks = built.answers.iter().map(|answer| model_mark(answer.1));
+    Built {
+        answers: built.answers.iter().map(|answer| answer.0).collect(),
+        marks: marks.collect(),
+        pool: built.pool,
+        bootstrap_count: built.bootstrap_count,
+        bootstraps: built.bootstraps,
+        name_slot: built.name_slot.into(),
+        class_name: built.class_name,
+        visits: built.visits as usize,
     }
 }
 

@@ -1,5 +1,5 @@
 //! Holds the proved library and the model to Krakatau's module: the same jobs through all three, in one process. Of jobs with records 47 to
-//! 49 the module has the last word where these change nothing, and else the model.
+//! 49 the module has the last word where these change nothing, and else the model, as it has of the place of a refusal met while building.
 //!
 //! `compare` takes the whole, `compare KIND SEED COUNT`, `compare heavy`, `heavy_settings` or `short` a part; `--threads N` comes first.
 
@@ -11,7 +11,7 @@ mod tally;
 
 use check::{Checker, hex, line};
 use driver::tally::grouped;
-use expected::{expected, hold_model, model_end};
+use expected::{expected, of_model};
 use parts::{Jobs, Part};
 use std::process::ExitCode;
 use std::sync::Mutex;
@@ -20,7 +20,7 @@ use std::time::{Duration, Instant};
 use tally::{HEAD, Tally, row};
 
 const USAGE: &str = "usage: compare [--threads N] [heavy | heavy_settings | short | KIND SEED COUNT]
-       KIND is small, damaged, pairs, orders, ldcfull, settings, settings_damaged or settings_pairs";
+       KIND is small, damaged, pairs, orders, ldcfull, settings, settings_damaged, settings_pairs, lowest, lowest_full or lowest_pairs";
 
 /// So many jobs are taken by a thread at once.
 const BATCH: usize = 16;
@@ -128,14 +128,11 @@ fn compare_job(
     tally: &mut Tally,
 ) -> Result<(), String> {
     tally.jobs += 1;
-    let of_model = model_end(job);
+    let of_model = of_model(job);
     let expected =
         expected(job, &of_model, is_chosen).map_err(|text| format!("the Rust: {text}"))?;
-    tally.add_end(&expected);
-    let mut checked = hold_model(&of_model, &expected.end);
-    if checked.is_ok() {
-        checked = checker.check(job, &expected);
-    }
+    tally.add_end(&expected, of_model.building.is_some());
+    let mut checked = checker.check(job, &expected);
     if checked.is_ok() && is_chosen {
         checked = checker.check_short_memory(job);
     }
@@ -155,7 +152,7 @@ fn tell(part: &Part, tally: &Tally, start: Instant) {
 #[cfg(test)]
 mod tests {
     use super::*;
-    use expected::End;
+    use expected::{End, OfModel};
 
     /// Among them are those that need more memory than a stack has: all 65,535 bootstrap indexes used (17), the longest job.
     #[test]
@@ -171,21 +168,42 @@ mod tests {
     #[test]
     fn a_model_that_differs_is_told() {
         let job = jobs::hex::bytes("50 60 02 00 0000");
-        let of_model = model_end(&job);
-        let end = expected(&job, &of_model, false).unwrap().end;
-        assert_eq!(hold_model(&of_model, &end), Ok(()));
-        let told = hold_model(&with_another_visit(of_model), &end).unwrap_err();
-        assert!(told.starts_with("model: built"), "{told}");
+        let of_model = of_model(&job);
+        assert!(expected(&job, &of_model, false).is_ok());
+        let told = expected(&job, &with_another_visit(of_model), false).err();
+        let told = told.expect("they differ");
+        assert!(told.contains("model: built"), "{told}");
     }
 
-    fn with_another_visit(end: End) -> End {
-        match end {
-            End::Built(mut built) => {
-                built.visits += 1;
-                End::Built(built)
-            }
+    fn with_another_visit(mut of_model: OfModel) -> OfModel {
+        match &mut of_model.end {
+            End::Built(built) => built.visits += 1,
             End::Refused(_) => panic!("the job is built"),
         }
+        of_model
+    }
+
+    /// All slots are raw, and the String at the first of them has a child: 14 at the child's record. The module has a say in the number
+    /// and in that it is met at the build record.
+    #[test]
+    fn a_refusal_met_while_building_is_told_where_the_model_has_it() {
+        let mut job = jobs::hex::bytes("03 00000000 08 01 0000 43 0001 0001");
+        let raw = |slot: u16| [0x43, (slot >> 8) as u8, slot as u8, 0, 0];
+        job.extend((2..=65_534).flat_map(raw));
+        job.extend(jobs::hex::bytes("50 60 02 00 0000"));
+        let told = of_model(&job);
+        let with = |of_model: OfModel| expected(&job, &of_model, true).map(|e| line(&e.end));
+        assert_eq!(with(told.clone()), Ok("refused 14 0".into()));
+        let at_a_request = OfModel {
+            building: None,
+            ..told.clone()
+        };
+        assert!(with(at_a_request).is_err());
+        let another = OfModel {
+            end: End::Refused(rotblossom::Refusal { code: 17, place: 0 }),
+            ..told
+        };
+        assert!(with(another).is_err());
     }
 
     /// A model that differs from the module is told of a job with 47 and 48 too, but not of one with 49.
@@ -193,7 +211,7 @@ mod tests {
     fn the_module_has_a_say_where_the_settings_change_nothing() {
         let differs = |job: &str| {
             let job = jobs::hex::bytes(job);
-            let of_model = with_another_visit(model_end(&job));
+            let of_model = with_another_visit(of_model(&job));
             expected(&job, &of_model, true).is_err()
         };
         assert!(differs("48 47 0000 50 60 02 00 0000"));
@@ -201,13 +219,26 @@ mod tests {
         assert!(!differs("49 0001 50 60 02 00 0000"));
     }
 
+    fn none_different(kind: &str, count: &str) -> Tally {
+        let part = Part::of(&[kind, "1", count]).unwrap();
+        let tally = compare(&part, 1, Instant::now());
+        assert_eq!(tally.differences, Vec::<String>::new(), "{kind}");
+        tally
+    }
+
     /// Jobs with records 47 to 49, under every loan.
     #[test]
     fn jobs_with_settings_end_as_in_the_model() {
         for kind in ["settings", "settings_damaged", "settings_pairs"] {
-            let part = Part::of(&[kind, "1", "2000"]).unwrap();
-            let tally = compare(&part, 1, Instant::now());
-            assert_eq!(tally.differences, Vec::<String>::new(), "{kind}");
+            none_different(kind, "2000");
         }
+    }
+
+    /// Of small pools nearly half, of full ones a third.
+    #[test]
+    fn jobs_refused_while_building_tell_the_models_record() {
+        assert!(none_different("lowest", "4000").building > 1_600);
+        assert!(none_different("lowest_pairs", "2000").building > 800);
+        assert!(none_different("lowest_full", "20").building > 4);
     }
 }

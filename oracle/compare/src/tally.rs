@@ -16,6 +16,8 @@ pub struct Tally {
     refused: [u64; LAST_REFUSAL + 1],
     one_number: u64,
     several_numbers: u64,
+    /// Refused while building: 14, 17 or 24.
+    pub building: u64,
     pub different: u64,
     /// The first of them, told in full.
     pub differences: Vec<String>,
@@ -23,7 +25,8 @@ pub struct Tally {
 }
 
 impl Tally {
-    pub fn add_end(&mut self, expected: &Expected) {
+    pub fn add_end(&mut self, expected: &Expected, is_building: bool) {
+        self.building += u64::from(is_building);
         match &expected.end {
             End::Built(_) => self.built += 1,
             End::Refused(refusal) => self.refused[refusal.code as usize] += 1,
@@ -58,6 +61,7 @@ impl Tally {
         }
         self.one_number += other.one_number;
         self.several_numbers += other.several_numbers;
+        self.building += other.building;
         self.different += other.different;
         let room = DIFFERENCES_SHOWN - self.differences.len();
         self.differences
@@ -67,11 +71,11 @@ impl Tally {
 }
 
 pub const HEAD: &str = "\
-| Kind | Seed | Jobs | Equal | Built | Refused, number: how often | Record 50 | Runs | Different |
-|---|---|---|---|---|---|---|---|---|";
+| Kind | Seed | Jobs | Equal | Built | Refused, number: how often | Record 50 | Building | Runs | Different |
+|---|---|---|---|---|---|---|---|---|---|";
 
-/// A row of the table under `HEAD`. At record 50 there was one number possible, or several; runs were plain, with leftovers, with
-/// an output short, and with work or gaps short.
+/// A row of the table under `HEAD`. At record 50 there was one number possible, or several; so many were refused while building; runs
+/// were plain, with leftovers, with an output short, and with work or gaps short.
 pub fn row(part: &Part, tally: &Tally) -> String {
     let refused: Vec<String> = tally
         .refused
@@ -94,6 +98,7 @@ pub fn row(part: &Part, tally: &Tally) -> String {
             grouped(tally.one_number),
             grouped(tally.several_numbers)
         ),
+        grouped(tally.building),
         [
             calls.plain,
             calls.leftovers,

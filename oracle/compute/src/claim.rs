@@ -45,17 +45,25 @@ pub struct Claim {
     pub at_end: AtEndOfDefinitions,
 }
 
-/// What the Rust says of the job, or the model if it has records 47 to 49.
+/// What the Rust says of the job, or the model if it has records 47 to 49. A refusal met while building, which the Rust tells at the
+/// build record, is told where the model has it (document 02, No. 9).
 pub fn outcome(job: &[u8]) -> Outcome {
-    match JobWithSettings::of(job) {
-        None => run_job(job),
-        Some(_) => as_outcome(model::run(job)),
+    let of_model = model::run(job);
+    if JobWithSettings::of(job).is_some() {
+        return as_outcome(of_model);
+    }
+    let of_rust = run_job(job);
+    match as_outcome(of_model.clone().in_turn()) == of_rust {
+        true => as_outcome(of_model),
+        false => of_rust,
     }
 }
 
 fn as_outcome(of_model: model::Outcome) -> Outcome {
     match of_model {
-        model::Outcome::Refused(model::Refusal { code, place }) => Outcome::Refused { code, place },
+        model::Outcome::Refused(model::Refusal { code, place, .. }) => {
+            Outcome::Refused { code, place }
+        }
         model::Outcome::Built(built) => Outcome::Built(Built {
             answers: built.answers.iter().map(|(slot, _)| *slot).collect(),
             marks: built
@@ -281,6 +289,20 @@ mod tests {
             18,
             3,
         );
+    }
+
+    /// All slots are raw, and a String at the first of them has a child of its own.
+    #[test]
+    fn met_while_building_it_is_told_where_the_model_has_it() {
+        let mut job = bytes("03 00000000 08 01 0000 43 0001 0001");
+        job.extend((2..=65_534u16).flat_map(|slot| {
+            let [high, low] = slot.to_be_bytes();
+            [0x43, high, low, 0, 0]
+        }));
+        job.extend(bytes("50 60 02 00 0000"));
+        let refused = |place| Outcome::Refused { code: 14, place };
+        assert_eq!(run_job(&job), refused(65_537));
+        assert_eq!(outcome(&job), refused(0));
     }
 
     #[test]

@@ -70,6 +70,7 @@ const AGREE: &[Set] = &[
     set("pairs", 103, 250),
     set("orders", 104, 100),
     set("ldcfull", 105, 10),
+    set("lowest", 106, 600),
 ];
 
 const NOTICE: &[Set] = &[DIRECTED, set("small", 201, 200), set("damaged", 202, 60)];

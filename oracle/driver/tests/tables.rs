@@ -31,7 +31,7 @@ fn the_starred_table_has_the_drivers_texts() {
 #[test]
 fn the_readings_of_marks_have_the_drivers_texts() {
     let rows = rows("Readings.antt");
-    assert_eq!(rows.len(), 42);
+    assert_eq!(rows.len(), 52);
     hold(&rows[..6]);
 }
 

@@ -4,6 +4,7 @@ pub mod damaged;
 pub mod heavy;
 pub mod hex;
 pub mod large;
+pub mod lowest;
 pub mod make;
 pub mod pairs;
 pub mod random;

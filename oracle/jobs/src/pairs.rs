@@ -1,6 +1,7 @@
 //! Pairs of jobs: alike but for their literals (demand 3), with and without records 47 to 49, and alike but for the order of records
 //! 41 to 44 (request No. 11).
 
+use crate::lowest::lowest_job;
 use crate::make::{NAME_TEXT, TEXT, has_literal};
 use crate::random::Random;
 use crate::record::{Record, Reference};
@@ -24,6 +25,12 @@ pub fn settings_pair(random: &mut Random) -> Pair {
         false => some_text,
     };
     with_other_literals(first, text, random)
+}
+
+/// The same of jobs that are often refused while building.
+pub fn lowest_pair(random: &mut Random) -> Pair {
+    let first = lowest_job(random);
+    with_other_literals(first, letters, random)
 }
 
 type Text = fn(&mut Random) -> Vec<u8>;

@@ -2,7 +2,7 @@
 
 use crate::random::Random;
 use crate::record::encode;
-use crate::{damaged, heavy, pairs, settings, small};
+use crate::{damaged, heavy, lowest, pairs, settings, small};
 use std::io::{self, ErrorKind, Read, Write};
 use std::iter;
 
@@ -18,6 +18,9 @@ pub fn seeded(kind: &str) -> Option<Step> {
         "settings" => |random| vec![encode(&settings::settings_job(random))],
         "settings_damaged" => |random| vec![settings::damaged_settings_job(random)],
         "settings_pairs" => |random| both(pairs::settings_pair(random)),
+        "lowest" => |random| vec![encode(&lowest::lowest_job(random))],
+        "lowest_full" => |random| vec![encode(&lowest::lowest_full_job(random))],
+        "lowest_pairs" => |random| both(pairs::lowest_pair(random)),
         "orders" => |random| both(pairs::order_pair(random)),
         _ => return None,
     })

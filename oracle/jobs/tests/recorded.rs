@@ -6,7 +6,7 @@ use jobs::random::Random;
 use jobs::record::encode;
 use jobs::stream::{heavy_jobs, seeded};
 
-const RECORDED: [(&str, u64); 10] = [
+const RECORDED: [(&str, u64); 13] = [
     ("small", 0x9264_b943_53df_e0fd),
     ("ldcfull", 0xa876_3ac8_7897_08b0),
     ("damaged", 0xb7ab_379a_cd71_7249),
@@ -15,6 +15,9 @@ const RECORDED: [(&str, u64); 10] = [
     ("settings", 0x1dc5_f887_4fe0_b81f),
     ("settings_damaged", 0xb510_48cf_8e90_7da4),
     ("settings_pairs", 0x587d_c175_1b06_fadb),
+    ("lowest", 0x41e7_d7f7_87dc_5c04),
+    ("lowest_full", 0xc9c0_bef5_ed89_3b10),
+    ("lowest_pairs", 0x1c9a_f059_ef5e_02e9),
     ("heavy", 0xae62_233d_2cf4_5a4d),
     ("large", 0xb587_779e_3f02_253b),
 ];
@@ -33,9 +36,13 @@ fn hash(jobs: impl Iterator<Item = Vec<u8>>) -> u64 {
 
 /// A kind's hash, with the two jobs of a pair as one.
 fn of_kind(kind: &'static str) -> (&'static str, u64) {
+    first_of_kind(kind, 300)
+}
+
+fn first_of_kind(kind: &'static str, count: usize) -> (&'static str, u64) {
     let step = seeded(kind).unwrap();
     let mut random = Random::new(1);
-    (kind, hash((0..300).map(|_| step(&mut random).concat())))
+    (kind, hash((0..count).map(|_| step(&mut random).concat())))
 }
 
 #[test]
@@ -49,6 +56,9 @@ fn jobs_are_those_recorded() {
         of_kind("settings"),
         of_kind("settings_damaged"),
         of_kind("settings_pairs"),
+        of_kind("lowest"),
+        first_of_kind("lowest_full", 10),
+        of_kind("lowest_pairs"),
         ("heavy", hash(heavy_jobs())),
         (
             "large",

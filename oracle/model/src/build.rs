@@ -18,6 +18,20 @@ pub struct Wish {
     pub class_slot: u16,
 }
 
+/// A refusal number that is met, and what it is of: the constant without a slot, the bootstrap without an index or the constant
+/// judged. Without any it is the name.
+pub struct Met {
+    pub code: u8,
+    pub of: Option<Id>,
+}
+
+impl Met {
+    fn of(id: Id, code: u8) -> Self {
+        let of = Some(id);
+        Met { code, of }
+    }
+}
+
 pub struct Made {
     pub pool: Vec<u8>,
     pub bootstrap_count: usize,
@@ -31,13 +45,13 @@ pub fn build<'a>(
     mut given: Given,
     raw_bootstraps: &BTreeMap<u16, Id>,
     wish: Wish,
-) -> Result<Made, u8> {
+) -> Result<Made, Met> {
     let raw = raw_numbers(store, &mut given, raw_bootstraps)?;
     let mut bootstraps = Bootstraps::new(raw);
     let mut entries = BTreeMap::new();
     while let Some((slot, id)) = given.stack.pop() {
         if !wish.settings.has_kind(store.get(id).tag) {
-            return Err(TOO_NEW);
+            return Err(Met::of(id, TOO_NEW));
         }
         let entry = pool_entry(store, &mut given, &mut bootstraps, id)?;
         entries.insert(slot, entry);
@@ -70,7 +84,7 @@ fn raw_numbers(
     store: &Store,
     given: &mut Given,
     raw_bootstraps: &BTreeMap<u16, Id>,
-) -> Result<BTreeMap<u16, Numbers>, u8> {
+) -> Result<BTreeMap<u16, Numbers>, Met> {
     let falling = raw_bootstraps.iter().rev();
     falling
         .map(|(index, id)| Ok((*index, slots(store, given, *id)?)))
@@ -78,17 +92,17 @@ fn raw_numbers(
 }
 
 /// The slots of a bootstrap's children, each by an ordinary request.
-fn slots(store: &Store, given: &mut Given, bootstrap: Id) -> Result<Numbers, u8> {
+fn slots(store: &Store, given: &mut Given, bootstrap: Id) -> Result<Numbers, Met> {
     let children = store.get(bootstrap).children.iter();
     children.map(|child| slot(store, given, *child)).collect()
 }
 
-fn slot(store: &Store, given: &mut Given, child: Resolved) -> Result<u16, u8> {
+fn slot(store: &Store, given: &mut Given, child: Resolved) -> Result<u16, Met> {
     match child {
         Resolved::Raw(slot) => Ok(slot),
         Resolved::Stored(id) => {
-            let (slot, _) = given.slot(store, id, false).ok_or(NO_SLOT)?;
-            Ok(slot)
+            let given = given.slot(store, id, false);
+            given.map_or(Err(Met::of(id, NO_SLOT)), |(slot, _)| Ok(slot))
         }
     }
 }
@@ -99,14 +113,15 @@ fn pool_entry<'a>(
     given: &mut Given,
     bootstraps: &mut Bootstraps,
     id: Id,
-) -> Result<PoolEntry<'a>, u8> {
+) -> Result<PoolEntry<'a>, Met> {
     let constant = store.get(id);
     let mut numbers = vec![];
     for child in &constant.children {
         numbers.push(match child {
             Resolved::Stored(id) if store.get(*id).is_bootstrap() => {
                 let slots = slots(store, given, *id)?;
-                bootstraps.index(slots).ok_or(NO_INDEX)?
+                let index = bootstraps.index(slots);
+                index.ok_or(Met::of(*id, NO_INDEX))?
             }
             child => slot(store, given, *child)?,
         });
@@ -118,18 +133,22 @@ fn pool_entry<'a>(
     })
 }
 
-/// "The name, if wanted, gets a slot last, as an ordinary request."
+/// "The name, if wanted, gets a slot last, as an ordinary request." For it the place "stays the build record".
 fn give_name<'a>(
     store: &mut Store<'a>,
     given: &mut Given,
     entries: &mut BTreeMap<u16, PoolEntry<'a>>,
-) -> Result<u16, u8> {
+) -> Result<u16, Met> {
     let id = store.put(Stored {
         tag: TEXT,
         literal: NAME,
         children: vec![],
     });
-    let slot = slot(store, given, Resolved::Stored(id))?;
+    let none = Met {
+        code: NO_SLOT,
+        of: None,
+    };
+    let (slot, _) = given.slot(store, id, false).ok_or(none)?;
     let entry = PoolEntry {
         tag: TEXT,
         literal: NAME,

@@ -11,8 +11,9 @@ pub const BOOTSTRAP_INDEXES: u16 = 65_535;
 #[derive(Default)]
 pub struct Definitions<'a> {
     pub settings: Settings,
-    pub constants: Vec<&'a Entry<'a>>,
-    pub bootstraps: Vec<&'a Entry<'a>>,
+    /// Entries, each with its record's number.
+    pub constants: Vec<(usize, &'a Entry<'a>)>,
+    pub bootstraps: Vec<(usize, &'a Entry<'a>)>,
     pub names: HashMap<(Kind, &'a [u8]), Reference<'a>>,
     /// Raw slots and raw indexes, rising, each with its entry number.
     pub raw_constants: BTreeMap<u16, u16>,
@@ -21,6 +22,15 @@ pub struct Definitions<'a> {
 
 impl<'a> Definitions<'a> {
     pub fn entry(&self, kind: Kind, number: u16) -> &'a Entry<'a> {
+        self.numbered(kind, number).1
+    }
+
+    /// The number of an entry's record.
+    pub fn record_of(&self, kind: Kind, number: u16) -> usize {
+        self.numbered(kind, number).0
+    }
+
+    fn numbered(&self, kind: Kind, number: u16) -> (usize, &'a Entry<'a>) {
         let number = usize::from(number);
         match kind {
             Kind::Constant => self.constants[number],
@@ -28,12 +38,12 @@ impl<'a> Definitions<'a> {
         }
     }
 
-    /// Takes the next definition. The error is a refusal number.
-    pub fn take(&mut self, record: &'a Record<'a>) -> Result<(), u8> {
+    /// Takes the definition that is the record of this number. The error is a refusal number.
+    pub fn take(&mut self, place: usize, record: &'a Record<'a>) -> Result<(), u8> {
         match record {
             Record::Entry(entry) => match entry.kind() {
-                Kind::Constant => self.constants.push(entry),
-                Kind::Bootstrap => self.bootstraps.push(entry),
+                Kind::Constant => self.constants.push((place, entry)),
+                Kind::Bootstrap => self.bootstraps.push((place, entry)),
             },
             Record::Name(name, to) => {
                 let earlier = self.names.insert((to.kind, name), to.reference);

@@ -17,15 +17,13 @@ const TABLE_ENTRIES: usize = 65_536;
 /// The records of a well-formed job, or its first fault.
 pub fn records(job: &[u8]) -> Result<Vec<Record<'_>>, Refusal> {
     if job.len() > LONGEST_JOB {
-        let (code, place) = (TOO_LONG, 0);
-        return Err(Refusal { code, place });
+        return Err(Refusal::at(TOO_LONG, 0));
     }
     let (records, fault) = up_to_a_fault(job);
     // Record 48 may follow the text, "but one behind the job's first other form fault doesn't count".
     let held = records.contains(&Record::HoldTexts);
     if let Some(place) = records.iter().position(is_bad_text).filter(|_| held) {
-        let code = BAD_TEXT;
-        return Err(Refusal { code, place });
+        return Err(Refusal::at(BAD_TEXT, place));
     }
     fault.map_or(Ok(records), Err)
 }
@@ -41,7 +39,7 @@ fn up_to_a_fault(job: &[u8]) -> (Vec<Record<'_>>, Option<Refusal>) {
             Err(code) => {
                 // For a missing record or bytes after 60, this is the number the next record would have.
                 let place = records.len();
-                return (records, Some(Refusal { code, place }));
+                return (records, Some(Refusal::at(code, place)));
             }
         }
     }

@@ -1,4 +1,4 @@
-//! Holds the model to Krakatau's module.
+//! Holds the model to Krakatau's module, which tells the record in turn where No. 9 (document 02) has another.
 
 use driver::expected::expected;
 use driver::settings::{JobWithSettings, is_of_the_module};
@@ -42,7 +42,7 @@ pub fn hold(part: &str, jobs: Jobs) -> Result<(), Box<dyn Error>> {
     let (mut all, mut built, mut unheld, mut different) = (0, 0, 0, 0);
     for job in jobs {
         all += 1;
-        let ours = model::run(&job);
+        let ours = model::run(&job).in_turn();
         built += u64::from(matches!(ours, model::Outcome::Built(_)));
         let Some(theirs) = of_module(&job, &ours) else {
             unheld += 1;
@@ -94,7 +94,7 @@ fn shown(theirs: Result<model::Outcome, String>) -> String {
 /// The module's outcome as the model has it. A panic or an unknown message is an error.
 fn as_ours(outcome: Outcome) -> Result<model::Outcome, String> {
     match outcome {
-        Outcome::Refused { code, place } => Ok(model::Outcome::Refused(Refusal { code, place })),
+        Outcome::Refused { code, place } => Ok(model::Outcome::Refused(Refusal::at(code, place))),
         Outcome::Built(built) => Ok(model::Outcome::Built(Built {
             answers: built.answers.into_iter().zip(marks(built.marks)).collect(),
             pool: built.pool,

@@ -32,11 +32,25 @@ pub struct Built {
     pub visits: u64,
 }
 
+impl Outcome {
+    /// The same with the record in turn as a refusal's place: what document 01 has without No. 9 (document 02).
+    pub fn in_turn(self) -> Self {
+        match self {
+            Outcome::Refused(Refusal {
+                code,
+                place,
+                building,
+            }) => Outcome::Refused(Refusal::at(code, building.unwrap_or(place))),
+            built => built,
+        }
+    }
+}
+
 impl Display for Outcome {
     fn fmt(&self, f: &mut Formatter<'_>) -> fmt::Result {
         match self {
             Outcome::Built(built) => built.fmt(f),
-            Outcome::Refused(Refusal { code, place }) => write!(f, "refused {code} {place}"),
+            Outcome::Refused(Refusal { code, place, .. }) => write!(f, "refused {code} {place}"),
         }
     }
 }

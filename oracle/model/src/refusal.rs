@@ -5,6 +5,20 @@
 pub struct Refusal {
     pub code: u8,
     pub place: usize,
+    /// The build record, if it was met while building: there the place can be another (document 02, No. 9).
+    pub building: Option<usize>,
+}
+
+impl Refusal {
+    /// "A refusal giving the number of the record in turn."
+    pub fn at(code: u8, place: usize) -> Self {
+        let building = None;
+        Refusal {
+            code,
+            place,
+            building,
+        }
+    }
 }
 
 /// Job too long (record 0).

@@ -89,7 +89,8 @@ impl<'a> Resolver<'a> {
             literal: entry.literal,
             children: children.collect::<Result<_, _>>()?,
         };
-        let id = self.store.put(stored);
+        let record = self.definitions.record_of(number.0, number.1);
+        let id = self.store.put_entry(stored, record);
         let done = State::Done(Resolved::Stored(id));
         self.states.insert(number, done);
         Ok(())

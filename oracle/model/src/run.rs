@@ -1,6 +1,6 @@
-//! The records of a well-formed job in turn: "a refusal giving the number of the record in turn".
+//! The records of a well-formed job in turn: "a refusal giving the number of the record in turn", but for some met while building.
 
-use crate::build::{Wish, build};
+use crate::build::{Met, Wish, build};
 use crate::definitions::Definitions;
 use crate::given::Given;
 use crate::job::{Citation, ClassSlot, Kind, Record, Reference};
@@ -18,17 +18,17 @@ pub fn in_turn<'a>(records: &'a [Record<'a>]) -> Result<Built, Refusal> {
         .iter()
         .position(|record| *record == Record::EndOfDefinitions)
         .expect("the form pass sees to record 50");
-    let at = |place| move |code| Refusal { code, place };
+    let at = |place| move |code| Refusal::at(code, place);
 
     let mut definitions = Definitions::default();
     for (place, record) in records.iter().enumerate().take(end) {
-        definitions.take(record).map_err(at(place))?;
+        definitions.take(place, record).map_err(at(place))?;
     }
     let mut run = Run::end_of_definitions(definitions).map_err(at(end))?;
     for (place, record) in records.iter().enumerate().take(last).skip(end + 1) {
         run.ask(record).map_err(at(place))?;
     }
-    run.build(&records[last]).map_err(at(last))
+    run.build(&records[last], last)
 }
 
 /// What a run is after record 50.
@@ -78,7 +78,8 @@ impl<'a> Run<'a> {
         Ok(())
     }
 
-    fn build(mut self, record: &Record<'a>) -> Result<Built, u8> {
+    /// 14, 17 and 24 give the lowest record number of what they are of, and the build record for the name.
+    fn build(mut self, record: &Record<'a>, place: usize) -> Result<Built, Refusal> {
         let Record::Build { name, class } = *record else {
             unreachable!("the form pass leaves 60 as the last record");
         };
@@ -92,7 +93,12 @@ impl<'a> Run<'a> {
             class_slot,
         };
         let store = &mut self.resolver.store;
-        let made = build(store, self.given, &self.raw_bootstraps, wish)?;
+        let made = build(store, self.given, &self.raw_bootstraps, wish);
+        let made = made.map_err(|Met { code, of }| Refusal {
+            code,
+            place: of.map_or(place, |id| self.resolver.store.lowest(id)),
+            building: Some(place),
+        })?;
         Ok(Built {
             answers: self.answers,
             pool: made.pool,

@@ -31,6 +31,8 @@ impl Stored<'_> {
 pub struct Store<'a> {
     all: Vec<Stored<'a>>,
     ids: HashMap<Stored<'a>, Id>,
+    /// "The lowest record number among the resolved entries that became them." The BootstrapMethods name comes of no entry.
+    lowest: HashMap<Id, usize>,
 }
 
 impl<'a> Store<'a> {
@@ -42,6 +44,19 @@ impl<'a> Store<'a> {
         self.all.push(stored.clone());
         self.ids.insert(stored, id);
         id
+    }
+
+    /// Puts what the entry of this record became.
+    pub fn put_entry(&mut self, stored: Stored<'a>, record: usize) -> Id {
+        let id = self.put(stored);
+        let lowest = self.lowest.entry(id).or_insert(record);
+        *lowest = record.min(*lowest);
+        id
+    }
+
+    /// The lowest record number of what entries became.
+    pub fn lowest(&self, id: Id) -> usize {
+        self.lowest[&id]
     }
 
     pub fn get(&self, id: Id) -> &Stored<'a> {

@@ -1,8 +1,8 @@
-//! Generated jobs with records 47 to 49: which refusals they meet, and what two of a pair share.
+//! Generated jobs with records 47 to 49, and those refused while building: which refusals they meet, and what two of a pair share.
 
 use jobs::stream::endless;
-use model::{Outcome, run};
-use std::collections::BTreeSet;
+use model::{Outcome, Refusal, run};
+use std::collections::{BTreeMap, BTreeSet};
 
 /// The refusal numbers that so many jobs of a kind meet, with 0 for a built one.
 fn codes(kind: &str, count: usize) -> BTreeSet<u8> {
@@ -24,10 +24,41 @@ fn settings_meet_their_refusals() {
     assert_eq!(met, BTreeSet::from(wanted));
 }
 
-/// Demand 3 "holds for two jobs with the same highest slot", and "has the premise that neither job is refused 25".
+/// The numbers of refusals met while building, each with how many jobs of a kind are told at another record than the build.
+fn met_while_building(kind: &str, count: usize) -> BTreeMap<u8, usize> {
+    let mut met = BTreeMap::new();
+    for job in endless(kind, 11).unwrap().take(count) {
+        if let Outcome::Refused(Refusal {
+            code,
+            place,
+            building: Some(build_record),
+        }) = run(&job)
+        {
+            *met.entry(code).or_default() += usize::from(place != build_record);
+        }
+    }
+    met
+}
+
+#[test]
+fn pools_without_a_slot_more_are_refused_while_building() {
+    let met = met_while_building("lowest", 4_000);
+    assert_eq!(met.keys().copied().collect::<Vec<_>>(), [14, 24]);
+    assert!(met[&14] > 1_000 && met[&24] > 300, "{met:?}");
+    let met = met_while_building("lowest_full", 40);
+    assert!(met[&14] > 2 && met[&17] > 5, "{met:?}");
+}
+
+/// Demand 3 "holds for two jobs with the same highest slot", and "has the premise that neither job is refused 25". Places of refusals
+/// met while building are equal too (No. 9).
 #[test]
 fn layout_depends_on_shape_and_settings_alone() {
-    let jobs: Vec<Vec<u8>> = endless("settings_pairs", 10).unwrap().take(4_000).collect();
+    equal_layouts("settings_pairs");
+    equal_layouts("lowest_pairs");
+}
+
+fn equal_layouts(kind: &str) {
+    let jobs: Vec<Vec<u8>> = endless(kind, 10).unwrap().take(4_000).collect();
     let mut equal = 0;
     for pair in jobs.chunks(2) {
         let (first, second) = (run(&pair[0]), run(&pair[1]));

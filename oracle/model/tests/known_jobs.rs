@@ -22,7 +22,7 @@ fn built(job: &[u8]) -> Built {
 }
 
 fn refused(code: u8, place: usize) -> Outcome {
-    Outcome::Refused(Refusal { code, place })
+    Outcome::Refused(Refusal::at(code, place))
 }
 
 fn outcome(definitions: Vec<Record>, requests: Vec<Record>) -> Outcome {
@@ -156,11 +156,13 @@ fn k_all_slots_raw() {
     assert_eq!(outcome(definitions, vec![ask_ldc(0)]), refused(15, 65_536));
 }
 
-/// "Raw bootstraps 0 to 65534 and an inline: 17", at the build record.
+/// "Raw bootstraps 0 to 65534 and an inline: 17", at the build record, and told at the bootstrap's (document 02, No. 9).
 #[test]
 fn k_all_indexes_raw() {
     let inline = dynamic(Reference::Entry(0), Reference::Raw(2));
     let mut definitions = vec![bootstrap(Reference::Raw(9), vec![]), inline];
     definitions.extend((0..=65_534).map(|index| raw_bootstrap(index, 0)));
-    assert_eq!(outcome(definitions, vec![ask(0)]), refused(17, 65_539));
+    let ended = outcome(definitions, vec![ask(0)]);
+    assert_eq!(ended.to_string(), "refused 17 0");
+    assert_eq!(ended.in_turn(), refused(17, 65_539));
 }

@@ -41,6 +41,16 @@ fn one_line_a_job() {
     );
 }
 
+/// No. 9's place, and the record in turn.
+#[test]
+fn the_place_or_the_record_in_turn() {
+    let mut input = vec![];
+    let job = "49 0001 03 00000000 08 01 0000 50 51 01 0001 60 02 00 0000";
+    frame(&mut input, &bytes(job)).unwrap();
+    assert_eq!(text(&model(&[], &input).stdout), "refused 14 1\n");
+    assert_eq!(text(&model(&["in_turn"], &input).stdout), "refused 14 5\n");
+}
+
 #[test]
 fn cut_frames_and_other_arguments_are_refused() {
     assert!(!model(&[], &[0, 0, 0, 2, 7]).status.success());
@@ -77,6 +87,8 @@ fn generated_jobs_end_as_in_the_module() {
     hold(&["settings", "9106", "4000"], "4,000");
     hold(&["settings_damaged", "9107", "4000"], "4,000");
     hold(&["settings_pairs", "9108", "2000"], "2,000");
+    hold(&["lowest", "9109", "4000"], "4,000");
+    hold(&["lowest_full", "9110", "20"], "20");
 }
 
 #[test]

@@ -37,8 +37,7 @@ fn kinds_and_versions() {
                 "47 {version:04x} {constant} 50 51 01 0000 60 02 00 0000"
             )))
         };
-        let too_new = Outcome::Refused(Refusal { code: 24, place: 4 });
-        assert_eq!(ends(least - 1), too_new, "{kind}");
+        assert_eq!(ends(least - 1).to_string(), "refused 24 1", "{kind}");
         assert!(matches!(ends(least), Outcome::Built(_)), "{kind}");
     }
     for (constant, pool) in [
@@ -51,33 +50,33 @@ fn kinds_and_versions() {
     }
 }
 
-/// 5b to 5f. Request No. 9 isn't in, so that 14 and 24 that are met while building stand at the build record.
+/// 5b to 5f. 14 and 24 that are met while building stand at the constant's record (No. 9).
 #[test]
 fn too_new_in_its_turn() {
     // 5b: before the constant's own child, which has no slot.
     is(
         "49 0001 47 0000 01 0000 10 01 0000 50 51 01 0001 60 02 00 0000",
-        "refused 24 6",
+        "refused 24 3",
     );
     // 5c: raw bootstraps' children get slots before any constant comes off the stack.
     is(
         "49 0001 47 0000 10 00 0000 40 01 0000 0000 43 0001 0000 44 0000 0000 50 60 02 00 0000",
-        "refused 14 7",
+        "refused 14 2",
     );
-    // 5d: the one asked last comes off first; either has the build record as its place.
+    // 5d: the one asked last comes off first.
     is(
         "47 0000 10 00 0000 10 00 0001 50 51 01 0000 51 01 0001 60 02 00 0000",
-        "refused 24 6",
+        "refused 24 2",
     );
     // 5e: a raw constant that nobody asks for is in the pool.
     is(
         "47 0000 10 00 0000 43 0001 0000 50 60 02 00 0000",
-        "refused 24 4",
+        "refused 24 1",
     );
     // 5f: the name gets its slot last.
     is(
         "49 0001 47 0000 10 00 0000 43 0001 0000 50 60 00 00 0000",
-        "refused 24 5",
+        "refused 24 2",
     );
 }
 
@@ -92,7 +91,7 @@ fn a_constant_that_is_never_put_in_the_pool() {
 fn a_child_that_is_too_new() {
     is(
         "47 0032 10 00 0001 08 01 0000 50 51 01 0001 60 02 00 0000",
-        "refused 24 5",
+        "refused 24 1",
     );
 }
 
@@ -151,7 +150,7 @@ fn the_65537th_constant_is_a_bad_text() {
         bytes.extend(encode(&job(definitions, vec![], NAME_NEVER)));
         run(&bytes)
     };
-    let refused = |code, place| Outcome::Refused(Refusal { code, place });
+    let refused = |code, place| Outcome::Refused(Refusal::at(code, place));
     assert_eq!(ends(b""), refused(5, 65_537));
     assert_eq!(ends(b"\0"), refused(25, 1));
 }

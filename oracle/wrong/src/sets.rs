@@ -101,12 +101,15 @@ pub fn name_of(kind: &str, place: usize) -> Option<&'static str> {
 }
 
 /// The Rust's line; but at record 50 the Rust takes raw definitions in a hash map's order, and document 01's order decides
-/// which of the numbers that are possible there is right. Of jobs with records 47 to 49 the Rust says nothing: the line is the model's.
+/// which of the numbers that are possible there is right. Of jobs with records 47 to 49 the Rust says nothing: the line is the model's,
+/// as is the place of a refusal met while building.
 fn right_line(job: &[u8]) -> String {
-    if JobWithSettings::of(job).is_some() {
-        return model::run(job).to_string();
-    }
+    let of_model = model::run(job);
     let outcome = run_job(job);
+    let is_the_rusts = of_model.clone().in_turn().to_string() == outcome.line();
+    if is_the_rusts || JobWithSettings::of(job).is_some() {
+        return of_model.to_string();
+    }
     let at_end = match (&outcome, decode(job)) {
         (Outcome::Refused { code, place }, Ok(records))
             if records[*place] == Record::EndOfDefinitions =>

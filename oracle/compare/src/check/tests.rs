@@ -1,7 +1,7 @@
 //! Wrong libraries: the true one, and then one thing changed. Each must be seen.
 
 use super::*;
-use crate::expected::{expected, model_end};
+use crate::expected::{expected, of_model};
 use jobs::hex::bytes;
 
 /// Case b of document 01: one answer, nine bytes of pool, a class name.
@@ -24,7 +24,7 @@ fn checked(hex: &str, library: Library) -> Result<(), String> {
     let job = bytes(hex);
     let mut checker = Checker::new(library, 1);
     for _ in 0..8 {
-        let expected = expected(&job, &model_end(&job), true)?;
+        let expected = expected(&job, &of_model(&job), true)?;
         checker.check(&job, &expected)?;
         checker.check_short_memory(&job)?;
     }
@@ -149,7 +149,7 @@ fn wrong_numbers_are_seen() {
 }
 
 fn built() -> Built {
-    match model_end(&bytes(BUILT)) {
+    match of_model(&bytes(BUILT)).end {
         End::Built(built) => built,
         _ => panic!("case b is built"),
     }
