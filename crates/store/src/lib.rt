@@ -74,7 +74,7 @@ pub const RAW_ENTRIES: usize = 23;
 // The raw definitions by rising key: slots, then indexes.
 pub const ORDER: usize = 24;
 
-// By node: the entry that it was made from.
+// By node: the lowest entry that became it.
 pub const NODES: usize = 25;
 
 // The items of `resolve`.
