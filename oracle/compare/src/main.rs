@@ -234,7 +234,7 @@ mod tests {
         }
     }
 
-    /// Of small pools nearly half, of full ones a third.
+    /// About half of them are, of small pools and of full ones.
     #[test]
     fn jobs_refused_while_building_tell_the_models_record() {
         assert!(none_different("lowest", "4000").building > 1_600);

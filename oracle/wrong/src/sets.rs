@@ -21,6 +21,7 @@ const SEEDED: &[(&str, u64, usize)] = &[
     ("ldcfull", 7005, 1_000),
     ("settings", 7006, 5_000),
     ("settings_damaged", 7007, 5_000),
+    ("lowest", 7008, 5_000),
 ];
 
 const HEAVY: &str = "heavy";
