@@ -12,14 +12,14 @@ use Rattle.definition.specs.Basics.{Result, good, bad, Refusal}
 use Rattle.definition.specs.Job.{Job}
 use Rattle.definition.specs.Form.{form}
 use Rattle.definition.specs.Numbering.{topOf, literals, numbered}
-use Rattle.definition.specs.Layout.{Layout, layout}
+use Rattle.definition.specs.Layout.{Ready, Layout, layout}
 use Rattle.definition.specs.Run.{Built, render, build, Lent, longestJob, enough, classOut, fits, run}
 use Rattle.facts.proofs.Lists.{found-inside}
 use Rattle.facts.proofs.Results.{bad≢good, good-inj}
 use Rattle.facts.proofs.Outcomes.{Ends, well, refused, next, weaker, whenBad, known-good}
 use Rattle.laws.specs.Statements.{IsBytes}
 use Rattle.causes.specs.CauseStatement as CauseStatement
-use Rattle.causes.specs.CauseStatement.{DefinitionCause, outside, secondTaken, onSecond, sameSlot, lastIndex, sameIndex, sameName, Resolves, byRaw, byRequest, ResolvingCause, undefined, circular, SlotCause, noSlotAsked, noLdcSlotAsked, rawAbove, slotAbove, pairAbove, rawLacks, childLacks, bootstrapLacks, nameLacks, noIndex, tooNew, buildPlace, Short, CauseOf, tooLong, tooLittle, notFormed, defining, resolving, noRoom, records, onlyDefinitions, noneYet, InRecords, CausePlaced}
+use Rattle.causes.specs.CauseStatement.{DefinitionCause, outside, secondTaken, onSecond, sameSlot, lastIndex, sameIndex, sameName, Resolves, byRaw, byRequest, ResolvingCause, undefined, circular, SlotCause, noSlotAsked, noLdcSlotAsked, rawAbove, slotAbove, pairAbove, rawLacks, childLacks, bootstrapLacks, nameLacks, noIndex, tooNew, ToldAt, buildPlace, Short, CauseOf, tooLong, tooLittle, notFormed, defining, resolving, noRoom, records, onlyDefinitions, noneYet, InRecords, CausePlaced}
 use Rattle.laws.proofs.runs.FuelLasts.{fuelLasts}
 use Rattle.causes.proofs.CauseSteps.{unless-cause, at-place}
 use Rattle.causes.proofs.CauseForm.{Standing, causeOfForm, records-stand, form-bounds}
@@ -52,18 +52,22 @@ module _ (job : Job (List ℕ)) where
   resolving-bounds (undefined place r kind s is h gone) = (omega arith, inl (omega arith), resolves-place is)
   resolving-bounds (circular place r t u is h l k) = (omega arith, inl (omega arith), resolves-place is)
 
+  -- a node is told at a definition
+  told-low : (w : Ready) (k place : ℕ) → ToldAt job w k place → place < records job
+  told-low w k place (e, _, told) = omega (arith, found-inside (job .definitions) place _ (told .isRecord .1))
+
   pub slot-bounds : {code place : ℕ} → SlotCause job code place → Bounds code place
   slot-bounds (noSlotAsked answers e b a n l) = (omega arith, inl (omega arith), omega (arith, found-inside (job .requests) (length answers) _ (a .1)))
   slot-bounds (noLdcSlotAsked answers e b a n l) = (omega arith, inl (omega arith), omega (arith, found-inside (job .requests) (length answers) _ (a .1)))
   slot-bounds (rawAbove answers n b a h) = (omega arith, inl (omega arith), omega (arith, found-inside (job .requests) (length answers) _ (a .1)))
   slot-bounds (slotAbove answers e s b a l h) = (omega arith, inl (omega arith), omega (arith, found-inside (job .requests) (length answers) _ (a .1)))
   slot-bounds (pairAbove answers e s b a n w h f₁ f₂ l) = (omega arith, inl (omega arith), omega (arith, found-inside (job .requests) (length answers) _ (a .1)))
-  slot-bounds (rawLacks d w b r c l) = (omega arith, inl (omega arith), omega arith)
-  slot-bounds (childLacks d w b n tag l) = (omega arith, inl (omega arith), omega arith)
-  slot-bounds (bootstrapLacks d w b n tag c l) = (omega arith, inl (omega arith), omega arith)
+  slot-bounds (rawLacks d w b r c l place told) = (omega arith, inl (omega arith), told-low w (c .node) place told)
+  slot-bounds (childLacks d w b n tag l place told) = (omega arith, inl (omega arith), told-low w (n .node) place told)
+  slot-bounds (bootstrapLacks d w b n tag c l place told) = (omega arith, inl (omega arith), told-low w (c .node) place told)
   slot-bounds (nameLacks d w m b made is l) = (omega arith, inl (omega arith), omega arith)
-  slot-bounds (noIndex d w b n row p tag is new all) = (omega arith, inl (omega arith), omega arith)
-  slot-bounds (tooNew d w b slot owner pending m st t) = (omega arith, inr (omega arith, omega arith), omega arith)
+  slot-bounds (noIndex d w b n row p tag is new all place told) = (omega arith, inl (omega arith), told-low w (n .node) place told)
+  slot-bounds (tooNew d w b slot owner pending m st t place told) = (omega arith, inr (omega arith, omega arith), told-low w owner place told)
 
 -- a refusal is the one that came
 known-bad : {E A : Type 0} {Q : E → Type 0} {P : A → Type 0} (r : Result E A) → Ends Q P r → Ends (λ e. Q e × (r ≡ bad e)) P r

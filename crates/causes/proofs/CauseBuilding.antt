@@ -9,7 +9,7 @@ use native.Mathlib.Omega.{arith}
 use lib.Dec.{eqb, ltb}
 use lib.ListN.{length, getElem?}
 use borrow.Author.Tests.{eqb-true, eqb-false, ltb-true, ltb-false}
-use Rattle.definition.specs.Basics.{good, bad}
+use Rattle.definition.specs.Basics.{good, bad, Refusal, atRecord}
 use Rattle.definition.specs.Shapes.{bootstrapTag}
 use Rattle.definition.specs.Settings.{known}
 use Rattle.definition.specs.Definitions.{tagAt}
@@ -23,7 +23,7 @@ use Rattle.causes.specs.CauseStatement.{NextChild, NextRaw, Stack, noneT
 use Rattle.laws.proofs.resolving.NodesAndChildren.{kids-found}
 use Rattle.laws.proofs.runs.StepsOfRuns.{PoolIn, atStart, afterChild, afterTaken, RowOf, RowsIn, rawOnes, afterInline}
 use Rattle.laws.proofs.runs.StepsOfBuilding.{slotOf-by}
-use Rattle.causes.proofs.CauseSteps.{unless-cause}
+use Rattle.causes.proofs.CauseSteps.{unless-cause, at-place}
 
 -- a child's slot: a raw number is itself, a node's is the one allocated
 pub slotOf-good :
@@ -44,13 +44,13 @@ module _ (nodes : List Node) where
       slotsOf nodes before p₀ ≡ good (slots, p) →
       slotOf nodes false c p ≡ good r →
       slotsOf nodes (before ++ c ∷ []) p₀ ≡ good (slots ++ r .0 ∷ [], r .1)
-  unfolding slotsOf
+  unfolding slotsOf atRecord
   slots-snoc [] c p₀ p slots r e q =
       let same₁ : p₀ ≡ p = ap (λ (x : List ℕ × Pool). x .1) (good-inj e) in
       let same₂ : [] ≡ slots = ap (λ (x : List ℕ × Pool). x .0) (good-inj e) in
       rw (same₁, q, ← same₂) refl
   slots-snoc (b ∷ before) c p₀ p slots r e q =
-      good-then (slotOf nodes false b p₀) _ (slots, p) e λ s h e₁.
+      good-then (atRecord (b - firstNode) (slotOf nodes false b p₀)) _ (slots, p) e λ s h e₁.
       good-then (slotsOf nodes before (s .1)) _ (slots, p) e₁ λ rest k e₂.
       let more = slots-snoc before c (s .1) (rest .1) (rest .0) r k (subst (λ p. slotOf nodes false c p ≡ good r) (sym (ap (λ (x : List ℕ × Pool). x .1) (good-inj e₂))) q) in
       let list : s .0 ∷ rest .0 ≡ slots = ap (λ (x : List ℕ × Pool). x .0) (good-inj e₂) in
@@ -100,15 +100,15 @@ seam kids before after c e high =
     let q : c ≡ 65536 + (c - 65536) = omega (arith, high) in
     sym e ∙ ap (λ n. before ++ n ∷ after) q
 
--- Z is what is known of a refusal's number, and Lacks of a node that is refused a slot: for each place where building asks it is known if the
--- asking is refused there
+-- Z is what is known of a refusal's number and the node that it is met at, and Lacks of a node that is refused a slot: for each place where
+-- building asks it is known if the asking is refused there
 module _
     (nodes : List Node)
     (indexes : List (ℕ × ℕ))
     (start : Pool)
-    (Z : ℕ → Type 0)
+    (Z : ℕ → ℕ → Type 0)
     (Lacks : ℕ → Pool → Type 0)
-    (empty : Z 0)
+    (empty : (k : ℕ) → Z 0 k)
     (lacking :
     (k c code : ℕ) (p : Pool) →
     PoolIn nodes start p →
@@ -116,14 +116,14 @@ module _
     65536 ≤ c →
     allocate nodes false (c - 65536) p ≡ bad code →
     (code ≡ 14) × Lacks (c - 65536) p)
-    (rawLacking : (r : NextRaw nodes indexes start) (c : NextChild nodes (kidsOf nodes (r .node)) (r .pool)) → Lacks (c .node) (c .pool) → Z 14)
-    (childLacking : (n : NextNumber nodes indexes start) → tagAt nodes (n .node) ≢ 0x40 → Lacks (n .node) (n .pool) → Z 14)
+    (rawLacking : (r : NextRaw nodes indexes start) (c : NextChild nodes (kidsOf nodes (r .node)) (r .pool)) → Lacks (c .node) (c .pool) → Z 14 (c .node))
+    (childLacking : (n : NextNumber nodes indexes start) → tagAt nodes (n .node) ≢ 0x40 → Lacks (n .node) (n .pool) → Z 14 (n .node))
     (bootstrapLacking :
     (n : NextNumber nodes indexes start) →
     tagAt nodes (n .node) ≡ 0x40 →
     (c : NextChild nodes (kidsOf nodes (n .node)) (n .pool)) →
     Lacks (c .node) (c .pool) →
-    Z 14)
+    Z 14 (c .node))
     (noIndexFor :
     (n : NextNumber nodes indexes start) (row : Row) (p : Pool) (code : ℕ) →
     tagAt nodes (n .node) ≡ 0x40 →
@@ -131,13 +131,16 @@ module _
     RowsIn nodes indexes start (n .rows) →
     RowOf nodes start row →
     rowIndex row (n .rows) ≡ bad code →
-    Z code)
+    Z code (n .node))
     (newer :
     (slot owner : ℕ) (pending : List (ℕ × ℕ)) (m : Made) →
     Stack nodes indexes start ((slot, owner) ∷ pending) m →
     PoolIn nodes start (m .pool) →
     known (m .pool .version) (tagAt nodes owner) ≡ false →
-    Z 24) where
+    Z 24 owner) where
+  abbrev ZAt : Refusal → Type 0
+  ZAt e = Z (e .code) (e .place)
+
   abbrev P : Pool → Type 0
   P = PoolIn nodes start
 
@@ -146,19 +149,22 @@ module _
 
   -- children's slots
   module _ (k : ℕ) (p₀ : Pool) where
-    abbrev LacksOne : ℕ → Type 0
-    LacksOne code = (code ≡ 14) × ((c : NextChild nodes (kidsOf nodes k) p₀) × Lacks (c .node) (c .pool))
+    abbrev LacksOne : ℕ → ℕ → Type 0
+    LacksOne code place = (code ≡ 14) × ((c : NextChild nodes (kidsOf nodes k) p₀) × (place ≡ c .node) × Lacks (c .node) (c .pool))
+
+    abbrev LacksAt : Refusal → Type 0
+    LacksAt e = LacksOne (e .code) (e .place)
 
     slots-walk :
         (before after slots : List ℕ) (p : Pool) →
         before ++ after ≡ kidsOf nodes k →
         slotsOf nodes before p₀ ≡ good (slots, p) →
         P p →
-        Ends LacksOne (λ r. P (r .1)) (slotsOf nodes after p)
+        Ends LacksAt (λ r. P (r .1)) (slotsOf nodes after p)
     unfolding slotsOf
     slots-walk before [] slots p is e o = well {a = ([], p)} o
     slots-walk before (c ∷ after) slots p is e o =
-        next _ (known-good (slotOf nodes false c p) (slotOf-by nodes false c p o one)) λ r h.
+        next _ (at-place LacksOne (c - firstNode) (known-good (slotOf nodes false c p) (slotOf-by nodes false c p o one))) λ r h.
         next _
         (slots-walk (before ++ c ∷ []) after (slots ++ r .0 ∷ []) (r .1) (append-assoc before (c ∷ []) after ∙ is) (slots-snoc nodes before c p₀ p slots r e (h .1)) (h .0)) λ rest o₂.
         well {a = (r .0 ∷ rest .0, rest .1)} o₂
@@ -166,7 +172,7 @@ module _
         there : Among c (kidsOf nodes k)
         there = (length before, subst (λ l. getElem? l (length before) ≡ some c) is (found-seam before c after))
 
-        one : 65536 ≤ c → Ends LacksOne (λ r. P (r .1)) (allocate nodes false (c - 65536) p)
+        one : 65536 ≤ c → Ends (λ code. LacksOne code (c - 65536)) (λ r. P (r .1)) (allocate nodes false (c - 65536) p)
         one high =
             ended (allocate nodes false (c - 65536) p) (λ r q. afterChild k c (r .0) p (r .1) o there high q) λ code q.
             let l = lacking k c code p o there high q in (
@@ -181,16 +187,17 @@ module _
                   isKids = seam (kidsOf nodes k) before after c is high;
                   isPool = e;
                 },
+                refl,
                 l .1,
               ),
             )
 
-    slots-cause : P p₀ → Ends LacksOne (λ r. P (r .1)) (slotsOf nodes (kidsOf nodes k) p₀)
+    slots-cause : P p₀ → Ends LacksAt (λ r. P (r .1)) (slotsOf nodes (kidsOf nodes k) p₀)
     unfolding slotsOf
     slots-cause o = slots-walk [] (kidsOf nodes k) [] p₀ refl refl o
 
-  refused-with : (code : ℕ) → code ≡ 14 → Z 14 → Z code
-  refused-with code is h = subst Z (sym is) h
+  refused-with : (e : Refusal) (k : ℕ) → e .code ≡ 14 → e .place ≡ k → Z 14 k → ZAt e
+  refused-with e k is at h = subst (λ code. Z code (e .place)) (sym is) (subst (Z 14) (sym at) h)
 
   -- the raw bootstraps
   raws-walk :
@@ -198,13 +205,13 @@ module _
       before ++ after ≡ reverse indexes →
       rawRows nodes before start [] ≡ good (rows, p) →
       P p →
-      Ends Z (λ r. P (r .1)) (rawRows nodes after p rows)
+      Ends ZAt (λ r. P (r .1)) (rawRows nodes after p rows)
   unfolding rawRows
   raws-walk before [] rows p is e o = well {a = (rows, p)} o
   raws-walk before (r ∷ after) rows p is e o =
       next _
       (known-good (slotsOf nodes (kidsOf nodes (r .1)) p)
-      (weaker (λ code l. refused-with code (l .0) (rawLacking here (l .1 .0) (l .1 .1))) (λ a h. h) (slots-cause (r .1) p o))) λ row h.
+      (weaker (λ e l. refused-with e (l .1 .0 .node) (l .0) (l .1 .1) (rawLacking here (l .1 .0) (l .1 .2))) (λ a h. h) (slots-cause (r .1) p o))) λ row h.
       raws-walk (before ++ r ∷ []) after ((r .0, row .0) ∷ rows) (row .1) (append-assoc before (r ∷ []) after ∙ is) (raws-snoc nodes before r start p [] rows row e (h .1)) (h .0)
     where
       here : NextRaw nodes indexes start
@@ -254,42 +261,43 @@ module _
             isPool = e;
           }
 
-      node-cause : (high : 65536 ≤ c) → Ends Z (λ r. P (r .1) × R (r .2)) (nodeNumber nodes (c - 65536) p rows)
+      node-cause : (high : 65536 ≤ c) → Ends ZAt (λ r. P (r .1) × R (r .2)) (nodeNumber nodes (c - 65536) p rows)
       unfolding nodeNumber here
       node-cause high = go (eqb (tagAt nodes (c - 65536)) bootstrapTag) refl
         where
           k : ℕ
           k = c - 65536
 
-          index-cause : tagAt nodes k ≡ bootstrapTag → (r : List ℕ × Pool) → slotsOf nodes (kidsOf nodes k) p ≡ good r → Ends Z (λ i. R (i .1)) (rowIndex (r .0) rows)
+          index-cause : tagAt nodes k ≡ bootstrapTag → (r : List ℕ × Pool) → slotsOf nodes (kidsOf nodes k) p ≡ good r → Ends (λ code. Z code k) (λ i. R (i .1)) (rowIndex (r .0) rows)
           index-cause t r h =
               let is-row : RowOf nodes start (r .0) = record { node = k; tag = t; before = p; after = r .1; pools = o; slots = h } in
               ended (rowIndex (r .0) rows) (λ i f. afterInline (r .0) (i .0) rows (i .1) q is-row f) λ code f.
               noIndexFor (here high) (r .0) (r .1) code t h q is-row f
 
-          go : (b : Bool) → eqb (tagAt nodes (c - 65536)) bootstrapTag ≡ b → Ends Z (λ r. P (r .1) × R (r .2)) (nodeNumber nodes (c - 65536) p rows)
+          go : (b : Bool) → eqb (tagAt nodes (c - 65536)) bootstrapTag ≡ b → Ends ZAt (λ r. P (r .1) × R (r .2)) (nodeNumber nodes (c - 65536) p rows)
           go true t =
               let tag = eqb-true (tagAt nodes k) bootstrapTag t in
               rw
               (t, nodeNumber)
               (next _
               (known-good (slotsOf nodes (kidsOf nodes k) p)
-              (weaker (λ code l. refused-with code (l .0) (bootstrapLacking (here high) tag (l .1 .0) (l .1 .1))) (λ a h. h) (slots-cause k p o))) λ r h.
-              next _ (index-cause tag r (h .1)) λ i q₁. well {a = (i .0, r .1, i .1)} (h .0, q₁))
+              (weaker (λ e l. refused-with e (l .1 .0 .node) (l .0) (l .1 .1) (bootstrapLacking (here high) tag (l .1 .0) (l .1 .2))) (λ a h. h) (slots-cause k p o))) λ r h.
+              next _ (at-place Z k (index-cause tag r (h .1))) λ i q₁. well {a = (i .0, r .1, i .1)} (h .0, q₁))
           go false t =
               rw
               (t, nodeNumber)
               (next {P = λ r. P (r .1)} _
+              (at-place Z k
               (ended (allocate nodes false k p) (λ r f. afterChild owner c (r .0) p (r .1) o there high f) λ code f.
               let l = lacking owner c code p o there high f in
-              refused-with code (l .0) (childLacking (here high) (eqb-false (tagAt nodes k) bootstrapTag t) (l .1))) λ r o₁.
+              subst (λ code. Z code k) (sym (l .0)) (childLacking (here high) (eqb-false (tagAt nodes k) bootstrapTag t) (l .1)))) λ r o₁.
               well {a = (r .0, r .1, rows)} (o₁, q))
 
-      child-cause : Ends Z (λ r. P (r .1) × R (r .2)) (childNumber nodes c p rows)
+      child-cause : Ends ZAt (λ r. P (r .1) × R (r .2)) (childNumber nodes c p rows)
       unfolding childNumber
       child-cause = go (ltb c firstNode) refl
         where
-          go : (b : Bool) → ltb c firstNode ≡ b → Ends Z (λ r. P (r .1) × R (r .2)) (childNumber nodes c p rows)
+          go : (b : Bool) → ltb c firstNode ≡ b → Ends ZAt (λ r. P (r .1) × R (r .2)) (childNumber nodes c p rows)
           go true t = rw (t, childNumber) (well {a = (c, p, rows)} (o, q))
           go false t = rw (t, childNumber) (node-cause (ltb-false c firstNode t))
 
@@ -299,7 +307,7 @@ module _
         childNumbers nodes before (withPending pending m .pool) (m .rows) ≡ good (numbers, p, rows) →
         P p →
         R rows →
-        Ends Z (λ r. P (r .1) × R (r .2)) (childNumbers nodes after p rows)
+        Ends ZAt (λ r. P (r .1) × R (r .2)) (childNumbers nodes after p rows)
     unfolding childNumbers
     numbers-walk before [] numbers p rows is e o q = well {a = ([], p, rows)} (o, q)
     numbers-walk before (c ∷ after) numbers p rows is e o q =
@@ -318,7 +326,7 @@ module _
       known (m .pool .version) (tagAt nodes owner) ≡ true →
       P (m .pool) →
       R (m .rows) →
-      Ends Z (λ m′. P (m′ .pool) × R (m′ .rows)) (finish nodes slot (withPending pending m) found)
+      Ends ZAt (λ m′. P (m′ .pool) × R (m′ .rows)) (finish nodes slot (withPending pending m) found)
   unfolding finish withPending childNumbers
   finish-cause slot owner pending m none at st knows o q = well {a = withPending pending m} (afterTaken pending (m .pool) o, q)
   finish-cause slot owner pending m (some parent) at st knows o q =
@@ -331,19 +339,19 @@ module _
       Stack nodes indexes start pending m →
       P (m .pool) →
       R (m .rows) →
-      Ends Z (λ m′. Unit {0}) (drain fuel nodes pending m)
+      Ends ZAt (λ m′. Unit {0}) (drain fuel nodes pending m)
   unfolding drain
   drain-cause zero [] m st o q = well tt
-  drain-cause zero (top ∷ pending) m st o q = refused empty
+  drain-cause zero (top ∷ pending) m st o q = refused (empty (top .1))
   drain-cause (suc fuel) [] m st o q = well tt
   drain-cause (suc fuel) (top ∷ pending) m st o q =
-      next _ (unless-cause (known (m .pool .version) (tagAt nodes (top .1))) 24 (newer (top .0) (top .1) pending m st o)) λ _ knows.
+      next _ (at-place Z (top .1) (unless-cause (known (m .pool .version) (tagAt nodes (top .1))) 24 (newer (top .0) (top .1) pending m st o))) λ _ knows.
       next _
       (known-good (finish nodes (top .0) (withPending pending m) (getElem? nodes (top .1))) (finish-cause (top .0) (top .1) pending m (getElem? nodes (top .1)) refl st knows o q)) λ m′ k.
       drain-cause fuel (m′ .pool .pending) m′ (oneTaken (top .0) (top .1) pending m m′ st knows (k .1)) (k .0 .0) (k .0 .1)
 
   -- CAUSE in building
-  pub causeInBuilding : Ends Z (λ m. Unit {0}) (buildAll nodes indexes start)
+  pub causeInBuilding : Ends ZAt (λ m. Unit {0}) (buildAll nodes indexes start)
   unfolding buildAll rawRows
   causeInBuilding =
       next _ (known-good (rawRows nodes (reverse indexes) start []) (raws-walk [] (reverse indexes) [] start refl refl atStart)) λ r h.

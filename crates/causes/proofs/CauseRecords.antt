@@ -2,18 +2,19 @@
 use mathlib.Core.Bool.{Bool, true, false, _||_, not}
 use mathlib.Core.List.{List, [], _∷_, _++_, map}
 use mathlib.Core.Logic.{_⊎_, inl, inr}
-use mathlib.Core.Option.{some}
+use mathlib.Core.Option.{Option, none, some}
 use mathlib.Core.Path.{_≡_, refl, sym, ap, subst, _∙_}
 use Prim.Native.Nat.{ℕ, suc, _+_, _-_, _≤_, _<_}
 use native.Mathlib.Omega.{arith}
 use lib.Dec.{leb}
 use lib.ListN.{length, getElem?, length-map}
 use borrow.Author.Tests.{leb-false}
-use Rattle.definition.specs.Basics.{good, bad, Refusal, position}
+use Rattle.definition.specs.Basics.{good, bad, Refusal, position, lookup}
 use Rattle.definition.specs.Shapes.{Kind, constant, bootstrap, Entry}
 use Rattle.definition.specs.Job.{Reference, entry, placed, Request, Job}
 use Rattle.definition.specs.Form.{form}
-use Rattle.definition.specs.Settings.{known}
+use Rattle.definition.specs.Places.{tableRecords, recordOf}
+use Rattle.definition.specs.Settings.{since, known}
 use Rattle.definition.specs.Numbering.{topOf, bootstrapsOf, literals, numberedDefinition, numbered}
 use Rattle.definition.specs.Definitions.{Naming, Defined, defineAll, nothingDefined, tagAt}
 use Rattle.definition.specs.Resolving.{Goal, rawNumber, tableEntry, refusal, placeOf, follow, goalOf, linked, Node, done, Resolved, sameNode, intern, childOf, resolve, resolveAll, nothingResolved}
@@ -21,18 +22,19 @@ use Rattle.definition.specs.Slots.{highestLdc}
 use Rattle.definition.specs.Building.{Pool, noSlot, allocate, slotOf, slotsOf, Row, rowIndex, Made, buildAll, attributeText, kidsOf, nameWanted, nameSlot}
 use Rattle.definition.specs.Layout.{starters, Ready, endDefinitions, answer, answerAll, buildLayout, layout}
 use Rattle.facts.specs.Lists.{Among}
-use Rattle.facts.proofs.Lists.{clash, some-inj, among-either, among-later, unmap}
+use Rattle.facts.proofs.Lists.{clash, true≢false, some-inj, found-inside, found-seam, among-nil, among-either, among-later, unmap}
 use Rattle.facts.proofs.Outcomes.{Ends, well, next, weaker, ended, known-good, Anything}
 use Rattle.laws.specs.Statements.{IsBytes}
 use Rattle.laws.specs.Faithful.{InTable, Settled, Faithful}
-use Rattle.causes.specs.CauseStatement.{requestPlace, Resolves, byRaw, byRequest, ResolvingCause, Behind, behind50, behindRequest, AsksFor, HasSlot, AllAnswered, NextNumber, buildPlace, goalIn, SlotCause, noSlotAsked, noLdcSlotAsked, rawAbove, slotAbove, pairAbove, rawLacks, childLacks, bootstrapLacks, nameLacks, noIndex, tooNew, DefinitionCause, Lacks}
+use Rattle.causes.specs.CauseStatement.{requestPlace, Resolves, byRaw, byRequest, ResolvingCause, Behind, behind50, behindRequest, AsksFor, HasSlot, AllAnswered, NextNumber, buildPlace, goalIn, SlotCause, noSlotAsked, noLdcSlotAsked, rawAbove, slotAbove, pairAbove, rawLacks, childLacks, bootstrapLacks, nameLacks, noIndex, tooNew, ToldAt, DefinitionCause, Lacks}
 use Rattle.laws.proofs.form.CitedEntries.{Cites, Cited, placed-cited}
 use Rattle.laws.proofs.form.FormedJobs.{form-formed}
 use Rattle.laws.proofs.definitions.DefinedAsPlaced.{DefinedFacts, wideAt, defined-facts, starters-start}
 use Rattle.laws.proofs.resolving.FaithfulToEntries.{nothing-faithful, resolve-faithful}
 use Rattle.laws.proofs.resolving.JobGoals.{jobNames, jobConstants, jobTable}
 use Rattle.laws.proofs.resolving.JobTableGood.{placed-good, numbered-cited, definitions-low, requests-low}
-use Rattle.laws.proofs.resolving.ResolvedNodes.{ConstantGoal, child-done, settled-entry, GoodTable}
+use Rattle.laws.proofs.resolving.NodesAndChildren.{kids-found}
+use Rattle.laws.proofs.resolving.ResolvedNodes.{ConstantGoal, child-done, settled-entry, GoodTable, kids-in}
 use Rattle.laws.proofs.resolving.SameConstants.{goes-leads}
 use Rattle.laws.proofs.building.LayoutStages.{constantsIn, tableIn, rowsIn}
 use Rattle.laws.proofs.building.AfterRecord50.{rawGoals}
@@ -42,7 +44,8 @@ use Rattle.laws.proofs.runs.StepsOfRuns.{PoolIn, RowOf, RowsIn, rawsAt}
 use Rattle.laws.proofs.runs.StepsOfBuilding.{slotOf-by}
 use Rattle.laws.proofs.runs.StepRefusals.{allocate-refused, rowIndex-refused}
 use Rattle.laws.proofs.runs.IndexOccurs.{indexOccurs}
-use Rattle.causes.proofs.CauseSteps.{unless-cause, at-place}
+use Rattle.laws.proofs.runs.Lowest.{lowest-there}
+use Rattle.causes.proofs.CauseSteps.{at-nodes, unless-cause, at-place}
 use Rattle.causes.proofs.CauseDefinitions.{placed-back, causeOfDefinitions}
 use Rattle.causes.proofs.CauseReached.{causeOfResolving}
 use Rattle.causes.proofs.CauseVersion.{building-version}
@@ -317,6 +320,14 @@ module _ (bytes : List ℕ) (job : Job (List ℕ)) (are : IsBytes bytes) (formed
       abbrev indexes : List (ℕ × ℕ)
       indexes = rawsAt (numbered job) d w
 
+      -- the record of a node
+      abbrev nodePlace : ℕ → ℕ
+      nodePlace k = recordOf (tableRecords (numbered job .definitions)) (w .resolved .marks) k
+
+      -- at a node, and at the build record
+      abbrev AtNode : ℕ → ℕ → Type 0
+      AtNode code k = Later code (nodePlace k)
+
       abbrev Y : ℕ → Type 0
       Y code = Later code (buildPlace job)
 
@@ -327,6 +338,23 @@ module _ (bytes : List ℕ) (job : Job (List ℕ)) (are : IsBytes bytes) (formed
       unfolding noSlot
       fourteen is = is
 
+      -- a node is told at its record
+      node-told : (k : ℕ) → k < length nodes → ToldAt job w k (nodePlace k)
+      node-told k low =
+          let (e, mark) = all-kept .going .faithful .fromEntry k low in
+          (e, mark, lowest-there bytes job are formed d isDefined w (all-reaches bytes job are formed d b) e k mark)
+
+      -- and so is a child
+      child-told : (k m : ℕ) → Among (65536 + m) (kidsOf nodes k) → ToldAt job w m (nodePlace m)
+      unfolding kidsOf
+      child-told k m a = go (getElem? nodes k) refl
+        where
+          go : (o : Option Node) → getElem? nodes k ≡ o → ToldAt job w m (nodePlace m)
+          go none at = among-nil (65536 + m) (rw (at, kidsOf) at a)
+          go (some nd) at =
+              let inside = kids-in table fine (w .resolved) (all-kept .going .faithful) k nd at (65536 + m) (rw (at, kidsOf) at a) (omega arith) in
+              node-told m (omega (arith, inside))
+
       child-refused :
           (k c code : ℕ) (p : Pool) → PoolIn nodes (w .pool) p → Among c (kidsOf nodes k) → 65536 ≤ c → allocate nodes false (c - 65536) p ≡ bad code →
           (code ≡ 14) × Lacks job nodes (c - 65536) p
@@ -335,6 +363,27 @@ module _ (bytes : List ℕ) (job : Job (List ℕ)) (are : IsBytes bytes) (formed
         pool-lacks job d isDefined nodes p (building-occurs bytes job are formed d (b .0) w all-kept o) (c - 65536) code e,
       )
 
+      -- the next child is among the children
+      seam-told : (k m : ℕ) (before after : List ℕ) → kidsOf nodes k ≡ before ++ (65536 + m) ∷ after → ToldAt job w m (nodePlace m)
+      seam-told k m before after is = child-told k m (length before, ap (λ l. getElem? l (length before)) is ∙ found-seam before (65536 + m) after)
+
+      number-told : (n : NextNumber nodes indexes (w .pool)) → ToldAt job w (n .node) (nodePlace (n .node))
+      number-told n = seam-told (n .owner) (n .node) (n .before) (n .after) (kids-found nodes (n .owner) (n .parent) (n .isParent) ∙ n .isKids)
+
+      -- a kind that a version lacks is a node's
+      owner-told : (v m : ℕ) → known v (tagAt nodes m) ≡ false → ToldAt job w m (nodePlace m)
+      unfolding tagAt known since lookup
+      owner-told v m t = go (getElem? nodes m) refl
+        where
+          every-has : known v 0 ≡ true
+          every-has = refl
+
+          go : (o : Option Node) → getElem? nodes m ≡ o → ToldAt job w m (nodePlace m)
+          go none at =
+              let none-there : tagAt nodes m ≡ 0 = rw (at, tagAt) refl in
+              true≢false (sym every-has ∙ ap (known v) (sym none-there) ∙ t)
+          go (some nd) at = node-told m (found-inside nodes m nd at)
+
       row-refused :
           (n : NextNumber nodes indexes (w .pool)) (row : Row) (p : Pool) (code : ℕ) →
           tagAt nodes (n .node) ≡ 0x40 →
@@ -342,13 +391,16 @@ module _ (bytes : List ℕ) (job : Job (List ℕ)) (are : IsBytes bytes) (formed
           RowsIn nodes indexes (w .pool) (n .rows) →
           RowOf nodes (w .pool) row →
           rowIndex row (n .rows) ≡ bad code →
-          Y code
+          AtNode code (n .node)
       row-refused n row p code tag slots q is e =
           let rows = n .rows in
           let o = indexOccurs (topOf job) (numbered job) row rows (record { defined = d; state = w; reached = all-reaches bytes job are formed d b; rowsIn = q; rowOf = is }) in
           let number = rowIndex-refused row code rows e in
           let why = exactlySeventeen rows row o .0 (subst (λ c. rowIndex row rows ≡ bad c) number e) in
-          inr (inr (subst (λ code. SlotCause job code (buildPlace job)) (sym number) (noIndex d w b n row p tag slots (why .0) (λ i l. used-raw job d isDefined nodes size (w .resolved .marks) (w .pool) q i (why .1 i (omega (arith, l)))))))
+          inr
+          (inr
+          (subst (λ code. SlotCause job code (nodePlace (n .node))) (sym number)
+          (noIndex d w b n row p tag slots (why .0) (λ i l. used-raw job d isDefined nodes size (w .resolved .marks) (w .pool) q i (why .1 i (omega (arith, l)))) (nodePlace (n .node)) (number-told n))))
 
       name-cause :
           (wanted : Bool) (m : Made) →
@@ -370,19 +422,28 @@ module _ (bytes : List ℕ) (job : Job (List ℕ)) (are : IsBytes bytes) (formed
           well tt
 
       -- CAUSE at the build record
-      causeOfBuild : (answers : List ℕ) → Ends Y Anything (buildLayout (topOf job) indexes (numbered job .build) answers w)
+      causeOfBuild :
+          (place : ℕ) → buildPlace job ≡ place → (answers : List ℕ) →
+          Ends (λ e. Later (e .code) (e .place)) Anything
+          (buildLayout (topOf job) (tableRecords (numbered job .definitions)) place indexes (numbered job .build) answers w)
       unfolding buildLayout
-      causeOfBuild answers =
+      causeOfBuild place is answers =
           next _
+          (at-nodes Later (tableRecords (numbered job .definitions)) (w .resolved .marks)
           (known-good (buildAll nodes indexes (w .pool))
-          (causeInBuilding nodes indexes (w .pool) Y (Lacks job nodes) (inl refl) child-refused
-          (λ r c l. inr (inr (rawLacks d w b r c l)))
-          (λ n tag l. inr (inr (childLacks d w b n tag l)))
-          (λ n tag c l. inr (inr (bootstrapLacks d w b n tag c l)))
+          (causeInBuilding nodes indexes (w .pool) AtNode (Lacks job nodes) (λ _. inl refl) child-refused
+          (λ r c l. inr (inr (rawLacks d w b r c l (nodePlace (c .node)) (seam-told (r .node) (c .node) (c .before) (c .after) (c .isKids)))))
+          (λ n tag l. inr (inr (childLacks d w b n tag l (nodePlace (n .node)) (number-told n))))
+          (λ n tag c l. inr (inr (bootstrapLacks d w b n tag c l (nodePlace (c .node)) (seam-told (n .node) (c .node) (c .before) (c .after) (c .isKids)))))
           row-refused
           (λ slot owner pending m st o t.
-          inr (inr (tooNew d w b slot owner pending m st (subst (λ v. known v (tagAt nodes owner) ≡ false) (building-version job d (b .2) o) t)))))) λ m k.
-          next _ (name-cause (nameWanted (numbered job .build .nameByte) (length (rowsIn m))) m (k .1) refl) λ s _. well tt
+          inr
+          (inr
+          (tooNew d w b slot owner pending m st (subst (λ v. known v (tagAt nodes owner) ≡ false) (building-version job d (b .2) o) t) (nodePlace owner) (owner-told (m .pool .version) owner t))))))) λ m k.
+          next _
+          (at-place Later place
+          (subst (λ p. Ends (λ code. Later code p) Anything (nameSlot (nameWanted (numbered job .build .nameByte) (length (rowsIn m))) nodes m)) is
+          (name-cause (nameWanted (numbered job .build .nameByte) (length (rowsIn m))) m (k .1) refl))) λ s _. well tt
 
   -- ---- the layout
 
@@ -413,10 +474,7 @@ module _ (bytes : List ℕ) (job : Job (List ℕ)) (are : IsBytes bytes) (formed
       (weaker (λ e h. inr h) (λ a k. k)
       (subst (λ p. Ends (λ e. Later (e .code) (e .place)) (λ r. AllAnswered job d (r .1)) (answerAll (d .names) size p (numbered job .requests) w)) first-place
       (all-answered d (defined .1) [] (numbered job .requests) w (behind-fifty d (defined .1) w (ready .1))))) λ r b.
-      weaker (λ e h. inr h) (λ a k. k)
-      (at-place Later _
-      (subst (λ p. Ends (λ code. Later code p) Anything (buildLayout (topOf job) (rawsAt (numbered job) d (r .1)) (numbered job .build) (r .0) (r .1))) last-place
-      (causeOfBuild d (defined .1) (r .1) b (r .0))))
+      weaker (λ e h. inr h) (λ a k. k) (causeOfBuild d (defined .1) (r .1) b _ last-place (r .0))
     where
       first-place : suc (length (job .definitions)) + 0 ≡ suc (length (numbered job .definitions))
       first-place = omega (arith, same-ended)

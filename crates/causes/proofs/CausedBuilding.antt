@@ -10,7 +10,7 @@ use native.Mathlib.Omega.{arith}
 use lib.Dec.{eqb, ltb}
 use lib.ListN.{length, getElem?}
 use borrow.Author.Tests.{eqb-true, eqb-false, ltb-false, le-ltb}
-use Rattle.definition.specs.Basics.{good, unless}
+use Rattle.definition.specs.Basics.{good, atRecord, unless}
 use Rattle.definition.specs.Shapes.{bootstrapTag}
 use Rattle.definition.specs.Settings.{known}
 use Rattle.definition.specs.Definitions.{tagAt}
@@ -19,7 +19,7 @@ use Rattle.definition.specs.Building.{Pool, allocate, slotOf, slotsOf, Row, Row
 use Rattle.facts.specs.Lists.{Among}
 use Rattle.facts.proofs.Lists.{among-left}
 use Rattle.facts.proofs.Each.{Each, each-from}
-use Rattle.facts.proofs.Results.{bad≢good, good-inj, good-then, unless-good, decided}
+use Rattle.facts.proofs.Results.{bad≢good, good-inj, good-then, atRecord-good, unless-good, decided}
 use Rattle.causes.specs.CauseStatement.{NextChild, NextRaw, Stack, noneTaken, oneTaken, NextNumber}
 use Rattle.laws.proofs.resolving.NodesAndChildren.{kids-found}
 use Rattle.laws.proofs.runs.StepsOfRuns.{PoolIn, atStart, afterChild, afterTaken, RowsIn, rawOnes, afterInline}
@@ -35,12 +35,12 @@ module _ (nodes : List Node) where
       (r : ℕ × Pool) × (slotOf nodes false c p ≡ good r)
   unfolding slotsOf
   slots-at [] after c p₀ p slots z e q =
-      good-then (slotOf nodes false c p₀) _ z e λ r h e₁.
-      (r, subst (λ p. slotOf nodes false c p ≡ good r) (ap (λ (x : List ℕ × Pool). x .1) (good-inj q)) h)
+      good-then (atRecord (c - firstNode) (slotOf nodes false c p₀)) _ z e λ r h e₁.
+      (r, subst (λ p. slotOf nodes false c p ≡ good r) (ap (λ (x : List ℕ × Pool). x .1) (good-inj q)) (atRecord-good (c - firstNode) (slotOf nodes false c p₀) r h))
   slots-at (b ∷ before) after c p₀ p slots z e q =
-      good-then (slotOf nodes false b p₀) _ z e λ r h e₁.
+      good-then (atRecord (b - firstNode) (slotOf nodes false b p₀)) _ z e λ r h e₁.
       good-then (slotsOf nodes (before ++ c ∷ after) (r .1)) _ z e₁ λ rest k e₂.
-      good-then (slotOf nodes false b p₀) _ (slots, p) q λ r′ h′ q₁.
+      good-then (atRecord (b - firstNode) (slotOf nodes false b p₀)) _ (slots, p) q λ r′ h′ q₁.
       good-then (slotsOf nodes before (r′ .1)) _ (slots, p) q₁ λ rest′ k′ q₂.
       let one : r ≡ r′ = good-inj (sym h ∙ h′) in
       let pools : rest′ .1 ≡ p = ap (λ (x : List ℕ × Pool). x .1) (good-inj q₂) in
@@ -111,9 +111,9 @@ module _ (nodes : List Node) (indexes : List (ℕ × ℕ)) (start : Pool) where
   unfolding slotsOf
   slots-pool k [] p r a o e = subst (λ (x : List ℕ × Pool). P (x .1)) (good-inj e) o
   slots-pool k (c ∷ cs) p r a o e =
-      good-then (slotOf nodes false c p) _ r e λ s h e₁.
+      good-then (atRecord (c - firstNode) (slotOf nodes false c p)) _ r e λ s h e₁.
       good-then (slotsOf nodes cs (s .1)) _ r e₁ λ rest q e₂.
-      subst (λ (x : List ℕ × Pool). P (x .1)) (good-inj e₂) (slots-pool k cs (s .1) rest (a .1) (slot-pool k c p s (a .0) o h) q)
+      subst (λ (x : List ℕ × Pool). P (x .1)) (good-inj e₂) (slots-pool k cs (s .1) rest (a .1) (slot-pool k c p s (a .0) o (atRecord-good (c - firstNode) (slotOf nodes false c p) s h)) q)
 
   all-kids : (k : ℕ) → Kids k (kidsOf nodes k)
   all-kids k = each-from (λ c. Among c (kidsOf nodes k)) (kidsOf nodes k) (λ i c e. (i, e))
@@ -141,9 +141,11 @@ module _ (nodes : List Node) (indexes : List (ℕ × ℕ)) (start : Pool) where
       decided (eqb (tagAt nodes k) bootstrapTag) _ _ (good y) e
       (λ t f.
       good-then (slotsOf nodes (kidsOf nodes k) p) _ y f λ r h f₁.
-      good-then (rowIndex (r .0) rows) _ y f₁ λ i g f₂.
-      inl (eqb-true (tagAt nodes k) bootstrapTag t, (r, h, (i, g, good-inj f₂))))
-      (λ t f. good-then (allocate nodes false k p) _ y f λ r h f₁. inr (eqb-false (tagAt nodes k) bootstrapTag t, (r, h, good-inj f₁)))
+      good-then (atRecord k (rowIndex (r .0) rows)) _ y f₁ λ i g f₂.
+      inl (eqb-true (tagAt nodes k) bootstrapTag t, (r, h, (i, atRecord-good k (rowIndex (r .0) rows) i g, good-inj f₂))))
+      (λ t f.
+      good-then (atRecord k (allocate nodes false k p)) _ y f λ r h f₁.
+      inr (eqb-false (tagAt nodes k) bootstrapTag t, (r, atRecord-good k (allocate nodes false k p) r h, good-inj f₁)))
 
   number-pool : (k c : ℕ) (p : Pool) (rows : Rows) (y : ℕ × Pool × Rows) → Among c (kidsOf nodes k) → P p → R rows → childNumber nodes c p rows ≡ good y → P (y .1) × R (y .2)
   unfolding childNumber
@@ -215,7 +217,7 @@ module _ (nodes : List Node) (indexes : List (ℕ × ℕ)) (start : Pool) where
         more : (fuel : ℕ) → drain fuel nodes ((slot, owner) ∷ pending) m ≡ good made → (fuel : ℕ) × (drain fuel nodes (m′ .pool .pending) m′ ≡ good made)
         more zero f = bad≢good f
         more (suc fuel) f =
-            good-then (unless (known (m .pool .version) (tagAt nodes owner)) 24) _ made f λ _ _ f₀.
+            good-then (atRecord owner (unless (known (m .pool .version) (tagAt nodes owner)) 24)) _ made f λ _ _ f₀.
             good-then (finish nodes slot (withPending pending m) (getElem? nodes owner)) _ made f₀ λ m″ h f₁.
             let one : m″ ≡ m′ = good-inj (sym h ∙ e) in
             (fuel, subst (λ (x : Made). drain fuel nodes (x .pool .pending) x ≡ good made) one f₁)
@@ -229,7 +231,7 @@ module _ (nodes : List Node) (indexes : List (ℕ × ℕ)) (start : Pool) where
         go zero f = bad≢good f
         go (suc fuel) f =
             let t = known (m .pool .version) (tagAt nodes owner) in
-            good-then (unless t 24) _ made f λ u h _. unless-good t 24 u h
+            good-then (atRecord owner (unless t 24)) _ made f λ u h _. unless-good t 24 u (atRecord-good owner (unless t 24) u h)
 
     -- a child of a node from the stack got its number, from a pool and rows of building
     pub number-got :
@@ -248,7 +250,7 @@ module _ (nodes : List Node) (indexes : List (ℕ × ℕ)) (start : Pool) where
             (y : ℕ × Pool × Rows) × (childNumber nodes (65536 + n .node) (n .pool) (n .rows) ≡ good y)
         taken zero f = bad≢good f
         taken (suc fuel) f =
-            good-then (unless (known (n .made .pool .version) (tagAt nodes (n .owner))) 24) _ made f λ _ _ f₀.
+            good-then (atRecord (n .owner) (unless (known (n .made .pool .version) (tagAt nodes (n .owner))) 24)) _ made f λ _ _ f₀.
             good-then (finish nodes (n .slot) (withPending (n .pending) (n .made)) (getElem? nodes (n .owner))) _ made f₀ λ m h f₁.
             good-then (childNumbers nodes (n .parent .kids) (withPending (n .pending) (n .made) .pool) (n .made .rows)) _ m
             (subst (λ o. finish nodes (n .slot) (withPending (n .pending) (n .made)) o ≡ good m) (n .isParent) h) λ z k _.

@@ -331,12 +331,12 @@ module _ (bytes : List ℕ) (job : Job (List ℕ)) (are : IsBytes bytes) (formed
   slotRefuted (slotAbove answers e s (d, w, b) a has high) = above-refuted answers e d w true (came answers d w true (tableEntry e) b a) s refl has high
   slotRefuted (pairAbove answers e s (d, w, b) a none-had wide high one two lowest) =
       pair-refuted answers e d w true (came answers d w true (tableEntry e) b a) s refl (none-had, wide, one, two, lowest) high
-  slotRefuted (rawLacks d w b r c h) = raw-lacks-refuted d w b r c h
-  slotRefuted (childLacks d w b n tag h) = constant-refuted d w b n tag h
-  slotRefuted (bootstrapLacks d w b n tag c h) = bootstrap-refuted d w b n tag c h
+  slotRefuted (rawLacks d w b r c h _ _) = raw-lacks-refuted d w b r c h
+  slotRefuted (childLacks d w b n tag h _ _) = constant-refuted d w b n tag h
+  slotRefuted (bootstrapLacks d w b n tag c h _ _) = bootstrap-refuted d w b n tag c h
   slotRefuted (nameLacks d w m b made wanted h) = name-refuted d w b m made wanted h
-  slotRefuted (noIndex d w b n row p tag slots unshared used) = index-refuted d w b n row p tag slots unshared (λ i l. used i (omega (arith, l)))
-  slotRefuted (tooNew d w b slot owner pending m st t) =
+  slotRefuted (noIndex d w b n row p tag slots unshared used _ _) = index-refuted d w b n row p tag slots unshared (λ i l. used i (omega (arith, l)))
+  slotRefuted (tooNew d w b slot owner pending m st t _ _) =
       let nodes = w .resolved .nodes in
       let passed = known-got nodes (rawIndexes job d w) (w .pool) (stg .made) (built d w b) slot owner pending m st in
       let same = building-version job d (b .2) (stack-pool nodes (rawIndexes job d w) (w .pool) st .0) in

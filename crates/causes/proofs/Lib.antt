@@ -17,3 +17,4 @@ pub mod CauseRecords
 pub mod Cause
 pub mod CausedSlots
 pub mod CausedRuns
+pub mod CauseLowest

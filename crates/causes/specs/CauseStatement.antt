@@ -16,13 +16,14 @@ use Rattle.definition.specs.Numbering.{settings, topOf, constantsOf, bootstraps
 use Rattle.definition.specs.Settings.{Setting, version, texts, highest, known}
 use Rattle.definition.specs.Texts.{isText}
 use Rattle.definition.specs.Definitions.{Defined, tagAt, defineAll, nothingDefined}
-use Rattle.definition.specs.Resolving.{Goal, rawNumber, tableEntry, goalOf, linked, Node, sameNode, intern}
+use Rattle.definition.specs.Resolving.{Goal, rawNumber, tableEntry, goalOf, linked, Node, done, sameNode, intern}
 use Rattle.definition.specs.Building.{Pool, slotsOf, Row, Rows, indexOf, fillHoles, Made, kidsOf, childNumbers, finish, withPending, rawRows, buildAll, attributeText, nameWanted}
 use Rattle.definition.specs.Layout.{Ready, endDefinitions, answer, indexNodes, Layout, layout}
 use Rattle.definition.specs.Run.{Built, render, Lent, classOut, run}
 use Rattle.facts.specs.Lists.{Among}
 use Rattle.laws.specs.Counted.{countIn}
 use Rattle.laws.specs.LeadsStatement.{Leads}
+use Rattle.laws.specs.LowestStatement.{LowestRecord}
 use Rattle.laws.specs.SharedStatement.{Same}
 use Rattle.laws.specs.Statements.{IsBytes}
 
@@ -463,6 +464,11 @@ rawIndexes job d w = indexNodes (length (constantsNumbered job)) (w .resolved .m
 abbrev pub buildPlace : Job (List ℕ) → ℕ
 buildPlace job = requestPlace job (length (job .requests))
 
+-- node k is told at a record (document 02, No. 9): it is what entry e became, and of the entries that are reached and are the same as e, none
+-- stands at a lower one
+abbrev pub ToldAt : Job (List ℕ) → Ready → ℕ → ℕ → Type 0
+ToldAt job w k place = (e : ℕ) × (getElem? (w .resolved .marks) e ≡ some (done k)) × LowestRecord job e place
+
 -- the version that the last 47 names, and without one this one
 abbrev pub versionFrom : List Setting → ℕ → ℕ
 versionFrom [] v = v
@@ -514,22 +520,26 @@ pub data SlotCause (job : Job (List ℕ)) : ℕ → ℕ → Type 0 where
       Free job answers (suc s) →
       ((t : ℕ) → Free job answers t → Free job answers (suc t) → s ≤ t) →
       SlotCause job 16 (requestPlace job (length answers))
-  -- 14 at the build: a child of a raw bootstrap
+  -- 14 while building: a child of a raw bootstrap; it is told at the child's record
   rawLacks :
       (d : Defined) (w : Ready) →
       AllAnswered job d w →
       (r : NextRaw (w .resolved .nodes) (rawIndexes job d w) (w .pool)) (c : NextChild (w .resolved .nodes) (kidsOf (w .resolved .nodes) (r .node)) (r .pool)) →
       Lacks job (w .resolved .nodes) (c .node) (c .pool) →
-      SlotCause job 14 (buildPlace job)
-  -- 14 at the build: a constant that is a child of one from the stack
+      (place : ℕ) →
+      ToldAt job w (c .node) place →
+      SlotCause job 14 place
+  -- 14 while building: a constant that is a child of one from the stack, told at the child's record
   childLacks :
       (d : Defined) (w : Ready) →
       AllAnswered job d w →
       (n : NextNumber (w .resolved .nodes) (rawIndexes job d w) (w .pool)) →
       tagAt (w .resolved .nodes) (n .node) ≢ 0x40 →
       Lacks job (w .resolved .nodes) (n .node) (n .pool) →
-      SlotCause job 14 (buildPlace job)
-  -- 14 at the build: a child of a bootstrap that one from the stack cites
+      (place : ℕ) →
+      ToldAt job w (n .node) place →
+      SlotCause job 14 place
+  -- 14 while building: a child of a bootstrap that one from the stack cites, told at the child's record
   bootstrapLacks :
       (d : Defined) (w : Ready) →
       AllAnswered job d w →
@@ -537,8 +547,10 @@ pub data SlotCause (job : Job (List ℕ)) : ℕ → ℕ → Type 0 where
       tagAt (w .resolved .nodes) (n .node) ≡ 0x40 →
       (c : NextChild (w .resolved .nodes) (kidsOf (w .resolved .nodes) (n .node)) (n .pool)) →
       Lacks job (w .resolved .nodes) (c .node) (c .pool) →
-      SlotCause job 14 (buildPlace job)
-  -- 14 at the build: the name, which is wanted and comes last
+      (place : ℕ) →
+      ToldAt job w (c .node) place →
+      SlotCause job 14 place
+  -- 14 at the build record: the name, which is wanted and comes last
   nameLacks :
       (d : Defined) (w : Ready) (m : Made) →
       AllAnswered job d w →
@@ -546,7 +558,8 @@ pub data SlotCause (job : Job (List ℕ)) : ℕ → ℕ → Type 0 where
       nameWanted (job .build .nameByte) (length (fillHoles (m .rows .written) (m .rows .waiting))) ≡ true →
       Lacks job (intern attributeText (w .resolved .nodes)) (position (sameNode attributeText) (w .resolved .nodes)) (m .pool) →
       SlotCause job 14 (buildPlace job)
-  -- 17: a bootstrap that one from the stack cites shares no index, and all 65,535 are used: written by then, or a raw bootstrap's
+  -- 17: a bootstrap that one from the stack cites shares no index, and all 65,535 are used: written by then, or a raw bootstrap's; it is told
+  -- at the bootstrap's record
   noIndex :
       (d : Defined) (w : Ready) →
       AllAnswered job d w →
@@ -555,15 +568,19 @@ pub data SlotCause (job : Job (List ℕ)) : ℕ → ℕ → Type 0 where
       slotsOf (w .resolved .nodes) (kidsOf (w .resolved .nodes) (n .node)) (n .pool) ≡ good (row, p) →
       indexOf row (n .rows .inline) ≡ none →
       ((i : ℕ) → i < 65535 → (i < length (n .rows .written)) ⊎ RawIndex job i) →
-      SlotCause job 17 (buildPlace job)
-  -- 24: the version doesn't have the kind of a constant that comes off the stack
+      (place : ℕ) →
+      ToldAt job w (n .node) place →
+      SlotCause job 17 place
+  -- 24: the version doesn't have the kind of a constant that comes off the stack; it is told at the constant's record
   tooNew :
       (d : Defined) (w : Ready) →
       AllAnswered job d w →
       (slot owner : ℕ) (pending : List (ℕ × ℕ)) (m : Made) →
       Stack (w .resolved .nodes) (rawIndexes job d w) (w .pool) ((slot, owner) ∷ pending) m →
       known (versionOf job) (tagAt (w .resolved .nodes) owner) ≡ false →
-      SlotCause job 24 (buildPlace job)
+      (place : ℕ) →
+      ToldAt job w owner place →
+      SlotCause job 24 place
 
 -- ---- all of them
 
@@ -626,3 +643,11 @@ abbrev pub NoCause : Type 0
 NoCause =
     (lent : Lent) (bytes : List ℕ) → IsBytes bytes →
     ((b : Built) × (run lent bytes ≡ good b)) ↔ ((code place : ℕ) → CauseOf lent bytes code place → ⊥)
+
+-- CAUSE LOWEST: a job of bytes whose run is refused while building (with 17 or 24, or with 14 at a definition) is refused at the lowest record
+-- for an entry: that of an entry that is reached, and no entry that is reached and the same stands at a lower one
+abbrev pub CauseLowest : Type 0
+CauseLowest =
+    (lent : Lent) (bytes : List ℕ) (job : Job (List ℕ)) (r : Refusal) → IsBytes bytes → form bytes ≡ good job → run lent bytes ≡ bad r →
+    ((r .code ≡ 14) × (r .place < length (job .definitions))) ⊎ ((r .code ≡ 17) ⊎ (r .code ≡ 24)) →
+    (e : ℕ) × LowestRecord job e (r .place)

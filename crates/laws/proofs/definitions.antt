@@ -3,3 +3,4 @@ pub mod RawSlotsRise
 pub mod DefinedAsPlaced
 pub mod OrderOfDefinitions
 pub mod DefinitionRefusals
+pub mod RecordsOfEntries

@@ -14,3 +14,4 @@ pub mod NodesApart
 pub mod JobTableGood
 pub mod EntryOrigins
 pub mod SameConstants
+pub mod OnlyReached

@@ -14,3 +14,4 @@ pub mod IndexOccurs
 pub mod SlotOccurs
 pub mod SeventeenMet
 pub mod SlotMet
+pub mod Lowest

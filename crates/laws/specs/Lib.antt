@@ -5,6 +5,7 @@ pub mod Statements
 pub mod ShapeStatement
 pub mod SharedStatement
 pub mod MarksStatement
+pub mod LowestStatement
 pub mod ReaderStatements
 pub mod Faithful
 pub mod Counted

@@ -44,8 +44,8 @@ ClassesAlike j₁ j₂ none (some a₂) = ⊥
 ClassesAlike j₁ j₂ (some a₁) none = ⊥
 ClassesAlike j₁ j₂ (some a₁) (some a₂) = OwnLiterals j₁ j₂ 1 a₁ a₂
 
--- SHAPE: two jobs that are alike but for their literals, not refused for length, work or room, are refused alike, or get one layout, in which
--- each shows its own literals (`render`, which uses them only in the pool's entries and the class name), and the same answers and
+-- SHAPE: two jobs that are alike but for their literals, not refused for length, work or room, are refused alike (one number, at one place), or
+-- get one layout, in which each shows its own literals (`render`, which uses them only in the pool's entries and the class name), and the same answers and
 -- marks, counts, bootstrap bytes, name and visits; and, if they are bytes, their pools as JVMS reads them and their class names differ only in the literals
 abbrev pub Shape : Type 0
 Shape =

@@ -227,13 +227,19 @@ module _ {R : Type 0} (top : ℕ) (constants : List (Entry ℕ R)) where
   defined-once ds d e =
       defined-all top constants OnceSoFar once-more 0 [] ds nothingDefined d (nothing-facts (wideAt constants), λ i k kind s r t a b. clash (cc)) e .1
 
-pub named-once : (job : Job (List ℕ)) (l : Layout) → layout (topOf job) (numbered job) ≡ good l → NamedOnce (job .definitions)
-unfolding layout numbered numberedDefinition
-named-once job l laid i k kind s r t a b =
-    let (d, defined, rest) = good-first {A = Defined} _ _ _ laid in
+-- no name of a job that is defined is defined twice
+pub once-defined : (job : Job (List ℕ)) (d : Defined) → defineAll (topOf job) (constantsOf (numbered job .definitions)) 0 (numbered job .definitions) nothingDefined ≡ good d → NamedOnce (job .definitions)
+unfolding numbered numberedDefinition
+once-defined job d defined i k kind s r t a b =
     defined-once (topOf job) (constantsOf (numbered job .definitions)) (numbered job .definitions) d defined i k kind s r t
     (map-at (numberedDefinition (literals job)) (job .definitions) i (named kind s r) a)
     (map-at (numberedDefinition (literals job)) (job .definitions) k (named kind s t) b)
+
+pub named-once : (job : Job (List ℕ)) (l : Layout) → layout (topOf job) (numbered job) ≡ good l → NamedOnce (job .definitions)
+unfolding layout
+named-once job l laid =
+    let (d, defined, rest) = good-first {A = Defined} _ _ _ laid in
+    once-defined job d defined
 
 pub leadsAsFollowed : LeadsAsFollowed
 leadsAsFollowed = (built, λ ds once r. (λ goal. (there ds once r goal, back ds r goal), one ds once r))
