@@ -13,6 +13,7 @@ use written::Written;
 
 const LAST_SLOT: u16 = 65_534;
 const INDEXES: u16 = 65_535;
+
 /// Versions that lack some of the kinds 15 to 20, or none.
 const VERSIONS: &[u16] = &[0, 50, 50, 51, 52, 53, 54, 55];
 
@@ -142,16 +143,18 @@ impl Plan {
         }
         random.shuffle(&mut waiting);
         records.append(&mut waiting);
-        let mut requests = vec![];
-        for node in &self.asked {
-            let of = written.cited(*node, usize::MAX, random);
-            requests.push(match random.chance(1, 10) {
-                true => Record::AskLdc(of),
-                false => Record::Ask(of),
-            });
-        }
+        let asked = self.asked.iter();
+        let requests = asked.map(|node| request(&written, *node, random)).collect();
         let name = *random.pick(&[NAME_ALWAYS, NAME_IF_PRESENT, NAME_NEVER, NAME_NEVER]);
         job(records, requests, name)
+    }
+}
+
+fn request(written: &Written, node: usize, random: &mut Random) -> Record {
+    let of = written.cited(node, usize::MAX, random);
+    match random.chance(1, 10) {
+        true => Record::AskLdc(of),
+        false => Record::Ask(of),
     }
 }
 

@@ -6,7 +6,7 @@ use std::collections::BTreeMap;
 
 const BOOTSTRAP: u8 = 0x40;
 
-/// Kinds of constants with children, by how often they are made. Int and text are made apart.
+/// Kinds of entries with children, by how often they are made.
 const PARENTS: &[(usize, u8)] = &[
     (4, CLASS),
     (2, 8),
