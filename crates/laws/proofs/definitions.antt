@@ -1,5 +1,4 @@
 -- What the definitions in turn leave
 pub mod RawSlotsRise
 pub mod DefinedAsPlaced
-pub mod OrderOfDefinitions
 pub mod DefinitionRefusals
