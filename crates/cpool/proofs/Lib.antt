@@ -7,3 +7,4 @@ pub mod Walks
 pub mod Single
 pub mod Handed
 pub mod Promises
+pub mod Order

@@ -1,6 +1,6 @@
 -- What is promised of every run, over what then stands in the caller's buffers. The premise of each is `run`'s contract (`Ran`), of a job
--- of bytes, and nothing else; they carry the laws of crates/laws over to the code. How a statement reads: crates/laws/specs/Statements.antt.
--- Assumes nothing.
+-- of bytes, or how two jobs are alike, and nothing else; they carry the laws of crates/laws, causes and order over to the code. How a
+-- statement reads: crates/laws/specs/Statements.antt. Assumes nothing.
 use mathlib.Core.Bool.{true, false}
 use mathlib.Core.List.{List, [], map}
 use mathlib.Core.Logic.{_↔_, _⊎_, _≢_}
@@ -16,6 +16,7 @@ use Rattle.definition.specs.Form.{form}
 use Rattle.definition.specs.Numbering.{topOf, literals, numbered}
 use Rattle.definition.specs.Layout.{Layout, layout}
 use Rattle.definition.specs.Run.{shown, Built, render, lentOf}
+use Rattle.facts.specs.Lists.{Among}
 use Rattle.jvms.specs.Pool.{Slot, BootstrapMethod, read-pool, read-bootstrap-methods}
 use Rattle.laws.specs.AsEntries.{asShown, asRow}
 use Rattle.laws.specs.Statements.{IsBytes, Alike, HeldBy}
@@ -23,9 +24,10 @@ use Rattle.laws.specs.ShapeStatement.{PoolsAlike, ClassesAlike}
 use Rattle.laws.specs.SharedStatement.{SharedBy}
 use Rattle.laws.specs.MarksStatement.{MarkedBy}
 use Rattle.causes.specs.CauseStatement.{CauseOf}
+use Rattle.order.specs.OrderStatement.{IsRecord, jobOf, Moved, WellFormed}
 use Rattle.slots.specs.Gaps.{noGap}
 use Rattle.cpool.specs.declared.Outcome.{Outcome}
-use Rattle.cpool.specs.Ran.{Numbers, told, isBuilt, Slices, memoryOf, Ran}
+use Rattle.cpool.specs.Ran.{Numbers, told, isBuilt, Slices, memoryOf, Ran, listed, Told}
 
 -- what the caller has once a job is built: of each buffer as much as the numbers tell
 unfoldable pub handed : Outcome → Slices → Built
@@ -149,3 +151,32 @@ CodeShape =
     × (b₁ .answers ≡ b₂ .answers) × (b₁ .marks ≡ b₂ .marks) × (take 2 (b₁ .pool) ≡ take 2 (b₂ .pool)) × (b₁ .bootstrapCount ≡ b₂ .bootstrapCount)
     × (b₁ .bootstraps ≡ b₂ .bootstraps) × (b₁ .name ≡ b₂ .name) × (b₁ .visits ≡ b₂ .visits)
     × (IsBytes job₁ → IsBytes job₂ → PoolsAlike j₁ j₂ (b₁ .pool) (b₂ .pool) × ClassesAlike j₁ j₂ (b₁ .class) (b₂ .class)))
+
+-- ORDER. Two well-formed jobs whose definitions are the same records, some 41 to 44 elsewhere among them, run with the same lent sizes: one is
+-- built exactly if the other is, and then the same numbers are told, visits included, and the same stands in the callers' buffers
+abbrev pub CodeOrder : Type 0
+CodeOrder =
+    (rs₁ rs₂ : List (List ℕ)) (rest : List ℕ) (before₁ after₁ before₂ after₂ : Slices) (r₁ r₂ : Outcome) →
+    ((r : List ℕ) → Among r rs₁ → IsRecord r) → Moved rs₁ rs₂ → WellFormed (jobOf rs₁ rest) → WellFormed (jobOf rs₂ rest) →
+    lentOf (memoryOf before₁) ≡ lentOf (memoryOf before₂) → Ran (jobOf rs₁ rest) before₁ after₁ r₁ → Ran (jobOf rs₂ rest) before₂ after₂ r₂ →
+    (isBuilt r₁ ≡ isBuilt r₂) × (isBuilt r₁ ≡ true → (told r₁ ≡ told r₂) × (handed r₁ after₁ ≡ handed r₂ after₂))
+
+-- FOR RUST AND C
+
+-- CALLS. A call keeps `run`'s promise, of an outcome that has the number returned and the numbers written; so what is promised above of every
+-- run is promised of every call
+abbrev pub CallsRun : Type 0
+CallsRun =
+    (job : List ℕ) (before after : Slices) (code : ℕ) (others : List ℕ) → Told job before after code others →
+    (r : Outcome) × Ran job before after r × (told r .code ≡ code) × (listed (told r) ≡ others)
+
+-- ORDER of two calls: one returns 0 exactly if the other does, and then both write the same numbers, and by them the same stands in the
+-- callers' buffers
+abbrev pub CallOrder : Type 0
+CallOrder =
+    (rs₁ rs₂ : List (List ℕ)) (rest : List ℕ) (before₁ after₁ before₂ after₂ : Slices) (code₁ code₂ : ℕ) (others₁ others₂ : List ℕ) →
+    ((r : List ℕ) → Among r rs₁ → IsRecord r) → Moved rs₁ rs₂ → WellFormed (jobOf rs₁ rest) → WellFormed (jobOf rs₂ rest) →
+    lentOf (memoryOf before₁) ≡ lentOf (memoryOf before₂) →
+    Told (jobOf rs₁ rest) before₁ after₁ code₁ others₁ → Told (jobOf rs₂ rest) before₂ after₂ code₂ others₂ →
+    ((code₁ ≡ 0) ↔ (code₂ ≡ 0))
+    × (code₁ ≡ 0 → (r : Outcome) × (listed (told r) ≡ others₁) × (listed (told r) ≡ others₂) × (handed r after₁ ≡ handed r after₂))

@@ -2,4 +2,5 @@ pub mod Starred
 pub mod SecondTable
 pub mod Readings
 pub mod Decided
+pub mod InAnyOrder
 pub mod BlockFiles

@@ -1,6 +1,5 @@
 -- What the definitions in turn leave
 pub mod RawSlotsRise
 pub mod DefinedAsPlaced
-pub mod OrderOfDefinitions
 pub mod DefinitionRefusals
 pub mod RecordsOfEntries

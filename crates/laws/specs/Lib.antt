@@ -1,6 +1,5 @@
 pub mod AsEntries
 pub mod LeadsStatement
-pub mod OrderStatement
 pub mod Statements
 pub mod ShapeStatement
 pub mod SharedStatement

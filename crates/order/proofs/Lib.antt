@@ -1,0 +1,13 @@
+pub mod ParsersTake
+pub mod MovedByExchanges
+pub mod FormOfRecords
+pub mod PassInAnyOrder
+pub mod RecordsOfJobs
+pub mod EntriesInOldOrder
+pub mod RawsInAnyOrder
+pub mod NamesInAnyOrder
+pub mod DefinedInAnyOrder
+pub mod GoalsOfAlikeNames
+pub mod LayoutInAnyOrder
+pub mod Order
+pub mod OrderMet

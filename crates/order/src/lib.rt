@@ -1,0 +1,1 @@
+// Theorems about the definition, with no code: statements in specs/, proofs in proofs/.
