@@ -1,0 +1,3 @@
+-- Constants worked out in the job
+pub mod Wrapping
+pub mod Rounding
