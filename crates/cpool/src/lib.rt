@@ -180,7 +180,7 @@ fn build(
         (outputs (now (answers .entry)) (now (marks .entry)) (now (pool .entry)) (now (bootstraps .entry)) (now («class_name» .entry)))
         (outputs (now (answers .exit)) (now (marks .exit)) (now (pool .exit)) (now (bootstraps .exit)) (now («class_name» .exit))) r ⌝ }
 {
-    let mut p = [0usize; 32];
+    let mut p = [0usize; 33];
     let code = builder::lay_out(job, w, &mut p, gaps, c);
     if code != 0 {
         return refused(w, &p, code);

@@ -22,9 +22,9 @@ use Rattle.definitions.proofs.Handing.{ended-good, ended-bad}
 use Rattle.definitions.proofs.Recorded.{records-are}
 
 -- what the start leaves is zero
-pub start-zeros : (c : JobCounts) (p before after : List ℕ) → Started c p before after → Zeros p (store p after)
+pub start-zeros : (c : JobCounts) (n : ℕ) (p before after : List ℕ) → Started c n p before after → Zeros p (store p after)
 unfolding Zeros
-start-zeros c p before after g = g .zeros
+start-zeros c n p before after g = g .zeros
 
 -- as many definitions as were counted
 pub counted : (s : List ℕ) (c : JobCounts) → c ≡ countsIn s → c .definitions ≡ length (definitionsIn s)

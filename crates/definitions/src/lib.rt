@@ -287,11 +287,11 @@ fn end_definitions(job: &[u8], w: &mut [u32], p: &[usize]) -> usize
 // A job up to record 50, in words that may hold anything: regions laid out, definitions in turn, record 50. 0, or a refusal's number, met
 // at the record that PLACE tells.
 pub fn begin(job: &[u8], w: &mut [u32], p: &mut [usize], c: JobCounts, top: usize) -> usize
-    requires { ⌜ WellFormed (now job) × (c ≡ countsIn (now job)) × (length (now p) ≡ 32) × (6 * length (now job) + 1024 ≤ length (now w)) × (top < 65535) ⌝ }
+    requires { ⌜ WellFormed (now job) × (c ≡ countsIn (now job)) × (length (now p) ≡ 33) × (6 * length (now job) + 1024 ≤ length (now w)) × (top < 65535) ⌝ }
     ensures { λ r. ⌜ Begun (now (p .exit)) (length (now (w .exit))) top (now (job .entry)) (store (now (p .exit)) (now (w .exit))) r ⌝ }
 {
     let n = c.definitions;
-    start(w, p, c);
+    start(w, p, c, job.len());
     let code = define_all(job, w, p, n, top);
     if code != 0 {
         return code;

@@ -37,7 +37,7 @@ pub raws-begin :
 raws-begin p constants top t few zeros n m = rw (n, m) (no-raws (size p RAW-HEADS) constants top _ _ _ _ few zeros)
 
 -- the work of a job has room for its raw definitions
-pub raw-room : (p : List ℕ) (c : JobCounts) → Sizes p c → rawsOf c < 4294967294 → RawRoom p
+pub raw-room : (p : List ℕ) (c : JobCounts) {bytes : ℕ} → Sizes p c bytes → rawsOf c < 4294967294 → RawRoom p
 raw-room p c s few =
     record {
       counts = omega (arith, s .counts);

@@ -17,7 +17,7 @@ pub fn ask(
     c: JobCounts,
     top: usize,
 ) -> usize
-    requires { ⌜ WellFormed (now job) × (c ≡ countsIn (now job)) × (length (now p) ≡ 32) × (6 * length (now job) + 1024 ≤ length (now w)) × (length (now job) / 5 + 2 ≤ length (now gaps)) × (top < 65535) ⌝ }
+    requires { ⌜ WellFormed (now job) × (c ≡ countsIn (now job)) × (length (now p) ≡ 33) × (6 * length (now job) + 1024 ≤ length (now w)) × (length (now job) / 5 + 2 ≤ length (now gaps)) × (top < 65535) ⌝ }
     ensures { λ r. ⌜ AskedAll (now (p .exit)) (length (now (w .exit))) top (now (job .entry)) (store (now (p .exit)) (now (w .exit))) (now (gaps .exit)) r ⌝ }
 {
     let code = definitions::begin(job, w, p, c, top);

@@ -1,7 +1,7 @@
 -- The layout: places rise, regions have their sizes, and so they have in the work of a job. Assumes nothing.
 use mathlib.Core.List.{List, [], _∷_}
 use mathlib.Core.Path.{_≡_, refl, ap, _∙_}
-use Prim.Native.Nat.{ℕ, zero, suc, _+_, _*_, _<_}
+use Prim.Native.Nat.{ℕ, zero, suc, _+_, _*_, _/_, _<_}
 use native.Mathlib.Omega.{arith}
 use lib.ListN.{length, getD, length-append}
 use Rattle.job.specs.declared.JobCounts.{JobCounts}
@@ -9,7 +9,7 @@ use Rattle.job.specs.Forms.{countsOf}
 use Rattle.definition.specs.Numbering.{constantsOf, bootstrapsOf}
 use Rattle.store.specs.Store.{size, Laid}
 use Rattle.store.specs.JobIn.{WellFormed, definitionsIn, countsIn, tableOf, entriesIn}
-use Rattle.store.specs.Regions.{placesOf, entriesOf, rawsOf, sizesFor, Work, COUNTS, MARKS, GIVEN, INDEXES, NAME-HEADS, NODE-HEADS, RAW-HEADS, ROW-HEADS, OWNER-HEADS, NAME-LINKS, NODE-LINKS, RAW-LINKS, ROW-LINKS, OWNER-LINKS, RECORDS, OFFSETS, FIRSTS, SIZES, GOALS, CHILDREN, NAME-PLACES, NAME-GOALS, RAW-KEYS, RAW-ENTRIES, ORDER, NODES, STACK, PENDING, INLINE, ANSWERS, ORIGINS}
+use Rattle.store.specs.Regions.{placesOf, entriesOf, rawsOf, sizesFor, Work, COUNTS, MARKS, GIVEN, INDEXES, NAME-HEADS, NODE-HEADS, RAW-HEADS, ROW-HEADS, OWNER-HEADS, NAME-LINKS, NODE-LINKS, RAW-LINKS, ROW-LINKS, OWNER-LINKS, RECORDS, OFFSETS, FIRSTS, SIZES, GOALS, CHILDREN, NAME-PLACES, NAME-GOALS, RAW-KEYS, RAW-ENTRIES, ORDER, NODES, STACK, PENDING, INLINE, ANSWERS, ORIGINS, VALUES}
 
 pub length-places : (a : ℕ) (sizes : List ℕ) → length (placesOf a sizes) ≡ suc (length sizes)
 unfolding placesOf
@@ -28,7 +28,7 @@ next-place a [] k h = absurd (omega arith)
 next-place a (n ∷ sizes) zero h = head-place (a + n) sizes
 next-place a (n ∷ sizes) (suc k) h = next-place (a + n) sizes k (omega arith)
 
-pub places-laid : (sizes : List ℕ) → length sizes ≡ 31 → Laid (placesOf 0 sizes)
+pub places-laid : (sizes : List ℕ) → length sizes ≡ 32 → Laid (placesOf 0 sizes)
 unfolding Laid
 places-laid sizes e = (length-places 0 sizes ∙ ap suc e, λ k h. omega (arith, next-place 0 sizes k (omega arith)))
 
@@ -37,7 +37,7 @@ unfolding size
 places-size sizes k h = omega (arith, next-place 0 sizes k h)
 
 -- how many words each region has
-pub record Sizes (p : List ℕ) (c : JobCounts) : Type 0 where
+pub record Sizes (p : List ℕ) (c : JobCounts) (bytes : ℕ) : Type 0 where
   pub counts : size p COUNTS ≡ 20
   pub marks : size p MARKS ≡ entriesOf c
   pub given : size p GIVEN ≡ entriesOf c
@@ -69,47 +69,50 @@ pub record Sizes (p : List ℕ) (c : JobCounts) : Type 0 where
   pub inline : size p INLINE ≡ c .bootstraps
   pub answers : size p ANSWERS ≡ c .requests
   pub origins : size p ORIGINS ≡ c .requests
+  pub values : size p VALUES ≡ bytes / 3
 
-sized : (c : JobCounts) (p : List ℕ) → p ≡ placesOf 0 (sizesFor c) → (k n : ℕ) → k < 31 → getD (sizesFor c) k 0 ≡ n → size p k ≡ n
+sized : (c : JobCounts) (bytes : ℕ) (p : List ℕ) → p ≡ placesOf 0 (sizesFor c bytes) → (k n : ℕ) → k < 32 → getD (sizesFor c bytes) k 0 ≡ n → size p k ≡ n
 unfolding sizesFor
-sized c p e k n h g = rw e (places-size (sizesFor c) k h ∙ g)
+sized c bytes p e k n h g = rw e (places-size (sizesFor c bytes) k h ∙ g)
 
-pub work-sizes : (s p : List ℕ) → Work s p → Sizes p (countsIn s)
+pub work-sizes : (s p : List ℕ) → Work s p → Sizes p (countsIn s) (length s)
 unfolding Work sizesFor
 work-sizes s p (formed, e) =
     let c = countsIn s in
+    let n = length s in
     record {
-      counts = sized c p e COUNTS _ (omega arith) refl;
-      marks = sized c p e MARKS _ (omega arith) refl;
-      given = sized c p e GIVEN _ (omega arith) refl;
-      indexes = sized c p e INDEXES _ (omega arith) refl;
-      name-heads = sized c p e NAME-HEADS _ (omega arith) refl;
-      node-heads = sized c p e NODE-HEADS _ (omega arith) refl;
-      raw-heads = sized c p e RAW-HEADS _ (omega arith) refl;
-      row-heads = sized c p e ROW-HEADS _ (omega arith) refl;
-      owner-heads = sized c p e OWNER-HEADS _ (omega arith) refl;
-      name-links = sized c p e NAME-LINKS _ (omega arith) refl;
-      node-links = sized c p e NODE-LINKS _ (omega arith) refl;
-      raw-links = sized c p e RAW-LINKS _ (omega arith) refl;
-      row-links = sized c p e ROW-LINKS _ (omega arith) refl;
-      owner-links = sized c p e OWNER-LINKS _ (omega arith) refl;
-      records = sized c p e RECORDS _ (omega arith) refl;
-      offsets = sized c p e OFFSETS _ (omega arith) refl;
-      firsts = sized c p e FIRSTS _ (omega arith) refl;
-      sizes = sized c p e SIZES _ (omega arith) refl;
-      goals = sized c p e GOALS _ (omega arith) refl;
-      children = sized c p e CHILDREN _ (omega arith) refl;
-      name-places = sized c p e NAME-PLACES _ (omega arith) refl;
-      name-goals = sized c p e NAME-GOALS _ (omega arith) refl;
-      raw-keys = sized c p e RAW-KEYS _ (omega arith) refl;
-      raw-entries = sized c p e RAW-ENTRIES _ (omega arith) refl;
-      order = sized c p e ORDER _ (omega arith) refl;
-      nodes = sized c p e NODES _ (omega arith) refl;
-      stack = sized c p e STACK _ (omega arith) refl;
-      pending = sized c p e PENDING _ (omega arith) refl;
-      inline = sized c p e INLINE _ (omega arith) refl;
-      answers = sized c p e ANSWERS _ (omega arith) refl;
-      origins = sized c p e ORIGINS _ (omega arith) refl;
+      counts = sized c n p e COUNTS _ (omega arith) refl;
+      marks = sized c n p e MARKS _ (omega arith) refl;
+      given = sized c n p e GIVEN _ (omega arith) refl;
+      indexes = sized c n p e INDEXES _ (omega arith) refl;
+      name-heads = sized c n p e NAME-HEADS _ (omega arith) refl;
+      node-heads = sized c n p e NODE-HEADS _ (omega arith) refl;
+      raw-heads = sized c n p e RAW-HEADS _ (omega arith) refl;
+      row-heads = sized c n p e ROW-HEADS _ (omega arith) refl;
+      owner-heads = sized c n p e OWNER-HEADS _ (omega arith) refl;
+      name-links = sized c n p e NAME-LINKS _ (omega arith) refl;
+      node-links = sized c n p e NODE-LINKS _ (omega arith) refl;
+      raw-links = sized c n p e RAW-LINKS _ (omega arith) refl;
+      row-links = sized c n p e ROW-LINKS _ (omega arith) refl;
+      owner-links = sized c n p e OWNER-LINKS _ (omega arith) refl;
+      records = sized c n p e RECORDS _ (omega arith) refl;
+      offsets = sized c n p e OFFSETS _ (omega arith) refl;
+      firsts = sized c n p e FIRSTS _ (omega arith) refl;
+      sizes = sized c n p e SIZES _ (omega arith) refl;
+      goals = sized c n p e GOALS _ (omega arith) refl;
+      children = sized c n p e CHILDREN _ (omega arith) refl;
+      name-places = sized c n p e NAME-PLACES _ (omega arith) refl;
+      name-goals = sized c n p e NAME-GOALS _ (omega arith) refl;
+      raw-keys = sized c n p e RAW-KEYS _ (omega arith) refl;
+      raw-entries = sized c n p e RAW-ENTRIES _ (omega arith) refl;
+      order = sized c n p e ORDER _ (omega arith) refl;
+      nodes = sized c n p e NODES _ (omega arith) refl;
+      stack = sized c n p e STACK _ (omega arith) refl;
+      pending = sized c n p e PENDING _ (omega arith) refl;
+      inline = sized c n p e INLINE _ (omega arith) refl;
+      answers = sized c n p e ANSWERS _ (omega arith) refl;
+      origins = sized c n p e ORIGINS _ (omega arith) refl;
+      values = sized c n p e VALUES _ (omega arith) refl;
     }
 
 pub work-formed : (s p : List ℕ) → Work s p → WellFormed s

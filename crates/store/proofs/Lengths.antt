@@ -148,11 +148,11 @@ cost-fields (toMany ∷ fields) before e l rest h =
 
 -- of every shape these are enough, and of a bootstrap's more
 unfoldable wanted : Bool → ℕ
-wanted true = 12
-wanted false = 8
+wanted true = 37
+wanted false = 25
 
 unfoldable enough : ℕ → Body → Bool
-enough tag (ofEntry fields) = leb (wanted (eqb tag bootstrapTag)) (6 * fixed fields + 9 * always fields)
+enough tag (ofEntry fields) = leb (wanted (eqb tag bootstrapTag)) (17 * fixed fields + 25 * always fields)
 enough tag (ofName kind) = true
 enough tag (ofRaw kind) = true
 enough tag (ofNumber rule) = true
@@ -164,7 +164,7 @@ all-enough = refl
 
 -- ---- a definition
 
--- the words that the regions have for what is counted, beside those for requests and the 31 that they always have
+-- the words that the regions have for what is counted, beside those for requests, those for the bytes and the 31 that they always have
 unfoldable pub wordsFor : JobCounts → ℕ
 wordsFor c =
     14 * entriesOf c
@@ -174,10 +174,10 @@ wordsFor c =
     + 11 * c .«raw_constants»
     + 5 * c .«raw_bootstraps»
 
--- so many bytes are enough for what is counted: a byte for each, and six words a byte
+-- so many bytes are enough for what is counted: a byte for each, and 17 words for three bytes, which leaves one for VALUES
 pub record Enough (bytes : ℕ) (c : JobCounts) : Type 0 where
   pub bounded : Bounded bytes c
-  pub words : wordsFor c ≤ 6 * bytes
+  pub words : 3 * wordsFor c ≤ 17 * bytes
 
 -- what is added up in counts
 record Adds (a b c : JobCounts) : Type 0 where
@@ -231,14 +231,14 @@ enough-plus m n a b c s f g =
 
 -- a constant or a bootstrap with its references, a name, a raw definition, a setting
 module _ (e : Entry (List ℕ) Reference) (n : ℕ) (long : 1 + length (e .kids) ≤ n) where
-  enough-constant : isBootstrap e ≡ false → 14 + 3 * length (e .kids) ≤ 6 * n → Enough n (countsOf (define e ∷ []) 0)
+  enough-constant : isBootstrap e ≡ false → 3 * (14 + 3 * length (e .kids)) ≤ 17 * n → Enough n (countsOf (define e ∷ []) 0)
   unfolding countsOf constantsOf bootstrapsOf entries referencesIn kidsIn only isNaming isPlacing isVersion isHolding wordsFor
   enough-constant h g =
       let here = ap length (only-here (λ e. not (isBootstrap e)) e [] (ap not h)) in
       let none = ap length (only-later isBootstrap e [] h) in
       record { bounded = omega (arith, here, none); words = omega (arith, here, none) }
 
-  enough-bootstrap : isBootstrap e ≡ true → 18 + 3 * length (e .kids) ≤ 6 * n → Enough n (countsOf (define e ∷ []) 0)
+  enough-bootstrap : isBootstrap e ≡ true → 3 * (18 + 3 * length (e .kids)) ≤ 17 * n → Enough n (countsOf (define e ∷ []) 0)
   unfolding countsOf constantsOf bootstrapsOf entries referencesIn kidsIn only isNaming isPlacing isVersion isHolding wordsFor
   enough-bootstrap h g =
       let none = ap length (only-later (λ e. not (isBootstrap e)) e [] (ap not h)) in
@@ -262,11 +262,11 @@ enough-set (highest top) n h = record { bounded = omega arith; words = omega ari
 
 shape-enough :
     (tag : ℕ) (fields : List Field) (b : Bool) → lookup tag bodies ≡ some (ofEntry fields) → eqb tag bootstrapTag ≡ b →
-    wanted b ≤ 6 * fixed fields + 9 * always fields
+    wanted b ≤ 17 * fixed fields + 25 * always fields
 unfolding enough
 shape-enough tag fields b told same =
     rw same at
-    (leb-true (wanted (eqb tag bootstrapTag)) (6 * fixed fields + 9 * always fields)
+    (leb-true (wanted (eqb tag bootstrapTag)) (17 * fixed fields + 25 * always fields)
     (lookup-every (λ r. enough (r .0) (r .1)) bodies all-enough tag (ofEntry fields) told))
 
 -- a definition behind its first byte

@@ -11,34 +11,34 @@ use Rattle.store.specs.Regions.{placesOf, sizesFor, Few, Started, Work}
 use Rattle.store.proofs.Stores.{rising, at-store}
 use Rattle.store.proofs.Laying.{places-laid, length-places}
 use Rattle.store.proofs.Lengths.{wordsFor}
-use Rattle.store.proofs.Bounds.{small}
+use Rattle.store.proofs.Bounds.{formed-short, small}
 use Rattle.store.proofs.Room.{end-is, room}
 
-module _ (c : JobCounts) where
-  pub sizes-length : length (sizesFor c) ≡ 31
+module _ (c : JobCounts) (bytes : ℕ) where
+  pub sizes-length : length (sizesFor c bytes) ≡ 32
   unfolding sizesFor
   sizes-length = refl
 
-  pub few-end : Few c → getD (placesOf 0 (sizesFor c)) 31 0 < 1000000000000
+  pub few-end : Few c → bytes ≤ 1048576 → getD (placesOf 0 (sizesFor c bytes)) 32 0 < 1000000000000
   unfolding wordsFor
-  few-end f = omega (arith, end-is c)
+  few-end f short = omega (arith, end-is c bytes)
 
   -- what `lay` asks of the sizes
-  pub lay-asks : (sizes : List ℕ) → sizes ≡ sizesFor c → Few c → (length sizes ≡ 31) × (getD (placesOf 0 sizes) 31 0 < 1000000000000)
-  lay-asks sizes e f = rw e (sizes-length, few-end f)
+  pub lay-asks : (sizes : List ℕ) → sizes ≡ sizesFor c bytes → Few c → bytes ≤ 1048576 → (length sizes ≡ 32) × (getD (placesOf 0 sizes) 32 0 < 1000000000000)
+  lay-asks sizes e f short = rw e (sizes-length, few-end f short)
 
-  module _ (sizes p : List ℕ) (e : sizes ≡ sizesFor c) (g : p ≡ placesOf 0 sizes) where
-    pub laid-out : p ≡ placesOf 0 (sizesFor c)
+  module _ (sizes p : List ℕ) (e : sizes ≡ sizesFor c bytes) (g : p ≡ placesOf 0 sizes) where
+    pub laid-out : p ≡ placesOf 0 (sizesFor c bytes)
     laid-out = g ∙ ap (placesOf 0) e
 
-    pub places-length : length p ≡ 32
-    places-length = rw laid-out (length-places 0 (sizesFor c) ∙ ap suc sizes-length)
+    pub places-length : length p ≡ 33
+    places-length = rw laid-out (length-places 0 (sizesFor c bytes) ∙ ap suc sizes-length)
 
-    place-before : (k : ℕ) → k < 32 → getD p k 0 ≤ getD (placesOf 0 (sizesFor c)) 31 0
-    place-before k h = rw laid-out (rising (placesOf 0 (sizesFor c)) (places-laid (sizesFor c) sizes-length) k 31 (omega arith) (omega arith))
+    place-before : (k : ℕ) → k < 33 → getD p k 0 ≤ getD (placesOf 0 (sizesFor c bytes)) 32 0
+    place-before k h = rw laid-out (rising (placesOf 0 (sizesFor c bytes)) (places-laid (sizesFor c bytes) sizes-length) k 32 (omega arith) (omega arith))
 
     -- the words before place n of them are cleared
-    module _ (w : List ℕ) (fits : getD (placesOf 0 (sizesFor c)) 31 0 ≤ length w) (n : ℕ) (real : n < 32) where
+    module _ (w : List ℕ) (fits : getD (placesOf 0 (sizesFor c bytes)) 32 0 ≤ length w) (n : ℕ) (real : n < 33) where
       pub zeros-fit : getD p n 0 ≤ length w
       zeros-fit = omega (arith, place-before n real)
 
@@ -60,14 +60,14 @@ module _ (c : JobCounts) where
             List·getD-append z (drop (getD p n 0) w) 0 j (omega (arith, zeros-length))
             ∙ rw cleared (getD-replicate (length (take (getD p n 0) w)) j 0 0 (omega (arith, zeros-are)))
 
-        pub started : 9 ≤ n → Started c p w (z ++ drop (getD p n 0) w)
+        pub started : 9 ≤ n → Started c bytes p w (z ++ drop (getD p n 0) w)
         unfolding size
         started all =
-            let laid = places-laid (sizesFor c) sizes-length in
+            let laid = places-laid (sizesFor c bytes) sizes-length in
             record {
               places = laid-out;
               long = same-words;
-              on = (rw laid-out laid, omega (arith, same-words, place-before 31 (omega arith)));
+              on = (rw laid-out laid, omega (arith, same-words, place-before 32 (omega arith)));
               zeros =
                   λ k low i h.
                   at-store p (z ++ drop (getD p n 0) w) k i h
@@ -92,10 +92,11 @@ few-counted s h =
 module _ (s : List ℕ) (c : JobCounts) (h : WellFormed s) (e : c ≡ countsIn s) where
   -- what `start` asks
   pub start-asks :
-      (p w : List ℕ) → length p ≡ 32 → 6 * length s + 1024 ≤ length w → Few c × (length p ≡ 32) × (getD (placesOf 0 (sizesFor c)) 31 0 ≤ length w)
-  start-asks p w long fits = rw e (few-counted s h, long, omega (arith, room s h))
+      (p w : List ℕ) → length p ≡ 33 → 6 * length s + 1024 ≤ length w →
+      Few c × (length p ≡ 33) × (getD (placesOf 0 (sizesFor c (length s))) 32 0 ≤ length w) × (length s ≤ 1048576)
+  start-asks p w long fits = rw e (few-counted s h, long, omega (arith, room s h), formed-short s h)
 
   -- and what it leaves
-  pub start-leaves : (p v w : List ℕ) → Started c p v w → Work s p × On p (length w)
+  pub start-leaves : (p v w : List ℕ) → Started c (length s) p v w → Work s p × On p (length w)
   unfolding Work
-  start-leaves p v w f = ((h, f .places ∙ ap (λ d. placesOf 0 (sizesFor d)) e), f .on)
+  start-leaves p v w f = ((h, f .places ∙ ap (λ d. placesOf 0 (sizesFor d (length s))) e), f .on)

@@ -14,23 +14,23 @@ use Rattle.facts.proofs.Lists.{order, equal}
 use Rattle.facts.proofs.Chunks.{length-from, from-same, from-get}
 use Rattle.store.specs.Store.{size, store, put, Laid, On}
 
-laid-long : (p : List ℕ) → Laid p → length p ≡ 32
+laid-long : (p : List ℕ) → Laid p → length p ≡ 33
 unfolding Laid
 laid-long p laid = laid .0
 
-laid-rises : (p : List ℕ) → Laid p → (k : ℕ) → k < 31 → getD p k 0 ≤ getD p (suc k) 0
+laid-rises : (p : List ℕ) → Laid p → (k : ℕ) → k < 32 → getD p k 0 ≤ getD p (suc k) 0
 unfolding Laid
 laid-rises p laid = laid .1
 
 module _ (p : List ℕ) (laid : Laid p) where
   -- the end of a region is at or before the start of a later one
-  before : (j d : ℕ) → j + d < 32 → getD p j 0 ≤ getD p (j + d) 0
+  before : (j d : ℕ) → j + d < 33 → getD p j 0 ≤ getD p (j + d) 0
   before j zero h = let e : j + 0 ≡ j = omega arith in rw e (omega arith)
   before j (suc d) h =
       let e : j + suc d ≡ suc (j + d) = omega arith in
       rw e (omega (arith, before j d (omega arith), laid-rises p laid (j + d) (omega arith)))
 
-  pub rising : (j k : ℕ) → j ≤ k → k < 32 → getD p j 0 ≤ getD p k 0
+  pub rising : (j k : ℕ) → j ≤ k → k < 33 → getD p j 0 ≤ getD p k 0
   rising j k h l = let e : j + (k - j) ≡ k = omega arith in subst (λ (x : ℕ). getD p j 0 ≤ getD p x 0) e (before j (k - j) (omega arith))
 
   -- places past the last are 0
@@ -39,10 +39,10 @@ module _ (p : List ℕ) (laid : Laid p) where
   past (x ∷ l) zero h = absurd (omega arith)
   past (x ∷ l) (suc k) h = past l k (omega arith)
 
-  -- a region with a word is one of the first 31
-  pub real : (k i : ℕ) → i < size p k → k < 31
+  -- a region with a word is one of the first 32
+  pub real : (k i : ℕ) → i < size p k → k < 32
   unfolding size
-  real k i h = ⊎-elim (λ (l : k < 31). l) (λ (l : 31 ≤ k). absurd (omega (arith, past p (suc k) (omega (arith, laid-long p laid))))) (order k 31)
+  real k i h = ⊎-elim (λ (l : k < 32). l) (λ (l : 32 ≤ k). absurd (omega (arith, past p (suc k) (omega (arith, laid-long p laid))))) (order k 32)
 
   -- two regions have no word in common
   pub apart : (j k i a : ℕ) → (j ≡ k → ⊥) → i < size p j → a < size p k → getD p j 0 + i ≡ getD p k 0 + a → ⊥
@@ -54,9 +54,9 @@ module _ (p : List ℕ) (laid : Laid p) where
       (order j k)
 
   -- a region's words lie before the end
-  pub inside : (k i : ℕ) → i < size p k → getD p k 0 + i < getD p 31 0
+  pub inside : (k i : ℕ) → i < size p k → getD p k 0 + i < getD p 32 0
   unfolding size
-  inside k i h = omega (arith, rising (suc k) 31 (omega (arith, real k i h)) (omega arith))
+  inside k i h = omega (arith, rising (suc k) 32 (omega (arith, real k i h)) (omega arith))
 
 -- THE LAWS
 
@@ -118,7 +118,7 @@ module _ (p w : List ℕ) (k i x : ℕ) (on : On p (length w)) (h : i < size p k
 pub in-words : (p : List ℕ) (words k i : ℕ) → On p words → i < size p k → (k < length p) × (getD p k 0 + i < words)
 in-words p words k i on h = (omega (arith, real p (on .0) k i h, laid-long p (on .0)), omega (arith, inside p (on .0) k i h, on .1))
 
-pub in-places : (p : List ℕ) (k : ℕ) → Laid p → k < 31 → (k + 1 < length p) × (getD p k 0 ≤ getD p (k + 1) 0)
+pub in-places : (p : List ℕ) (k : ℕ) → Laid p → k < 32 → (k + 1 < length p) × (getD p k 0 ≤ getD p (k + 1) 0)
 in-places p k laid h = (omega (arith, laid-long p laid), rw add-one (laid-rises p laid k h))
 
 pub size-is : (p : List ℕ) (k : ℕ) → size p k ≡ getD p (k + 1) 0 - getD p k 0

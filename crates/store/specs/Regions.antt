@@ -1,7 +1,7 @@
 -- The regions by their numbers, the counters by theirs, and how large each region is. Assumes nothing.
 use mathlib.Core.List.{List, [], _∷_}
 use mathlib.Core.Path.{_≡_}
-use Prim.Native.Nat.{ℕ, _+_, _*_, _≤_, _<_}
+use Prim.Native.Nat.{ℕ, _+_, _*_, _/_, _≤_, _<_}
 use lib.ListN.{length, getD}
 use Rattle.job.specs.declared.JobCounts.{JobCounts}
 use Rattle.store.specs.Store.{size, store, On}
@@ -101,6 +101,9 @@ ANSWERS = 29
 abbrev pub ORIGINS : ℕ
 ORIGINS = 30
 
+abbrev pub VALUES : ℕ
+VALUES = 31
+
 -- counters
 abbrev pub PLACE : ℕ
 PLACE = 0
@@ -184,9 +187,9 @@ pub record Few (c : JobCounts) : Type 0 where
   pub raw-bootstraps : c .«raw_bootstraps» ≤ 1048576
   pub requests : c .requests ≤ 1048576
 
--- the regions of a job that counts so much, in their order
-unfoldable pub sizesFor : JobCounts → List ℕ
-sizesFor c =
+-- the regions of a job that counts so much in so many bytes, in their order
+unfoldable pub sizesFor : JobCounts → ℕ → List ℕ
+sizesFor c bytes =
     20  -- COUNTS
     ∷ entriesOf c  -- MARKS
     ∷ entriesOf c  -- GIVEN
@@ -218,15 +221,16 @@ sizesFor c =
     ∷ c .bootstraps  -- INLINE
     ∷ c .requests  -- ANSWERS
     ∷ c .requests  -- ORIGINS
+    ∷ bytes / 3  -- VALUES
     ∷ []
 
 -- the regions of a job that counts so much are laid out over the words, and those before NAME-LINKS are zeros
-pub record Started (c : JobCounts) (p before after : List ℕ) : Type 0 where
-  pub places : p ≡ placesOf 0 (sizesFor c)
+pub record Started (c : JobCounts) (bytes : ℕ) (p before after : List ℕ) : Type 0 where
+  pub places : p ≡ placesOf 0 (sizesFor c bytes)
   pub long : length after ≡ length before
   pub on : On p (length after)
   pub zeros : (k : ℕ) → k < 9 → (i : ℕ) → i < size p k → getD (store p after k) i 0 ≡ 0
 
 -- well-formed bytes, and the places of their job's regions. It is shut, as WellFormed is
 unfoldable pub Work : List ℕ → List ℕ → Type 0
-Work s p = WellFormed s × (p ≡ placesOf 0 (sizesFor (countsIn s)))
+Work s p = WellFormed s × (p ≡ placesOf 0 (sizesFor (countsIn s) (length s)))

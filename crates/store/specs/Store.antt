@@ -28,11 +28,11 @@ put s k i x = over s k (set (s k) i x)
 
 -- the places rise. It is shut, so that a search takes it whole from the premises
 unfoldable pub Laid : List ℕ → Type 0
-Laid p = (length p ≡ 32) × ((k : ℕ) → k < 31 → getD p k 0 ≤ getD p (suc k) 0)
+Laid p = (length p ≡ 33) × ((k : ℕ) → k < 32 → getD p k 0 ≤ getD p (suc k) 0)
 
 -- the regions lie within the words
 abbrev pub On : List ℕ → ℕ → Type 0
-On p words = Laid p × (getD p 31 0 ≤ words)
+On p words = Laid p × (getD p 32 0 ≤ words)
 
 -- a word that a region's place can hold
 abbrev pub IsWord : ℕ → Type 0

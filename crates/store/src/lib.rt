@@ -9,7 +9,7 @@ ghost use Rattle.store.specs.Chains.{mixed, headOf, Sought, Heads, linke
 use job::JobCounts;
 
 // How many regions there are, one less than places.
-const REGIONS: usize = 31;
+const REGIONS: usize = 32;
 
 // Regions that start as zeros.
 // The counters, one word each, as named below.
@@ -90,6 +90,9 @@ pub const ANSWERS: usize = 29;
 
 // How each answer was come by: 0 raw, 1 new, 2 old.
 pub const ORIGINS: usize = 30;
+
+// By the place of a record 46 in the job, over 3: the bits of its value, in two words if its kind has 8 bytes. It has 6 bytes or more.
+pub const VALUES: usize = 31;
 
 // Counters.
 // The number of the record in turn, and where the next record stands.
@@ -186,7 +189,7 @@ pub fn save(w: &mut [u32], p: &[usize], k: usize, i: usize, x: usize)
 
 // How many words region k has.
 pub fn size_of(p: &[usize], k: usize) -> usize
-    requires { ⌜ Laid (now p) × (k < 31) ⌝ }
+    requires { ⌜ Laid (now p) × (k < 32) ⌝ }
     ensures { λ r. ⌜ r ≡ size (now (p .entry)) k ⌝ }
 {
     p[k + 1] - p[k]
@@ -200,10 +203,10 @@ pub fn constants(p: &[usize]) -> usize
     size_of(p, MARKS) - size_of(p, INDEXES)
 }
 
-// The sizes of the regions of a job with these counts.
-fn sizes_for(c: JobCounts) -> [usize; 31]
+// The sizes of the regions of a job of n bytes with these counts.
+fn sizes_for(c: JobCounts, n: usize) -> [usize; 32]
     requires { ⌜ Few c ⌝ }
-    ensures { λ r. ⌜ r ≡ sizesFor c ⌝ }
+    ensures { λ r. ⌜ r ≡ sizesFor c n ⌝ }
 {
     let entries = c.constants + c.bootstraps;
     let raws = 2 * c.raw_constants + c.raw_bootstraps;
@@ -239,12 +242,13 @@ fn sizes_for(c: JobCounts) -> [usize; 31]
         c.bootstraps,
         c.requests,
         c.requests,
+        n / 3,
     ]
 }
 
 // The places of regions of these sizes.
 fn lay(p: &mut [usize], sizes: &[usize])
-    requires { ⌜ (length (now p) ≡ 32) × (length (now sizes) ≡ 31) × (getD (placesOf 0 (now sizes)) 31 0 < 1000000000000) ⌝ }
+    requires { ⌜ (length (now p) ≡ 33) × (length (now sizes) ≡ 32) × (getD (placesOf 0 (now sizes)) 32 0 < 1000000000000) ⌝ }
     ensures { λ _. ⌜ now (p .exit) ≡ placesOf 0 (now (sizes .entry)) ⌝ }
 {
     p[0] = 0;
@@ -256,12 +260,12 @@ fn lay(p: &mut [usize], sizes: &[usize])
     }
 }
 
-// The places of a job with these counts; the regions that start as zeros are zeros.
-pub fn start(w: &mut [u32], p: &mut [usize], c: JobCounts)
-    requires { ⌜ Few c × (length (now p) ≡ 32) × (getD (placesOf 0 (sizesFor c)) 31 0 ≤ length (now w)) ⌝ }
-    ensures { λ _. ⌜ Started c (now (p .exit)) (now (w .entry)) (now (w .exit)) ⌝ }
+// The places of a job of n bytes with these counts; the regions that start as zeros are zeros.
+pub fn start(w: &mut [u32], p: &mut [usize], c: JobCounts, n: usize)
+    requires { ⌜ Few c × (length (now p) ≡ 33) × (getD (placesOf 0 (sizesFor c n)) 32 0 ≤ length (now w)) × (n ≤ 1048576) ⌝ }
+    ensures { λ _. ⌜ Started c n (now (p .exit)) (now (w .entry)) (now (w .exit)) ⌝ }
 {
-    let sizes = sizes_for(c);
+    let sizes = sizes_for(c, n);
     lay(p, &sizes);
     let end = p[ZEROS];
     writer::clear_words(&mut w[..end]);

@@ -13,7 +13,7 @@ use Rattle.store.proofs.Bounds.{small}
 
 work-laid : (s p : List ℕ) → Work s p → Laid p
 unfolding Work sizesFor
-work-laid s p (formed, e) = rw e (places-laid (sizesFor (countsIn s)) refl)
+work-laid s p (formed, e) = rw e (places-laid (sizesFor (countsIn s) (length s)) refl)
 
 pub record Room (s p : List ℕ) : Type 0 where
   pub laid : Laid p

@@ -11,7 +11,7 @@ abbrev Inv-loop : tie.InvT-loop
 Inv-loop p₀ sizes k₀ p k = Laying p sizes k
 
 abbrev μ-loop : tie.MeasureT-loop
-μ-loop p₀ sizes k₀ p k = 31 - k
+μ-loop p₀ sizes k₀ p k = 32 - k
 
 slice-write-p : tie.Need-slice-write-p Inv-loop μ-loop
 slice-write-p c = search needs

@@ -14,14 +14,11 @@ mul-raws c = search needs
 add-raws : tie.Need-add-raws
 add-raws c = search needs
 
-add-t4 : tie.Need-add-t4
-add-t4 c = search needs
+add-t5 : tie.Need-add-t5
+add-t5 c = search needs
 
-mul-t5 : tie.Need-mul-t5
-mul-t5 c = search needs
-
-add-t6 : tie.Need-add-t6
-add-t6 c = search needs
+mul-t6 : tie.Need-mul-t6
+mul-t6 c = search needs
 
 add-t7 : tie.Need-add-t7
 add-t7 c = search needs
@@ -41,6 +38,9 @@ add-t11 c = search needs
 add-t12 : tie.Need-add-t12
 add-t12 c = search needs
 
+add-t13 : tie.Need-add-t13
+add-t13 c = search needs
+
 returns : tie.Need-returns
 unfolding sizesFor
 returns c = refl
@@ -52,13 +52,13 @@ sizes-for-spec =
     add-entries
     mul-raws
     add-raws
-    add-t4
-    mul-t5
-    add-t6
+    add-t5
+    mul-t6
     add-t7
     add-t8
     add-t9
     add-t10
     add-t11
     add-t12
+    add-t13
     returns)
