@@ -2,22 +2,21 @@
 use mathlib.Core.Path.{_≡_, refl, sym, ap, _∙_, subst}
 use mathlib.Core.Bool.{Bool, true, false}
 use mathlib.Core.List.{List}
-use mathlib.Core.Option.{Option, none, some}
+use mathlib.Core.Option.{none, some}
 use Prim.Native.Nat.{ℕ}
 use native.Mathlib.Omega.{arith}
 use lib.Dec.{eqb}
 use lib.Ieee.{binary32, binary64}
-use lib.ListN.{length, drop, getD}
+use lib.ListN.{length, drop}
 use Rattle.definition.specs.Basics as results
-use Rattle.definition.specs.Basics.{Result, good, bad, lookup}
-use Rattle.definition.specs.Expression.{Number, int, float, long, double, Sign, plus, minus, times, over, Expression, leaf, apply, ofLeaf, ofSign, openings, expression, readExpression, kindWithin}
-use Rattle.definition.specs.Value.{quotient, integer, rounded, computed, value, oneKind, folded, constantIn}
-use Rattle.folding.specs.Folding.{numberOf, ofNumber, bitsOf, bitsAt, Comes, FoldedTo, constantAs, Reads, Ends}
+use Rattle.definition.specs.Basics.{Result, good, bad}
+use Rattle.definition.specs.Expression.{Number, int, float, long, double, Sign, plus, minus, times, over, Expression, leaf, apply, expression, readExpression, kindWithin}
+use Rattle.definition.specs.Value.{quotient, integer, computed, value, oneKind, folded, constantIn}
+use Rattle.folding.specs.Folding.{numberOf, ofNumber, bitsOf, Comes, FoldedTo, constantAs, Reads, Ends}
 use Rattle.folding.specs.declared.Value.{Value}
 use Rattle.folding.specs.declared.Constant.{Constant}
 use Rattle.folding.specs.declared.Constant.the-variants as constant
 use Rattle.folding.proofs.Floats.{rounded-bits}
-use Rattle.folding.proofs.Folds.{sign-read, leaf-read}
 
 -- ---- results
 

@@ -1,8 +1,8 @@
 -- Floats and their bits: the NaN apart, which has many patterns and no bits of its own. Assumes nothing.
 use mathlib.Core.Path.{_≡_, refl, sym, ap, _∙_, subst}
-use mathlib.Core.Bool.{Bool, true, false, not, true≢false}
+use mathlib.Core.Bool.{true, false, not, true≢false}
 use Prim.Native.Nat.{ℕ, _*_, _%_, _<_, _≤_}
-use lib.Dec.{T, ltb}
+use lib.Dec.{T}
 use lib.Ieee.{Format, binary32, binary64, Float, nan, inf, fin, top, ones, hid, ne, div, isNan, nanBits, ofBits, toBits}
 use lib.Ieee.Bits.{nanBits-is, nanBits-above, ofBits-toBits}
 use lib.Ieee.Compare.{differs-from-itself, nan-differs}

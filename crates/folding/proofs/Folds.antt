@@ -1,19 +1,19 @@
 -- The folder's steps: what a part and two parts come to, at their places. Assumes nothing.
 use mathlib.Core.Path.{_≡_, refl, sym, ap, _∙_, subst}
 use mathlib.Core.Bool.{Bool, true, false, _||_}
-use mathlib.Core.List.{List, [], _∷_}
+use mathlib.Core.List.{List, []}
 use mathlib.Core.Option.{Option, none, some}
 use Prim.Native.Nat.{ℕ, zero, suc, _+_, _-_, _<_, _≤_}
 use native.Mathlib.Omega.{arith}
 use lib.Dec.{eqb, leb}
-use lib.ListN.{length, drop, getD, length-drop}
+use lib.ListN.{length, drop, getD}
 use borrow.Author.Tests.{leb-true, leb-false, eqb-true}
 use Rattle.definition.specs.Basics as results
 use Rattle.definition.specs.Basics.{Result, good, bad, lookup}
-use Rattle.definition.specs.Bytes.{Parser, return, andThen, _>>=_, one}
-use Rattle.definition.specs.Expression.{Number, int, float, long, double, tagOf, Sign, Expression, leaf, apply, Opening, ofLeaf, ofSign, openings, bits, joined, secondPart, openedPart, expression, alike, kindWithin}
+use Rattle.definition.specs.Bytes.{return, andThen}
+use Rattle.definition.specs.Expression.{Number, int, float, long, double, tagOf, Sign, Expression, leaf, apply, ofLeaf, ofSign, openings, bits, joined, secondPart, openedPart, expression, alike, kindWithin}
 use Rattle.definition.specs.Value.{computed, value}
-use Rattle.folding.specs.Folding.{opens, kindOf, signOf, sizeOf, bitsAt, numberOf, ofNumber, Comes, Combines, Reads, joinedAs, FoldedTo, FoldsTo, Folds}
+use Rattle.folding.specs.Folding.{opens, kindOf, signOf, sizeOf, bitsAt, numberOf, ofNumber, Comes, Combines, Reads, joinedAs, Folds}
 use Rattle.folding.specs.declared.Value.{Value}
 use Rattle.folding.specs.declared.Combined.{Combined}
 use Rattle.folding.specs.declared.Combined.the-variants.{Of, Mixed}

@@ -2,7 +2,7 @@
 use mathlib.Core.Path.{_≡_, refl, sym, ap, _∙_}
 use mathlib.Core.Bool.{Bool, true, false, cond}
 use Prim.Native.Nat.{ℕ, zero, suc, _+_, _-_, _*_, _/_, _%_, _<_, _≤_}
-use native.Mathlib.Nat.{mod-eq-of-lt, mod-eq-sub-mod, mod-self, mod-lt, add-mod, mul-add-mod-self-right, div-add-mod', add-mul, mul-add, mul-assoc, mul-comm, mul-left-comm, mul-right-comm, add-assoc, add-comm, add-left-comm, le-trans, le-of-lt, lt-of-lt-of-le, lt-of-le-of-lt, mul-le-mul-right, mul-le-mul-left, mul-lt-mul-of-pos-right, div-lt-iff-lt-mul, div-le-self}
+use native.Mathlib.Nat.{mod-eq-of-lt, mod-eq-sub-mod, mod-self, mod-lt, add-mod, mul-add-mod-self-right, div-add-mod', add-mul, mul-add, mul-assoc, mul-comm, mul-left-comm, add-assoc, add-comm, add-left-comm, le-trans, le-of-lt, lt-of-le-of-lt, mul-le-mul-right, mul-le-mul-left, mul-lt-mul-of-pos-right, div-lt-iff-lt-mul, div-le-self}
 use native.Mathlib.Omega.{arith}
 use borrow.Author.Tests.{le-leb, lt-leb, ltb-true, ltb-false, leb-true, eq-eqb, ne-eqb}
 use lib.Ieee.{unlike}

@@ -1,15 +1,15 @@
 -- Parts one after the other: what a byte of an expression does to how many are still to come. Assumes nothing.
 use mathlib.Core.Path.{_≡_, refl, sym, ap, _∙_, subst}
 use mathlib.Core.Bool.{Bool, true, false}
-use mathlib.Core.List.{List, [], _∷_}
+use mathlib.Core.List.{List, []}
 use mathlib.Core.Option.{Option, none, some}
 use Prim.Native.Nat.{ℕ, zero, suc, _+_, _-_, _<_, _≤_}
 use native.Mathlib.Omega.{arith}
 use lib.ListN.{length, drop, getD, length-drop}
 use Rattle.definition.specs.Basics.{lookup}
-use Rattle.definition.specs.Bytes.{Parser, return, andThen, _>>=_, one}
-use Rattle.definition.specs.Expression.{Number, Sign, Expression, leaf, apply, Opening, ofLeaf, ofSign, openings, bits, joined, secondPart, openedPart, expression, readExpression}
-use Rattle.folding.specs.Folding.{sizeOf, bitsAt, andMore, parts, Onward, Ends, Reads}
+use Rattle.definition.specs.Bytes.{return, andThen}
+use Rattle.definition.specs.Expression.{Number, Sign, Expression, leaf, Opening, ofLeaf, ofSign, openings, joined, secondPart, openedPart, expression, readExpression}
+use Rattle.folding.specs.Folding.{sizeOf, andMore, parts, Onward, Ends, Reads}
 use Rattle.folding.proofs.Reading.{one-at, one-cut, bits-at, bits-cut, agree, shrinks}
 
 nested :

@@ -1,5 +1,5 @@
 -- How the definition's readers go over a job's bytes at a place. Assumes nothing.
-use mathlib.Core.Path.{_≡_, refl, sym, ap, _∙_, subst}
+use mathlib.Core.Path.{_≡_, refl, sym, ap, _∙_}
 use mathlib.Core.Bool.{Bool, true, false}
 use mathlib.Core.List.{List, [], _∷_}
 use mathlib.Core.Option.{Option, none, some}
@@ -7,16 +7,16 @@ use Prim.Native.Nat.{ℕ, zero, suc, _+_, _-_, _*_, _<_, _≤_}
 use native.Mathlib.Nat.{le-refl, le-trans}
 use native.Mathlib.Numerals.{add-one}
 use native.Mathlib.Omega.{arith}
-use lib.Dec.{eqb, leb}
-use lib.ListN.{length, drop, getD, length-drop, drop-of-length-le}
-use lib.Seq.{drop-cons, drop-drop}
+use lib.Dec.{leb}
+use lib.ListN.{length, drop, getD, drop-of-length-le}
+use lib.Seq.{drop-cons}
 use borrow.Author.Tests.{leb-true, leb-false}
 use Rattle.definition.specs.Basics.{lookup}
 use Rattle.definition.specs.Bytes.{Parser, return, andThen, _>>=_, one, two}
 use Rattle.writer.specs.Numbers.{number2, number4, number8}
-use Rattle.facts.proofs.Tables.{NoKey, lookup-none}
-use Rattle.definition.specs.Expression.{Number, int, float, long, double, Sign, Expression, leaf, apply, Opening, ofLeaf, ofSign, openings, four, eight, bits, joined, secondPart, openedPart, expression, readExpression}
-use Rattle.folding.specs.Folding.{sizeOf, bitsAt, andMore, parts, Reads}
+use Rattle.facts.proofs.Tables.{lookup-none}
+use Rattle.definition.specs.Expression.{Number, int, float, long, double, Sign, Expression, leaf, Opening, ofLeaf, ofSign, openings, four, eight, bits, joined, secondPart, openedPart, expression}
+use Rattle.folding.specs.Folding.{sizeOf, bitsAt}
 
 pub no-opening :
     (x : ℕ) → (x ≡ 3 → ⊥) → (x ≡ 4 → ⊥) → (x ≡ 5 → ⊥) → (x ≡ 6 → ⊥) → (x ≡ 0x2B → ⊥) → (x ≡ 0x2D → ⊥) → (x ≡ 0x2A → ⊥) → (x ≡ 0x2F → ⊥) →

@@ -1,21 +1,19 @@
 -- Values with their kinds, and what a sign makes of two. Assumes nothing.
-use mathlib.Core.Path.{_≡_, refl, sym, ap, _∙_, subst}
+use mathlib.Core.Path.{_≡_, refl, sym, _∙_, subst}
 use mathlib.Core.Bool.{Bool, true, false, cond}
-use mathlib.Core.Option.{Option, none, some}
-use Prim.Native.Nat.{ℕ, zero, suc, _+_, _-_, _*_, _/_, _%_, _^_, _<_, _≤_}
-use native.Mathlib.Nat.{mod-lt, lt-of-le-of-lt}
+use Prim.Native.Nat.{ℕ, _+_, _-_, _*_, _/_, _%_, _<_, _≤_}
+use native.Mathlib.Nat.{mod-lt}
 use native.Mathlib.Omega.{arith}
 use lib.Dec.{eqb}
 use lib.Ieee.{unlike, binary32, binary64, ofBits}
 use lib.Ieee as Ieee
 use Rattle.definition.specs.Basics.{Result, good, bad}
-use Rattle.definition.specs.Expression.{Number, int, float, long, double, tagOf, Sign, plus, minus, times, over, alike}
+use Rattle.definition.specs.Expression.{Number, int, long, tagOf, Sign, plus, minus, times, over, alike}
 use Rattle.definition.specs.Value.{computed, integer, negative, negated, magnitude, quotient, operation, rounded}
 use Rattle.folding.specs.Folding.{asWhole, WholeWithin, combinedInt, combinedLong, numberOf, ofNumber, Comes, Combines}
 use Rattle.folding.specs.declared.Value.{Value}
 use Rattle.folding.specs.declared.Value.the-variants.{Int, Float, Long, Double}
-use Rattle.folding.specs.declared.Combined.{Combined}
-use Rattle.folding.specs.declared.Combined.the-variants.{Of, Mixed}
+use Rattle.folding.specs.declared.Combined.the-variants.{Of}
 use Rattle.folding.proofs.Integers.{magnitude-within, quotient-within}
 use Rattle.folding.proofs.Floats.{rounded-float}
 

@@ -12,3 +12,4 @@ pub mod Gaps
 pub mod TextStatements
 pub mod Integers
 pub mod FoldingStatements
+pub mod FoldedStatement

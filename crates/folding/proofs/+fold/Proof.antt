@@ -4,7 +4,7 @@ use Rattle.folding.specs.Folding.{kindOf, signOf, Folds}
 use lib.ListN.{getD}
 use borrow.Author.Needs.{needs}
 use native.Mathlib.Omega.{arith}
-use mathlib.Core.Path.{_≡_, refl, sym, ap, _∙_, subst}
+use mathlib.Core.Path.{subst}
 use Prim.Native.Nat.{ℕ, _+_, _-_, _<_}
 use borrow.Fn.Kinds.{In}
 use borrow.Fn.PlainCycle.{Measures, is, falls, and}
@@ -63,7 +63,12 @@ fold-get-u8-requires : (t : ℕ) → fold-lts.Need-get-u8-requires (
   join-reads.Asked,
   join-reads.Learnt,
 ) (fold-at t) fold.Post
-fold-get-u8-requires t c κs = let s = c .before .before .args .job .now in let at = c .before .before .args .at in let deep = c .before .before .args .deep in let h = c .before .before .pre .1 in read-low s at (h .fuel) (h .what) (h .rest) (h .read)
+fold-get-u8-requires t c κs =
+    let entry = c .before .before in
+    let s = entry .args .job .now in
+    let at = entry .args .at in
+    let h = entry .pre .1 in
+    read-low s at (h .fuel) (h .what) (h .rest) (h .read)
 
 fold-opens-of-requires : (t : ℕ) → fold-lts.Need-opens-of-requires (
   get-u8-reads.Asked,
@@ -117,7 +122,12 @@ fold-add-leaf-at : (t : ℕ) → fold-lts.Need-add-leaf-at (
   join-reads.Asked,
   join-reads.Learnt,
 ) (fold-at t) fold.Post
-fold-add-leaf-at t c = let s = c .before .before .before .before .before .before .before .args .job .now in let at = c .before .before .before .before .before .before .before .args .at in let deep = c .before .before .before .before .before .before .before .args .deep in let h = c .before .before .before .before .before .before .before .pre .1 in omega (arith, read-low s at (h .fuel) (h .what) (h .rest) (h .read))
+fold-add-leaf-at t c =
+    let entry = c .before .before .before .before .before .before .before in
+    let s = entry .args .job .now in
+    let at = entry .args .at in
+    let h = entry .pre .1 in
+    omega (arith, read-low s at (h .fuel) (h .what) (h .rest) (h .read))
 
 fold-leaf-at-requires : (t : ℕ) → fold-lts.Need-leaf-at-requires (
   get-u8-reads.Asked,
@@ -135,7 +145,14 @@ fold-leaf-at-requires : (t : ℕ) → fold-lts.Need-leaf-at-requires (
   join-reads.Asked,
   join-reads.Learnt,
 ) (fold-at t) fold.Post
-fold-leaf-at-requires t c κs = let s = c .before .before .before .before .before .before .before .args .job .now in let at = c .before .before .before .before .before .before .before .args .at in let deep = c .before .before .before .before .before .before .before .args .deep in let h = c .before .before .before .before .before .before .before .pre .1 in let k = c .before .kind .given in let o = opening-leaf (c .before .before .before .opens-of .result) (c .before .before .before .before .get-u8 .result) (getD s at 0) (c .before .before .before .opens-of .ensures) (c .before .before .before .before .get-u8 .ensures) (k .0 .0) (k .1) in leaf-read s at (kindOf (k .0 .0)) o (h .fuel) (h .what) (h .rest) (h .read) .0
+fold-leaf-at-requires t c κs =
+    let entry = c .before .before .before .before .before .before .before in
+    let s = entry .args .job .now in
+    let at = entry .args .at in
+    let h = entry .pre .1 in
+    let k = c .before .kind .given in
+    let o = opening-leaf (c .before .before .before .opens-of .result) (c .before .before .before .before .get-u8 .result) (getD s at 0) (c .before .before .before .opens-of .ensures) (c .before .before .before .before .get-u8 .ensures) (k .0 .0) (k .1) in
+    leaf-read s at (kindOf (k .0 .0)) o (h .fuel) (h .what) (h .rest) (h .read) .0
 
 fold-add-t18 : (t : ℕ) → fold-lts.Need-add-t18 (
   get-u8-reads.Asked,
@@ -153,7 +170,12 @@ fold-add-t18 : (t : ℕ) → fold-lts.Need-add-t18 (
   join-reads.Asked,
   join-reads.Learnt,
 ) (fold-at t) fold.Post
-fold-add-t18 t c = let s = c .before .before .before .before .before .before .before .before .args .job .now in let at = c .before .before .before .before .before .before .before .before .args .at in let deep = c .before .before .before .before .before .before .before .before .args .deep in let h = c .before .before .before .before .before .before .before .before .pre .1 in omega (arith, read-low s at (h .fuel) (h .what) (h .rest) (h .read))
+fold-add-t18 t c =
+    let entry = c .before .before .before .before .before .before .before .before in
+    let s = entry .args .job .now in
+    let at = entry .args .at in
+    let h = entry .pre .1 in
+    omega (arith, read-low s at (h .fuel) (h .what) (h .rest) (h .read))
 
 fold-size-of-requires : (t : ℕ) → fold-lts.Need-size-of-requires (
   get-u8-reads.Asked,
@@ -189,7 +211,14 @@ fold-add-t20 : (t : ℕ) → fold-lts.Need-add-t20 (
   join-reads.Asked,
   join-reads.Learnt,
 ) (fold-at t) fold.Post
-fold-add-t20 t c = let s = c .before .before .before .before .before .before .before .before .before .args .job .now in let at = c .before .before .before .before .before .before .before .before .before .args .at in let deep = c .before .before .before .before .before .before .before .before .before .args .deep in let h = c .before .before .before .before .before .before .before .before .before .pre .1 in let k = c .before .before .before .kind .given in let o = opening-leaf (c .before .before .before .before .before .opens-of .result) (c .before .before .before .before .before .before .get-u8 .result) (getD s at 0) (c .before .before .before .before .before .opens-of .ensures) (c .before .before .before .before .before .before .get-u8 .ensures) (k .0 .0) (k .1) in omega (arith, leaf-read s at (kindOf (k .0 .0)) o (h .fuel) (h .what) (h .rest) (h .read) .0, c .size-of .ensures)
+fold-add-t20 t c =
+    let entry = c .before .before .before .before .before .before .before .before .before in
+    let s = entry .args .job .now in
+    let at = entry .args .at in
+    let h = entry .pre .1 in
+    let k = c .before .before .before .kind .given in
+    let o = opening-leaf (c .before .before .before .before .before .opens-of .result) (c .before .before .before .before .before .before .get-u8 .result) (getD s at 0) (c .before .before .before .before .before .opens-of .ensures) (c .before .before .before .before .before .before .get-u8 .ensures) (k .0 .0) (k .1) in
+    omega (arith, leaf-read s at (kindOf (k .0 .0)) o (h .fuel) (h .what) (h .rest) (h .read) .0, c .size-of .ensures)
 
 fold-enum-known-sign : (t : ℕ) → fold-lts.Need-enum-known-sign (
   get-u8-reads.Asked,
@@ -225,7 +254,12 @@ fold-add-fold : (t : ℕ) → fold-lts.Need-add-fold (
   join-reads.Asked,
   join-reads.Learnt,
 ) (fold-at t) fold.Post
-fold-add-fold t c = let s = c .before .before .before .before .before .before .before .args .job .now in let at = c .before .before .before .before .before .before .before .args .at in let deep = c .before .before .before .before .before .before .before .args .deep in let h = c .before .before .before .before .before .before .before .pre .1 in omega (arith, read-low s at (h .fuel) (h .what) (h .rest) (h .read))
+fold-add-fold t c =
+    let entry = c .before .before .before .before .before .before .before in
+    let s = entry .args .job .now in
+    let at = entry .args .at in
+    let h = entry .pre .1 in
+    omega (arith, read-low s at (h .fuel) (h .what) (h .rest) (h .read))
 
 fold-sub-fold : (t : ℕ) → fold-lts.Need-sub-fold (
   get-u8-reads.Asked,
@@ -261,7 +295,15 @@ fold-fold-requires : (t : ℕ) → fold-lts.Need-fold-requires (
   join-reads.Asked,
   join-reads.Learnt,
 ) (fold-at t) fold.Post
-fold-fold-requires t c κs = let s = c .before .before .before .before .before .before .before .args .job .now in let at = c .before .before .before .before .before .before .before .args .at in let deep = c .before .before .before .before .before .before .before .args .deep in let h = c .before .before .before .before .before .before .before .pre .1 in let g = c .before .sign .given in let o = opening-sign (c .before .before .before .opens-of .result) (c .before .before .before .before .get-u8 .result) (getD s at 0) (c .before .before .before .opens-of .ensures) (c .before .before .before .before .get-u8 .ensures) (g .0 .0) (g .1) in (omega (arith, c .before .before .before .before .before .before .before .pre .0, c .before .before .before .before .before .if1 .left), first-reads s at (deep - 1) (signOf (g .0 .0)) o h)
+fold-fold-requires t c κs =
+    let entry = c .before .before .before .before .before .before .before in
+    let s = entry .args .job .now in
+    let at = entry .args .at in
+    let deep = entry .args .deep in
+    let h = entry .pre .1 in
+    let g = c .before .sign .given in
+    let o = opening-sign (c .before .before .before .opens-of .result) (c .before .before .before .before .get-u8 .result) (getD s at 0) (c .before .before .before .opens-of .ensures) (c .before .before .before .before .get-u8 .ensures) (g .0 .0) (g .1) in
+    (omega (arith, entry .pre .0, c .before .before .before .before .before .if1 .left), first-reads s at (deep - 1) (signOf (g .0 .0)) o h)
 
 fold-enum-known-v : (t : ℕ) → fold-lts.Need-enum-known-v (
   get-u8-reads.Asked,
@@ -315,7 +357,17 @@ fold-fold-requires-2 : (t : ℕ) → fold-lts.Need-fold-requires-2 (
   join-reads.Asked,
   join-reads.Learnt,
 ) (fold-at t) fold.Post
-fold-fold-requires-2 t c κs = let s = c .before .before .before .before .before .before .before .before .before .before .before .args .job .now in let at = c .before .before .before .before .before .before .before .before .before .before .before .args .at in let deep = c .before .before .before .before .before .before .before .before .before .before .before .args .deep in let h = c .before .before .before .before .before .before .before .before .before .before .before .pre .1 in let g = c .before .before .before .before .before .sign .given in let o = opening-sign (c .before .before .before .before .before .before .before .opens-of .result) (c .before .before .before .before .before .before .before .before .get-u8 .result) (getD s at 0) (c .before .before .before .before .before .before .before .opens-of .ensures) (c .before .before .before .before .before .before .before .before .get-u8 .ensures) (g .0 .0) (g .1) in let v = c .before .v .given in let f = subst (λ r. Folds s (at + 1) (deep - 1) r) (v .1) (c .before .before .before .fold .ensures) in (omega (arith, c .before .before .before .before .before .before .before .before .before .before .before .pre .0, c .before .before .before .before .before .before .before .before .before .if1 .left), second-reads s at (deep - 1) (signOf (g .0 .0)) o (v .0 .0) (v .0 .1 .0) (v .0 .1 .1 .0) f h)
+fold-fold-requires-2 t c κs =
+    let entry = c .before .before .before .before .before .before .before .before .before .before .before in
+    let s = entry .args .job .now in
+    let at = entry .args .at in
+    let deep = entry .args .deep in
+    let h = entry .pre .1 in
+    let g = c .before .before .before .before .before .sign .given in
+    let o = opening-sign (c .before .before .before .before .before .before .before .opens-of .result) (c .before .before .before .before .before .before .before .before .get-u8 .result) (getD s at 0) (c .before .before .before .before .before .before .before .opens-of .ensures) (c .before .before .before .before .before .before .before .before .get-u8 .ensures) (g .0 .0) (g .1) in
+    let v = c .before .v .given in
+    let f = subst (λ r. Folds s (at + 1) (deep - 1) r) (v .1) (c .before .before .before .fold .ensures) in
+    (omega (arith, entry .pre .0, c .before .before .before .before .before .before .before .before .before .if1 .left), second-reads s at (deep - 1) (signOf (g .0 .0)) o (v .0 .0) (v .0 .1 .0) (v .0 .1 .1 .0) f h)
 
 fold-enum-known-w : (t : ℕ) → fold-lts.Need-enum-known-w (
   get-u8-reads.Asked,
@@ -441,7 +493,14 @@ fold-returns-2 : (t : ℕ) → fold-lts.Need-returns-2 (
   join-reads.Asked,
   join-reads.Learnt,
 ) (fold-at t) fold.Post
-fold-returns-2 t c = let s = c .before .before .before .before .before .before .before .before .before .args .job .now in let at = c .before .before .before .before .before .before .before .before .before .args .at in let deep = c .before .before .before .before .before .before .before .before .before .args .deep in let h = c .before .before .before .before .before .before .before .before .before .pre .1 in let k = c .before .before .before .kind .given in let o = opening-leaf (c .before .before .before .before .before .opens-of .result) (c .before .before .before .before .before .before .get-u8 .result) (getD s at 0) (c .before .before .before .before .before .opens-of .ensures) (c .before .before .before .before .before .before .get-u8 .ensures) (k .0 .0) (k .1) in leaf-arm s at deep (c .before .before .before .before .before .before .before .if1 .left) (kindOf (k .0 .0)) o (c .before .leaf-at .result) (c .before .leaf-at .ensures) (c .size-of .result) (c .size-of .ensures)
+fold-returns-2 t c =
+    let entry = c .before .before .before .before .before .before .before .before .before in
+    let s = entry .args .job .now in
+    let at = entry .args .at in
+    let deep = entry .args .deep in
+    let k = c .before .before .before .kind .given in
+    let o = opening-leaf (c .before .before .before .before .before .opens-of .result) (c .before .before .before .before .before .before .get-u8 .result) (getD s at 0) (c .before .before .before .before .before .opens-of .ensures) (c .before .before .before .before .before .before .get-u8 .ensures) (k .0 .0) (k .1) in
+    leaf-arm s at deep (c .before .before .before .before .before .before .before .if1 .left) (kindOf (k .0 .0)) o (c .before .leaf-at .result) (c .before .leaf-at .ensures) (c .size-of .result) (c .size-of .ensures)
 
 fold-returns-3 : (t : ℕ) → fold-lts.Need-returns-3 (
   get-u8-reads.Asked,
@@ -459,7 +518,18 @@ fold-returns-3 : (t : ℕ) → fold-lts.Need-returns-3 (
   join-reads.Asked,
   join-reads.Learnt,
 ) (fold-at t) fold.Post
-fold-returns-3 t c = let s = c .before .before .before .before .before .before .before .before .before .before .before .before .before .before .before .before .before .args .job .now in let at = c .before .before .before .before .before .before .before .before .before .before .before .before .before .before .before .before .before .args .at in let deep = c .before .before .before .before .before .before .before .before .before .before .before .before .before .before .before .before .before .args .deep in let h = c .before .before .before .before .before .before .before .before .before .before .before .before .before .before .before .before .before .pre .1 in let g = c .before .before .before .before .before .before .before .before .before .before .before .sign .given in let o = opening-sign (c .before .before .before .before .before .before .before .before .before .before .before .before .before .opens-of .result) (c .before .before .before .before .before .before .before .before .before .before .before .before .before .before .get-u8 .result) (getD s at 0) (c .before .before .before .before .before .before .before .before .before .before .before .before .before .opens-of .ensures) (c .before .before .before .before .before .before .before .before .before .before .before .before .before .before .get-u8 .ensures) (g .0 .0) (g .1) in let v = c .before .before .before .before .before .before .before .v .given in let f = subst (λ r. Folds s (at + 1) (deep - 1) r) (v .1) (c .before .before .before .before .before .before .before .before .before .fold .ensures) in let w = c .before .before .before .w .given in let f′ = subst (λ r. Folds s (v .0 .1 .0) (deep - 1) r) (w .1) (c .before .before .before .before .before .fold2 .ensures) in join-arm s at deep (c .before .before .before .before .before .before .before .before .before .before .before .before .before .before .before .if1 .left) (signOf (g .0 .0)) o (v .0 .0) (v .0 .1 .0) (v .0 .1 .1 .0) f (w .0 .0) (w .0 .1 .0) (w .0 .1 .1 .0) f′ (c .before .combine .result) (c .before .combine .ensures) (c .join .result) (c .join .ensures)
+fold-returns-3 t c =
+    let entry = c .before .before .before .before .before .before .before .before .before .before .before .before .before .before .before .before .before in
+    let s = entry .args .job .now in
+    let at = entry .args .at in
+    let deep = entry .args .deep in
+    let g = c .before .before .before .before .before .before .before .before .before .before .before .sign .given in
+    let o = opening-sign (c .before .before .before .before .before .before .before .before .before .before .before .before .before .opens-of .result) (c .before .before .before .before .before .before .before .before .before .before .before .before .before .before .get-u8 .result) (getD s at 0) (c .before .before .before .before .before .before .before .before .before .before .before .before .before .opens-of .ensures) (c .before .before .before .before .before .before .before .before .before .before .before .before .before .before .get-u8 .ensures) (g .0 .0) (g .1) in
+    let v = c .before .before .before .before .before .before .before .v .given in
+    let f = subst (λ r. Folds s (at + 1) (deep - 1) r) (v .1) (c .before .before .before .before .before .before .before .before .before .fold .ensures) in
+    let w = c .before .before .before .w .given in
+    let f′ = subst (λ r. Folds s (v .0 .1 .0) (deep - 1) r) (w .1) (c .before .before .before .before .before .fold2 .ensures) in
+    join-arm s at deep (c .before .before .before .before .before .before .before .before .before .before .before .before .before .before .before .if1 .left) (signOf (g .0 .0)) o (v .0 .0) (v .0 .1 .0) (v .0 .1 .1 .0) f (w .0 .0) (w .0 .1 .0) (w .0 .1 .1 .0) f′ (c .before .combine .result) (c .before .combine .ensures) (c .join .result) (c .join .ensures)
 
 fold-returns-4 : (t : ℕ) → fold-lts.Need-returns-4 (
   get-u8-reads.Asked,
@@ -477,7 +547,16 @@ fold-returns-4 : (t : ℕ) → fold-lts.Need-returns-4 (
   join-reads.Asked,
   join-reads.Learnt,
 ) (fold-at t) fold.Post
-fold-returns-4 t c = let s = c .before .before .before .before .before .before .before .before .before .before .before .before .before .before .args .job .now in let at = c .before .before .before .before .before .before .before .before .before .before .before .before .before .before .args .at in let deep = c .before .before .before .before .before .before .before .before .before .before .before .before .before .before .args .deep in let h = c .before .before .before .before .before .before .before .before .before .before .before .before .before .before .pre .1 in let g = c .before .before .before .before .before .before .before .before .sign .given in let o = opening-sign (c .before .before .before .before .before .before .before .before .before .before .opens-of .result) (c .before .before .before .before .before .before .before .before .before .before .before .get-u8 .result) (getD s at 0) (c .before .before .before .before .before .before .before .before .before .before .opens-of .ensures) (c .before .before .before .before .before .before .before .before .before .before .before .get-u8 .ensures) (g .0 .0) (g .1) in let v = c .before .before .before .before .v .given in let f = subst (λ r. Folds s (at + 1) (deep - 1) r) (v .1) (c .before .before .before .before .before .before .fold .ensures) in second-arm s at deep (c .before .before .before .before .before .before .before .before .before .before .before .before .if1 .left) (signOf (g .0 .0)) o (v .0 .0) (v .0 .1 .0) (v .0 .1 .1 .0) f (subst (λ r. Folds s (v .0 .1 .0) (deep - 1) r) (c .enum-told .given .1) (c .before .before .fold2 .ensures))
+fold-returns-4 t c =
+    let entry = c .before .before .before .before .before .before .before .before .before .before .before .before .before .before in
+    let s = entry .args .job .now in
+    let at = entry .args .at in
+    let deep = entry .args .deep in
+    let g = c .before .before .before .before .before .before .before .before .sign .given in
+    let o = opening-sign (c .before .before .before .before .before .before .before .before .before .before .opens-of .result) (c .before .before .before .before .before .before .before .before .before .before .before .get-u8 .result) (getD s at 0) (c .before .before .before .before .before .before .before .before .before .before .opens-of .ensures) (c .before .before .before .before .before .before .before .before .before .before .before .get-u8 .ensures) (g .0 .0) (g .1) in
+    let v = c .before .before .before .before .v .given in
+    let f = subst (λ r. Folds s (at + 1) (deep - 1) r) (v .1) (c .before .before .before .before .before .before .fold .ensures) in
+    second-arm s at deep (c .before .before .before .before .before .before .before .before .before .before .before .before .if1 .left) (signOf (g .0 .0)) o (v .0 .0) (v .0 .1 .0) (v .0 .1 .1 .0) f (subst (λ r. Folds s (v .0 .1 .0) (deep - 1) r) (c .enum-told .given .1) (c .before .before .fold2 .ensures))
 
 fold-returns-5 : (t : ℕ) → fold-lts.Need-returns-5 (
   get-u8-reads.Asked,
@@ -495,7 +574,14 @@ fold-returns-5 : (t : ℕ) → fold-lts.Need-returns-5 (
   join-reads.Asked,
   join-reads.Learnt,
 ) (fold-at t) fold.Post
-fold-returns-5 t c = let s = c .before .before .before .before .before .before .before .before .before .before .args .job .now in let at = c .before .before .before .before .before .before .before .before .before .before .args .at in let deep = c .before .before .before .before .before .before .before .before .before .before .args .deep in let h = c .before .before .before .before .before .before .before .before .before .before .pre .1 in let g = c .before .before .before .before .sign .given in let o = opening-sign (c .before .before .before .before .before .before .opens-of .result) (c .before .before .before .before .before .before .before .get-u8 .result) (getD s at 0) (c .before .before .before .before .before .before .opens-of .ensures) (c .before .before .before .before .before .before .before .get-u8 .ensures) (g .0 .0) (g .1) in first-arm s at deep (c .before .before .before .before .before .before .before .before .if1 .left) (signOf (g .0 .0)) o (subst (λ r. Folds s (at + 1) (deep - 1) r) (c .enum-told2 .given .1) (c .before .before .fold .ensures))
+fold-returns-5 t c =
+    let entry = c .before .before .before .before .before .before .before .before .before .before in
+    let s = entry .args .job .now in
+    let at = entry .args .at in
+    let deep = entry .args .deep in
+    let g = c .before .before .before .before .sign .given in
+    let o = opening-sign (c .before .before .before .before .before .before .opens-of .result) (c .before .before .before .before .before .before .before .get-u8 .result) (getD s at 0) (c .before .before .before .before .before .before .opens-of .ensures) (c .before .before .before .before .before .before .before .get-u8 .ensures) (g .0 .0) (g .1) in
+    first-arm s at deep (c .before .before .before .before .before .before .before .before .if1 .left) (signOf (g .0 .0)) o (subst (λ r. Folds s (at + 1) (deep - 1) r) (c .enum-told2 .given .1) (c .before .before .fold .ensures))
 
 fold-returns-6 : (t : ℕ) → fold-lts.Need-returns-6 (
   get-u8-reads.Asked,
@@ -513,7 +599,12 @@ fold-returns-6 : (t : ℕ) → fold-lts.Need-returns-6 (
   join-reads.Asked,
   join-reads.Learnt,
 ) (fold-at t) fold.Post
-fold-returns-6 t c = let s = c .before .before .before .before .before .before .args .job .now in let at = c .before .before .before .before .before .before .args .at in let deep = c .before .before .before .before .before .before .args .deep in let h = c .before .before .before .before .before .before .pre .1 in neither-arm s at deep (c .before .before .before .before .if1 .left) (opening-neither (c .before .before .opens-of .result) (c .before .before .before .get-u8 .result) (getD s at 0) (c .before .before .opens-of .ensures) (c .before .before .before .get-u8 .ensures) (c .enum-told3 .given .1))
+fold-returns-6 t c =
+    let entry = c .before .before .before .before .before .before in
+    let s = entry .args .job .now in
+    let at = entry .args .at in
+    let deep = entry .args .deep in
+    neither-arm s at deep (c .before .before .before .before .if1 .left) (opening-neither (c .before .before .opens-of .result) (c .before .before .before .get-u8 .result) (getD s at 0) (c .before .before .opens-of .ensures) (c .before .before .before .get-u8 .ensures) (c .enum-told3 .given .1))
 
 pub +fold-spec : {M : Type 1} → statement M
 +fold-spec = close μ-fold λ t. fold-lts.spec (

@@ -1,14 +1,7 @@
 -- `folding::combine` meets its contract. Assumes nothing.
-use mathlib.Core.Path.{_≡_, refl, sym, ap, _∙_, subst}
 use borrow.Author.Needs.{needs}
 use Rattle.folding.proofs.combine.Statement.{statement}
 use Rattle.folding.proofs.combine.Tie as tie
-use Rattle.folding.proofs.combine.Reads as reads
-use Rattle.folding.proofs.combine.Lts as lts
-use Rattle.folding.proofs.with_double.Reads as with-double-reads
-use Rattle.folding.proofs.with_float.Reads as with-float-reads
-use Rattle.folding.proofs.with_int.Reads as with-int-reads
-use Rattle.folding.proofs.with_long.Reads as with-long-reads
 
 enum-known-v : tie.Need-enum-known-v
 enum-known-v c = search needs

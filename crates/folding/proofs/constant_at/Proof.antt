@@ -6,10 +6,6 @@ use Rattle.folding.specs.Folding.{Spans}
 use Rattle.folding.proofs.Constants.{ends-reads, whole-constant, cut-constant, bad-constant}
 use Rattle.folding.proofs.constant_at.Statement.{statement}
 use Rattle.folding.proofs.constant_at.Tie as tie
-use Rattle.folding.proofs.constant_at.Reads as reads
-use Rattle.folding.proofs.constant_at.Lts as lts
-use Rattle.folding.proofs.end_of.Reads as end-of-reads
-use Rattle.folding.proofs.folded_at.Reads as folded-at-reads
 
 end-of-requires : tie.Need-end-of-requires
 end-of-requires c κs = search needs

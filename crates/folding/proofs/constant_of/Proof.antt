@@ -1,15 +1,11 @@
 -- `folding::constant_of` meets its contract. Assumes nothing.
 use Rattle.definition.specs.Expression.{tagOf}
 use Rattle.folding.specs.declared.Constant.the-variants as constant
-use Rattle.folding.specs.Folding.{kindOf, numberOf, ofNumber, sizeOf, bitsAt, joinedAs, bitsOf, constantAs}
-use mathlib.Core.Path.{_≡_, refl, sym, ap, _∙_, subst}
+use Rattle.folding.specs.Folding.{numberOf, bitsOf, constantAs}
+use mathlib.Core.Path.{refl, ap}
 use borrow.Author.Needs.{needs}
 use Rattle.folding.proofs.constant_of.Statement.{statement}
 use Rattle.folding.proofs.constant_of.Tie as tie
-use Rattle.folding.proofs.constant_of.Reads as reads
-use Rattle.folding.proofs.constant_of.Lts as lts
-use Rattle.folding.proofs.bits_of_double.Reads as bits-of-double-reads
-use Rattle.folding.proofs.bits_of_float.Reads as bits-of-float-reads
 
 enum-known-v : tie.Need-enum-known-v
 enum-known-v c = search needs

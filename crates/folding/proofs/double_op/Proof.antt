@@ -1,13 +1,10 @@
 -- `folding::double_op` meets its contract. Assumes nothing.
-use Rattle.folding.specs.Folding.{opens, kindOf, signOf, asWhole}
-use Rattle.definition.specs.Expression.{openings}
-use Rattle.definition.specs.Value.{operation, integer, quotient}
-use mathlib.Core.Path.{_≡_, refl, sym, ap, _∙_, subst}
+use Rattle.folding.specs.Folding.{signOf}
+use Rattle.definition.specs.Value.{operation}
+use mathlib.Core.Path.{refl}
 use borrow.Author.Needs.{needs}
 use Rattle.folding.proofs.double_op.Statement.{statement}
 use Rattle.folding.proofs.double_op.Tie as tie
-use Rattle.folding.proofs.double_op.Reads as reads
-use Rattle.folding.proofs.double_op.Lts as lts
 
 enum-told : tie.Need-enum-told
 enum-told c = search needs

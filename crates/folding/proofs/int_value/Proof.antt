@@ -1,12 +1,10 @@
 -- `folding::int_value` meets its contract. Assumes nothing.
 use native.Mathlib.Omega.{arith}
-use Rattle.folding.specs.Folding.{signOf, numberOf, combinedInt, combinedLong}
-use mathlib.Core.Path.{_≡_, refl, sym, ap, _∙_, subst}
+use Rattle.folding.specs.Folding.{combinedInt}
+use mathlib.Core.Path.{refl}
 use borrow.Author.Needs.{needs}
 use Rattle.folding.proofs.int_value.Statement.{statement}
 use Rattle.folding.proofs.int_value.Tie as tie
-use Rattle.folding.proofs.int_value.Reads as reads
-use Rattle.folding.proofs.int_value.Lts as lts
 
 enum-known-n : tie.Need-enum-known-n
 enum-known-n c = search needs

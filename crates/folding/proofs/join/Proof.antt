@@ -1,11 +1,9 @@
 -- `folding::join` meets its contract. Assumes nothing.
-use Rattle.folding.specs.Folding.{kindOf, numberOf, ofNumber, sizeOf, bitsAt, joinedAs, bitsOf, constantAs}
-use mathlib.Core.Path.{_≡_, refl, sym, ap, _∙_, subst}
+use Rattle.folding.specs.Folding.{joinedAs}
+use mathlib.Core.Path.{refl}
 use borrow.Author.Needs.{needs}
 use Rattle.folding.proofs.join.Statement.{statement}
 use Rattle.folding.proofs.join.Tie as tie
-use Rattle.folding.proofs.join.Reads as reads
-use Rattle.folding.proofs.join.Lts as lts
 
 enum-told : tie.Need-enum-told
 enum-told c = search needs

@@ -1,12 +1,9 @@
 -- `folding::long_value` meets its contract. Assumes nothing.
-use native.Mathlib.Omega.{arith}
-use Rattle.folding.specs.Folding.{signOf, numberOf, combinedInt, combinedLong}
-use mathlib.Core.Path.{_≡_, refl, sym, ap, _∙_, subst}
+use Rattle.folding.specs.Folding.{combinedLong}
+use mathlib.Core.Path.{refl}
 use borrow.Author.Needs.{needs}
 use Rattle.folding.proofs.long_value.Statement.{statement}
 use Rattle.folding.proofs.long_value.Tie as tie
-use Rattle.folding.proofs.long_value.Reads as reads
-use Rattle.folding.proofs.long_value.Lts as lts
 
 enum-known-n : tie.Need-enum-known-n
 enum-known-n c = search needs

@@ -1,13 +1,10 @@
 -- `folding::magnitude_of` meets its contract. Assumes nothing.
 use native.Mathlib.Omega.{arith}
-use mathlib.Core.Path.{_≡_, refl, sym, ap, _∙_, subst}
+use mathlib.Core.Path.{sym, _∙_}
 use Rattle.folding.proofs.Integers as integers
 use borrow.Author.Needs.{needs}
 use Rattle.folding.proofs.magnitude_of.Statement.{statement}
 use Rattle.folding.proofs.magnitude_of.Tie as tie
-use Rattle.folding.proofs.magnitude_of.Reads as reads
-use Rattle.folding.proofs.magnitude_of.Lts as lts
-use Rattle.folding.proofs.is_negative.Reads as is-negative-reads
 
 is-negative-requires : tie.Need-is-negative-requires
 is-negative-requires c κs = search needs

@@ -3,8 +3,6 @@ use Rattle.folding.proofs.Integers as integers
 use borrow.Author.Needs.{needs}
 use Rattle.folding.proofs.negation_of.Statement.{statement}
 use Rattle.folding.proofs.negation_of.Tie as tie
-use Rattle.folding.proofs.negation_of.Reads as reads
-use Rattle.folding.proofs.negation_of.Lts as lts
 
 sub-result : tie.Need-sub-result
 sub-result c = search needs

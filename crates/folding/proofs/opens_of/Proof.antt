@@ -1,14 +1,11 @@
 -- `folding::opens_of` meets its contract. Assumes nothing.
 use Rattle.folding.proofs.Reading.{no-opening}
 use Rattle.definition.specs.Basics.{lookup}
-use Rattle.folding.specs.Folding.{opens, kindOf, signOf, asWhole}
+use Rattle.folding.specs.Folding.{opens, kindOf, signOf}
 use Rattle.definition.specs.Expression.{openings}
-use Rattle.definition.specs.Value.{operation, integer, quotient}
-use mathlib.Core.Path.{_≡_, refl, sym, ap, _∙_, subst}
+use mathlib.Core.Path.{refl}
 use Rattle.folding.proofs.opens_of.Statement.{statement}
 use Rattle.folding.proofs.opens_of.Tie as tie
-use Rattle.folding.proofs.opens_of.Reads as reads
-use Rattle.folding.proofs.opens_of.Lts as lts
 
 returns : tie.Need-returns
 unfolding opens kindOf signOf lookup openings

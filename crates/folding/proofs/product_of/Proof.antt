@@ -1,13 +1,10 @@
 -- `folding::product_of` meets its contract. Assumes nothing.
-use mathlib.Core.Path.{_≡_, refl, sym, ap, _∙_, subst}
+use mathlib.Core.Path.{_∙_}
 use native.Mathlib.Omega.{arith}
 use Prim.Native.Nat.{_/_, _%_, _*_, _+_}
 use Rattle.folding.proofs.Integers as integers
 use Rattle.folding.proofs.product_of.Statement.{statement}
 use Rattle.folding.proofs.product_of.Tie as tie
-use Rattle.folding.proofs.product_of.Reads as reads
-use Rattle.folding.proofs.product_of.Lts as lts
-use Rattle.folding.proofs.sum_of.Reads as sum-of-reads
 
 div-high : tie.Need-div-high
 div-high c = integers.root-positive (c .args .root) (c .args .last) (c .pre .2)

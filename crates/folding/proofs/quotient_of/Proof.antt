@@ -1,14 +1,8 @@
 -- `folding::quotient_of` meets its contract. Assumes nothing.
-use mathlib.Core.Path.{_≡_, refl, sym, ap, _∙_, subst}
 use Rattle.folding.proofs.Integers as integers
 use borrow.Author.Needs.{needs}
 use Rattle.folding.proofs.quotient_of.Statement.{statement}
 use Rattle.folding.proofs.quotient_of.Tie as tie
-use Rattle.folding.proofs.quotient_of.Reads as reads
-use Rattle.folding.proofs.quotient_of.Lts as lts
-use Rattle.folding.proofs.is_negative.Reads as is-negative-reads
-use Rattle.folding.proofs.magnitude_of.Reads as magnitude-of-reads
-use Rattle.folding.proofs.negation_of.Reads as negation-of-reads
 
 magnitude-of-requires : tie.Need-magnitude-of-requires
 magnitude-of-requires c κs = search needs

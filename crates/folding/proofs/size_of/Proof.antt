@@ -1,11 +1,9 @@
 -- `folding::size_of` meets its contract. Assumes nothing.
-use Rattle.folding.specs.Folding.{kindOf, numberOf, ofNumber, sizeOf, bitsAt, joinedAs, bitsOf, constantAs}
-use mathlib.Core.Path.{_≡_, refl, sym, ap, _∙_, subst}
+use Rattle.folding.specs.Folding.{kindOf, sizeOf}
+use mathlib.Core.Path.{refl}
 use borrow.Author.Needs.{needs}
 use Rattle.folding.proofs.size_of.Statement.{statement}
 use Rattle.folding.proofs.size_of.Tie as tie
-use Rattle.folding.proofs.size_of.Reads as reads
-use Rattle.folding.proofs.size_of.Lts as lts
 
 enum-told : tie.Need-enum-told
 enum-told c = search needs

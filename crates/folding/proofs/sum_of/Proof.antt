@@ -3,8 +3,6 @@ use Rattle.folding.proofs.Integers as integers
 use borrow.Author.Needs.{needs}
 use Rattle.folding.proofs.sum_of.Statement.{statement}
 use Rattle.folding.proofs.sum_of.Tie as tie
-use Rattle.folding.proofs.sum_of.Reads as reads
-use Rattle.folding.proofs.sum_of.Lts as lts
 
 sub-if1 : tie.Need-sub-if1
 sub-if1 c = search needs

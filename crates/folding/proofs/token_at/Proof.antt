@@ -5,18 +5,18 @@ use Rattle.folding.specs.Folding.{kindOf, signOf}
 use lib.ListN.{length, getD}
 use Prim.Native.Nat.{_<_}
 use native.Mathlib.Omega.{arith}
-use mathlib.Core.Path.{_≡_, refl, sym, ap, _∙_, subst}
 use borrow.Author.Needs.{needs}
 use Rattle.folding.proofs.token_at.Statement.{statement}
 use Rattle.folding.proofs.token_at.Tie as tie
-use Rattle.folding.proofs.token_at.Reads as reads
-use Rattle.folding.proofs.token_at.Lts as lts
-use Rattle.folding.proofs.opens_of.Reads as opens-of-reads
-use Rattle.folding.proofs.size_of.Reads as size-of-reads
-use Rattle.writer.proofs.get_u8.Reads as get-u8-reads
 
 returns : tie.Need-returns
-returns c = let s = c .before .before .args .job .now in let at = c .before .before .args .at in let left = c .before .before .args .left in let p = c .before .before .pre in steps-none s at left (p .0) (p .1) (p .2) (c .if1 .taken)
+returns c =
+    let entry = c .before .before in
+    let s = entry .args .job .now in
+    let at = entry .args .at in
+    let left = entry .args .left in
+    let p = entry .pre in
+    steps-none s at left (p .0) (p .1) (p .2) (c .if1 .taken)
 
 get-u8-requires : tie.Need-get-u8-requires
 get-u8-requires c κs = search needs
@@ -46,7 +46,16 @@ sub-if2 : tie.Need-sub-if2
 sub-if2 c = search needs
 
 returns-2 : tie.Need-returns-2
-returns-2 c = let s = c .before .before .before .before .before .before .before .before .before .args .job .now in let at = c .before .before .before .before .before .before .before .before .before .args .at in let left = c .before .before .before .before .before .before .before .before .before .args .left in let p = c .before .before .before .before .before .before .before .before .before .pre in let k = c .before .before .before .kind .given in let o = opening-leaf (c .before .before .before .before .before .opens-of .result) (c .before .before .before .before .before .before .get-u8 .result) (getD s at 0) (c .before .before .before .before .before .opens-of .ensures) (c .before .before .before .before .before .before .get-u8 .ensures) (k .0 .0) (k .1) in let low : at < length s = omega arith in steps-cut s at left (p .0) (p .1) (p .2) low (kindOf (k .0 .0)) (c .before .size-of .result) o (c .before .size-of .ensures) (c .if2 .taken)
+returns-2 c =
+    let entry = c .before .before .before .before .before .before .before .before .before in
+    let s = entry .args .job .now in
+    let at = entry .args .at in
+    let left = entry .args .left in
+    let p = entry .pre in
+    let k = c .before .before .before .kind .given in
+    let o = opening-leaf (c .before .before .before .before .before .opens-of .result) (c .before .before .before .before .before .before .get-u8 .result) (getD s at 0) (c .before .before .before .before .before .opens-of .ensures) (c .before .before .before .before .before .before .get-u8 .ensures) (k .0 .0) (k .1) in
+    let low : at < length s = omega arith in
+    steps-cut s at left (p .0) (p .1) (p .2) low (kindOf (k .0 .0)) (c .before .size-of .result) o (c .before .size-of .ensures) (c .if2 .taken)
 
 add-t14 : tie.Need-add-t14
 add-t14 c = search needs
@@ -61,13 +70,37 @@ add-t17 : tie.Need-add-t17
 add-t17 c = search needs
 
 returns-3 : tie.Need-returns-3
-returns-3 c = let s = c .before .before .before .before .before .before .args .job .now in let at = c .before .before .before .before .before .before .args .at in let left = c .before .before .before .before .before .before .args .left in let p = c .before .before .before .before .before .before .pre in let low : at < length s = omega arith in let g = c .enum-told .given in steps-sign s at left (p .0) (p .1) (p .2) low (signOf (g .0 .0)) (opening-sign (c .before .before .opens-of .result) (c .before .before .before .get-u8 .result) (getD s at 0) (c .before .before .opens-of .ensures) (c .before .before .before .get-u8 .ensures) (g .0 .0) (g .1))
+returns-3 c =
+    let entry = c .before .before .before .before .before .before in
+    let s = entry .args .job .now in
+    let at = entry .args .at in
+    let left = entry .args .left in
+    let p = entry .pre in
+    let low : at < length s = omega arith in
+    let g = c .enum-told .given in
+    steps-sign s at left (p .0) (p .1) (p .2) low (signOf (g .0 .0)) (opening-sign (c .before .before .opens-of .result) (c .before .before .before .get-u8 .result) (getD s at 0) (c .before .before .opens-of .ensures) (c .before .before .before .get-u8 .ensures) (g .0 .0) (g .1))
 
 returns-4 : tie.Need-returns-4
-returns-4 c = let s = c .before .before .before .before .before .before .before .before .before .args .job .now in let at = c .before .before .before .before .before .before .before .before .before .args .at in let left = c .before .before .before .before .before .before .before .before .before .args .left in let p = c .before .before .before .before .before .before .before .before .before .pre in let k = c .before .before .before .kind .given in let o = opening-leaf (c .before .before .before .before .before .opens-of .result) (c .before .before .before .before .before .before .get-u8 .result) (getD s at 0) (c .before .before .before .before .before .opens-of .ensures) (c .before .before .before .before .before .before .get-u8 .ensures) (k .0 .0) (k .1) in let low : at < length s = omega arith in steps-leaf s at left (p .0) (p .1) (p .2) low (kindOf (k .0 .0)) (c .before .size-of .result) o (c .before .size-of .ensures) (c .if2 .left)
+returns-4 c =
+    let entry = c .before .before .before .before .before .before .before .before .before in
+    let s = entry .args .job .now in
+    let at = entry .args .at in
+    let left = entry .args .left in
+    let p = entry .pre in
+    let k = c .before .before .before .kind .given in
+    let o = opening-leaf (c .before .before .before .before .before .opens-of .result) (c .before .before .before .before .before .before .get-u8 .result) (getD s at 0) (c .before .before .before .before .before .opens-of .ensures) (c .before .before .before .before .before .before .get-u8 .ensures) (k .0 .0) (k .1) in
+    let low : at < length s = omega arith in
+    steps-leaf s at left (p .0) (p .1) (p .2) low (kindOf (k .0 .0)) (c .before .size-of .result) o (c .before .size-of .ensures) (c .if2 .left)
 
 returns-5 : tie.Need-returns-5
-returns-5 c = let s = c .before .before .before .before .before .before .args .job .now in let at = c .before .before .before .before .before .before .args .at in let left = c .before .before .before .before .before .before .args .left in let p = c .before .before .before .before .before .before .pre in let low : at < length s = omega arith in steps-bad s at left (p .0) (p .1) (p .2) low (opening-neither (c .before .before .opens-of .result) (c .before .before .before .get-u8 .result) (getD s at 0) (c .before .before .opens-of .ensures) (c .before .before .before .get-u8 .ensures) (c .enum-told2 .given .1))
+returns-5 c =
+    let entry = c .before .before .before .before .before .before in
+    let s = entry .args .job .now in
+    let at = entry .args .at in
+    let left = entry .args .left in
+    let p = entry .pre in
+    let low : at < length s = omega arith in
+    steps-bad s at left (p .0) (p .1) (p .2) low (opening-neither (c .before .before .opens-of .result) (c .before .before .before .get-u8 .result) (getD s at 0) (c .before .before .opens-of .ensures) (c .before .before .before .get-u8 .ensures) (c .enum-told2 .given .1))
 
 pub token-at-spec : {M : Type 1} → statement M
 token-at-spec =

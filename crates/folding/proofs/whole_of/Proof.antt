@@ -2,19 +2,12 @@
 use Prim.Native.Nat.{_+_}
 use Rattle.folding.proofs.Integers as integers
 use Rattle.folding.specs.declared.Whole.the-variants as whole
-use Rattle.folding.specs.Folding.{opens, kindOf, signOf, asWhole}
-use Rattle.definition.specs.Expression.{openings}
-use Rattle.definition.specs.Value.{operation, integer, quotient}
-use mathlib.Core.Path.{_≡_, refl, sym, ap, _∙_, subst}
+use Rattle.folding.specs.Folding.{signOf, asWhole}
+use Rattle.definition.specs.Value.{integer}
+use mathlib.Core.Path.{ap}
 use borrow.Author.Needs.{needs}
 use Rattle.folding.proofs.whole_of.Statement.{statement}
 use Rattle.folding.proofs.whole_of.Tie as tie
-use Rattle.folding.proofs.whole_of.Reads as reads
-use Rattle.folding.proofs.whole_of.Lts as lts
-use Rattle.folding.proofs.difference_of.Reads as difference-of-reads
-use Rattle.folding.proofs.product_of.Reads as product-of-reads
-use Rattle.folding.proofs.quotient_of.Reads as quotient-of-reads
-use Rattle.folding.proofs.sum_of.Reads as sum-of-reads
 
 enum-told : tie.Need-enum-told
 enum-told c = search needs

@@ -1,15 +1,11 @@
 -- `folding::with_double` meets its contract. Assumes nothing.
-use native.Mathlib.Omega.{arith}
 use Rattle.definition.specs.Expression.{alike, tagOf}
-use Rattle.folding.specs.Folding.{signOf, numberOf, combinedInt, combinedLong}
+use Rattle.folding.specs.Folding.{signOf, numberOf}
 use Rattle.folding.proofs.Values as values
-use mathlib.Core.Path.{_≡_, refl, sym, ap, _∙_, subst}
+use mathlib.Core.Path.{refl}
 use borrow.Author.Needs.{needs}
 use Rattle.folding.proofs.with_double.Statement.{statement}
 use Rattle.folding.proofs.with_double.Tie as tie
-use Rattle.folding.proofs.with_double.Reads as reads
-use Rattle.folding.proofs.with_double.Lts as lts
-use Rattle.folding.proofs.double_op.Reads as double-op-reads
 
 enum-known-w : tie.Need-enum-known-w
 enum-known-w c = search needs

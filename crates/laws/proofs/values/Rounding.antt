@@ -1,17 +1,17 @@
 -- Each operation on floats is exact and rounded once, a NaN that is computed has one pattern, and a lone leaf keeps its bits. Assumes nothing.
 use mathlib.Core.Bool.{Bool, true, false, not, _&&_, cond}
-use mathlib.Core.Option.{Option, none, some}
+use mathlib.Core.Option.{some}
 use mathlib.Core.Path.{_≡_, refl, sym, ap, _∙_, subst}
-use Prim.Native.Nat.{ℕ, zero, suc, _+_, _-_, _*_, _<_, _≤_}
+use Prim.Native.Nat.{ℕ, zero, suc, _+_, _-_, _*_}
 use native.Mathlib.Omega.{arith}
 use lib.Dec.{T, eqb, ltb}
 use lib.Ieee.{Format, binary32, binary64, Float, nan, inf, fin, unlike, up, down, round, sum, add, sub, mul, div, neg, fits, isNan, nanBits, ofBits, toBits}
 use lib.Ieee.Bits.{ofBits-toBits, nanBits-is}
 use lib.Ieee.Fits.{add-fits, sub-fits, mul-fits, div-fits}
-use lib.IntN.{ℤ, pos, negsuc, negℤ, subℕ, _+ℤ_, _-ℤ_, _*ℤ_, negℤ-negℤ}
+use lib.IntN.{pos, negsuc, negℤ, subℕ, _+ℤ_, _*ℤ_, negℤ-negℤ}
 use borrow.Author.Tests.{ltb-true, ltb-false, lt-ltb, le-ltb, ne-eqb}
-use Rattle.definition.specs.Basics.{Result, good, bad, _>>=_}
-use Rattle.definition.specs.Expression.{Number, int, float, long, double, Sign, plus, minus, times, over, Expression, leaf, apply, kindWithin}
+use Rattle.definition.specs.Basics.{good}
+use Rattle.definition.specs.Expression.{Number, float, double, Sign, plus, minus, times, over, Expression, apply, kindWithin}
 use Rattle.definition.specs.Value.{operation, rounded, computed, value, oneKind, folded}
 use Rattle.facts.proofs.Lists.{clash}
 use Rattle.facts.proofs.Results.{good-then, good-inj}

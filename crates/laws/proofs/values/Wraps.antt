@@ -1,15 +1,15 @@
 -- The integer law, over the width: what the signs make of bits are the bits of what they make of the integers. Assumes nothing.
-use mathlib.Core.Path.{_≡_, refl, sym, ap, _∙_, subst}
+use mathlib.Core.Path.{_≡_, refl, sym, ap, _∙_}
 use mathlib.Core.Bool.{Bool, true, false, cond}
 use Prim.Native.Nat.{ℕ, zero, suc, _+_, _-_, _*_, _/_, _%_, _<_, _≤_}
-use native.Mathlib.Nat.{mod-eq-of-lt, mod-eq-sub-mod, mod-self, mod-lt, add-mod, suc-mod, add-mod-right, mul-add, add-mul, mul-mod-left, mul-comm, mul-zero, div-le-self}
+use native.Mathlib.Nat.{mod-eq-of-lt, mod-eq-sub-mod, mod-self, mod-lt, add-mod, suc-mod, add-mod-right, mul-add, add-mul, mul-mod-left, mul-comm, div-le-self}
 use native.Mathlib.Omega.{arith}
-use lib.Dec.{eqb, leb, ltb}
-use lib.IntN.{ℤ, pos, negsuc, negℤ, subℕ, _+ℤ_, _-ℤ_, _*ℤ_}
+use lib.Dec.{ltb}
+use lib.IntN.{pos, negsuc, negℤ, subℕ, _+ℤ_, _-ℤ_, _*ℤ_}
 use lib.Signed.{quotZ}
 use lib.Ieee.{unlike}
 use borrow.Author.Tests.{leb-true, leb-false, ltb-true, ltb-false, ne-eqb}
-use Rattle.definition.specs.Basics.{Result, good, bad}
+use Rattle.definition.specs.Basics.{good, bad}
 use Rattle.definition.specs.Expression.{Sign, plus, minus, times, over}
 use Rattle.definition.specs.Value.{negative, negated, magnitude, quotient, integer}
 use Rattle.laws.specs.Integers.{number, wrapped, exact}
