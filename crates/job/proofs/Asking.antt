@@ -55,7 +55,6 @@ Requested c =
       versions = c .versions;
       version = c .version;
       texts = c .texts;
-      broken = c .broken;
       highest = c .highest;
     }
 

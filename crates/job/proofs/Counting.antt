@@ -65,7 +65,6 @@ more-cons c d l =
       versions = added (c .versions) _ _ _ (only-more isVersion d l) i;
       version = versionFrom (versionWith d (c .version)) l;
       texts = added (c .texts) _ _ _ (only-more isHolding d l) i;
-      broken = c .broken;
       highest = highestFrom (highestWith d (c .highest)) l;
     }
 

@@ -18,4 +18,3 @@ pub mod Single
 pub mod Endings
 pub mod Faults
 pub mod Settling
-pub mod Units

@@ -27,7 +27,7 @@ use Rattle.job.specs.Forms.{isVersion, isHolding, isBroken, asBroken, br
 use Rattle.job.specs.Stored.{Found, anyDefinition}
 use Rattle.laws.proofs.form.DefinitionsRead.{formed-read}
 use Rattle.job.proofs.Laws.{one-at}
-use Rattle.job.proofs.Settling.{broken-there}
+use Rattle.job.proofs.Settling.{broken-there, text-within}
 use Rattle.job.proofs.Blind.{definition-blind}
 use Rattle.job.proofs.Counting.{more-none, more-cons, in-table, one-constant, one-bootstrap}
 
@@ -203,6 +203,9 @@ module _ (s : List ℕ) (at : ℕ) (c : JobCounts) (low : at < length s) (small 
           past = omega (arith, m .past);
           within = m .within;
         }
+
+    pub moved-text : getD s at 0 ≡ 1 → at + 3 ≤ next
+    moved-text = text-within s at next (m .value) moved-found
 
     module _ (earlier : ℕ) (here : Bool) (broken : ℕ) (tests : here ≡ brokenAt s at next) (told : broken ≡ brokenWith (c .definitions) here earlier) where
       broken-is : brokenBehind (c .definitions) (m .value) (asBroken earlier) ≡ asBroken broken

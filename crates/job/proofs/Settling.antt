@@ -2,7 +2,7 @@
 use mathlib.Core.Bool.{Bool, true, false}
 use mathlib.Core.List.{List}
 use mathlib.Core.Path.{_≡_, refl, sym, ap, _∙_}
-use Prim.Native.Nat.{ℕ, _+_, _-_, _<_}
+use Prim.Native.Nat.{ℕ, _+_, _-_, _≤_, _<_}
 use native.Mathlib.Omega.{arith}
 use lib.Dec.{eqb}
 use lib.ListN.{length, getD}
@@ -75,6 +75,15 @@ module _ (s : List ℕ) (at next : ℕ) where
   opens-text : getD s at 0 ≡ 1 → bodyOf (Constant Text) ≡ lookup (getD s at 0) bodies
   unfolding bodyOf entryBody lookup bodies shapes
   opens-text h = rw h refl
+
+  -- whose length and bytes stand ahead of the next record
+  text-ends : (e : Entry (List ℕ) Reference) → Found anyDefinition s at (define e) next → getD s at 0 ≡ 1 → at + 3 ≤ next
+  text-ends e g h =
+      let l = entry-there s at e next (Constant Text) g (opens-text h ∙ ap (λ k. lookup k bodies) (sym (tag-there s at e next g))) in
+      omega (arith, l .end)
+
+  pub text-within : (d : Definition (List ℕ)) → Found anyDefinition s at d next → getD s at 0 ≡ 1 → at + 3 ≤ next
+  text-within d f h = let r = definition-there s at d next (Constant Text) f (opens-text h) in text-ends (r .0) (rw (r .1) at f) h
 
   text-there :
       (d : Definition (List ℕ)) (e : Entry (List ℕ) Reference) → d ≡ define e → Found anyDefinition s at d next → eqb (getD s at 0) 1 ≡ true →

@@ -10,7 +10,7 @@ use Rattle.definition.specs.Basics.{Result, good, bad, Refusal, every, lookup, 
 use Rattle.definition.specs.Bytes.{Parser}
 use Rattle.definition.specs.Settings.{version, texts, highest, isSlot, highestOf, newest}
 use Rattle.definition.specs.Shapes.{Kind, constant, bootstrap, Field, bootstrapShape, readEntry}
-use Rattle.definition.specs.Texts.{between, isText}
+use Rattle.definition.specs.Texts.{isText}
 use Rattle.definition.specs.Job.{Definition, define, named, placed, setting, Build, Job, Body, ofEntry, ofName, ofRaw, ofNumber, ofNothing, bodies, reference, readBody}
 use Rattle.definition.specs.Form.{Counts, countOf, kindOf, withBroken, cites, citesEarlier, tableSize, Definitions, Requests}
 use Rattle.definition.specs.Numbering.{constantsOf, bootstrapsOf, settings}
@@ -147,18 +147,6 @@ numberIn (setting (highest n)) = n
 
 -- ---- texts
 
--- how many bytes follow a unit's first byte, and are needed behind a byte where so many were needed with it; 3: it can't stand there
-unfoldable pub neededFirst : ℕ → ℕ
-neededFirst b =
-    elim (between 0x01 0x7f b) [
-      | true ↦ 0
-      | false ↦ elim (between 0xc0 0xdf b) [ true ↦ 1 | false ↦ elim (between 0xe0 0xef b) [ true ↦ 2 | false ↦ 3 ] ]
-    ]
-
-unfoldable pub neededBehind : ℕ → ℕ → ℕ
-neededBehind b zero = neededFirst b
-neededBehind b (suc needed) = elim (between 0x80 0xbf b) [ true ↦ needed | false ↦ 3 ]
-
 -- a text that isn't one, by the bytes from one place to another, and by the definition
 unfoldable pub brokenAt : List ℕ → ℕ → ℕ → Bool
 brokenAt s at next = eqb (getD s at 0) 1 && not (isText (take (next - (at + 3)) (drop (at + 3) s)))
@@ -252,7 +240,6 @@ countsOf list requests =
       versions = length (only isVersion list);
       version = versionFrom newest list;
       texts = length (only isHolding list);
-      broken = 0;
       highest = highestOf (settings list);
     }
 
@@ -276,7 +263,6 @@ more c list requests =
       versions = c .versions + length (only isVersion list);
       version = versionFrom (c .version) list;
       texts = c .texts + length (only isHolding list);
-      broken = c .broken;
       highest = highestFrom (c .highest) list;
     }
 
@@ -295,7 +281,6 @@ grown constants bootstraps references names raws indexes versions holding major 
       versions = c .versions + versions;
       version = major;
       texts = c .texts + holding;
-      broken = c .broken;
       highest = top;
     }
 

@@ -7,15 +7,14 @@ ghost use mathlib.Core.List.{List, [], _∷_};
 ghost use mathlib.Core.Option.{some};
 ghost use Prim.Native.Nat.{ℕ, _+_, _-_, _^_, _<_, _≤_};
 ghost use lib.Dec.{ltb};
-ghost use lib.ListN.{length, take, drop};
+ghost use lib.ListN.{length, getD, take, drop};
 ghost use Rattle.definition.specs.Basics.{every, lookup};
 ghost use Rattle.definition.specs.Bytes.{one, two, many};
 ghost use Rattle.definition.specs.Shapes.{Kind, Entry, constant, text, byte, to, bootstrapShape};
 ghost use Rattle.definition.specs.Job.{Reference, define, shortName, referenceForm, reference, bodies, ofName, ofRaw, asks, readRequest, readBuild};
 ghost use Rattle.definition.specs.Form.{Counts, nothingYet, countOf, cites, kindOf, citesRequest, formDefinition, formDefinitions, formRequest, formBuild, formRequests, form};
-ghost use Rattle.definition.specs.Texts.{isText};
 ghost use Rattle.raw_const.specs.Entries.{fieldsOf};
-ghost use Rattle.job.specs.Forms.{Skips, SkipsReference, SkipsEntry, SkipsDefinition, SkipsAfter, entryBody, bodyOf, tableOf, isSetting, Opens, roomFor, NumberRoom, numberOpened, onceFault, highestFault, settingFault, neededFirst, neededBehind, brokenAt, brokenWith, textsHold, Bounded, Room, countedAs, countsOf, tablesIn, Steps, tallied, definedAs, Within, placeOf, formedBuild, formedRequests, formedOf};
+ghost use Rattle.job.specs.Forms.{Skips, SkipsReference, SkipsEntry, SkipsDefinition, SkipsAfter, entryBody, bodyOf, tableOf, isSetting, Opens, roomFor, NumberRoom, numberOpened, onceFault, highestFault, settingFault, brokenAt, brokenWith, textsHold, Bounded, Room, countedAs, countsOf, tablesIn, Steps, tallied, definedAs, Within, placeOf, formedBuild, formedRequests, formedOf};
 ghost use Rattle.job.specs.Stored.{Found, Stands, WhatStands, ReferenceStands, WhatReference, EntryStands, WhatEntry, Spans, Tells, anyDefinition, KidAt};
 
 // How many entries each table takes.
@@ -45,8 +44,6 @@ pub struct JobCounts {
     pub version: usize,
     // The records 48.
     pub texts: usize,
-    // 0: a job with a record 48 that is accepted has no text that isn't one, and without one nobody asks.
-    pub broken: usize,
     // The highest slot: what a record 49 says, else the last that there is.
     pub highest: usize,
 }
@@ -457,61 +454,13 @@ fn has_room(opening: Opening, constants: usize, bootstraps: usize) -> bool
     }
 }
 
-// How many bytes a unit of a text needs behind this byte, if with it it needs so many (0: it begins one); 3 if the byte can't stand
-// there (JVMS 4.4.7).
-fn needed_behind(b: u8, needed: usize) -> usize
-    ensures { λ r. ⌜ r ≡ neededBehind b needed ⌝ }
-{
-    if needed == 0 {
-        return needed_first(b);
-    }
-    if (0x80 <= b) & (b <= 0xbf) {
-        needed - 1
-    } else {
-        3
-    }
-}
-
-// How many bytes follow a unit's first byte; 3 if it can't be one.
-fn needed_first(b: u8) -> usize
-    ensures { λ r. ⌜ r ≡ neededFirst b ⌝ }
-{
-    if (0x01 <= b) & (b <= 0x7f) {
-        return 0;
-    }
-    if (0xc0 <= b) & (b <= 0xdf) {
-        return 1;
-    }
-    if (0xe0 <= b) & (b <= 0xef) {
-        return 2;
-    }
-    3
-}
-
-// The bytes from one place to another are a text as JVMS 4.4.7 has it.
-pub fn is_text(job: &[u8], start: usize, end: usize) -> bool
-    requires { ⌜ end ≤ length (now job) ⌝ }
-    ensures { λ r. ⌜ r ≡ isText (take (end - start) (drop start (now (job .entry)))) ⌝ }
-{
-    let mut at = start;
-    let mut needed = 0;
-    while at < end {
-        needed = needed_behind(writer::get_u8(job, at), needed);
-        if needed == 3 {
-            return false;
-        }
-        at += 1;
-    }
-    needed == 0
-}
-
 // The definition from one place to another is a text that isn't one.
 fn is_broken(job: &[u8], at: usize, next: usize) -> bool
-    requires { ⌜ (at < length (now job)) × (next ≤ length (now job)) ⌝ }
+    requires { ⌜ (at < length (now job)) × (next ≤ length (now job)) × (getD (now job) at 0 ≡ 1 → at + 3 ≤ next) ⌝ }
     ensures { λ r. ⌜ r ≡ brokenAt (now (job .entry)) at next ⌝ }
 {
     if writer::get_u8(job, at) == 1 {
-        !is_text(job, at + 3, next)
+        !texts::is_text(&job[at + 3..next])
     } else {
         false
     }
@@ -680,7 +629,6 @@ fn nothing_yet() -> JobCounts
         versions: 0,
         version: NEWEST,
         texts: 0,
-        broken: 0,
         highest: HIGHEST_SLOT,
     }
 }

@@ -10,7 +10,7 @@ use Rattle.definition.specs.Form.{nothingYet, formDefinitions}
 use Rattle.definition.specs.Settings.{highestOf}
 use Rattle.definition.specs.Numbering.{entries, constantsOf, bootstrapsOf, settings}
 use Rattle.job.specs.Forms.{Bounded, countsOf, referencesIn, versionFrom, asBroken, tallied}
-use Rattle.job.proofs.Passes.{DefinitionsLeft, definitions-start, definitions-end, definitions-bad, definitions-held, definitions-broken, definitions-none}
+use Rattle.job.proofs.Passes.{DefinitionsLeft, definitions-start, definitions-end, definitions-bad, definitions-held, definitions-broken, definitions-none, moved-text}
 use borrow.Author.Needs.{needs}
 use Rattle.job.proofs.form_held.Statement.{statement}
 use Rattle.job.proofs.form_held.Tie as tie
@@ -49,7 +49,13 @@ enum-known-next c = search needs
 
 is-broken-requires : tie.Need-is-broken-requires Inv-loop μ-loop
 is-broken-requires c κs = let g = c .before .next .given in
-    let m = rw (g .1) at (c .before .before .before .form-definition .ensures) in (c .before .before .before .before .before .before .loop-test .taken, m .within)
+    let m = rw (g .1) at (c .before .before .before .form-definition .ensures) in
+    let l = c .before .before .before .before .before .before .before .loop in (
+      c .before .before .before .before .before .before .loop-test .taken,
+      m .within,
+      moved-text (c .before .before .before .before .before .before .before .before .before .before .args .job .now) (l .at) (l .counts) (c .before .before .before .before .before .before .loop-test .taken) (omega (arith, l .inv .1))
+          (λ e. c .before .before .before .before .if1 .left (c .before .before .before .before .before .get-u8 .ensures ∙ e)) (g .0 .0) (g .0 .1 .0) m,
+    )
 
 first-broken-requires : tie.Need-first-broken-requires Inv-loop μ-loop
 first-broken-requires c κs = let l = c .before .before .before .before .before .before .before .before .loop in omega (arith, l .inv .1, c .before .before .before .before .before .before .before .loop-test .taken, c .before .before .before .before .before .before .before .before .before .before .before .good)
