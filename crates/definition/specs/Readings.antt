@@ -173,6 +173,14 @@ worked =
     ∷ job "462b044b800001043f80000050510100006002000000" "answers 1\n1 new\npool 7\n0002044b800002\nbootstraps 0 0\n\nname 0\nclass none\nvisits 2\n"
     -- zero by zero
     ∷ job "462f06000000000000000006000000000000000050510100006002000000" "answers 1\n1 new\npool 11\n0003067ff8000000000000\nbootstraps 0 0\n\nname 0\nclass none\nvisits 2\n"
+    -- a difference of infinities
+    ∷ job "462d047f800000047f80000050510100006002000000" "answers 1\n1 new\npool 7\n0002047fc00000\nbootstraps 0 0\n\nname 0\nclass none\nvisits 2\n"
+    -- a product below the normal range
+    ∷ job "462a041e3ce508041f0dabc650510100006002000000" "answers 1\n1 new\npool 7\n00020400034447\nbootstraps 0 0\n\nname 0\nclass none\nvisits 2\n"
+    -- and one past the largest
+    ∷ job "462a047f61b1e604c120000050510100006002000000" "answers 1\n1 new\npool 7\n000204ff800000\nbootstraps 0 0\n\nname 0\nclass none\nvisits 2\n"
+    -- a part on the right is worked out first: 2 - (3 - 10)
+    ∷ job "462d03000000022d0300000003030000000a50510100006002000000" "answers 1\n1 new\npool 7\n00020300000009\nbootstraps 0 0\n\nname 0\nclass none\nvisits 2\n"
     -- an Int wraps
     ∷ job "462b037fffffff030000000150510100006002000000" "answers 1\n1 new\npool 7\n00020380000000\nbootstraps 0 0\n\nname 0\nclass none\nvisits 2\n"
     -- a difference below zero
