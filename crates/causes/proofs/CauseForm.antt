@@ -32,7 +32,7 @@ use Rattle.laws.proofs.form.ParsersYield.{Byte, each-byte, Yields, yields-fail,
 use Rattle.laws.proofs.form.FormedEntries.{OfKind, yields-reference, yields-definition}
 use Rattle.laws.proofs.form.DefinitionsRead.{noEntries}
 use Rattle.causes.proofs.CauseSteps.{unless-cause, whole-cause, at-place}
-use Rattle.causes.proofs.ExpressionsJudged.{Faults, expression-read, worked-constant, comes-cause}
+use Rattle.causes.proofs.ExpressionsJudged.{definition-cut, Faults, expression-read, worked-constant, comes-cause}
 
 pub snoc-length : {A : Type 0} (l : List A) (x : A) → length (l ++ x ∷ []) ≡ suc (length l)
 snoc-length l x = length-append l (x ∷ []) ∙ omega arith
@@ -371,7 +371,7 @@ module _ (bytes : List ℕ) (are : Each Byte bytes) where
 
     three : readDefinition first left ≡ none → Z 3
     unfolding readDefinition
-    three e = unreadDefinition ds (first ∷ left) st (ne, go (lookup first bodies) refl)
+    three e = unreadDefinition ds (first ∷ left) st (ne, go (lookup first bodies) refl, λ is. definition-cut left (subst (λ f. readDefinition f left ≡ none) is e))
       where
         go :
             (o : Option Body) → lookup first bodies ≡ o →

@@ -111,8 +111,8 @@ nothing-read (suc fuel) n place d e = bad≢good e
 
 unread-here : (first : ℕ) (left : List ℕ) (r : Definition (List ℕ) × List ℕ) → NoDefinition (first ∷ left) → readDefinition first left ≡ some r → ⊥
 unfolding readDefinition readBody
-unread-here first left r (ne, inl e) h = none≢some (sym (ap (λ o. readBody first o left) e) ∙ h)
-unread-here first left r (ne, inr (b, e, q)) h = none≢some (sym q ∙ sym (ap (λ o. readBody first o left) e) ∙ h)
+unread-here first left r (ne, inl e, _) h = none≢some (sym (ap (λ o. readBody first o left) e) ∙ h)
+unread-here first left r (ne, inr (b, e, q), _) h = none≢some (sym q ∙ sym (ap (λ o. readBody first o left) e) ∙ h)
 
 nothing-asked : (fuel : ℕ) (n : Counts) (k place : ℕ) (r : Requests) → formRequests fuel n k place [] ≡ good r → ⊥
 unfolding formRequests

@@ -11,8 +11,8 @@ use lib.Dec.{eqb, leb}
 use lib.ListN.{length}
 use borrow.Author.Tests.{eqb-true, eqb-false, leb-true, leb-false}
 use Rattle.definition.specs.Basics.{Result, good, bad, lookup}
-use Rattle.definition.specs.Expression.{Number, int, float, long, double, tagOf, Sign, plus, minus, times, over, Expression, leaf, apply, bits, Opening, ofLeaf, ofSign, openings, joined, secondPart, openedPart, expression, readExpression, alike, kindWithin}
-use Rattle.definition.specs.Bytes.{one}
+use Rattle.definition.specs.Expression.{Number, int, float, long, double, tagOf, Sign, plus, minus, times, over, Expression, leaf, apply, four, eight, bits, Opening, ofLeaf, ofSign, openings, joined, secondPart, openedPart, expression, readExpression, alike, kindWithin}
+use Rattle.definition.specs.Bytes.{andThen, one, two}
 use Rattle.definition.specs.Form.{kindOf, comesOut}
 use Rattle.definition.specs.Job.{Definition, define, bodies, asConstant, workedOut, readBody, readDefinition}
 use Rattle.definition.specs.Shapes.{constant, shapes, bootstrapShape}
@@ -150,6 +150,78 @@ none-to-come _ _ (pastSign parts first left s q h) e = absurd (omega arith)
 pub no-bad-byte : (left : List ℕ) (x : Expression) (rest : List ℕ) → readExpression left ≡ some (some x, rest) → BadByte 1 left → ⊥
 unfolding readExpression
 no-bad-byte left x rest e h = none-to-come 0 rest (good-before (length left) left x rest 0 e h) refl
+
+-- ---- what is cut has none before its end
+
+four-fewer : (s : List ℕ) (n : ℕ) (rest : List ℕ) → four s ≡ some (n, rest) → length rest ≤ length s
+unfolding four two one
+four-fewer [] n rest e = none≢some e
+four-fewer (a ∷ []) n rest e = none≢some e
+four-fewer (a ∷ b ∷ []) n rest e = none≢some e
+four-fewer (a ∷ b ∷ c ∷ []) n rest e = none≢some e
+four-fewer (a ∷ b ∷ c ∷ d ∷ l) n rest e =
+    let same : l ≡ rest = ap (λ (r : ℕ × List ℕ). r .1) (some-inj e) in
+    omega (arith, ap length same)
+
+eight-fewer : (s : List ℕ) (n : ℕ) (rest : List ℕ) → eight s ≡ some (n, rest) → length rest ≤ length s
+unfolding eight
+eight-fewer s n rest e =
+    some-then (four s) _ (n, rest) e λ a middle h e₁.
+    some-then (four middle) _ (n, rest) e₁ λ b last g e₂.
+    let same : last ≡ rest = ap (λ (r : ℕ × List ℕ). r .1) (some-inj e₂) in
+    omega (arith, four-fewer s a middle h, four-fewer middle b last g, ap length same)
+
+bits-fewer : (kind : Number) (s : List ℕ) (n : ℕ) (rest : List ℕ) → bits kind s ≡ some (n, rest) → length rest ≤ length s
+unfolding bits
+bits-fewer int = four-fewer
+bits-fewer float = four-fewer
+bits-fewer long = eight-fewer
+bits-fewer double = eight-fewer
+
+-- what is read where such a byte is to come: it, or an expression ahead of it
+data Meets (fuel parts : ℕ) (s : List ℕ) : Type 0 where
+  meets : (rest : List ℕ) → expression fuel s ≡ some (none, rest) → Meets fuel parts s
+  ahead : (x : Expression) (rest : List ℕ) → expression fuel s ≡ some (some x, rest) → BadByte parts rest → length rest ≤ length s → Meets fuel parts s
+
+bad-met : (fuel parts : ℕ) (s : List ℕ) → length s ≤ fuel → BadByte (suc parts) s → Meets fuel parts s
+unfolding expression openedPart secondPart joined one
+bad-met zero parts _ low (here _ first left q) = absurd (omega arith)
+bad-met zero parts _ low (pastLeaf _ first left kind n rest q b h) = absurd (omega arith)
+bad-met zero parts _ low (pastSign _ first left s q h) = absurd (omega arith)
+bad-met (suc fuel) parts _ low (here _ first left q) = meets left (ap (λ o. openedPart (expression fuel) o left) q)
+bad-met (suc fuel) parts _ low (pastLeaf _ first left kind n rest q b h) =
+    ahead (leaf kind n) rest
+    (ap (λ o. openedPart (expression fuel) o left) q ∙ ap (λ o. andThen o (λ n rest. some (some (leaf kind n), rest))) b)
+    h
+    (omega (arith, bits-fewer kind left n rest b))
+bad-met (suc fuel) parts _ low (pastSign _ first left s q h) = go (bad-met fuel (suc parts) left (omega arith) h) (bad-met fuel parts)
+  where
+    opens : expression (suc fuel) (first ∷ left) ≡ andThen (expression fuel left) (λ a. secondPart (expression fuel) s a)
+    opens = ap (λ o. openedPart (expression fuel) o left) q
+
+    second :
+        (a : Expression) (middle : List ℕ) → expression fuel left ≡ some (some a, middle) → length middle ≤ length left → Meets fuel parts middle →
+        Meets (suc fuel) parts (first ∷ left)
+    second a middle e few (meets rest f) =
+        meets rest
+        (opens ∙ ap (λ o. andThen o (λ a. secondPart (expression fuel) s a)) e ∙ ap (λ o. andThen o (λ b rest. some (joined s a b, rest))) f)
+    second a middle e few (ahead b rest f h fewer) =
+        ahead (apply s a b) rest
+        (opens ∙ ap (λ o. andThen o (λ a. secondPart (expression fuel) s a)) e ∙ ap (λ o. andThen o (λ b rest. some (joined s a b, rest))) f)
+        h
+        (omega arith)
+
+    go : Meets fuel (suc parts) left → ((s : List ℕ) → length s ≤ fuel → BadByte (suc parts) s → Meets fuel parts s) → Meets (suc fuel) parts (first ∷ left)
+    go (meets rest f) rec = meets rest (opens ∙ ap (λ o. andThen o (λ a. secondPart (expression fuel) s a)) f)
+    go (ahead a middle f h few) rec = second a middle f few (rec middle (omega arith) h)
+
+cut-unread : (left : List ℕ) → readExpression left ≡ none → BadByte 1 left → ⊥
+unfolding readExpression
+cut-unread left e h = go (bad-met (length left) 0 left (omega arith) h)
+  where
+    go : Meets (length left) 0 left → ⊥
+    go (meets rest f) = none≢some (sym e ∙ f)
+    go (ahead x rest f _ _) = none≢some (sym e ∙ f)
 
 -- ---- kinds and depth
 
@@ -362,6 +434,17 @@ expression-read left x rest e =
     some-then (readExpression left) _ (x, rest) e λ o last read e₁.
     let same : _≡_ {A = Definition (List ℕ) × List ℕ} (define (workedOut (folded o)), last) (x, rest) = some-inj e₁ in
     (o, read ∙ ap (λ (r : Definition (List ℕ) × List ℕ). some (o, r .1)) same, sym (ap (λ (r : Definition (List ℕ) × List ℕ). r .0) same))
+
+-- one that can't be read is cut before any bad byte
+pub definition-cut : (left : List ℕ) → readDefinition 0x46 left ≡ none → BadByte 1 left → ⊥
+unfolding readDefinition readBody lookup bodies shapes bootstrapShape
+definition-cut left e = go (readExpression left) refl e
+  where
+    go :
+        (o : Option (Option Expression × List ℕ)) → readExpression left ≡ o → andThen o (λ x rest. some (define (workedOut (folded x)), rest)) ≡ none →
+        BadByte 1 left → ⊥
+    go none q e = cut-unread left q
+    go (some r) q e = none≢some (sym e)
 
 -- it goes into the table of constants
 pub worked-constant : (r : Result ℕ (Number × ℕ)) → kindOf (workedOut r .tag) ≡ constant

@@ -99,12 +99,13 @@ pub data StandAsked (bytes : List ℕ) (ds : List (Definition (List ℕ))) : Lis
       StandAsked bytes ds (qs ++ q ∷ []) rest
 
 -- no definition can be read where these bytes begin: there is none, its kind is unknown or out of place, or it is cut or has a byte that is
--- none of its forms
+-- none of its forms; a 46 is cut, with no bad byte before
 abbrev pub NoDefinition : List ℕ → Type 0
 NoDefinition [] = Unit {0}
 NoDefinition (first ∷ left) =
     (first ≢ 0x50)
     × ((lookup first bodies ≡ none) ⊎ ((b : Body) × (lookup first bodies ≡ some b) × (readBody first (some b) left ≡ none)))
+    × (first ≡ 0x46 → BadByte 1 left → ⊥)
 
 -- nor a request
 abbrev pub NoRequest : List ℕ → Type 0
