@@ -29,7 +29,7 @@ use Rattle.causes.proofs.CauseRecords.{InTurn, causeOfRecords}
 
 -- the numbers that there are
 abbrev InRange : ℕ → Type 0
-InRange code = (code ≤ 18) ⊎ ((24 ≤ code) × (code ≤ 26))
+InRange code = (code ≤ 18) ⊎ ((22 ≤ code) × (code ≤ 26))
 
 module _ (job : Job (List ℕ)) where
   abbrev Bounds : ℕ → ℕ → Type 0
@@ -199,7 +199,7 @@ module _ (lent : Lent) (bytes : List ℕ) (are : IsBytes bytes) where
 pub cause : CauseStatement.Cause
 cause lent bytes r are ran = told lent bytes are r ran .cause
 
--- CAUSE PLACED: the number lies from 1 to 18 or from 24 to 26; the place is at most the number of records that stand, and the number of a
+-- CAUSE PLACED: the number lies from 1 to 18 or from 22 to 26; the place is at most the number of records that stand, and the number of a
 -- record if the job is well formed
 pub causePlaced : CausePlaced
 causePlaced lent bytes r are ran =

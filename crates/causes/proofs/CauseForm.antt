@@ -1,4 +1,4 @@
--- The cause of 3, 4, 5, 25 and 26: the records before stand, and the one in turn can't, or a text among them with it. Assumes nothing.
+-- The cause of 3, 4, 5, 22, 23, 25 and 26: the records before stand, and the one in turn can't, or a text among them with it. Assumes nothing.
 use mathlib.Core.Bool.{Bool, true, false, _&&_, not}
 use mathlib.Core.List.{List, [], _∷_, _++_, append-assoc, append-nil}
 use mathlib.Core.Logic.{_⊎_, inl, inr, ⊎-elim, _≢_}
@@ -13,9 +13,10 @@ use Rattle.definition.specs.Basics.{Refusal, every, only, lookup}
 use Rattle.definition.specs.Bytes.{Parser, andThen}
 use Rattle.definition.specs.Shapes.{Kind, constant, bootstrap, bootstrapTag, Entry}
 use Rattle.definition.specs.Job.{Reference, raw, entry, name, Definition, define, named, placed, setting, Request, ClassSlot, slot, request, Build, Job}
-use Rattle.definition.specs.Job.{Body, bodies, readBody, readDefinition, asks, reference, readRequest, readBuild}
+use Rattle.definition.specs.Job.{Body, bodies, workedOut, readBody, readDefinition, asks, reference, readRequest, readBuild}
 use Rattle.definition.specs.Settings.{Setting, version, texts, highest, isSlot}
 use Rattle.definition.specs.Texts.{isText}
+use Rattle.definition.specs.Value.{folded}
 use Rattle.definition.specs.Form.{Counts, countOf, kindOf, oneMore, firstBroken, withBroken, oneRecord, oneSetting, counted, mayStand, textsHeld, hasRoom, cites, citesEarlier, citesRequest, formDefinition, Definitions, formDefinitions, formRequest, nothingBehind, formBuild, Requests, formRequests, form}
 use Rattle.definition.specs.Numbering.{entries, isBootstrap, constantsOf, bootstrapsOf}
 use Rattle.facts.specs.Lists.{Among}
@@ -24,12 +25,14 @@ use Rattle.facts.proofs.Each.{Each}
 use Rattle.facts.proofs.Outcomes.{Ends, well, refused, next, weaker}
 use Rattle.laws.specs.Statements.{IsBytes}
 use Rattle.laws.specs.Counted.{countIn}
+use Rattle.causes.specs.ExpressionFaults.{ComesOut}
 use Rattle.causes.specs.CauseStatement as CauseStatement
-use Rattle.causes.specs.CauseStatement.{CitesEntry, InPlace, NoText, FirstNoText, TextsHeld, HasPlace, Stand, noneYet, misplaced, noHighest, noText, StandAsked, noneAsked, oneAsked, FormCause, unreadDefinition, tableFull, noEntry, unreadRequest, noEntryAsked, unreadBuild, noRequestCited, bytesBehind, RecordsStand, onlyDefinitions, upToRequests, upToBuild}
+use Rattle.causes.specs.CauseStatement.{CitesEntry, InPlace, NoText, FirstNoText, TextsHeld, HasPlace, Stand, noneYet, misplaced, noHighest, badByte, mixed, tooDeep, byZero, noText, StandAsked, noneAsked, oneAsked, FormCause, unreadDefinition, tableFull, noEntry, unreadRequest, noEntryAsked, unreadBuild, noRequestCited, bytesBehind, RecordsStand, onlyDefinitions, upToRequests, upToBuild}
 use Rattle.laws.proofs.form.ParsersYield.{Byte, each-byte, Yields, yields-fail, yields-return, yields-bind}
 use Rattle.laws.proofs.form.FormedEntries.{OfKind, yields-reference, yields-definition}
 use Rattle.laws.proofs.form.DefinitionsRead.{noEntries}
 use Rattle.causes.proofs.CauseSteps.{unless-cause, whole-cause, at-place}
+use Rattle.causes.proofs.ExpressionsJudged.{definition-cut, Faults, expression-read, worked-constant, comes-cause}
 
 pub snoc-length : {A : Type 0} (l : List A) (x : A) → length (l ++ x ∷ []) ≡ suc (length l)
 snoc-length l x = length-append l (x ∷ []) ∙ omega arith
@@ -300,7 +303,7 @@ request-unread ldc left e = andThen-none (reference constant left) _ (λ r rest 
 module _ (bytes : List ℕ) (are : Each Byte bytes) where
   pub stand-length : {ds : List (Definition (List ℕ))} {left : List ℕ} → Stand bytes ds left → (length ds + length left ≤ length bytes) × Each Byte left
   stand-length noneYet = (omega arith, are)
-  stand-length (CauseStatement.oneMore ds first left x rest st ne read stands place cited held) =
+  stand-length (CauseStatement.oneMore ds first left x rest st ne read stands place cited comes held) =
       let h = stand-length st in
       let g = yields-definition first left (h .1 .1) x rest read in
       (omega (arith, snoc-length ds x, h .0, g .fewer), g .bytes)
@@ -368,7 +371,7 @@ module _ (bytes : List ℕ) (are : Each Byte bytes) where
 
     three : readDefinition first left ≡ none → Z 3
     unfolding readDefinition
-    three e = unreadDefinition ds (first ∷ left) st (ne, go (lookup first bodies) refl)
+    three e = unreadDefinition ds (first ∷ left) st (ne, go (lookup first bodies) refl, λ is. definition-cut left (subst (λ f. readDefinition f left ≡ none) is e))
       where
         go :
             (o : Option Body) → lookup first bodies ≡ o →
@@ -452,6 +455,20 @@ module _ (bytes : List ℕ) (are : Each Byte bytes) where
       stands : InPlace ds (r .0)
       place : HasPlace ds (r .0)
       cited : (kind : Kind) (m : ℕ) → CitesEntry (r .0) kind m → m < countIn kind ds
+      comes : first ≡ 0x46 → ComesOut left
+
+    -- 22, then 23, of a 46 that has a place among the constants
+    faults : (x : Definition (List ℕ)) (rest : List ℕ) → readDefinition first left ≡ some (x, rest) → HasPlace ds x → first ≡ 0x46 → Faults Z left
+    faults x rest read place is =
+        let st′ = subst (λ f. Stand bytes ds (f ∷ left)) is st in
+        let (o, _, what) = expression-read left x rest (subst (λ f. readDefinition f left ≡ some (x, rest)) is read) in
+        let room : countIn constant ds < 65536 = subst (λ k. countIn k ds < 65536) (worked-constant (folded o)) (place (workedOut (folded o)) what) in
+        record {
+          byte = λ h. badByte ds left st′ room h;
+          kinds = λ y more e (k, l, h, g, apart). mixed ds left y more k l st′ room e h g apart;
+          nested = λ y more e h. tooDeep ds left y more st′ room e h;
+          divided = λ y more kind e all low h. byZero ds left y more kind st′ room e all low h;
+        }
 
     definition-cause : Ends Z Judged (formDefinition n first left)
     unfolding formDefinition
@@ -460,7 +477,8 @@ module _ (bytes : List ℕ) (are : Each Byte bytes) where
         next _ (stands-cause (r .0) (r .1) read) λ _ stands.
         next _ (unless-cause (hasRoom n (r .0)) 5 (five (r .0) (r .1) read)) λ _ room.
         next _ (unless-cause (citesEarlier n (r .0)) 4 (four (r .0) (r .1) read stands (has-place (r .0) room))) λ _ cited.
-        well {a = r} (record { reads = read; stands = stands; place = has-place (r .0) room; cited = all-cited (r .0) cited })
+        next _ (comes-cause first left (r .0) (r .1) read (faults (r .0) (r .1) read (has-place (r .0) room))) λ _ comes.
+        well {a = r} (record { reads = read; stands = stands; place = has-place (r .0) room; cited = all-cited (r .0) cited; comes = comes })
 
     -- the texts are held, or 25 at the first that isn't one
     texts-cause :
@@ -474,7 +492,7 @@ module _ (bytes : List ℕ) (are : Each Byte bytes) where
 
         now-stands : TextsHeld (ds ++ r .0 ∷ []) → Stand bytes (ds ++ r .0 ∷ []) (r .1)
         now-stands held =
-            CauseStatement.oneMore ds first left (r .0) (r .1) st ne (j .reads) (j .stands) (j .place) (j .cited) held
+            CauseStatement.oneMore ds first left (r .0) (r .1) st ne (j .reads) (j .stands) (j .place) (j .cited) (j .comes) held
 
         go :
             (o : Option ℕ) → counted (r .0) n .broken ≡ o → BrokenAt (counted (r .0) n .broken) (ds ++ r .0 ∷ []) →
@@ -491,7 +509,7 @@ module _ (bytes : List ℕ) (are : Each Byte bytes) where
             (unless-cause (eqb (counted (r .0) n .texts) 0) 25
             (λ t.
             let (x, a, s) = noted′ .texts-are .seen (eqb-false (counted (r .0) n .texts) 0 t) in
-            noText ds first left (r .0) (r .1) q st ne (j .reads) (j .stands) (j .place) (j .cited) (subst (λ y. Among y (ds ++ r .0 ∷ [])) s a) b′))))
+            noText ds first left (r .0) (r .1) q st ne (j .reads) (j .stands) (j .place) (j .cited) (j .comes) (subst (λ y. Among y (ds ++ r .0 ∷ [])) s a) b′))))
 
   -- ---- the definitions
 
@@ -645,7 +663,7 @@ module _ (bytes : List ℕ) (are : Each Byte bytes) where
 abbrev pub Standing : List ℕ → Job (List ℕ) → Type 0
 Standing bytes job = (left : List ℕ) × StandAsked bytes (job .definitions) (job .requests) (0x60 ∷ left)
 
--- CAUSE of 3, 4, 5, 25 and 26: what the form pass is refused for
+-- CAUSE of 3, 4, 5, 22, 23, 25 and 26: what the form pass is refused for
 pub causeOfForm : (bytes : List ℕ) → IsBytes bytes → Ends (λ e. FormCause bytes (e .code) (e .place)) (Standing bytes) (form bytes)
 unfolding form
 causeOfForm bytes are =
@@ -666,13 +684,17 @@ records-stand bytes job (left, st) = upToRequests (job .definitions) (job .reque
 -- a refusal of the form lies right behind the records that stand; that of a text among them
 pub form-bounds :
     {bytes : List ℕ} {code place : ℕ} → FormCause bytes code place →
-    (3 ≤ code) × ((code ≤ 5) ⊎ ((25 ≤ code) × (code ≤ 26))) × ((n : ℕ) × RecordsStand bytes n × (place ≤ n))
+    (3 ≤ code) × ((code ≤ 5) ⊎ ((22 ≤ code) × (code ≤ 26))) × ((n : ℕ) × RecordsStand bytes n × (place ≤ n))
 form-bounds (unreadDefinition ds left st h) = (omega arith, inl (omega arith), (_, onlyDefinitions ds left st, omega arith))
 form-bounds (misplaced ds first left s rest st ne read m) = (omega arith, inl (omega arith), (_, onlyDefinitions ds (first ∷ left) st, omega arith))
 form-bounds (noHighest first left top rest st ne read o) = (omega arith, inr (omega arith, omega arith), (_, onlyDefinitions [] (first ∷ left) st, omega arith))
 form-bounds (tableFull ds first left e rest st ne read full) = (omega arith, inl (omega arith), (_, onlyDefinitions ds (first ∷ left) st, omega arith))
 form-bounds (noEntry ds first left x rest kind n st ne read s place c l) = (omega arith, inl (omega arith), (_, onlyDefinitions ds (first ∷ left) st, omega arith))
-form-bounds (noText ds first left x rest q st ne read s place c t b) =
+form-bounds (badByte ds left st room h) = (omega arith, inr (omega arith, omega arith), (_, onlyDefinitions ds (0x46 ∷ left) st, omega arith))
+form-bounds (mixed ds left x rest k l st room read h g apart) = (omega arith, inr (omega arith, omega arith), (_, onlyDefinitions ds (0x46 ∷ left) st, omega arith))
+form-bounds (tooDeep ds left x rest st room read h) = (omega arith, inr (omega arith, omega arith), (_, onlyDefinitions ds (0x46 ∷ left) st, omega arith))
+form-bounds (byZero ds left x rest kind st room read all low h) = (omega arith, inr (omega arith, omega arith), (_, onlyDefinitions ds (0x46 ∷ left) st, omega arith))
+form-bounds (noText ds first left x rest q st ne read s place c o t b) =
     let inside = found-inside (ds ++ x ∷ []) q (b .text) (b .there) in
     let longer = snoc-length ds x in
     (omega arith, inr (omega arith, omega arith), (length ds, onlyDefinitions ds (first ∷ left) st, omega arith))

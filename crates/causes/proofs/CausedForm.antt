@@ -1,4 +1,4 @@
--- A job that is well formed has no cause of 3, 4, 5, 25 or 26: the form pass comes to each record that stands, and passes it. Assumes nothing.
+-- A job that is well formed has no cause of 3, 4, 5, 22, 23, 25 or 26: the form pass comes to each record that stands, and passes it. Assumes nothing.
 use mathlib.Core.Bool.{true, false, _&&_}
 use mathlib.Core.List.{List, [], _∷_, _++_, append-assoc, append-nil}
 use mathlib.Core.Logic.{inl, inr, ⊎-elim, _≢_}
@@ -13,40 +13,50 @@ use Rattle.definition.specs.Basics.{good, atRecord, unless, lookup}
 use Rattle.definition.specs.Bytes.{andThen}
 use Rattle.definition.specs.Shapes.{Entry}
 use Rattle.definition.specs.Job.{Reference, Definition, define, setting, Request, Build, Job, readBody, readDefinition, asks, readRequest, readBuild}
+use Rattle.definition.specs.Expression.{Expression, readExpression}
 use Rattle.definition.specs.Settings.{Setting, version, texts, highest, isSlot}
-use Rattle.definition.specs.Form.{Counts, countOf, kindOf, counted, whole, mayStand, textsHeld, hasRoom, cites, citesEarlier, citesRequest, formDefinition, Definitions, formDefinitions, formRequest, nothingBehind, formBuild, Requests, formRequests, form}
+use Rattle.definition.specs.Form.{Counts, countOf, kindOf, counted, whole, mayStand, textsHeld, hasRoom, cites, citesEarlier, comesOut, citesRequest, formDefinition, Definitions, formDefinitions, formRequest, nothingBehind, formBuild, Requests, formRequests, form}
 use Rattle.facts.specs.Lists.{Among}
 use Rattle.facts.proofs.Lists.{clash, none≢some, some-inj, both-true}
 use Rattle.facts.proofs.Each.{Each}
+use Rattle.facts.proofs.Outcomes.{whenGood}
 use Rattle.facts.proofs.Results.{bad≢good, good-then, atRecord-good, unless-good, whole-good}
 use Rattle.laws.specs.Statements.{IsBytes}
 use Rattle.laws.specs.Counted.{countIn}
-use Rattle.causes.specs.CauseStatement.{Misplaced, FirstNoText, misplaced, noHighest, noText, Stand, noneYet, oneMore, StandAsked, noneAsked, oneAsked, NoDefinition, NoRequest, FormCause, unreadDefinition, tableFull, noEntry, unreadRequest, noEntryAsked, unreadBuild, noRequestCited, bytesBehind}
+use Rattle.causes.specs.ExpressionFaults.{HasLeaf, depth, DividesByZero, ComesOut}
+use Rattle.causes.specs.CauseStatement.{Misplaced, FirstNoText, misplaced, noHighest, badByte, mixed, tooDeep, byZero, noText, Stand, noneYet, oneMore, StandAsked, noneAsked, oneAsked, NoDefinition, NoRequest, FormCause, unreadDefinition, tableFull, noEntry, unreadRequest, noEntryAsked, unreadBuild, noRequestCited, bytesBehind}
 use Rattle.laws.proofs.form.ParsersYield.{Byte, each-byte}
 use Rattle.laws.proofs.form.DefinitionsRead.{noEntries, formed-read, formed-end, formed-step}
+use Rattle.causes.proofs.ExpressionsJudged.{no-bad-byte, a-leaf, Faults, comes-cause}
 use Rattle.causes.proofs.CauseForm.{Counted, counted-snoc, nothing-counted, empty, BrokenAt, Noted, noted-snoc, nothing-noted, snoc-length, stand-length, asked-length, all-cited, cited-there, class-cited}
 
 -- ---- one record passed
 
-record Passed (n : Counts) (x : Definition (List ℕ)) : Type 0 where
+no-faults : (left : List ℕ) → Faults (λ _. Unit {0}) left
+no-faults left = record { byte = λ _. tt; kinds = λ _ _ _ _. tt; nested = λ _ _ _ _. tt; divided = λ _ _ _ _ _ _ _. tt }
+
+record Passed (n : Counts) (first : ℕ) (left : List ℕ) (x : Definition (List ℕ)) : Type 0 where
   stands : mayStand n x ≡ good tt
   room : hasRoom n x ≡ true
   cited : citesEarlier n x ≡ true
+  comes : first ≡ 0x46 → ComesOut left
 
 passed :
-    (n : Counts) (first : ℕ) (left : List ℕ) (r : Definition (List ℕ) × List ℕ) → formDefinition n first left ≡ good r → Passed n (r .0)
+    (n : Counts) (first : ℕ) (left : List ℕ) (r : Definition (List ℕ) × List ℕ) → formDefinition n first left ≡ good r → Passed n first left (r .0)
 unfolding formDefinition
 passed n first left r e =
     good-then (whole (readDefinition first left)) _ r e λ x h e₁.
     good-then (mayStand n (x .0)) _ r e₁ λ s stands e₂.
     good-then (unless (hasRoom n (x .0)) 5) _ r e₂ λ u room e₃.
     good-then (unless (citesEarlier n (x .0)) 4) _ r e₃ λ v cited e₄.
+    good-then (comesOut first left) _ r e₄ λ w comes e₅.
     let same : x ≡ r = cc in
-    subst (λ (y : Definition (List ℕ) × List ℕ). Passed n (y .0)) same
+    subst (λ (y : Definition (List ℕ) × List ℕ). Passed n first left (y .0)) same
     (record {
       stands = stands;
       room = unless-good (hasRoom n (x .0)) 5 u room;
       cited = unless-good (citesEarlier n (x .0)) 4 v cited;
+      comes = whenGood (comes-cause {Z = λ _. Unit {0}} first left (x .0) (x .1) (whole-good (readDefinition first left) x h) (λ _. no-faults left)) comes;
     })
 
 -- and its texts were held
@@ -89,6 +99,11 @@ slot-passed n top e =
     let both = both-true (leb 1 top) (leb top 65534) (unless-good (leb 1 top && leb top 65534) 26 tt e₁) in
     (leb-true 1 top (both .0), leb-true top 65534 (both .1))
 
+one-reading :
+    (left : List ℕ) (x : Expression) (rest : List ℕ) (y : Expression) (more : List ℕ) → readExpression left ≡ some (some x, rest) →
+    readExpression left ≡ some (some y, more) → x ≡ y
+one-reading left x rest y more e f = some-inj (ap (λ (r : Option Expression × List ℕ). r .0) (some-inj (sym e ∙ f)))
+
 nothing-read : (fuel : ℕ) (n : Counts) (place : ℕ) (d : Definitions) → formDefinitions fuel n place [] ≡ good d → ⊥
 unfolding formDefinitions
 nothing-read zero n place d e = bad≢good e
@@ -96,8 +111,8 @@ nothing-read (suc fuel) n place d e = bad≢good e
 
 unread-here : (first : ℕ) (left : List ℕ) (r : Definition (List ℕ) × List ℕ) → NoDefinition (first ∷ left) → readDefinition first left ≡ some r → ⊥
 unfolding readDefinition readBody
-unread-here first left r (ne, inl e) h = none≢some (sym (ap (λ o. readBody first o left) e) ∙ h)
-unread-here first left r (ne, inr (b, e, q)) h = none≢some (sym q ∙ sym (ap (λ o. readBody first o left) e) ∙ h)
+unread-here first left r (ne, inl e, _) h = none≢some (sym (ap (λ o. readBody first o left) e) ∙ h)
+unread-here first left r (ne, inr (b, e, q), _) h = none≢some (sym q ∙ sym (ap (λ o. readBody first o left) e) ∙ h)
 
 nothing-asked : (fuel : ℕ) (n : Counts) (k place : ℕ) (r : Requests) → formRequests fuel n k place [] ≡ good r → ⊥
 unfolding formRequests
@@ -180,7 +195,7 @@ module _
         let same : length bytes ≡ fuel = omega (arith, e) in
         (d, subst (λ f. formDefinitions f noEntries 0 bytes ≡ good d) same read, refl, refl, refl),
   )
-  stand-going (oneMore ds first left x rest st ne here stands place cited held) =
+  stand-going (oneMore ds first left x rest st ne here stands place cited comes held) =
       let (n, c, k, go) = stand-going st in
       (counted x n, counted-snoc n ds x c, noted-snoc n ds x k, λ fuel e. more n go fuel (omega (arith, e, snoc-length ds x)))
     where
@@ -305,6 +320,12 @@ module _
   unfolding hasRoom
   room-there ds n c e t = omega (arith, c (kindOf (e .tag)), ltb-true (countOf (kindOf (e .tag)) n) 65536 t)
 
+  -- the expression of a 46 that stands comes to a constant
+  comes-there : {ds : List (Definition (List ℕ))} {left : List ℕ} → Stand bytes ds (0x46 ∷ left) → ComesOut left
+  comes-there {left} st =
+      let (n, c, k, (y, g, held)) = definition-there 0x46 st (λ q. clash (omega arith)) in
+      passed n 0x46 left y g .comes refl
+
   form-refuted : {code place : ℕ} → FormCause bytes code place → ⊥
   unfolding nothingBehind
   form-refuted (unreadDefinition ds left st h) = unread-refuted ds left st h
@@ -321,15 +342,32 @@ module _
   form-refuted (misplaced ds first left s rest st ne here wrong) =
       let (n, c, k, (y, g, held)) = definition-there first st ne in
       let q : y ≡ (setting s, rest) = some-inj (sym (formed-read n first left y g) ∙ here) in
-      let p = subst (λ (z : Definition (List ℕ) × List ℕ). Passed n (z .0)) q (passed n first left y g) in
+      let p = subst (λ (z : Definition (List ℕ) × List ℕ). Passed n first left (z .0)) q (passed n first left y g) in
       stands-refuted n ds k s (p .stands) wrong
   form-refuted (noHighest first left top rest st ne here wrong) =
       let (n, c, k, (y, g, held)) = definition-there first st ne in
       let q : y ≡ (setting (highest top), rest) = some-inj (sym (formed-read n first left y g) ∙ here) in
-      let p = subst (λ (z : Definition (List ℕ) × List ℕ). Passed n (z .0)) q (passed n first left y g) in
+      let p = subst (λ (z : Definition (List ℕ) × List ℕ). Passed n first left (z .0)) q (passed n first left y g) in
       let slot = slot-passed n top (p .stands) in
       ⊎-elim (λ e. absurd (omega arith)) (λ e. absurd (omega arith)) wrong
-  form-refuted (noText ds first left x rest q st ne here stands place cited among wrong) =
+  form-refuted (badByte ds left st room wrong) =
+      let c = comes-there st in
+      no-bad-byte left (c .parts) (c .rest) (c .isRead) wrong
+  form-refuted (mixed ds left x rest k l st room here h g apart) =
+      let c = comes-there st in
+      let same = one-reading left x rest (c .parts) (c .rest) here (c .isRead) in
+      apart (c .isOfKind k (subst (HasLeaf k) same h) ∙ sym (c .isOfKind l (subst (HasLeaf l) same g)))
+  form-refuted (tooDeep ds left x rest st room here wrong) =
+      let c = comes-there st in
+      let same = one-reading left x rest (c .parts) (c .rest) here (c .isRead) in
+      omega (arith, ap depth same, c .isNested, wrong)
+  form-refuted (byZero ds left x rest kind st room here all low wrong) =
+      let c = comes-there st in
+      let same = one-reading left x rest (c .parts) (c .rest) here (c .isRead) in
+      let (k, h) = a-leaf x in
+      let kinds : kind ≡ c .kind = sym (all k h) ∙ c .isOfKind k (subst (HasLeaf k) same h) in
+      c .isDivided (subst (λ k. DividesByZero k (c .parts)) kinds (subst (DividesByZero kind) same wrong))
+  form-refuted (noText ds first left x rest q st ne here stands place cited comes among wrong) =
       let (n, c, k, (y, g, held)) = definition-there first st ne in
       let p : y ≡ (x, rest) = some-inj (sym (formed-read n first left y g) ∙ here) in
       held-refuted (counted x n) (ds ++ x ∷ []) (noted-snoc n ds x k) q

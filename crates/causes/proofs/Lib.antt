@@ -1,4 +1,5 @@
 pub mod CauseSteps
+pub mod ExpressionsJudged
 pub mod CauseDefinitions
 pub mod CauseForm
 pub mod CauseStack

@@ -11,6 +11,7 @@ use Rattle.definition.specs.Basics.{good, bad, Refusal, position, lookup}
 use Rattle.definition.specs.Shapes.{Kind, constant, bootstrap, Entry, isWide}
 use Rattle.definition.specs.Job.{Reference, entry, name, Definition, define, named, placed, setting, Request, request, Build, Job}
 use Rattle.definition.specs.Job.{Body, bodies, readBody, readDefinition, asks, reference, readRequest, readBuild}
+use Rattle.definition.specs.Expression.{Number, Expression, readExpression}
 use Rattle.definition.specs.Form.{kindOf, form}
 use Rattle.definition.specs.Numbering.{settings, topOf, constantsOf, bootstrapsOf, literals, numbered}
 use Rattle.definition.specs.Settings.{Setting, version, texts, highest, known}
@@ -26,8 +27,9 @@ use Rattle.laws.specs.LeadsStatement.{Leads}
 use Rattle.laws.specs.LowestStatement.{LowestRecord}
 use Rattle.laws.specs.SharedStatement.{Same}
 use Rattle.laws.specs.Statements.{IsBytes}
+use Rattle.causes.specs.ExpressionFaults.{BadByte, HasLeaf, OfKind, depth, DividesByZero, ComesOut}
 
--- ---- 3, 4, 5, 25, 26: the form, over the bytes
+-- ---- 3, 4, 5, 22, 23, 25, 26: the form, over the bytes
 
 -- a definition cites entry n of a kind by its number
 abbrev pub CitesEntry : Definition (List ℕ) → Kind → ℕ → Type 0
@@ -81,6 +83,7 @@ pub data Stand (bytes : List ℕ) : List (Definition (List ℕ)) → List ℕ �
       InPlace ds x →
       HasPlace ds x →
       ((kind : Kind) (n : ℕ) → CitesEntry x kind n → n < countIn kind ds) →
+      (first ≡ 0x46 → ComesOut left) →
       TextsHeld (ds ++ x ∷ []) →
       Stand bytes (ds ++ x ∷ []) rest
 
@@ -96,12 +99,13 @@ pub data StandAsked (bytes : List ℕ) (ds : List (Definition (List ℕ))) : Lis
       StandAsked bytes ds (qs ++ q ∷ []) rest
 
 -- no definition can be read where these bytes begin: there is none, its kind is unknown or out of place, or it is cut or has a byte that is
--- none of its forms
+-- none of its forms; a 46 is cut, with no bad byte before
 abbrev pub NoDefinition : List ℕ → Type 0
 NoDefinition [] = Unit {0}
 NoDefinition (first ∷ left) =
     (first ≢ 0x50)
     × ((lookup first bodies ≡ none) ⊎ ((b : Body) × (lookup first bodies ≡ some b) × (readBody first (some b) left ≡ none)))
+    × (first ≡ 0x46 → BadByte 1 left → ⊥)
 
 -- nor a request
 abbrev pub NoRequest : List ℕ → Type 0
@@ -150,6 +154,41 @@ pub data FormCause (bytes : List ℕ) : ℕ → ℕ → Type 0 where
       CitesEntry x kind n →
       countIn kind ds ≤ n →
       FormCause bytes 4 (length ds)
+  -- 22: a 46's expression, or a part of it, begins with a byte that is neither leaf tag nor sign
+  badByte :
+      (ds : List (Definition (List ℕ))) (left : List ℕ) →
+      Stand bytes ds (0x46 ∷ left) →
+      countIn constant ds < 65536 →
+      BadByte 1 left →
+      FormCause bytes 22 (length ds)
+  -- 22: it has leaves of two kinds
+  mixed :
+      (ds : List (Definition (List ℕ))) (left : List ℕ) (x : Expression) (rest : List ℕ) (k l : Number) →
+      Stand bytes ds (0x46 ∷ left) →
+      countIn constant ds < 65536 →
+      readExpression left ≡ some (some x, rest) →
+      HasLeaf k x →
+      HasLeaf l x →
+      k ≢ l →
+      FormCause bytes 22 (length ds)
+  -- 22: it is nested more than 32 deep
+  tooDeep :
+      (ds : List (Definition (List ℕ))) (left : List ℕ) (x : Expression) (rest : List ℕ) →
+      Stand bytes ds (0x46 ∷ left) →
+      countIn constant ds < 65536 →
+      readExpression left ≡ some (some x, rest) →
+      32 < depth x →
+      FormCause bytes 22 (length ds)
+  -- 23: it is neither mixed nor too deep, and divides an integer by zero
+  byZero :
+      (ds : List (Definition (List ℕ))) (left : List ℕ) (x : Expression) (rest : List ℕ) (kind : Number) →
+      Stand bytes ds (0x46 ∷ left) →
+      countIn constant ds < 65536 →
+      readExpression left ≡ some (some x, rest) →
+      OfKind kind x →
+      depth x ≤ 32 →
+      DividesByZero kind x →
+      FormCause bytes 23 (length ds)
   -- 25, at the first text that isn't one: a 48 stands with it, ahead of it or behind, and either is the last record that was read
   noText :
       (ds : List (Definition (List ℕ))) (first : ℕ) (left : List ℕ) (x : Definition (List ℕ)) (rest : List ℕ) (q : ℕ) →
@@ -159,6 +198,7 @@ pub data FormCause (bytes : List ℕ) : ℕ → ℕ → Type 0 where
       InPlace ds x →
       HasPlace ds x →
       ((kind : Kind) (n : ℕ) → CitesEntry x kind n → n < countIn kind ds) →
+      (first ≡ 0x46 → ComesOut left) →
       Among (setting texts) (ds ++ x ∷ []) →
       FirstNoText (ds ++ x ∷ []) q →
       FormCause bytes 25 q
@@ -630,12 +670,12 @@ pub data RecordsStand (bytes : List ℕ) : ℕ → Type 0 where
 abbrev pub InRecords : List ℕ → ℕ → Type 0
 InRecords bytes place = (n : ℕ) × RecordsStand bytes n × (place ≤ n)
 
--- CAUSE PLACED: the number lies from 1 to 18 or from 24 to 26; the place is at most the number of records that stand, and the number of a
+-- CAUSE PLACED: the number lies from 1 to 18 or from 22 to 26; the place is at most the number of records that stand, and the number of a
 -- record if the job is well formed
 abbrev pub CausePlaced : Type 0
 CausePlaced =
     (lent : Lent) (bytes : List ℕ) (r : Refusal) → IsBytes bytes → run lent bytes ≡ bad r →
-    (1 ≤ r .code) × ((r .code ≤ 18) ⊎ ((24 ≤ r .code) × (r .code ≤ 26)))
+    (1 ≤ r .code) × ((r .code ≤ 18) ⊎ ((22 ≤ r .code) × (r .code ≤ 26)))
     × InRecords bytes (r .place) × ((job : Job (List ℕ)) → form bytes ≡ good job → r .place < records job)
 
 -- NO CAUSE: a job of bytes is built exactly if there is no cause of a refusal

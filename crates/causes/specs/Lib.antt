@@ -1,1 +1,2 @@
+pub mod ExpressionFaults
 pub mod CauseStatement
