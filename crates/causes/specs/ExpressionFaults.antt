@@ -9,8 +9,8 @@ use Rattle.definition.specs.Basics.{good, lookup}
 use Rattle.definition.specs.Expression.{Number, int, float, long, double, Sign, over, Expression, leaf, apply, bits, ofLeaf, ofSign, openings, readExpression}
 use Rattle.definition.specs.Value.{value}
 
--- where so many parts must come, one begins with a byte that is neither leaf tag nor sign; a whole leaf is one of them, and a sign needs one
--- more than are to come
+-- where so many parts must come, one begins with a byte that is neither leaf tag nor sign: the next of them, or one behind a leaf, which is
+-- one of them, or behind a sign, which is one and needs two more
 pub data BadByte : ℕ → List ℕ → Type 0 where
   here : (parts first : ℕ) (left : List ℕ) → lookup first openings ≡ none → BadByte (suc parts) (first ∷ left)
   pastLeaf :
@@ -35,7 +35,7 @@ pub data HasLeaf (kind : Number) : Expression → Type 0 where
 abbrev pub OfKind : Number → Expression → Type 0
 OfKind kind x = (k : Number) → HasLeaf k x → k ≡ kind
 
--- how deep it is nested
+-- how deep it is nested; a lone leaf is 1 deep
 unfoldable pub larger : ℕ → ℕ → ℕ
 larger m n = cond (leb m n) n m
 
