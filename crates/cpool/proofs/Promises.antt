@@ -213,7 +213,7 @@ module _ (job : List ℕ) (before after : Slices) (r : Outcome) (are : IsBytes j
       let work : after .work ≡ clearedAfter 0 (bad q) (before .work) = ap (λ (m : Memory). m .work) memory in
       record {
         low = omega (arith, n, non-zero (q .code) (fuelLasts job (lentOf (memoryOf before)) q are is));
-        high = subst (λ (c : ℕ). (c ≤ 18) ⊎ ((24 ≤ c) × (c ≤ 26))) (sym n) (code-high (lentOf (memoryOf before)) job q are is);
+        high = subst (λ (c : ℕ). (c ≤ 18) ⊎ ((22 ≤ c) × (c ≤ 26))) (sym n) (code-high (lentOf (memoryOf before)) job q are is);
         answers = ap (λ (m : Memory). m .answers) memory;
         marks = ap (λ (m : Memory). m .marks) memory;
         pool = ap (λ (m : Memory). m .pool) memory;

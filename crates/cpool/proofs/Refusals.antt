@@ -1,4 +1,4 @@
--- The numbers that refusals have: at most 18 or from 24 to 26, and behind refusals 1 and 2 neither of these. Assumes nothing.
+-- The numbers that refusals have: at most 18 or from 22 to 26, and behind refusals 1 and 2 neither of these. Assumes nothing.
 use mathlib.Core.Bool.{true, false}
 use mathlib.Core.List.{List}
 use mathlib.Core.Logic.{_⊎_, ⊎-elim}
@@ -21,7 +21,7 @@ use Rattle.store.proofs.Bounds.{formed-job, formed-short}
 use Rattle.cpool.proofs.Running.{goes-on, not-laid}
 
 -- a refusal's number is one that there is
-pub code-high : (lent : Lent) (bytes : List ℕ) (q : Refusal) → IsBytes bytes → run lent bytes ≡ bad q → (q .code ≤ 18) ⊎ ((24 ≤ q .code) × (q .code ≤ 26))
+pub code-high : (lent : Lent) (bytes : List ℕ) (q : Refusal) → IsBytes bytes → run lent bytes ≡ bad q → (q .code ≤ 18) ⊎ ((22 ≤ q .code) × (q .code ≤ 26))
 code-high lent bytes q are e = causePlaced lent bytes q are e .1
 
 -- so that of a record fits a word
@@ -36,7 +36,7 @@ pub layout-word : (s : List ℕ) → IsBytes s → WellFormed s → (r : Refusal
 layout-word s are well r e =
     let lent = just-enough (length s) in
     let ran = goes-on lent s (formed-short s well) (is-enough (length s)) ∙ not-laid lent s (jobIn s) r (formed-job s well) e in
-    ⊎-elim (λ (low : r .code ≤ 18). omega arith) (λ (high : (24 ≤ r .code) × (r .code ≤ 26)). high .1) (code-high lent s r are ran)
+    ⊎-elim (λ (low : r .code ≤ 18). omega arith) (λ (high : (22 ≤ r .code) × (r .code ≤ 26)). high .1) (code-high lent s r are ran)
 
 -- work and gaps are cleared after every number from 3 on
 pub late-cleared : (q : Refusal) → 3 ≤ q .code → untouched (bad q) ≡ false

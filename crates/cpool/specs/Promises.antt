@@ -65,10 +65,10 @@ pub record BuiltRun (before after : Slices) (n : Numbers) : Type 0 where
   pub class : PrefixOnly (n .classBytes) (before .class) (after .class)
   pub cleared : Cleared before after
 
--- a job that is refused has a number from 1 to 18 or from 24 to 26, and writes nothing
+-- a job that is refused has a number from 1 to 18 or from 22 to 26, and writes nothing
 pub record RefusedRun (before after : Slices) (n : Numbers) : Type 0 where
   pub low : 1 ≤ n .code
-  pub high : (n .code ≤ 18) ⊎ ((24 ≤ n .code) × (n .code ≤ 26))
+  pub high : (n .code ≤ 18) ⊎ ((22 ≤ n .code) × (n .code ≤ 26))
   pub answers : after .answers ≡ before .answers
   pub marks : after .marks ≡ before .marks
   pub pool : after .pool ≡ before .pool
