@@ -9,9 +9,9 @@ use lib.Dec.{eqb, leb, ltb}
 use lib.ListN.{length, drop, getD}
 use borrow.Author.Tests.{eqb-true, leb-true, leb-false, ltb-true}
 use Rattle.definition.specs.Basics.{every, lookup}
-use Rattle.definition.specs.Bytes.{Parser, return, andThen, _>>=_, one}
+use Rattle.definition.specs.Bytes.{Parser, return}
 use Rattle.definition.specs.Expression.{Number, int, float, long, double, tagOf, Sign, Expression, leaf, apply, Opening, ofLeaf, ofSign, openings, bits, joined, secondPart, openedPart, expression, alike, kindWithin}
-use Rattle.facts.proofs.Lists.{clash, none≢some, some-inj}
+use Rattle.facts.proofs.Lists.{none≢some, some-inj}
 use Rattle.facts.proofs.Results.{some-then}
 use Rattle.facts.proofs.Tables.{lookup-every}
 use Rattle.folding.specs.Folding.{OfKind}

@@ -255,7 +255,7 @@ module _ (s : List ℕ) (at : ℕ) where
         Refers s kind first between (x .kids) next → KidsTurn s (x .tag) 0 first (x .kids) next
     refers-turn kind first between k g r = rw (r .are) (r .behind, rw k (r .found), rw g (later-turn (r .others) 0 (r .behind + between) (r .rest)))
 
-    -- a number has none
+    -- no tag of a number is a Dynamic's
     number-first : (k : Number) → kidKind (tagOf k) 0 ≡ kindIf (eqb (tagOf k) 17 || eqb (tagOf k) 18)
     unfolding kidKind kindIn firstKind kindIf tagOf lookup bodies shapes
     number-first int = refl

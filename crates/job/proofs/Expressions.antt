@@ -11,10 +11,10 @@ use Rattle.definition.specs.Basics.{Result, good, bad, _>>=_, unless, every, lo
 use Rattle.definition.specs.Expression.{Number, int, float, long, double, tagOf, readExpression}
 use Rattle.definition.specs.Expression as expressions
 use Rattle.definition.specs.Value.{folded, constantIn}
-use Rattle.definition.specs.Shapes.{Kind, constant, Field, bits, shapes, bootstrapShape, Entry}
+use Rattle.definition.specs.Shapes.{constant, Field, bits, shapes, bootstrapShape, Entry}
 use Rattle.definition.specs.Job.{Reference, Definition, Body, ofEntry, ofName, ofRaw, ofExpression, ofNumber, ofNothing, bodies, asConstant, workedOut, readDefinition}
 use Rattle.definition.specs.Form.{Counts, kindOf, whole, mayStand, hasRoom, citesEarlier, comesOut, formDefinition}
-use Rattle.facts.proofs.Lists.{clash, true≢false, none≢some, some-inj}
+use Rattle.facts.proofs.Lists.{clash, none≢some}
 use Rattle.facts.proofs.Results.{bad≢good, good-then}
 use Rattle.facts.proofs.Tables.{lookup-every}
 use Rattle.laws.proofs.form.DefinitionsRead.{formed-read}

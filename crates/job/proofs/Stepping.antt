@@ -12,7 +12,7 @@ use Rattle.facts.proofs.Lists.{clash, true≢false, some-inj}
 use Rattle.facts.proofs.Results.{some-then}
 use Rattle.definition.specs.Basics.{Result, good, bad, _>>=_, unless, every, only}
 use Rattle.definition.specs.Expression as expressions
-use Rattle.definition.specs.Expression.{Number, readExpression}
+use Rattle.definition.specs.Expression.{readExpression}
 use Rattle.definition.specs.Value.{folded}
 use Rattle.definition.specs.Bytes.{return, andThen, two}
 use Rattle.definition.specs.Settings.{Setting, version, texts, highest, isSlot}
@@ -223,7 +223,7 @@ module _ (c : JobCounts) (s : List ℕ) (at : ℕ) (opening : Opening) (right : 
           bounded = bounded-one opening c at references (numberIn (v .value)) next bounded (v .past);
         }
 
-    -- what may follow nothing else cites nothing
+    -- settings and expressions cite nothing
     pub bare-cited : isPlain opening ≡ false → cited ≡ true
     bare-cited h = v .cites ∙ of-opening .bare h (tablesIn c)
 

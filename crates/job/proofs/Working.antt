@@ -5,16 +5,15 @@ use mathlib.Core.Option.{Option, none, some}
 use mathlib.Core.Path.{_≡_, refl, sym, ap, _∙_}
 use Prim.Native.Nat.{ℕ, _+_, _/_, _%_, _≤_}
 use native.Mathlib.Omega.{arith}
-use lib.Dec.{eqb}
 use lib.ListN.{length, getD, drop}
 use Rattle.facts.proofs.Lists.{clash, none≢some, some-inj, same-place}
 use Rattle.facts.proofs.Results.{good-inj, good-then}
-use Rattle.definition.specs.Basics.{Result, good, bad, lookup}
+use Rattle.definition.specs.Basics.{good}
 use Rattle.definition.specs.Bytes.{be4, be8}
 use Rattle.definition.specs.Expression.{Number, int, float, long, double, tagOf, Expression, readExpression, kindWithin}
 use Rattle.definition.specs.Value.{value, oneKind, folded, bitsBytes, constantIn}
 use Rattle.definition.specs.Shapes.{Entry, isWide}
-use Rattle.definition.specs.Job.{Reference, Definition, define, bodies, asConstant, readDefinition}
+use Rattle.definition.specs.Job.{Reference, Definition, define, asConstant, readDefinition}
 use Rattle.folding.specs.declared.Constant.{Constant}
 use Rattle.folding.specs.declared.Constant.the-variants.{Of, Refused}
 use Rattle.folding.specs.Folding.{constantAs, OfKind, HasKind, TellsKind}

@@ -2,7 +2,7 @@
 use Prim.Native.Nat.{_-_}
 use native.Mathlib.Omega.{arith}
 use lib.ListN.{length}
-use mathlib.Core.Path.{sym, _∙_}
+use mathlib.Core.Path.{_∙_}
 use Rattle.definition.specs.Expression.{Number}
 use Rattle.folding.specs.Folding.{OfKind, HasKind}
 use Rattle.folding.proofs.FirstLeaf.{first-tells, later-kind, leaf-tells}
