@@ -14,8 +14,10 @@ use Rattle.definition.specs.Bytes.{one, many, be4, be8}
 use Rattle.definition.specs.Expression.{Number, int, float, long, double, tagOf, readExpression}
 use Rattle.definition.specs.Form.{Counts, nothingYet, counted, whole, mayStand, hasRoom, textsHeld, cites, citesEarlier, comesOut, formDefinition, Definitions, formDefinitions, formRequest, Requests, formRequests, form}
 use Rattle.definition.specs.Job.{Definition, define, Request, Job, bodies, asConstant, workedOut, readBody, readDefinition, asks, readRequest}
+use Rattle.definition.specs.Opened.{opened}
 use Rattle.definition.specs.Run.{Lent, longestJob, enough, fits, Placed, build, run}
 use Rattle.definition.specs.Shapes.{shapes, readEntry, readFields, withLiteral}
+use Rattle.definition.specs.Starred.{digit, bytes as fromHex}
 use Rattle.definition.specs.Value.{bitsBytes, folded as comesTo, constantIn}
 use Rattle.facts.proofs.Lists.{both-true}
 use Rattle.facts.proofs.Results.{bad≢good, good-then, good-inj, atRecord-good, whole-good, some-then, decided}
@@ -353,3 +355,8 @@ folded bytes job e =
           ∙ ap (λ (b : Result Refusal Placed). b >>= λ r. atRecord (r .0) (unless (fits (r .1) lent) 18) >>= λ _. good (r .1)) same
           ∙ sym (run-builds lent bytes h k),
     )
+
+-- 1.0 / 3.0 behind a text, in front of an Int: what is written plainly
+written : plainly (fromHex "010000462f043f8000000440400000030000000150") ≡ fromHex "010000043eaaaaab030000000150"
+unfolding opened digit fromHex plainly plainFrom plainRecord plainConstant
+written = refl
