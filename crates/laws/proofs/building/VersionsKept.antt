@@ -34,10 +34,10 @@ module _ (nodes : List Node) where
   unfolding slotsOf
   slotsOf-version [] p r e = subst (λ (y : List ℕ × Pool). y .1 .version ≡ p .version) (good-inj e) refl
   slotsOf-version (child ∷ children) p r e =
-      good-then (slotOf nodes false child p) _ r e λ x first e₁.
+      good-then (atRecord (child - firstNode) (slotOf nodes false child p)) _ r e λ x first e₁.
       good-then (slotsOf nodes children (x .1)) _ r e₁ λ rest others e₂.
       subst (λ (y : List ℕ × Pool). y .1 .version ≡ p .version) (good-inj e₂)
-      (slotsOf-version children (x .1) rest others ∙ slotOf-version false child p x first)
+      (slotsOf-version children (x .1) rest others ∙ slotOf-version false child p x (atRecord-good (child - firstNode) (slotOf nodes false child p) x first))
 
   pub rawRows-version :
       (falling : List (ℕ × ℕ)) (p : Pool) (rows : List (ℕ × Row)) (r : List (ℕ × Row) × Pool) →
@@ -54,11 +54,11 @@ module _ (nodes : List Node) where
       decided (eqb (tagAt nodes k) bootstrapTag) _ _ (good r) e
       (λ _ h.
       good-then (slotsOf nodes (kidsOf nodes k) p) _ r h λ x first e₁.
-      good-then (rowIndex (x .0) rows) _ r e₁ λ i _ e₂.
+      good-then (atRecord k (rowIndex (x .0) rows)) _ r e₁ λ i _ e₂.
       subst (λ (y : ℕ × Pool × Rows). y .1 .version ≡ p .version) (good-inj e₂) (slotsOf-version (kidsOf nodes k) p x first))
       (λ _ h.
-      good-then (allocate nodes false k p) _ r h λ x first e₁.
-      subst (λ (y : ℕ × Pool × Rows). y .1 .version ≡ p .version) (good-inj e₁) (allocate-version false k p x first))
+      good-then (atRecord k (allocate nodes false k p)) _ r h λ x first e₁.
+      subst (λ (y : ℕ × Pool × Rows). y .1 .version ≡ p .version) (good-inj e₁) (allocate-version false k p x (atRecord-good k (allocate nodes false k p) x first)))
 
   childNumber-version :
       (child : ℕ) (p : Pool) (rows : Rows) (r : ℕ × Pool × Rows) → childNumber nodes child p rows ≡ good r → r .1 .version ≡ p .version
