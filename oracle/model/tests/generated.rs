@@ -20,7 +20,10 @@ fn settings_meet_their_refusals() {
     let wanted = [0, 6, 7, 8, 9, 10, 11, 12, 13, 14, 15, 16, 24, 25];
     assert_eq!(met, BTreeSet::from(wanted));
     let met = codes("settings_damaged", 4_000);
-    let wanted = [0, 3, 4, 6, 7, 8, 9, 10, 11, 12, 13, 14, 15, 16, 24, 25, 26];
+    // A byte 46 brings 22.
+    let wanted = [
+        0, 3, 4, 6, 7, 8, 9, 10, 11, 12, 13, 14, 15, 16, 22, 24, 25, 26,
+    ];
     assert_eq!(met, BTreeSet::from(wanted));
 }
 
