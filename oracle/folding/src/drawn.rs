@@ -68,10 +68,14 @@ fn integers(kind: u8, random: &mut Random) -> (u64, u64) {
     }
 }
 
-/// Random ones of every length, and those about powers of two, of both signs.
+/// Random ones of every length, those about powers of two, of both signs, and the ends.
 fn integer(kind: u8, random: &mut Random) -> u64 {
     let width = if kind == INT { 32 } else { 64 };
     let length = random.below(width + 1);
+    if random.chance(1, 8) {
+        let lowest = u64::MAX << (width - 1);
+        return *random.pick(&[0, 1, u64::MAX, lowest, !lowest]);
+    }
     let positive = match random.below(4) {
         0 => random.bits(),
         1 | 2 => random.bits().checked_shr(64 - length as u32).unwrap_or(0),

@@ -230,6 +230,7 @@ fn changed_back(kind: u8, expression: &[u8], wanted: u64, random: &mut Random) -
 /// An expression and its value, if it has one.
 pub fn some_expression(kind: u8, random: &mut Random) -> (Vec<u8>, Option<Vec<u8>>) {
     let tree = match random.below(8) {
+        0 if kind == INT || kind == LONG => lowest_over_minus_one(kind),
         0 => Tree::leaf(kind, random),
         1..4 => Tree::leaf(kind, random).and_leaf(kind, random),
         4..6 => bushy(kind, 1 + random.below(5), random),
@@ -275,6 +276,18 @@ impl Tree {
             true => Tree::of(kind, self, leaf, random),
             false => Tree::of(kind, leaf, self, random),
         }
+    }
+}
+
+/// The one quotient that is out of range.
+fn lowest_over_minus_one(kind: u8) -> Tree {
+    let lowest = match kind {
+        INT => 1 << 31,
+        _ => 1 << 63,
+    };
+    Tree {
+        bytes: signed(b'/', &leaf(kind, lowest), &leaf(kind, u64::MAX)),
+        value: Some(lowest),
     }
 }
 
