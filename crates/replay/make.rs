@@ -3,7 +3,8 @@
 //! `make GENERATE DRIVER MODEL FOLDER`, where the first three are oracle/'s programs. Jobs come from the generators with fixed seeds, and
 //! a few are made here. Lines come from the driver, but for jobs with records 47 to 49, which the Rust doesn't know: these have the
 //! model's, as all others do too, but for the place of a refusal met while building, which the Rust tells at the build record: that is
-//! the model's alone. Nor does the Rust know refusals 2 and 18: there document 01 says what the line is. A job is left out if its line is long, if it is long itself but not too long for any memory, or if it is
+//! the model's alone. Of a record 46 the driver gives the Rust the value, and tells 22 and 23 itself. Nor does the Rust know refusals 2
+//! and 18: there document 01 says what the line is. A job is left out if its line is long, if it is long itself but not too long for any memory, or if it is
 //! refused with 12 or 13 at record 50 and has several raw definitions, where the Rust's number can change from run to run.
 
 use std::error::Error;
@@ -24,6 +25,9 @@ const SEEDED: &[(&str, &str, &str, usize)] = &[
     ("settings", "7106", "500", 300),
     ("settings_damaged", "7107", "300", 200),
     ("lowest", "7108", "300", 200),
+    ("worked", "7109", "500", 300),
+    ("worked_damaged", "7110", "300", 200),
+    ("worked_pairs", "7111", "50", 80),
 ];
 
 /// The longest lines and the longest packed job that are stored.
@@ -58,7 +62,7 @@ fn main() -> Result<(), Trouble> {
     store.add(
         answered(frames(&output(generate, &["heavy"], &[])?)?)?,
         HEAVY_LINE,
-        78,
+        82,
     );
     store.add(answered(own_jobs())?, LINE, 4);
     store.add_lent()?;
@@ -248,7 +252,7 @@ impl Store {
             .count();
         let (all, out) = (self.lines.lines().count(), self.left_out);
         println!("{all} jobs stored, {out} left out; built {built}");
-        for code in (1..=18).chain(24..=26) {
+        for code in (1..=18).chain(22..=26) {
             println!("refused {code}: {}", count(code.to_string()));
         }
         println!(

@@ -87,6 +87,35 @@ fn a_bad_text_too_many_is_one_too_many() {
     assert_eq!(rotblossom::build(&job), Err(refusal(5, 65_537)));
 }
 
+/// A full table of texts, and then a record 46 with a bad byte, or an Int divided by zero: 5 is told ahead of 22 and 23. A cut one is 3.
+#[test]
+fn an_expression_too_many_is_one_too_many() {
+    for (expression, code) in [
+        ("46 00", 5),
+        ("46 2f 03 00000001 03 00000000", 5),
+        ("46 03 00000001", 5),
+        ("46 2b", 3),
+    ] {
+        let mut job = bytes("01 0000").repeat(65_536);
+        job.extend(bytes(expression));
+        let refused = Err(refusal(code, 65_536));
+        assert_eq!(rotblossom::build(&job), refused, "{expression}");
+    }
+}
+
+/// A bad byte, mixed kinds and more than 32 deep are 22, an integer divided by zero is 23, at the record 46 itself.
+#[test]
+fn expressions_are_refused_22_and_23() {
+    let refused = |expression: &str| build(&format!("01 0000 46 {expression} 50 60 02 00 0000"));
+    assert_eq!(refused("07"), Err(refusal(22, 1)));
+    let mixed = "2f 2f 03 00000001 03 00000000 04 00000000";
+    assert_eq!(refused(mixed), Err(refusal(22, 1)));
+    let deep = format!("{} {}", "2b".repeat(32), "03 00000001".repeat(33));
+    assert_eq!(refused(&deep), Err(refusal(22, 1)));
+    let by_zero = "2f 05 0000000000000001 05 0000000000000000";
+    assert_eq!(refused(by_zero), Err(refusal(23, 1)));
+}
+
 /// Records 47 to 49 are counted as any others.
 #[test]
 fn a_second_version_is_3_at_its_own_record() {

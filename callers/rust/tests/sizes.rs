@@ -113,6 +113,20 @@ fn the_longest_class_name() {
     builds(&job, expected);
 }
 
+/// A sum of 131,072 ones, each half of it a sum of two halves: 18 deep, 786,431 bytes.
+#[test]
+fn a_long_expression() {
+    let mut sum = bytes("03 00000001");
+    for _ in 0..17 {
+        sum = [b"+", &sum[..], &sum[..]].concat();
+    }
+    assert_eq!(sum.len(), 786_431);
+    let mut job = vec![0x46];
+    job.extend(sum);
+    job.extend(bytes("50 51 01 0000 60 02 00 0000"));
+    builds(&job, plain(&[1], bytes("0002 03 00020000"), 2));
+}
+
 /// 262,140 bytes of bootstraps, and 13,369,140.
 #[test]
 fn a_bootstrap_at_every_index() {

@@ -1,5 +1,6 @@
 //! Holds the proved library and the model to Krakatau's module: the same jobs through all three, in one process. Of jobs with records 47 to
 //! 49 the module has the last word where these change nothing, and else the model, as it has of the place of a refusal met while building.
+//! Of a record 46 the module is given the value that the driver works out; 22 and 23 are told by model and driver alone.
 //!
 //! `compare` takes the whole, `compare KIND SEED COUNT`, `compare heavy`, `heavy_settings` or `short` a part; `--threads N` comes first.
 
@@ -20,7 +21,8 @@ use std::time::{Duration, Instant};
 use tally::{HEAD, Tally, row};
 
 const USAGE: &str = "usage: compare [--threads N] [heavy | heavy_settings | short | KIND SEED COUNT]
-       KIND is small, damaged, pairs, orders, ldcfull, settings, settings_damaged, settings_pairs, lowest, lowest_full or lowest_pairs";
+       KIND is small, damaged, pairs, orders, ldcfull, settings, settings_damaged, settings_pairs, lowest, lowest_full, lowest_pairs,
+       worked, worked_damaged or worked_pairs";
 
 /// So many jobs are taken by a thread at once.
 const BATCH: usize = 16;
@@ -154,14 +156,15 @@ mod tests {
     use super::*;
     use expected::{End, OfModel};
 
-    /// Among them are those that need more memory than a stack has: all 65,535 bootstrap indexes used (17), the longest job.
+    /// Among them are those that need more memory than a stack has: all 65,535 bootstrap indexes used (17), the longest job and the longest
+    /// expressions.
     #[test]
     fn every_heavy_job_ends_as_in_the_module() {
         let part = Part::of(&["heavy"]).unwrap();
         let threads = thread::available_parallelism().map_or(1, usize::from);
         let tally = compare(&part, threads, Instant::now());
         assert_eq!(tally.differences, Vec::<String>::new());
-        assert_eq!((tally.jobs, tally.different), (87, 0));
+        assert_eq!((tally.jobs, tally.different), (105, 0));
     }
 
     /// Case a of document 01: the model builds it, and another end is a difference.
@@ -232,6 +235,23 @@ mod tests {
         for kind in ["settings", "settings_damaged", "settings_pairs"] {
             none_different(kind, "2000");
         }
+    }
+
+    /// Jobs with record 46, refused 22 and 23 too.
+    #[test]
+    fn jobs_with_expressions_end_as_in_model_and_module() {
+        for kind in ["worked", "worked_damaged", "worked_pairs"] {
+            none_different(kind, "2000");
+        }
+    }
+
+    /// A model that differs from the module is told of a job with a record 46.
+    #[test]
+    fn the_module_has_a_say_in_jobs_with_expressions() {
+        let job = jobs::hex::bytes("46 2b 03 00000001 03 00000002 50 51 01 0000 60 02 00 0000");
+        let of_model = of_model(&job);
+        assert!(expected(&job, &of_model, true).is_ok());
+        assert!(expected(&job, &with_another_visit(of_model), true).is_err());
     }
 
     /// About half of them are, of small pools and of full ones.

@@ -13,8 +13,8 @@ pub struct Part {
     pub drawn: Option<(u64, usize)>,
 }
 
-/// What is compared when no part is named: thirteen million generated jobs, and all of the fixed ones.
-const WHOLE: [(&str, u64, usize); 9] = [
+/// What is compared when no part is named: fourteen million generated jobs, and all of the fixed ones.
+const WHOLE: [(&str, u64, usize); 12] = [
     ("small", 8101, 2_000_000),
     ("pairs", 8102, 500_000),
     ("orders", 8103, 500_000),
@@ -24,6 +24,9 @@ const WHOLE: [(&str, u64, usize); 9] = [
     ("settings_damaged", 8107, 1_000_000),
     ("lowest", 8109, 999_000),
     ("lowest_full", 8110, 1_000),
+    ("worked", 8111, 600_000),
+    ("worked_damaged", 8112, 300_000),
+    ("worked_pairs", 8113, 100_000),
 ];
 const FIXED: [&str; 3] = ["heavy", "heavy_settings", "short"];
 
@@ -85,7 +88,7 @@ fn short_strings() -> impl Iterator<Item = Vec<u8>> + Send {
 }
 
 fn is_kind(byte: u8) -> bool {
-    matches!(byte, 1 | 3..=12 | 15..=20 | 0x40..=0x44 | 0x47..=0x49 | 0x50..=0x52 | 0x60)
+    matches!(byte, 1 | 3..=12 | 15..=20 | 0x40..=0x44 | 0x46..=0x49 | 0x50..=0x52 | 0x60)
 }
 
 #[cfg(test)]
@@ -94,20 +97,20 @@ mod tests {
     use std::collections::BTreeSet;
 
     #[test]
-    fn the_whole_is_thirteen_million_and_the_fixed_jobs() {
+    fn the_whole_is_fourteen_million_and_the_fixed_jobs() {
         let drawn: usize = whole()
             .iter()
             .filter_map(|part| part.drawn)
             .map(|d| d.1)
             .sum();
-        assert_eq!(drawn, 13_000_000);
+        assert_eq!(drawn, 14_000_000);
         assert!(whole().iter().all(|part| part.jobs().is_some()));
     }
 
     #[test]
     fn short_strings_are_all_there_once() {
         let all: Vec<Vec<u8>> = short_strings().collect();
-        assert_eq!(all.len(), 1 + 256 + 65_536 + 29 * 65_536);
+        assert_eq!(all.len(), 1 + 256 + 65_536 + 30 * 65_536);
         assert_eq!(all.iter().collect::<BTreeSet<_>>().len(), all.len());
     }
 

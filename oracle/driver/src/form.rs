@@ -1,5 +1,7 @@
-//! The form pass of document 01 ("A job"): bytes to records, or refusal 1, 3, 5 or 4.
+//! The form pass of document 01 ("A job"), with record 46 of document 02: bytes to records, or refusal 1, 3, 5, 4, 22 or 23. A record 46
+//! becomes the plain constant that it is worked out to.
 
+use crate::expression;
 use jobs::record::{ClassSlot, Constant, Record, Reference};
 
 const LONGEST_JOB: usize = 1_048_576;
@@ -134,6 +136,10 @@ impl Reader<'_> {
                 index: self.number()?,
                 entry: self.number()?,
             }),
+            0x46 => {
+                let length = expression::length(self.rest)?;
+                Some(Record::Expression(self.bytes(length)?))
+            }
             0x47 => Some(Record::Version(self.number()?)),
             0x48 => Some(Record::HoldTexts),
             0x49 => Some(Record::HighestSlot(self.number()?)),
@@ -203,10 +209,13 @@ impl Seen {
         let record = reader.record().ok_or(BAD_FORM)?;
         self.check(&record)?;
         self.add(&record);
-        Ok(record)
+        match record {
+            Record::Expression(bytes) => expression::worked_out(&bytes).map(Record::Constant),
+            record => Ok(record),
+        }
     }
 
-    /// 3, then 5, then 4: the order within a record.
+    /// 3, then 5, then 4: the order within a record, ahead of 22 and 23.
     fn check(&self, record: &Record) -> Result<(), u8> {
         if place_of(record) != self.phase {
             Err(BAD_FORM)
@@ -221,7 +230,7 @@ impl Seen {
 
     fn table_is_full(&self, record: &Record) -> bool {
         match record {
-            Record::Constant(_) => self.constants >= TABLE_ENTRIES,
+            Record::Constant(_) | Record::Expression(_) => self.constants >= TABLE_ENTRIES,
             Record::Bootstrap { .. } => self.bootstraps >= TABLE_ENTRIES,
             _ => false,
         }
@@ -262,7 +271,7 @@ impl Seen {
 
     fn add(&mut self, record: &Record) {
         match record {
-            Record::Constant(_) => self.constants += 1,
+            Record::Constant(_) | Record::Expression(_) => self.constants += 1,
             Record::Bootstrap { .. } => self.bootstraps += 1,
             Record::Ask(_) | Record::AskLdc(_) => self.requests += 1,
             Record::EndOfDefinitions => self.phase = Phase::Requests,

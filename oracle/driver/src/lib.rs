@@ -1,8 +1,9 @@
-//! Runs jobs of document 01 through Krakatau's `cpool` module and shows what it answered.
+//! Runs jobs of document 01 through Krakatau's `cpool` module and shows what it answered. Record 46 (document 02) is given to it as its value.
 
 pub mod bench;
 pub mod end_of_definitions;
 pub mod expected;
+pub mod expression;
 pub mod form;
 pub mod frames;
 mod marks;

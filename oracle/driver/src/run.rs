@@ -324,6 +324,7 @@ fn with_hex_name(record: &Record) -> Record {
         Record::AskLdc(r) => Record::AskLdc(hex_reference(r)),
         Record::RawConstant { .. }
         | Record::RawBootstrap { .. }
+        | Record::Expression(_)
         | Record::Version(_)
         | Record::HoldTexts
         | Record::HighestSlot(_)

@@ -9,7 +9,7 @@ use jobs::record::{Record, encode};
 const HIGHEST_SLOT: u16 = 65_534;
 
 pub struct JobWithSettings {
-    /// Those ahead of the first fault that is none of these records' own.
+    /// Those ahead of the first fault that is none of these records' own; a record 46 is the constant that it is worked out to.
     records: Vec<Record>,
     fault: Option<Fault>,
 }

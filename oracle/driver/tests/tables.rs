@@ -27,12 +27,13 @@ fn the_starred_table_has_the_drivers_texts() {
     hold(&rows);
 }
 
-/// The first are the decided points of document 02, No. 6; the Rust doesn't know the records of the others.
+/// The first are the decided points of document 02, No. 6, the last those of No. 3; the Rust doesn't know the records of the others.
 #[test]
-fn the_readings_of_marks_have_the_drivers_texts() {
+fn the_readings_of_marks_and_expressions_have_the_drivers_texts() {
     let rows = rows("Readings.antt");
-    assert_eq!(rows.len(), 52);
+    assert_eq!(rows.len(), 80);
     hold(&rows[..6]);
+    hold(&rows[53..]);
 }
 
 fn hold(rows: &[Row]) {

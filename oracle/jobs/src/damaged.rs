@@ -92,6 +92,7 @@ fn cited_numbers(record: &mut Record) -> Vec<&mut u16> {
             class: ClassSlot::Request(request),
             ..
         } => return vec![request],
+        Record::Expression(_) => vec![],
         Record::Version(_) | Record::HoldTexts | Record::HighestSlot(_) => vec![],
         Record::Build { .. } | Record::EndOfDefinitions => vec![],
     };
@@ -185,6 +186,7 @@ fn form_offsets(record: &Record) -> Vec<usize> {
         Record::Ask(_) | Record::AskLdc(_) => vec![1],
         Record::Build { .. } => vec![1, 2],
         Record::RawConstant { .. } | Record::RawBootstrap { .. } => vec![],
+        Record::Expression(_) => vec![],
         Record::Version(_) | Record::HoldTexts | Record::HighestSlot(_) => vec![],
         Record::EndOfDefinitions => vec![],
     }

@@ -1,6 +1,7 @@
 //! Heavy jobs: a fixed list that reaches the limits random jobs never meet.
 
 mod bootstraps;
+mod expressions;
 mod names;
 mod slots;
 mod tables;
@@ -172,6 +173,57 @@ pub const LIST: &[(&str, Heavy)] = &[
     ("texts_with_equal_sums", volume::equal_sums),
     ("texts_65535_bytes_alike_to_the_end", volume::alike_texts),
     ("equal_ints_60000", volume::equal_ints),
+    (
+        "expression_500000_and_60000_equal",
+        expressions::equal_to_a_long_one,
+    ),
+    ("expression_1048565_of_ints", expressions::ints),
+    ("expression_1048565_of_floats", expressions::floats),
+    ("expression_1048559_of_longs", expressions::longs),
+    ("expression_1048559_of_doubles", expressions::doubles),
+    (
+        "expression_divided_by_zero_at_the_end_refusal_23",
+        expressions::divided_at_the_end,
+    ),
+    (
+        "expression_mixed_at_the_end_refusal_22",
+        expressions::mixed_at_the_end,
+    ),
+    (
+        "expression_33_deep_at_the_end_refusal_22",
+        expressions::deep_at_the_end,
+    ),
+    (
+        "expression_32_deep_at_the_end",
+        expressions::deepest_at_the_end,
+    ),
+    ("expression_170000_deep_refusal_22", expressions::deep),
+    ("expression_of_1048575_signs_refusal_3", expressions::signs),
+    (
+        "expression_of_signs_and_a_bad_byte_refusal_22",
+        expressions::signs_and_a_bad_byte,
+    ),
+    ("expressions_60000", expressions::sums_of_their_own),
+    (
+        "expressions_60000_of_one_value",
+        expressions::sums_of_one_value,
+    ),
+    (
+        "constants_65536_last_worked",
+        expressions::last_of_the_table,
+    ),
+    (
+        "constant_65537_expression_bad_refusal_5",
+        expressions::over_with_a_bad_byte,
+    ),
+    (
+        "constant_65537_expression_divided_by_zero_refusal_5",
+        expressions::over_divided_by_zero,
+    ),
+    (
+        "constant_65537_expression_cut_refusal_3",
+        expressions::over_and_cut,
+    ),
 ];
 
 fn number(i: usize) -> u16 {

@@ -1,4 +1,4 @@
-//! The records of a job (document 01, "A job", and 47 to 49 of document 02) and their bytes.
+//! The records of a job (document 01, "A job", and 46 to 49 of document 02) and their bytes.
 
 /// A reference: byte 0 and a raw slot, 1 and an entry number, or 2 and a name.
 #[derive(Clone, Debug, PartialEq, Eq)]
@@ -40,7 +40,9 @@ pub enum Record {
         index: u16,
         entry: u16,
     },
-    /// 47: the class version (document 02, No. 5).
+    /// 46: a constant given as an expression, whose bytes these are (document 02, No. 3).
+    Expression(Vec<u8>),
+    /// 47: the class version (No. 5).
     Version(u16),
     /// 48: every text is held to JVMS 4.4.7 (No. 8).
     HoldTexts,
@@ -103,6 +105,10 @@ impl Record {
             Record::RawBootstrap { index, entry } => {
                 tagged_number(out, 0x44, *index);
                 number(out, *entry);
+            }
+            Record::Expression(bytes) => {
+                out.push(0x46);
+                out.extend_from_slice(bytes);
             }
             Record::Version(version) => tagged_number(out, 0x47, *version),
             Record::HoldTexts => out.push(0x48),

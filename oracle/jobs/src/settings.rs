@@ -85,12 +85,14 @@ fn insert_definition(records: &mut Vec<Record>, first: usize, record: Record, ra
 }
 
 /// Behind all other definitions, so that every entry may be cited.
-fn define_last(records: &mut Vec<Record>, record: Record) {
+pub fn define_last(records: &mut Vec<Record>, record: Record) {
     records.insert(end_of_definitions(records), record);
 }
 
-fn constants(records: &[Record]) -> u16 {
-    let constants = records.iter().filter(|r| matches!(r, Record::Constant(_)));
+pub fn constants(records: &[Record]) -> u16 {
+    let constants = records
+        .iter()
+        .filter(|r| matches!(r, Record::Constant(_) | Record::Expression(_)));
     constants.count() as u16
 }
 
@@ -135,7 +137,7 @@ fn a_reference(entries: u16, random: &mut Random) -> Reference {
 }
 
 /// Anywhere among the requests.
-fn request(records: &mut Vec<Record>, entry: u16, random: &mut Random) {
+pub fn request(records: &mut Vec<Record>, entry: u16, random: &mut Random) {
     let first = end_of_definitions(records) + 1;
     let place = first + random.below(records.len() - first);
     let record = match random.chance(1, 6) {

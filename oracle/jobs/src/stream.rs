@@ -2,7 +2,7 @@
 
 use crate::random::Random;
 use crate::record::encode;
-use crate::{damaged, heavy, lowest, pairs, settings, small};
+use crate::{damaged, heavy, lowest, pairs, settings, small, worked};
 use std::io::{self, ErrorKind, Read, Write};
 use std::iter;
 
@@ -21,6 +21,9 @@ pub fn seeded(kind: &str) -> Option<Step> {
         "lowest" => |random| vec![encode(&lowest::lowest_job(random))],
         "lowest_full" => |random| vec![encode(&lowest::lowest_full_job(random))],
         "lowest_pairs" => |random| both(pairs::lowest_pair(random)),
+        "worked" => |random| vec![encode(&worked::worked_job(random))],
+        "worked_damaged" => |random| vec![worked::damaged_worked_job(random)],
+        "worked_pairs" => |random| both(worked::worked_pair(random)),
         "orders" => |random| both(pairs::order_pair(random)),
         _ => return None,
     })

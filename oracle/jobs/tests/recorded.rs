@@ -6,7 +6,7 @@ use jobs::random::Random;
 use jobs::record::encode;
 use jobs::stream::{heavy_jobs, seeded};
 
-const RECORDED: [(&str, u64); 13] = [
+const RECORDED: [(&str, u64); 16] = [
     ("small", 0x9264_b943_53df_e0fd),
     ("ldcfull", 0xa876_3ac8_7897_08b0),
     ("damaged", 0xb7ab_379a_cd71_7249),
@@ -18,7 +18,10 @@ const RECORDED: [(&str, u64); 13] = [
     ("lowest", 0x41e7_d7f7_87dc_5c04),
     ("lowest_full", 0xc9c0_bef5_ed89_3b10),
     ("lowest_pairs", 0x1c9a_f059_ef5e_02e9),
-    ("heavy", 0xae62_233d_2cf4_5a4d),
+    ("worked", 0x0312_3293_2c60_a7c6),
+    ("worked_damaged", 0xdee4_0fca_f236_80d7),
+    ("worked_pairs", 0x2bac_d0fd_1574_1339),
+    ("heavy", 0xd164_eeca_68df_0fce),
     ("large", 0xb587_779e_3f02_253b),
 ];
 
@@ -59,6 +62,9 @@ fn jobs_are_those_recorded() {
         of_kind("lowest"),
         first_of_kind("lowest_full", 10),
         of_kind("lowest_pairs"),
+        of_kind("worked"),
+        of_kind("worked_damaged"),
+        of_kind("worked_pairs"),
         ("heavy", hash(heavy_jobs())),
         (
             "large",

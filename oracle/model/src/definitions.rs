@@ -57,7 +57,10 @@ impl<'a> Definitions<'a> {
             Record::HighestSlot(highest) => self.settings.highest = *highest,
             // The form pass held the texts.
             Record::HoldTexts => {}
-            Record::EndOfDefinitions | Record::Ask { .. } | Record::Build { .. } => {
+            Record::BadExpression(_)
+            | Record::EndOfDefinitions
+            | Record::Ask { .. }
+            | Record::Build { .. } => {
                 unreachable!("the form pass leaves none among the definitions")
             }
         }

@@ -1,4 +1,4 @@
-//! The form pass: 1, then over the whole job 3, 5, 25 and 4 within each record, and 26 behind 3.
+//! The form pass: 1, then over the whole job 3, 5, 25, 4, 22 and 23 within each record, and 26 behind 3.
 
 mod read;
 
@@ -94,6 +94,9 @@ impl Seen {
         if !self.has_cited(&record) {
             return Err(NOT_THERE);
         }
+        if let Record::BadExpression(code) = record {
+            return Err(code);
+        }
         self.add(&record);
         Ok(record)
     }
@@ -126,6 +129,7 @@ impl Seen {
     fn has_room(&self, record: &Record) -> bool {
         match record {
             Record::Entry(entry) => self.entries(entry.kind()) < TABLE_ENTRIES,
+            Record::BadExpression(_) => self.constants < TABLE_ENTRIES,
             _ => true,
         }
     }
@@ -159,6 +163,7 @@ impl Seen {
             Record::Ask { .. } => self.requests += 1,
             Record::Build { .. } => self.part = Part::Over,
             Record::HighestSlot(_) | Record::Name(..) | Record::Raw { .. } => {}
+            Record::BadExpression(_) => unreachable!("its number is told first"),
         }
     }
 }

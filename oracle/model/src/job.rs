@@ -1,4 +1,6 @@
-//! A job (document 01, "A job"): a row of records numbered from 0, those of document 02 (47, 48, 49) among them.
+//! A job (document 01, "A job"): a row of records numbered from 0, those of document 02 (46 to 49) among them.
+
+use std::borrow::Cow;
 
 /// Constants and bootstraps are numbered, and named, apart.
 #[derive(Clone, Copy, Debug, PartialEq, Eq, Hash)]
@@ -32,11 +34,12 @@ pub struct Citation<'a> {
     pub reference: Reference<'a>,
 }
 
-/// A constant or a bootstrap. The literal is a text's bytes, a number's bits or tag 15's kind byte.
+/// A constant or a bootstrap. The literal is a text's bytes, a number's bits, read or worked
+/// out, or tag 15's kind byte.
 #[derive(Clone, Debug, PartialEq, Eq)]
 pub struct Entry<'a> {
     pub tag: u8,
-    pub literal: &'a [u8],
+    pub literal: Cow<'a, [u8]>,
     pub children: Vec<Citation<'a>>,
 }
 
@@ -70,7 +73,10 @@ pub enum ClassSlot {
 
 #[derive(Clone, Debug, PartialEq, Eq)]
 pub enum Record<'a> {
+    /// A constant, one given as an expression too (46; document 02, No. 3), or a bootstrap.
     Entry(Entry<'a>),
+    /// 46 with an expression that is refused with this number, 22 or 23.
+    BadExpression(u8),
     /// 41, 42: the name is for a thing of the citation's kind.
     Name(&'a [u8], Citation<'a>),
     /// 43, 44: a raw constant or bootstrap, at a slot or index.
@@ -106,6 +112,7 @@ impl<'a> Record<'a> {
                 kind: *kind,
                 reference: Reference::Entry(*entry),
             }],
+            Record::BadExpression(_) => vec![],
             Record::Version(_) | Record::HoldTexts | Record::HighestSlot(_) => vec![],
             Record::EndOfDefinitions | Record::Build { .. } => vec![],
         }

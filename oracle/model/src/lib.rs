@@ -1,10 +1,11 @@
-//! A slow and plain model of the pool builder, written from document 01 and requests No. 5, 6, 8, 9 and 10 of document 02 alone.
+//! A slow and plain model of the pool builder, written from document 01 and requests No. 3, 5, 6, 8, 9 and 10 of document 02 alone.
 //!
 //! It shares no code with the module or the proved builder, and uses nothing but std. Lent memory, and so 2 and 18, isn't modelled.
 
 mod bootstraps;
 mod build;
 mod definitions;
+mod expression;
 mod form;
 mod given;
 mod job;

@@ -53,6 +53,10 @@ pub const NO_LDC_SLOT: u8 = 15;
 pub const LDC_ABOVE_255: u8 = 16;
 /// An inline bootstrap that shares no index, with all 65,535 indexes used, raw ones included.
 pub const NO_INDEX: u8 = 17;
+/// An expression of mixed kinds or too deep, or a byte in it that is neither leaf tag nor sign.
+pub const BAD_EXPRESSION: u8 = 22;
+/// An integer divided by zero.
+pub const DIVIDED_BY_ZERO: u8 = 23;
 /// A constant of a kind that the class version doesn't have, "met when a constant comes off the building stack, before its children".
 pub const TOO_NEW: u8 = 24;
 /// A text that JVMS 4.4.7 doesn't allow, in a job with record 48.

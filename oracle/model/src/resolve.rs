@@ -86,7 +86,7 @@ impl<'a> Resolver<'a> {
         let children = entry.children.iter().map(|child| self.resolved(*child));
         let stored = Stored {
             tag: entry.tag,
-            literal: entry.literal,
+            literal: &entry.literal,
             children: children.collect::<Result<_, _>>()?,
         };
         let record = self.definitions.record_of(number.0, number.1);

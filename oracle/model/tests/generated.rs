@@ -1,4 +1,4 @@
-//! Generated jobs with records 47 to 49, and those refused while building: which refusals they meet, and what two of a pair share.
+//! Generated jobs with records 46 to 49, and those refused while building: which refusals they meet, and what two of a pair share.
 
 use jobs::stream::endless;
 use model::{Outcome, Refusal, run};
@@ -20,8 +20,22 @@ fn settings_meet_their_refusals() {
     let wanted = [0, 6, 7, 8, 9, 10, 11, 12, 13, 14, 15, 16, 24, 25];
     assert_eq!(met, BTreeSet::from(wanted));
     let met = codes("settings_damaged", 4_000);
-    let wanted = [0, 3, 4, 6, 7, 8, 9, 10, 11, 12, 13, 14, 15, 16, 24, 25, 26];
+    // A byte 46 brings 22.
+    let wanted = [
+        0, 3, 4, 6, 7, 8, 9, 10, 11, 12, 13, 14, 15, 16, 22, 24, 25, 26,
+    ];
     assert_eq!(met, BTreeSet::from(wanted));
+}
+
+#[test]
+fn expressions_meet_their_refusals() {
+    let met = codes("worked", 4_000);
+    let wanted = [0, 6, 7, 8, 9, 10, 11, 12, 13, 14, 15, 16, 22, 23, 24, 25];
+    assert_eq!(met, BTreeSet::from(wanted));
+    let met = codes("worked_damaged", 4_000);
+    assert!(met.is_superset(&[0, 3, 4, 22, 23, 24, 25].into()));
+    assert!(!codes("worked_pairs", 4_000).contains(&22));
+    assert!(!codes("worked_pairs", 4_000).contains(&23));
 }
 
 /// The numbers of refusals met while building, each with how many jobs of a kind are told at another record than the build.
@@ -55,6 +69,7 @@ fn pools_without_a_slot_more_are_refused_while_building() {
 fn layout_depends_on_shape_and_settings_alone() {
     equal_layouts("settings_pairs");
     equal_layouts("lowest_pairs");
+    equal_layouts("worked_pairs");
 }
 
 fn equal_layouts(kind: &str) {

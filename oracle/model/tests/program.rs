@@ -88,6 +88,9 @@ fn generated_jobs_end_as_in_the_module() {
     hold(&["settings_damaged", "9107", "4000"], "4,000");
     hold(&["settings_pairs", "9108", "2000"], "2,000");
     hold(&["lowest", "9109", "4000"], "4,000");
+    hold(&["worked", "9111", "4000"], "4,000");
+    hold(&["worked_damaged", "9112", "4000"], "4,000");
+    hold(&["worked_pairs", "9113", "2000"], "2,000");
     hold(&["lowest_full", "9110", "20"], "20");
 }
 

@@ -112,8 +112,13 @@ fn record_48_and_other_faults() {
     is("01 0001 00 07 01 0001 48", "refused 4 1");
     is("01 0001 00 50 48", "refused 3 2");
     is("01 0001 00 48 48", "refused 25 0");
-    // Request No. 3 isn't in, so that 46 is an unknown kind: 3 where its bad byte is 22 later.
-    is("01 0001 00 46 00 48", "refused 3 1");
+    // 22 and 23 are "other" faults too.
+    is("01 0001 00 46 00 48", "refused 22 1");
+    is(
+        "01 0001 00 46 2f 03 00000000 03 00000000 48",
+        "refused 23 1",
+    );
+    is("01 0001 00 48 46 00", "refused 25 0");
     is("48 48", "refused 3 1");
     // The fault stands ahead of the bad text.
     is("48 07 01 0000 01 0001 00", "refused 4 1");

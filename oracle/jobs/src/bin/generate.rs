@@ -8,7 +8,8 @@ use std::io::{self, BufWriter, Write};
 use std::process::ExitCode;
 
 const USAGE: &str = "usage: generate KIND SEED COUNT
-       KIND is small, ldcfull, damaged, pairs, orders, settings, settings_damaged, settings_pairs, lowest, lowest_full or lowest_pairs
+       KIND is small, ldcfull, damaged, pairs, orders, settings, settings_damaged, settings_pairs, lowest, lowest_full, lowest_pairs,
+       worked, worked_damaged or worked_pairs
        generate heavy [--names]
        generate large KIND N, N from 16 to 60000";
 

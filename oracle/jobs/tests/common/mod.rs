@@ -59,7 +59,7 @@ impl Seen {
 
     fn count(&mut self, record: &Record) {
         match record {
-            Record::Constant(_) => self.constants += 1,
+            Record::Constant(_) | Record::Expression(_) => self.constants += 1,
             Record::Bootstrap { .. } => self.bootstraps += 1,
             Record::Ask(_) | Record::AskLdc(_) => self.requests += 1,
             Record::EndOfDefinitions => self.ended = true,

@@ -1,5 +1,6 @@
 //! Reads records from bytes. None stands for refusal 3, for an unknown kind or form byte, or a cut record.
 
+use crate::expression::{self, Read};
 use crate::job::{
     BOOTSTRAP, Citation, ClassSlot, DOUBLE, Entry, FLOAT, INT, Kind, LONG, NameWish, Record,
     Reference, TEXT,
@@ -25,6 +26,7 @@ impl<'a> Reader<'a> {
             0x42 => self.name(Kind::Bootstrap)?,
             0x43 => self.raw(Kind::Constant)?,
             0x44 => self.raw(Kind::Bootstrap)?,
+            0x46 => self.expression()?,
             0x47 => Record::Version(self.number()?),
             0x48 => Record::HoldTexts,
             0x49 => Record::HighestSlot(self.number()?),
@@ -58,8 +60,21 @@ impl<'a> Reader<'a> {
         let children = kinds.iter().map(|kind| self.citation(*kind));
         Some(Entry {
             tag,
-            literal,
+            literal: literal.into(),
             children: children.collect::<Option<_>>()?,
+        })
+    }
+
+    fn expression(&mut self) -> Option<Record<'a>> {
+        let (read, rest) = expression::read(self.rest)?;
+        self.rest = rest;
+        Some(match read {
+            Read::Refused(code) => Record::BadExpression(code),
+            Read::Worked(tag, bits) => Record::Entry(Entry {
+                tag,
+                literal: bits.into(),
+                children: vec![],
+            }),
         })
     }
 
@@ -71,7 +86,7 @@ impl<'a> Reader<'a> {
         }
         Some(Entry {
             tag: BOOTSTRAP,
-            literal: &[],
+            literal: (&[]).into(),
             children,
         })
     }
