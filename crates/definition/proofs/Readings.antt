@@ -2,7 +2,7 @@
 use mathlib.Core.List.{map}
 use mathlib.Core.Path.{_≡_, refl}
 use Rattle.definition.specs.Opened.{opened}
-use Rattle.definition.specs.Readings.{marked, limited, dated, spelled, pointed}
+use Rattle.definition.specs.Readings.{marked, limited, dated, spelled, pointed, worked}
 use Rattle.definition.specs.Starred.{digit, bytes, prints, stated}
 
 -- every job of No. 6 has the marks of the reading chosen
@@ -29,3 +29,8 @@ spelledHold = refl
 pub pointedHold : map prints pointed ≡ map stated pointed
 unfolding opened digit bytes prints stated pointed
 pointedHold = refl
+
+-- every job of No. 3
+pub workedHold : map prints worked ≡ map stated worked
+unfolding opened digit bytes prints stated worked
+workedHold = refl

@@ -1,5 +1,5 @@
 -- Reading and writing big-endian numbers (document 01, "A job": numbers are big-endian). Assumes nothing.
-use mathlib.Core.List.{List, [], _∷_}
+use mathlib.Core.List.{List, [], _∷_, _++_}
 use mathlib.Core.Option.{Option, none, some}
 use Prim.Native.Nat.{ℕ, zero, suc, _+_, _*_, _/_, _%_}
 
@@ -41,9 +41,12 @@ many (suc n) p = do
   rest ← many n p
   return (a ∷ rest)
 
--- a number as two bytes, and as four
+-- a number as two bytes, as four and as eight
 unfoldable pub be2 : ℕ → List ℕ
 be2 n = n / 256 % 256 ∷ n % 256 ∷ []
 
 unfoldable pub be4 : ℕ → List ℕ
 be4 n = n / 16777216 % 256 ∷ n / 65536 % 256 ∷ n / 256 % 256 ∷ n % 256 ∷ []
+
+unfoldable pub be8 : ℕ → List ℕ
+be8 n = be4 (n / 4294967296) ++ be4 (n % 4294967296)

@@ -1,4 +1,4 @@
--- The form pass (document 01, "A job" and "Refusal numbers"): bytes to a job, or refusal 3, 26, 5, 25 or 4 at a record. Assumes nothing.
+-- The form pass (document 01, "A job" and "Refusal numbers"): bytes to a job, or refusal 3, 26, 5, 25, 4, 22 or 23 at a record. Assumes nothing.
 use mathlib.Core.Bool.{Bool, true, false, _&&_, not}
 use mathlib.Core.List.{List, [], _∷_}
 use mathlib.Core.Option.{Option, none, some}
@@ -6,9 +6,11 @@ use Prim.Native.Nat.{ℕ, zero, suc}
 use lib.Dec.{eqb, ltb}
 use lib.ListN.{length}
 use Rattle.definition.specs.Basics.{Result, good, bad, _>>=_, Refusal, atRecord, unless, every, lookup}
+use Rattle.definition.specs.Expression.{readExpression}
 use Rattle.definition.specs.Settings.{Setting, version, texts, highest, isSlot}
 use Rattle.definition.specs.Shapes.{Kind, constant, bootstrap, bootstrapTag, Entry}
 use Rattle.definition.specs.Texts.{isText}
+use Rattle.definition.specs.Value.{constantIn}
 use Rattle.definition.specs.Job.{Reference, raw, entry, name, Definition, define, named, placed, setting, Request, ClassSlot, slot, request, Build, Job, readDefinition, asks, readRequest, readBuild}
 
 -- how many entries each table takes
@@ -107,18 +109,23 @@ citesEarlier n (named kind s r) = cites n r
 citesEarlier n (placed kind at number) = ltb number (countOf kind n)
 citesEarlier n (setting s) = true
 
+-- 22, then 23: the expression of a 46 comes to a constant
+unfoldable pub comesOut : ℕ → List ℕ → Result ℕ (Unit {0})
+comesOut first bytes = elim (eqb first 0x46) [ true ↦ constantIn (readExpression bytes) >>= λ _. good tt | false ↦ good tt ]
+
 -- 4: the request whose answer is the class slot is one of those before
 unfoldable pub citesRequest : ℕ → ClassSlot → Bool
 citesRequest requests (slot n) = true
 citesRequest requests (request n) = ltb n requests
 
--- one definition, behind its first byte: 3, 26, 5, 4 in this order
+-- one definition, behind its first byte: 3, 26, 5, 4, 22, 23 in this order
 unfoldable pub formDefinition : Counts → ℕ → List ℕ → Result ℕ (Definition (List ℕ) × List ℕ)
 formDefinition n first bytes = do
   r ← whole (readDefinition first bytes)
   _ ← mayStand n (r .0)
   _ ← unless (hasRoom n (r .0)) 5
   _ ← unless (citesEarlier n (r .0)) 4
+  _ ← comesOut first bytes
   good r
 
 -- the definitions and 50: what they are, how many entries there are, and the bytes behind 50

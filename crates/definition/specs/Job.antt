@@ -3,10 +3,12 @@ use mathlib.Core.Bool.{Bool, true, false}
 use mathlib.Core.List.{List, [], _∷_, _++_, map}
 use mathlib.Core.Option.{Option, none, some}
 use Prim.Native.Nat.{ℕ, zero, suc}
-use Rattle.definition.specs.Basics.{lookup}
+use Rattle.definition.specs.Basics.{Result, good, bad, lookup}
 use Rattle.definition.specs.Bytes.{Parser, return, fail, _>>=_, one, two, many}
+use Rattle.definition.specs.Expression.{Number, int, tagOf, readExpression}
 use Rattle.definition.specs.Settings.{Setting, version, texts, highest}
 use Rattle.definition.specs.Shapes.{Kind, constant, bootstrap, Field, shapes, bootstrapShape, bootstrapTag, Entry, readEntry}
+use Rattle.definition.specs.Value.{folded, bitsBytes}
 
 -- a reference: a raw slot, an entry's number, or a name
 pub data Reference : Type 0 where
@@ -16,7 +18,7 @@ pub data Reference : Type 0 where
 
 -- a record of the definitions; L is how literals are given
 pub data Definition (L : Type 0) : Type 0 where
-  -- tags and 40: an entry of one of the two tables
+  -- tags and 40: an entry of one of the two tables; 46: a constant worked out
   define : Entry L Reference → Definition L
   -- 41, 42: names a constant, a bootstrap
   named : Kind → List ℕ → Reference → Definition L
@@ -73,15 +75,25 @@ reference kind = do
 pub data Body : Type 0 where
   ofEntry : List Field → Body
   ofName ofRaw : Kind → Body
+  ofExpression : Body
   -- a setting's number, or nothing
   ofNumber : (ℕ → Setting) → Body
   ofNothing : Setting → Body
 
--- the first bytes of definitions: the tags, then 40 to 44 and 47 to 49
+-- the first bytes of definitions: the tags, then 40 to 44 and 46 to 49
 unfoldable pub bodies : List (ℕ × Body)
 bodies =
     map (λ s. (s .0, ofEntry (s .1))) shapes
-    ++ ((bootstrapTag, ofEntry bootstrapShape) ∷ (0x41, ofName constant) ∷ (0x42, ofName bootstrap) ∷ (0x43, ofRaw constant) ∷ (0x44, ofRaw bootstrap) ∷ (0x47, ofNumber version) ∷ (0x48, ofNothing texts) ∷ (0x49, ofNumber highest) ∷ [])
+    ++ ((bootstrapTag, ofEntry bootstrapShape) ∷ (0x41, ofName constant) ∷ (0x42, ofName bootstrap) ∷ (0x43, ofRaw constant) ∷ (0x44, ofRaw bootstrap) ∷ (0x46, ofExpression) ∷ (0x47, ofNumber version) ∷ (0x48, ofNothing texts) ∷ (0x49, ofNumber highest) ∷ [])
+
+-- a number as a constant of its kind
+unfoldable pub asConstant : Number × ℕ → Entry (List ℕ) Reference
+asConstant n = record { tag = tagOf (n .0); literal = bitsBytes (n .0) (n .1); byte = 0; kids = [] }
+
+-- the value of a 46 goes on with its kind; what has none is refused by the form pass, and an Int of 0 stands here for it
+unfoldable pub workedOut : Result ℕ (Number × ℕ) → Entry (List ℕ) Reference
+workedOut (good n) = asConstant n
+workedOut (bad code) = asConstant (int, 0)
 
 -- a definition behind its first byte; none: an unknown kind, or one out of place
 unfoldable pub readBody : ℕ → Option Body → Parser (Definition (List ℕ))
@@ -97,6 +109,9 @@ readBody first (some (ofRaw kind)) = do
   at ← two
   number ← two
   return (placed kind at number)
+readBody first (some ofExpression) = do
+  x ← readExpression
+  return (define (workedOut (folded x)))
 readBody first (some (ofNumber rule)) = do
   n ← two
   return (setting (rule n))

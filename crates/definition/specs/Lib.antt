@@ -2,6 +2,8 @@ pub mod Basics
 pub mod Ascii
 pub mod Bytes
 pub mod Shapes
+pub mod Expression
+pub mod Value
 pub mod Settings
 pub mod Texts
 pub mod Job

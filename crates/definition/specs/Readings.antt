@@ -89,6 +89,8 @@ spelled =
     job "0100010048506002000000" "refused 25 0\n"
     -- but not behind a fault 4
     ∷ job "010001000701000148" "refused 4 1\n"
+    -- nor behind a 22
+    ∷ job "01000100460048" "refused 22 1\n"
     -- a fault behind both is told later
     ∷ job "0100010048" "refused 25 0\n"
     -- a 48 behind 50 is a fault itself: 3
@@ -130,4 +132,63 @@ pointed =
     ∷ job "49000103000000000801000050510100016002000000" "refused 14 1\n"
     -- 47, 48 and 49 are counted
     ∷ job "47000047" "refused 3 1\n"
+    ∷ []
+
+-- No. 3: what a record 46 comes to
+unfoldable pub worked : List Case
+worked =
+    -- cut, and more than 32 deep already: 3
+    job "462b2b2b2b2b2b2b2b2b2b2b2b2b2b2b2b2b2b2b2b2b2b2b2b2b2b2b2b2b2b2b2b" "refused 3 0\n"
+    -- cut, and of mixed kinds already: 3
+    ∷ job "462b030000000004" "refused 3 0\n"
+    -- a bad byte with parts still missing: 22
+    ∷ job "4600" "refused 22 0\n"
+    -- mixed kinds go ahead of a division by zero: 22
+    ∷ job "462b2f030000000003000000000400000000" "refused 22 0\n"
+    -- a constant worked out and a plain one of the same kind and bits are one
+    ∷ job "46030000000003000000005051010000510100016002000000" "answers 2\n1 new\n1 old\npool 7\n00020300000000\nbootstraps 0 0\n\nname 0\nclass none\nvisits 4\n"
+    -- and are numbered together
+    ∷ job "460300000000030000000150510100006002000000" "answers 1\n1 new\npool 7\n00020300000000\nbootstraps 0 0\n\nname 0\nclass none\nvisits 2\n"
+    -- a NaN that goes in is forgotten: one pattern comes out
+    ∷ job "462b047fc00001040000000050510100006002000000" "answers 1\n1 new\npool 7\n0002047fc00000\nbootstraps 0 0\n\nname 0\nclass none\nvisits 2\n"
+    -- a lone leaf keeps its bits
+    ∷ job "46047f80000150510100006002000000" "answers 1\n1 new\npool 7\n0002047f800001\nbootstraps 0 0\n\nname 0\nclass none\nvisits 2\n"
+    -- a division by zero whose value can't matter: 23
+    ∷ job "462a03000000002f0300000000030000000050510100006002000000" "refused 23 0\n"
+    -- out of place, with a bad byte: 3
+    ∷ job "504600" "refused 3 1\n"
+    -- 31 signs and a leaf are 32 deep
+    ∷ job "462b2b2b2b2b2b2b2b2b2b2b2b2b2b2b2b2b2b2b2b2b2b2b2b2b2b2b2b2b2b2b0300000001030000000103000000010300000001030000000103000000010300000001030000000103000000010300000001030000000103000000010300000001030000000103000000010300000001030000000103000000010300000001030000000103000000010300000001030000000103000000010300000001030000000103000000010300000001030000000103000000010300000001030000000150510100006002000000" "answers 1\n1 new\npool 7\n00020300000020\nbootstraps 0 0\n\nname 0\nclass none\nvisits 2\n"
+    -- 32 signs are too deep: 22
+    ∷ job "462b2b2b2b2b2b2b2b2b2b2b2b2b2b2b2b2b2b2b2b2b2b2b2b2b2b2b2b2b2b2b2b030000000003000000000300000000030000000003000000000300000000030000000003000000000300000000030000000003000000000300000000030000000003000000000300000000030000000003000000000300000000030000000003000000000300000000030000000003000000000300000000030000000003000000000300000000030000000003000000000300000000030000000003000000000300000000506002000000" "refused 22 0\n"
+    -- 1.0 / 3.0
+    ∷ job "462f043f800000044040000050510100006002000000" "answers 1\n1 new\npool 7\n0002043eaaaaab\nbootstraps 0 0\n\nname 0\nclass none\nvisits 2\n"
+    -- 2.0 / 7.0
+    ∷ job "462f06400000000000000006401c00000000000050510100006002000000" "answers 1\n1 new\npool 11\n0003063fd2492492492492\nbootstraps 0 0\n\nname 0\nclass none\nvisits 2\n"
+    -- rounded at each operation: 0.1 + 0.2 - 0.3
+    ∷ job "462d2b063fb999999999999a063fc999999999999a063fd333333333333350510100006002000000" "answers 1\n1 new\npool 11\n0003063c90000000000000\nbootstraps 0 0\n\nname 0\nclass none\nvisits 2\n"
+    -- a tie goes to the even one, below
+    ∷ job "462b044b800000043f80000050510100006002000000" "answers 1\n1 new\npool 7\n0002044b800000\nbootstraps 0 0\n\nname 0\nclass none\nvisits 2\n"
+    -- and above
+    ∷ job "462b044b800001043f80000050510100006002000000" "answers 1\n1 new\npool 7\n0002044b800002\nbootstraps 0 0\n\nname 0\nclass none\nvisits 2\n"
+    -- zero by zero
+    ∷ job "462f06000000000000000006000000000000000050510100006002000000" "answers 1\n1 new\npool 11\n0003067ff8000000000000\nbootstraps 0 0\n\nname 0\nclass none\nvisits 2\n"
+    -- a difference of infinities
+    ∷ job "462d047f800000047f80000050510100006002000000" "answers 1\n1 new\npool 7\n0002047fc00000\nbootstraps 0 0\n\nname 0\nclass none\nvisits 2\n"
+    -- a product below the normal range
+    ∷ job "462a041e3ce508041f0dabc650510100006002000000" "answers 1\n1 new\npool 7\n00020400034447\nbootstraps 0 0\n\nname 0\nclass none\nvisits 2\n"
+    -- and one past the largest
+    ∷ job "462a047f61b1e604c120000050510100006002000000" "answers 1\n1 new\npool 7\n000204ff800000\nbootstraps 0 0\n\nname 0\nclass none\nvisits 2\n"
+    -- a part on the right is worked out first: 2 - (3 - 10)
+    ∷ job "462d03000000022d0300000003030000000a50510100006002000000" "answers 1\n1 new\npool 7\n00020300000009\nbootstraps 0 0\n\nname 0\nclass none\nvisits 2\n"
+    -- an Int wraps
+    ∷ job "462b037fffffff030000000150510100006002000000" "answers 1\n1 new\npool 7\n00020380000000\nbootstraps 0 0\n\nname 0\nclass none\nvisits 2\n"
+    -- a difference below zero
+    ∷ job "462d05000000000000000205000000000000000350510100006002000000" "answers 1\n1 new\npool 11\n000305ffffffffffffffff\nbootstraps 0 0\n\nname 0\nclass none\nvisits 2\n"
+    -- a Long's product wraps
+    ∷ job "462a05800000000000000505000000000000000350510100006002000000" "answers 1\n1 new\npool 11\n000305800000000000000f\nbootstraps 0 0\n\nname 0\nclass none\nvisits 2\n"
+    -- cut toward zero
+    ∷ job "462f03fffffff9030000000250510100006002000000" "answers 1\n1 new\npool 7\n000203fffffffd\nbootstraps 0 0\n\nname 0\nclass none\nvisits 2\n"
+    -- the lowest value by -1 is itself
+    ∷ job "462f05800000000000000005ffffffffffffffff50510100006002000000" "answers 1\n1 new\npool 11\n0003058000000000000000\nbootstraps 0 0\n\nname 0\nclass none\nvisits 2\n"
     ∷ []

@@ -8,3 +8,4 @@ pub mod reading
 pub mod runs
 pub mod blocks
 pub mod texts
+pub mod values

@@ -5,6 +5,7 @@ pub mod ParsersYield
 pub mod DefinitionsRead
 pub mod HighestSlots
 pub mod EmptyLiterals
+pub mod WorkedOut
 pub mod FormedEntries
 pub mod FormedJobs
 pub mod CitedEntries

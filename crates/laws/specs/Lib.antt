@@ -10,3 +10,6 @@ pub mod Faithful
 pub mod Counted
 pub mod Gaps
 pub mod TextStatements
+pub mod Integers
+pub mod FoldingStatements
+pub mod FoldedStatement

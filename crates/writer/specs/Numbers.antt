@@ -1,8 +1,7 @@
--- Big-endian numbers in a list of bytes (document 01, "A job"): what stands at a place, and eight bytes of a number. Assumes nothing.
-use mathlib.Core.List.{List, _++_}
-use Prim.Native.Nat.{ℕ, _+_, _*_, _/_, _%_}
+-- Big-endian numbers in a list of bytes (document 01, "A job"): what stands at a place. Assumes nothing.
+use mathlib.Core.List.{List}
+use Prim.Native.Nat.{ℕ, _+_, _*_}
 use lib.ListN.{getD}
-use Rattle.definition.specs.Bytes.{be4}
 
 -- the number in two bytes at a place, in four and in eight
 abbrev pub number2 : List ℕ → ℕ → ℕ
@@ -13,7 +12,3 @@ number4 s at = 65536 * number2 s at + number2 s (at + 2)
 
 abbrev pub number8 : List ℕ → ℕ → ℕ
 number8 s at = 4294967296 * number4 s at + number4 s (at + 4)
-
--- a number as eight bytes
-unfoldable pub be8 : ℕ → List ℕ
-be8 n = be4 (n / 4294967296) ++ be4 (n % 4294967296)

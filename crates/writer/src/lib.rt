@@ -4,8 +4,8 @@ ghost use mathlib.Core.Path.{_≡_};
 ghost use Prim.Native.Nat.{_+_, _<_, _≤_};
 ghost use lib.ListN.{length, getD, set, drop, replicate};
 ghost use lib.Seq.{paste};
-ghost use Rattle.definition.specs.Bytes.{be2, be4};
-ghost use Rattle.writer.specs.Numbers.{number2, number4, number8, be8};
+ghost use Rattle.definition.specs.Bytes.{be2, be4, be8};
+ghost use Rattle.writer.specs.Numbers.{number2, number4, number8};
 
 pub fn get_u8(s: &[u8], at: usize) -> u8
     requires { ⌜ at < length (now s) ⌝ }

@@ -9,7 +9,7 @@ use lib.ListN.{length, getElem?}
 use Rattle.definition.specs.Basics.{good, atRecord, unless}
 use Rattle.definition.specs.Shapes.{Entry}
 use Rattle.definition.specs.Job.{Reference, Definition, define, named, placed, setting, Job, readDefinition}
-use Rattle.definition.specs.Form.{Counts, nothingYet, counted, whole, mayStand, hasRoom, textsHeld, citesEarlier, formDefinition, Definitions, formDefinitions, formRequests, form}
+use Rattle.definition.specs.Form.{Counts, nothingYet, counted, whole, mayStand, hasRoom, textsHeld, citesEarlier, comesOut, formDefinition, Definitions, formDefinitions, formRequests, form}
 use Rattle.definition.specs.Numbering.{entries}
 use Rattle.facts.specs.Lists.{Among}
 use Rattle.facts.proofs.Lists.{clash, all-cons, among-later}
@@ -39,6 +39,7 @@ formed-read n first bytes r e =
     good-then (mayStand n (a .0)) _ r q λ _ _ q.
     good-then (unless (hasRoom n (a .0)) 5) _ r q λ _ _ s.
     good-then (unless (citesEarlier n (a .0)) 4) _ r s λ _ _ t.
+    good-then (comesOut first bytes) _ r t λ _ _ t.
     whole-good (readDefinition first bytes) r (p ∙ t)
 
 -- 50 ends the definitions

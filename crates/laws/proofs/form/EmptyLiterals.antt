@@ -2,17 +2,19 @@
 use mathlib.Core.Bool.{Bool, true, false, _||_, not}
 use mathlib.Core.List.{List, [], _∷_, _++_}
 use mathlib.Core.Option.{Option, none, some}
-use mathlib.Core.Path.{_≡_, refl}
+use mathlib.Core.Path.{_≡_, refl, ap}
 use Prim.Native.Nat.{ℕ}
 use lib.ListN.{getElem?}
 use borrow.Author.Tests.{not-true}
-use Rattle.definition.specs.Basics.{good, every, lookup}
+use Rattle.definition.specs.Basics.{Result, good, bad, every, lookup}
 use Rattle.definition.specs.Bytes.{Parser, one, two, many}
+use Rattle.definition.specs.Expression.{Number, int, float, long, double, tagOf, readExpression}
 use Rattle.definition.specs.Shapes.{Kind, Field, text, bits, byte, to, toMany, shapes, bootstrapShape, Entry, withKids, withLiteral, withByte, readFields, readEntry, constant}
-use Rattle.definition.specs.Job.{Reference, Definition, define, Job, shortName, reference, Body, ofEntry, bodies, readBody, readDefinition, ofName, ofRaw, ofNumber, ofNothing}
+use Rattle.definition.specs.Job.{Reference, Definition, define, Job, shortName, reference, Body, ofEntry, bodies, asConstant, workedOut, readBody, readDefinition, ofName, ofRaw, ofExpression, ofNumber, ofNothing}
+use Rattle.definition.specs.Value.{folded}
 use Rattle.definition.specs.Form.{form}
 use Rattle.definition.specs.Numbering.{Literal, entries}
-use Rattle.facts.proofs.Lists.{stands}
+use Rattle.facts.proofs.Lists.{clash, stands}
 use Rattle.facts.proofs.Tables.{lookup-every}
 use Rattle.facts.proofs.Results.{some-then}
 use Rattle.laws.proofs.form.EntryShapes.{showsLiteral}
@@ -52,6 +54,7 @@ bareBody : ℕ × Body → Bool
 bareBody (tag, ofEntry fields) = hasLiteral tag || not (showsLiteral fields)
 bareBody (tag, ofName kind) = true
 bareBody (tag, ofRaw kind) = true
+bareBody (tag, ofExpression) = true
 bareBody (tag, ofNumber rule) = true
 bareBody (tag, ofNothing rule) = true
 
@@ -66,6 +69,19 @@ litOf e = (e .tag, e .literal)
 -- a literal of a tag that has none is empty
 abbrev pub Bare : Literal → Type 0
 Bare a = hasLiteral (a .0) ≡ false → a .1 ≡ []
+
+-- a number has a literal, and so has what a 46 adds
+number-literal : (kind : Number) → hasLiteral (tagOf kind) ≡ true
+unfolding tagOf
+number-literal int = refl
+number-literal float = refl
+number-literal long = refl
+number-literal double = refl
+
+worked-literal : (r : Result ℕ (Number × ℕ)) → hasLiteral (workedOut r .tag) ≡ true
+unfolding workedOut asConstant
+worked-literal (good n) = number-literal (n .0)
+worked-literal (bad code) = number-literal int
 
 -- an entry that is read has the empty literal if its tag has none
 body-bare :
@@ -92,6 +108,10 @@ body-bare first (some (ofRaw kind)) bytes r e o p q h =
     some-then (two bytes) _ r p λ n rest _ s.
     some-then (two rest) _ r s λ k rest _ t.
     cc
+body-bare first (some ofExpression) bytes r e o p q h =
+    some-then (readExpression bytes) _ r p λ x rest _ t.
+    let same : workedOut (folded x) ≡ e = cc in
+    clash (cc (worked-literal (folded x), ap (λ (y : Entry (List ℕ) Reference). hasLiteral (y .tag)) same))
 body-bare first (some (ofNumber rule)) bytes r e o p q h = some-then (two bytes) _ r p λ n rest _ t. cc
 body-bare first (some (ofNothing rule)) bytes r e o p q h = cc
 

@@ -9,15 +9,19 @@ use Prim.Native.Nat.{ℕ, zero, suc, _<_}
 use native.Mathlib.Omega.{arith}
 use lib.Dec.{eqb}
 use lib.ListN.{length}
-use Rattle.definition.specs.Basics.{every, lookup}
+use Rattle.definition.specs.Basics.{Result, good, bad, every, lookup}
 use Rattle.definition.specs.Bytes.{one, two, many}
 use Rattle.definition.specs.Shapes.{Kind, Field, text, bits, byte, to, toMany, shapes, bootstrapShape, bootstrapTag, Entry, withKids, withLiteral, withByte, readFields, readEntry, constant, bootstrap}
+use Rattle.definition.specs.Expression.{Number, int, readExpression}
 use Rattle.definition.specs.Settings.{version, texts, highest}
-use Rattle.definition.specs.Job.{Reference, raw, entry, name, Definition, define, named, placed, setting, shortName, referenceForm, reference, Body, ofEntry, bodies, readBody, readDefinition, ofName, ofRaw, ofNumber, ofNothing}
-use Rattle.facts.proofs.Lists.{true≢false}
+use Rattle.definition.specs.Job.{Reference, raw, entry, name, Definition, define, named, placed, setting, shortName, referenceForm, reference, Body, ofEntry, bodies, asConstant, workedOut, readBody, readDefinition, ofName, ofRaw, ofExpression, ofNumber, ofNothing}
+use Rattle.definition.specs.Value.{folded}
+use Rattle.facts.proofs.Lists.{clash, true≢false}
 use Rattle.facts.proofs.Tables.{lookup-every}
+use Rattle.facts.proofs.Outcomes.{Anything}
 use Rattle.facts.proofs.Each.{Each, each-weaker, lookup-each}
 use Rattle.laws.proofs.form.EntryShapes.{Short, Filled, showsLiteral, showsByte, HasShape}
+use Rattle.laws.proofs.form.WorkedOut.{yields-read, sizeOf, bits-long, bits-bytes, number-shape}
 use Rattle.laws.proofs.form.ParsersYield.{Byte, Yields, yields-fail, yields-return, yields-bind, yields-map, yields-one, yields-two, yields-many}
 
 -- a name: fewer than 256 bytes
@@ -247,11 +251,30 @@ yields-entry tag fields known p =
           kindByte = r .kindByte (omega arith);
         }
 
+-- a number, and what a 46 adds
+constant-formed : (n : Number × ℕ) → FormedEntry (asConstant n)
+unfolding asConstant
+constant-formed n =
+    record {
+      fields = bits (sizeOf (n .0)) ∷ [];
+      shapeOf = inl (number-shape (n .0));
+      shape = record { filled = (bits-long (n .0) (n .1), refl); noLiteral = λ h. clash (cc); noByte = λ _. refl };
+      ofKinds = refl;
+      literalBytes = bits-bytes (n .0) (n .1);
+      kindByte = omega arith;
+    }
+
+worked-formed : (r : Result ℕ (Number × ℕ)) → FormedEntry (workedOut r)
+unfolding workedOut
+worked-formed (good n) = constant-formed n
+worked-formed (bad code) = constant-formed (int, 0)
+
 -- what may follow a first byte: fields are a plain shape of that tag
 abbrev BodyOf : ℕ → Body → Type 0
 BodyOf first (ofEntry fields) = ShapeOf first fields × (plain fields ≡ true)
 BodyOf first (ofName kind) = Unit {0}
 BodyOf first (ofRaw kind) = Unit {0}
+BodyOf first ofExpression = Unit {0}
 BodyOf first (ofNumber rule) = Unit {0}
 BodyOf first (ofNothing rule) = Unit {0}
 
@@ -278,13 +301,13 @@ lookup-behind k (r ∷ l) m b e = go (eqb k (r .0)) e (lookup-behind k l m b)
     go true e rest = inl (r .1, refl, cc)
     go false e rest = rest e
 
--- the first bytes behind the table, 40 to 44 and 47 to 49
+-- the first bytes behind the table, 40 to 44 and 46 to 49
 others : List (ℕ × Body)
-others = (bootstrapTag, ofEntry bootstrapShape) ∷ (0x41, ofName constant) ∷ (0x42, ofName bootstrap) ∷ (0x43, ofRaw constant) ∷ (0x44, ofRaw bootstrap) ∷ (0x47, ofNumber version) ∷ (0x48, ofNothing texts) ∷ (0x49, ofNumber highest) ∷ []
+others = (bootstrapTag, ofEntry bootstrapShape) ∷ (0x41, ofName constant) ∷ (0x42, ofName bootstrap) ∷ (0x43, ofRaw constant) ∷ (0x44, ofRaw bootstrap) ∷ (0x46, ofExpression) ∷ (0x47, ofNumber version) ∷ (0x48, ofNothing texts) ∷ (0x49, ofNumber highest) ∷ []
 
 eachOther : Each (λ r. BodyOf (r .0) (r .1)) others
 unfolding others bootstrapShape plain
-eachOther = ((inr (refl, refl), refl), (tt, (tt, (tt, (tt, (tt, (tt, (tt, tt))))))))
+eachOther = ((inr (refl, refl), refl), (tt, (tt, (tt, (tt, (tt, (tt, (tt, (tt, tt)))))))))
 
 bodyOf : (first : ℕ) (b : Body) → lookup first bodies ≡ some b → BodyOf first b
 unfolding bodies others
@@ -318,6 +341,9 @@ yields-body first (some (ofRaw kind)) e =
     yields-bind Short FormedDefinition two _ yields-two λ at h.
     yields-bind Short FormedDefinition two _ yields-two λ number g.
     yields-return FormedDefinition (placed kind at number) (h, g)
+yields-body first (some ofExpression) e =
+    yields-bind Anything FormedDefinition readExpression _ yields-read λ x _.
+    yields-return FormedDefinition (define (workedOut (folded x))) (worked-formed (folded x))
 yields-body first (some (ofNumber rule)) e =
     yields-bind Short FormedDefinition two _ yields-two λ n h. yields-return FormedDefinition (setting (rule n)) tt
 yields-body first (some (ofNothing rule)) e = yields-return FormedDefinition (setting rule) tt

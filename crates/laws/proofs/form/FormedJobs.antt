@@ -12,7 +12,7 @@ use Rattle.definition.specs.Basics.{good, atRecord, unless, lookup}
 use Rattle.definition.specs.Bytes.{one, two}
 use Rattle.definition.specs.Shapes.{constant}
 use Rattle.definition.specs.Job.{Definition, Request, ClassSlot, Build, Job, reference, readDefinition, asks, readRequest, classForm, nameForm, readBuild, slot, request}
-use Rattle.definition.specs.Form.{Counts, counted, whole, mayStand, hasRoom, textsHeld, cites, citesEarlier, citesRequest, formDefinition, Definitions, formDefinitions, formRequest, nothingBehind, formBuild, Requests, formRequests, form}
+use Rattle.definition.specs.Form.{Counts, counted, whole, mayStand, hasRoom, textsHeld, cites, citesEarlier, citesRequest, comesOut, formDefinition, Definitions, formDefinitions, formRequest, nothingBehind, formBuild, Requests, formRequests, form}
 use Rattle.facts.proofs.Each.{Each}
 use Rattle.facts.proofs.Results.{bad≢good, good-then, atRecord-good, unless-good, whole-good, decided}
 use Rattle.laws.specs.Statements.{IsBytes}
@@ -46,6 +46,7 @@ formed-definition n first bytes r b e =
     good-then (mayStand n (x .0)) _ r e₁ λ _ _ e₁.
     good-then (unless (hasRoom n (x .0)) 5) _ r e₁ λ _ _ e₂.
     good-then (unless (citesEarlier n (x .0)) 4) _ r e₂ λ v earlier e₃.
+    good-then (comesOut first bytes) _ r e₃ λ _ _ e₄.
     let same : x ≡ r = cc in
     let g = yields-definition first bytes b (x .0) (x .1) (whole-good (readDefinition first bytes) x wholly) in
     subst

@@ -11,7 +11,7 @@ use Rattle.definition.specs.Basics.{good, unless}
 use Rattle.definition.specs.Slots.{highestSlot}
 use Rattle.definition.specs.Settings.{Setting, version, texts, highest, isSlot, highestOf}
 use Rattle.definition.specs.Job.{Definition, define, named, placed, setting, Job, readDefinition}
-use Rattle.definition.specs.Form.{Counts, counted, whole, mayStand, hasRoom, citesEarlier, formDefinition, Definitions, formDefinitions, form}
+use Rattle.definition.specs.Form.{Counts, counted, whole, mayStand, hasRoom, citesEarlier, comesOut, formDefinition, Definitions, formDefinitions, form}
 use Rattle.definition.specs.Numbering.{Literal, settings, topOf, literals, numberedDefinition, numbered}
 use Rattle.facts.proofs.Lists.{clash, both-true}
 use Rattle.facts.proofs.Results.{good-then, unless-good}
@@ -44,6 +44,7 @@ definition-stands n first bytes r e =
     good-then (mayStand n (x .0)) _ r e₁ λ u stands e₂.
     good-then (unless (hasRoom n (x .0)) 5) _ r e₂ λ _ _ e₃.
     good-then (unless (citesEarlier n (x .0)) 4) _ r e₃ λ _ _ e₄.
+    good-then (comesOut first bytes) _ r e₄ λ _ _ e₅.
     let same : x ≡ r = cc in
     (u, ap (λ (y : Definition (List ℕ) × List ℕ). mayStand n (y .0)) (sym same) ∙ stands)
 

@@ -2,8 +2,7 @@
 use Prim.Native.Nat.{_/_, _%_}
 use native.Mathlib.Omega.{arith}
 use borrow.Author.Needs.{needs}
-use Rattle.definition.specs.Bytes.{be4}
-use Rattle.writer.specs.Numbers.{be8}
+use Rattle.definition.specs.Bytes.{be4, be8}
 use Rattle.writer.proofs.Laws.{paste-paste}
 use Rattle.writer.proofs.put_u64.Statement.{statement}
 use Rattle.writer.proofs.put_u64.Tie as tie
