@@ -5,4 +5,5 @@ pub mod Values
 pub mod Parts
 pub mod Folds
 pub mod Constants
+pub mod FirstLeaf
 pub mod Single

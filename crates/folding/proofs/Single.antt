@@ -15,6 +15,7 @@ use Rattle.folding.specs.declared.Span.{Span}
 use Rattle.folding.specs.declared.Span.the-variants as span
 use Rattle.folding.proofs.constant_at.Reads as constant-at
 use Rattle.folding.proofs.end_of.Reads as end-of
+use Rattle.folding.proofs.tag_at.Reads as tag-at
 
 -- one place has these bytes behind it
 one-place : (s : List ℕ) (n m : ℕ) → n ≤ length s → m ≤ length s → drop n s ≡ drop m s → n ≡ m
@@ -48,3 +49,7 @@ one-end κs a r r′ s s′ h h′ = one-span _ _ r r′ h h′
 pub one-constant :
     (κs : Lfts 1) (a : _) (r r′ : Constant) (s s′ : _) → constant-at.Learnt κs a r s → constant-at.Learnt κs a r′ s′ → r ≡ r′
 one-constant κs a r r′ s s′ h h′ = h ∙ sym h′
+
+pub one-tag :
+    (κs : Lfts 1) (a : _) (r r′ : ℕ) (s s′ : _) → tag-at.Asked κs a → tag-at.Learnt κs a r s → tag-at.Learnt κs a r′ s′ → r ≡ r′
+one-tag κs a r r′ s s′ (kind, k) h h′ = h kind k ∙ sym (h′ kind k)

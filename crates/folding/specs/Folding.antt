@@ -170,3 +170,20 @@ bitsOf (Double x) = toBits binary64 x
 unfoldable pub constantAs : Result ℕ (Number × ℕ) → Constant
 constantAs (good r) = constant.Of (tagOf (r .0)) (r .1)
 constantAs (bad code) = constant.Refused code
+
+-- ---- its kind alone
+
+-- an expression of this kind stands at a place
+pub record OfKind (s : List ℕ) (at : ℕ) (kind : Number) : Type 0 where
+  pub fuel : ℕ
+  pub deep : ℕ
+  pub what : Expression
+  pub rest : List ℕ
+  pub read : expression fuel (drop at s) ≡ some (some what, rest)
+  pub within : kindWithin deep what ≡ some kind
+
+abbrev pub HasKind : List ℕ → ℕ → Type 0
+HasKind s at = (kind : Number) × OfKind s at kind
+
+abbrev pub TellsKind : List ℕ → ℕ → ℕ → Type 0
+TellsKind s at r = (kind : Number) → OfKind s at kind → r ≡ tagOf kind

@@ -9,7 +9,7 @@ ghost use lib.Ieee.{Float, binary32, binary64, ofBits, toBits};
 ghost use Rattle.definition.specs.Basics.{good, lookup};
 ghost use Rattle.definition.specs.Expression.{Expression, expression, readExpression, openings};
 ghost use Rattle.definition.specs.Value.{folded, constantIn, negative, negated, magnitude, quotient, integer, operation};
-ghost use Rattle.folding.specs.Folding.{opens, kindOf, signOf, asWhole, WholeWithin, combinedInt, combinedLong, numberOf, ofNumber, Combines, sizeOf, bitsAt, Steps, Spans, joinedAs, Reads, Folds, bitsOf, constantAs};
+ghost use Rattle.folding.specs.Folding.{opens, kindOf, signOf, asWhole, WholeWithin, combinedInt, combinedLong, numberOf, ofNumber, Combines, sizeOf, bitsAt, Steps, Spans, joinedAs, Reads, Folds, bitsOf, constantAs, HasKind, TellsKind};
 
 // A number with its kind. An Int's and a Long's bits are two's complement.
 enum Value {
@@ -540,4 +540,16 @@ pub fn constant_at(job: &[u8], at: usize) -> Constant
         Span::Cut => Constant::Refused(3),
         Span::Bad(_) => Constant::Refused(22),
     }
+}
+
+// The tag of the expression at a place, which comes to a constant: that of its first leaf, behind signs.
+pub fn tag_at(job: &[u8], start: usize) -> u8
+    requires { ⌜ HasKind (now job) start ⌝ }
+    ensures { λ r. ⌜ TellsKind (now (job .entry)) start r ⌝ }
+{
+    let mut at = start;
+    while 6 < writer::get_u8(job, at) {
+        at += 1;
+    }
+    writer::get_u8(job, at)
 }

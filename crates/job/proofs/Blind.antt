@@ -9,14 +9,15 @@ use Rattle.definition.specs.Basics.{Result, good, bad, _>>=_, Refusal, atRecord
 use Rattle.definition.specs.Settings.{version, texts, highest}
 use Rattle.definition.specs.Shapes.{Kind, constant, bootstrap}
 use Rattle.definition.specs.Job.{Reference, raw, entry, name, Definition, define, named, placed, setting, Request, readDefinition, asks, readRequest}
-use Rattle.definition.specs.Form.{Counts, countOf, kindOf, withBroken, whole, mayStand, hasRoom, cites, citesEarlier, formDefinition, formRequest, formBuild, Requests, formRequests}
+use Rattle.definition.specs.Form.{Counts, countOf, kindOf, withBroken, whole, mayStand, hasRoom, cites, citesEarlier, comesOut, formDefinition, formRequest, formBuild, Requests, formRequests}
 
 -- what a record goes through once it was read
-abbrev definitionTests : Counts → Definition (List ℕ) × List ℕ → Result ℕ (Definition (List ℕ) × List ℕ)
-definitionTests n r =
+abbrev definitionTests : Result ℕ (Unit {0}) → Counts → Definition (List ℕ) × List ℕ → Result ℕ (Definition (List ℕ) × List ℕ)
+definitionTests out n r =
     mayStand n (r .0) >>= λ _.
     unless (hasRoom n (r .0)) 5 >>= λ _.
     unless (citesEarlier n (r .0)) 4 >>= λ _.
+    out >>= λ _.
     good r
 
 abbrev requestTests : Counts → Request × List ℕ → Result ℕ (Request × List ℕ)
@@ -71,7 +72,7 @@ module _ (n : Counts) (b : Option ℕ) where
   unfolding formDefinition
   definition-blind first bytes = ways (whole (readDefinition first bytes))
     where
-      ways : (x : Result ℕ (Definition (List ℕ) × List ℕ)) → (x >>= definitionTests (withBroken b n)) ≡ (x >>= definitionTests n)
+      ways : (x : Result ℕ (Definition (List ℕ) × List ℕ)) → (x >>= definitionTests (comesOut first bytes) (withBroken b n)) ≡ (x >>= definitionTests (comesOut first bytes) n)
       ways (good r) = rw (stand-blind (r .0), room-blind (r .0), earlier-blind (r .0))
       ways (bad code) = refl
 

@@ -18,7 +18,7 @@ use Rattle.definition.specs.Definitions.{sameKind}
 use Rattle.definition.specs.Numbering.{entries, isBootstrap, constantsOf, bootstrapsOf, settings}
 use Rattle.job.specs.declared.JobCounts.{JobCounts}
 use Rattle.job.specs.declared.Opening.{Opening}
-use Rattle.job.specs.declared.Opening.the-variants.{Constant, Bootstrap, NamedConstant, NamedBootstrap, RawConstant, RawBootstrap, Version, Texts, Highest}
+use Rattle.job.specs.declared.Opening.the-variants.{Constant, Bootstrap, NamedConstant, NamedBootstrap, RawConstant, RawBootstrap, Version, Texts, Highest, Expression}
 use Rattle.job.specs.Forms.{isNaming, isPlacing, isVersion, isHolding, referencesIn, kidsIn, versionWith, versionFrom, highestWith, highestFrom, countsOf, more, grown, countedAs, Bounded}
 
 -- ---- nothing more, and nothing before
@@ -103,3 +103,4 @@ bounded-one RawBootstrap c at k number next b h = omega arith
 bounded-one Version c at k number next b h = omega arith
 bounded-one Texts c at k number next b h = omega arith
 bounded-one Highest c at k number next b h = omega arith
+bounded-one Expression c at k number next b h = omega arith

@@ -8,21 +8,22 @@ use native.Mathlib.Omega.{arith}
 use lib.Dec.{eqb}
 use lib.ListN.{length, getD, drop}
 use Rattle.definition.specs.Basics.{lookup}
+use Rattle.definition.specs.Expression.{Number, int, float, long, double, tagOf}
 use Rattle.definition.specs.Settings.{version, texts, highest}
 use Rattle.definition.specs.Shapes.{Kind, constant, bootstrap, shapes, bootstrapShape, Entry, isWide}
-use Rattle.definition.specs.Job.{Reference, Definition, define, named, Body, bodies, reference, readBody, readDefinition, shortName}
+use Rattle.definition.specs.Job.{Reference, Definition, define, named, Body, bodies, asConstant, reference, readBody, readDefinition, shortName}
 use Rattle.definition.specs.Form.{kindOf}
-use Rattle.facts.proofs.Lists.{clash, none≢some}
+use borrow.Author.Tests.{eq-eqb}
+use Rattle.facts.proofs.Lists.{clash, true≢false, none≢some}
 use Rattle.facts.proofs.Each.{Each, each-at}
 use Rattle.facts.proofs.Tables.{lookup-at}
 use Rattle.raw_const.specs.declared.Shape.the-variants.{Text, Bits, One, Two, Dynamic, KindOne, Unknown}
 use Rattle.job.specs.declared.Opening.{Opening}
-use Rattle.job.specs.declared.Opening.the-variants.{Constant, Bootstrap, NamedConstant, NamedBootstrap, RawConstant, RawBootstrap, Version, Texts, Highest}
+use Rattle.job.specs.declared.Opening.the-variants.{Constant, Bootstrap, NamedConstant, NamedBootstrap, RawConstant, RawBootstrap, Version, Texts, Highest, Expression}
 use Rattle.job.specs.Forms.{entryBody, bodyOf}
-use Rattle.job.specs.Stored.{Found, InTurn, anyDefinition, firstKind, kindIn, kidKind, bytesBetween, KidsTurn, firstPlace}
+use Rattle.job.specs.Stored.{Found, InTurn, anyDefinition, isWorked, firstKind, kindIn, kidKind, bytesBetween, KidsTurn, firstPlace}
 use Rattle.job.proofs.Laws.{number}
-use Rattle.job.proofs.Taking.{byte-then}
-use Rattle.job.proofs.Standing.{Refers, EntryIs, NamingIs, PlacingIs, SettingIs, BareIs, DefinitionIs, tag-there, entry-there, definition-there}
+use Rattle.job.proofs.Standing.{Refers, EntryIs, NamingIs, PlacingIs, SettingIs, BareIs, DefinitionIs, definition-read, tag-there, entry-there, worked-there, definition-there}
 
 -- a Dynamic's first reference is to a bootstrap
 unfoldable pub kindIf : Bool → Kind
@@ -58,6 +59,7 @@ Fit tag RawBootstrap = tag ≡ 0x44
 Fit tag Version = tag ≡ 0x47
 Fit tag Texts = tag ≡ 0x48
 Fit tag Highest = tag ≡ 0x49
+Fit tag Expression = tag ≡ 0x46
 
 abbrev Known : ℕ × Body → Type 0
 Known r = (o : Opening) × (bodyOf o ≡ some (r .1)) × Fit (r .0) o × (kindIn (some (r .1)) ≡ kindIf (eqb (r .0) 17 || eqb (r .0) 18))
@@ -109,12 +111,15 @@ all-known = (
                                           (
                                             (RawBootstrap, refl, refl, refl),
                                             (
-                                              (Version, refl, refl, refl),
+                                              (Expression, refl, refl, refl),
                                               (
-                                                (Texts, refl, refl, refl),
+                                                (Version, refl, refl, refl),
                                                 (
-                                                  (Highest, refl, refl, refl),
-                                                  tt,
+                                                  (Texts, refl, refl, refl),
+                                                  (
+                                                    (Highest, refl, refl, refl),
+                                                    tt,
+                                                  ),
                                                 ),
                                               ),
                                             ),
@@ -148,7 +153,7 @@ module _ (s : List ℕ) (at : ℕ) where
       (o : Opening) × (bodyOf o ≡ lookup (getD s at 0) bodies) × Fit (getD s at 0) o
       × (kindIn (lookup (getD s at 0) bodies) ≡ kindIf (eqb (getD s at 0) 17 || eqb (getD s at 0) 18))
   unfolding readDefinition readBody
-  opened d next f = ways (lookup (getD s at 0) bodies) refl (byte-then s at readDefinition d (drop next s) (f .read) .1)
+  opened d next f = ways (lookup (getD s at 0) bodies) refl (definition-read s at d next f .2)
     where
       ways :
           (b : Option Body) → lookup (getD s at 0) bodies ≡ b → readBody (getD s at 0) b (drop (at + 1) s) ≡ some (d, drop next s) →
@@ -187,6 +192,7 @@ module _ (s : List ℕ) (at : ℕ) where
       ways Version fit h = clash (cc (h .1))
       ways Texts fit h = clash (cc (h .1))
       ways Highest fit h = clash (cc (h .1))
+      ways Expression fit h = clash (cc (h .1))
 
   -- what stands at a place, by its first byte
   module _ (d : Definition (List ℕ)) (next : ℕ) (f : Found anyDefinition s at d next) where
@@ -228,6 +234,7 @@ module _ (s : List ℕ) (at : ℕ) where
         ways Version fit h = absurd (n7 fit)
         ways Texts fit h = absurd (n8 fit)
         ways Highest fit h = absurd (n9 fit)
+        ways Expression fit h = h
 
   -- an entry: its references from the first on, or its literal, and the place behind it
   module _ (x : Entry (List ℕ) Reference) (next : ℕ) (f : Found anyDefinition s at (define x) next) where
@@ -248,16 +255,32 @@ module _ (s : List ℕ) (at : ℕ) where
         Refers s kind first between (x .kids) next → KidsTurn s (x .tag) 0 first (x .kids) next
     refers-turn kind first between k g r = rw (r .are) (r .behind, rw k (r .found), rw g (later-turn (r .others) 0 (r .behind + between) (r .rest)))
 
-    pub first-kind : kidKind (x .tag) 0 ≡ kindIf (eqb (x .tag) 17 || eqb (x .tag) 18)
-    unfolding kidKind
-    first-kind = rw (tag-there s at x next f) (opened (define x) next f .3)
+    -- a number has none
+    number-first : (k : Number) → kidKind (tagOf k) 0 ≡ kindIf (eqb (tagOf k) 17 || eqb (tagOf k) 18)
+    unfolding kidKind kindIn firstKind kindIf tagOf lookup bodies shapes
+    number-first int = refl
+    number-first float = refl
+    number-first long = refl
+    number-first double = refl
 
-    tagged : (o : Opening) × (bodyOf o ≡ lookup (x .tag) bodies) × Fit (x .tag) o
-    tagged = let o = opened (define x) next f in rw (tag-there s at x next f) (o .0, o .1, o .2)
+    pub first-kind : kidKind (x .tag) 0 ≡ kindIf (eqb (x .tag) 17 || eqb (x .tag) 18)
+    unfolding kidKind asConstant
+    first-kind = ways (isWorked s at) refl
+      where
+        ways : (b : Bool) → isWorked s at ≡ b → kidKind (x .tag) 0 ≡ kindIf (eqb (x .tag) 17 || eqb (x .tag) 18)
+        ways true h = let w = worked-there s at x next f h in rw (w .is) (number-first (w .number .0))
+        ways false h = rw (tag-there s at x next f h) (opened (define x) next f .3)
+
+    -- what wasn't worked out is what its tag opens
+    tagged : isWorked s at ≡ false → (o : Opening) × (bodyOf o ≡ lookup (x .tag) bodies) × Fit (x .tag) o × EntryIs s at o x next
+    tagged plain =
+        let o = opened (define x) next f in
+        let tag = tag-there s at x next f plain in
+        (o .0, o .1 ∙ ap (λ k. lookup k bodies) (sym tag), subst (λ k. Fit k (o .0)) (sym tag) (o .2), entry-there s at x next f (o .0) (o .1))
 
     pub kids-there : 0 < length (x .kids) → KidsTurn s (x .tag) 0 (firstPlace (x .tag) at) (x .kids) next
-    unfolding kidKind kindIn bodyOf entryBody firstKind bytesBetween bootstrapShape firstPlace
-    kids-there more = let o = tagged in ways (o .0) (o .1) (o .2) (entry-there s at x next (o .0) f (o .1))
+    unfolding kidKind kindIn bodyOf entryBody firstKind bytesBetween bootstrapShape firstPlace asConstant
+    kids-there more = by (isWorked s at) refl
       where
         none-there : {C : Type 0} → x .kids ≡ [] → C
         none-there e = absurd (omega (arith, ap length e))
@@ -283,10 +306,15 @@ module _ (s : List ℕ) (at : ℕ) where
         ways Version b fit h = absurd h
         ways Texts b fit h = absurd h
         ways Highest b fit h = absurd h
+        ways Expression b fit h = none-there (ap (λ (y : Entry (List ℕ) Reference). y .kids) (h .is))
 
-    pub literal-there : length (x .kids) ≡ 0 → literalEnd s at (x .tag) ≡ next
+        by : (b : Bool) → isWorked s at ≡ b → KidsTurn s (x .tag) 0 (firstPlace (x .tag) at) (x .kids) next
+        by true h = none-there (ap (λ (y : Entry (List ℕ) Reference). y .kids) (worked-there s at x next f h .is))
+        by false h = let o = tagged h in ways (o .0) (o .1) (o .2) (o .3)
+
+    pub literal-there : isWorked s at ≡ false → length (x .kids) ≡ 0 → literalEnd s at (x .tag) ≡ next
     unfolding literalEnd bitsOf
-    literal-there bare = let o = tagged in ways (o .0) (o .2) (entry-there s at x next (o .0) f (o .1))
+    literal-there plain bare = let o = tagged plain in ways (o .0) (o .2) (o .3)
       where
         some-there : {C : Type 0} (n : ℕ) → length (x .kids) ≡ suc n → C
         some-there n e = absurd (omega arith)
@@ -311,3 +339,4 @@ module _ (s : List ℕ) (at : ℕ) where
         ways Version fit h = absurd h
         ways Texts fit h = absurd h
         ways Highest fit h = absurd h
+        ways Expression fit h = true≢false (sym (eq-eqb (getD s at 0) 0x46 (sym (tag-there s at x next f plain) ∙ fit)) ∙ plain)

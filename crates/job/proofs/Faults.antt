@@ -13,9 +13,9 @@ use Rattle.facts.proofs.Lists.{true≢false}
 use Rattle.definition.specs.Settings.{isSlot}
 use Rattle.job.specs.declared.JobCounts.{JobCounts}
 use Rattle.job.specs.declared.Opening.{Opening}
-use Rattle.job.specs.declared.Opening.the-variants.{Constant, Bootstrap, NamedConstant, NamedBootstrap, RawConstant, RawBootstrap, Version, Texts, Highest}
+use Rattle.job.specs.declared.Opening.the-variants.{Constant, Bootstrap, NamedConstant, NamedBootstrap, RawConstant, RawBootstrap, Version, Texts, Highest, Expression}
 use Rattle.job.proofs.Opening.{the-type}
-use Rattle.job.specs.Forms.{isSetting, numberOpened, brokenWith, roomFor, highestFault, settingFault, countedAs}
+use Rattle.job.specs.Forms.{isPlain, isSetting, numberOpened, brokenWith, roomFor, highestFault, settingFault, countedAs}
 
 -- ---- a text that isn't one
 
@@ -38,7 +38,7 @@ module _ (earlier place : ℕ) (broken : Bool) where
       ways zero false h = refl
       ways (suc earlier) t h = refl
 
--- ---- what opens neither a table's entry, nor a setting, nor a number
+-- ---- what opens neither a table's entry, nor a number; what is plain
 
 pub room-other : (o : Opening) (constants bootstraps : ℕ) → OneOf (2 ∷ 3 ∷ 4 ∷ 5 ∷ 6 ∷ 7 ∷ 8 ∷ []) (tagOf the-type o) → true ≡ roomFor o constants bootstraps
 unfolding roomFor
@@ -51,20 +51,56 @@ room-other RawBootstrap constants bootstraps k = refl
 room-other Version constants bootstraps k = refl
 room-other Texts constants bootstraps k = refl
 room-other Highest constants bootstraps k = refl
+room-other Expression constants bootstraps k = absurd (miss (2 ∷ 3 ∷ 4 ∷ 5 ∷ 6 ∷ 7 ∷ 8 ∷ []) 9 tt k)
 
-pub setting-other : (o : Opening) → OneOf (0 ∷ 1 ∷ 2 ∷ 3 ∷ 4 ∷ 5 ∷ []) (tagOf the-type o) → false ≡ isSetting o
-unfolding isSetting
-setting-other (Constant shape) k = refl
-setting-other Bootstrap k = refl
-setting-other NamedConstant k = refl
-setting-other NamedBootstrap k = refl
-setting-other RawConstant k = refl
-setting-other RawBootstrap k = refl
-setting-other Version k = absurd (miss (0 ∷ 1 ∷ 2 ∷ 3 ∷ 4 ∷ 5 ∷ []) 6 tt k)
-setting-other Texts k = absurd (miss (0 ∷ 1 ∷ 2 ∷ 3 ∷ 4 ∷ 5 ∷ []) 7 tt k)
-setting-other Highest k = absurd (miss (0 ∷ 1 ∷ 2 ∷ 3 ∷ 4 ∷ 5 ∷ []) 8 tt k)
+pub plain-other : (o : Opening) → OneOf (0 ∷ 1 ∷ 2 ∷ 3 ∷ 4 ∷ 5 ∷ []) (tagOf the-type o) → true ≡ isPlain o
+unfolding isPlain
+plain-other (Constant shape) k = refl
+plain-other Bootstrap k = refl
+plain-other NamedConstant k = refl
+plain-other NamedBootstrap k = refl
+plain-other RawConstant k = refl
+plain-other RawBootstrap k = refl
+plain-other Version k = absurd (miss (0 ∷ 1 ∷ 2 ∷ 3 ∷ 4 ∷ 5 ∷ []) 6 tt k)
+plain-other Texts k = absurd (miss (0 ∷ 1 ∷ 2 ∷ 3 ∷ 4 ∷ 5 ∷ []) 7 tt k)
+plain-other Highest k = absurd (miss (0 ∷ 1 ∷ 2 ∷ 3 ∷ 4 ∷ 5 ∷ []) 8 tt k)
+plain-other Expression k = absurd (miss (0 ∷ 1 ∷ 2 ∷ 3 ∷ 4 ∷ 5 ∷ []) 9 tt k)
 
-pub number-other : (o : Opening) (s : List ℕ) (at : ℕ) → OneOf (0 ∷ 1 ∷ 2 ∷ 3 ∷ 4 ∷ 5 ∷ 7 ∷ []) (tagOf the-type o) → 0 ≡ numberOpened o s at
+-- what is neither plain nor an expression is a setting
+pub setting-rest : (o : Opening) → isPlain o ≡ false → OneOf (0 ∷ 1 ∷ 2 ∷ 3 ∷ 4 ∷ 5 ∷ 6 ∷ 7 ∷ 8 ∷ []) (tagOf the-type o) → isSetting o ≡ true
+unfolding isPlain isSetting
+setting-rest (Constant shape) h k = true≢false h
+setting-rest Bootstrap h k = true≢false h
+setting-rest NamedConstant h k = true≢false h
+setting-rest NamedBootstrap h k = true≢false h
+setting-rest RawConstant h k = true≢false h
+setting-rest RawBootstrap h k = true≢false h
+setting-rest Version h k = refl
+setting-rest Texts h k = refl
+setting-rest Highest h k = refl
+setting-rest Expression h k = absurd (miss (0 ∷ 1 ∷ 2 ∷ 3 ∷ 4 ∷ 5 ∷ 6 ∷ 7 ∷ 8 ∷ []) 9 tt k)
+
+pub plain-no-setting : (o : Opening) → isPlain o ≡ true → isSetting o ≡ false
+unfolding isPlain isSetting
+plain-no-setting (Constant shape) h = refl
+plain-no-setting Bootstrap h = refl
+plain-no-setting NamedConstant h = refl
+plain-no-setting NamedBootstrap h = refl
+plain-no-setting RawConstant h = refl
+plain-no-setting RawBootstrap h = refl
+plain-no-setting Version h = true≢false (sym h)
+plain-no-setting Texts h = true≢false (sym h)
+plain-no-setting Highest h = true≢false (sym h)
+plain-no-setting Expression h = refl
+
+pub setting-no-plain : (o : Opening) → isSetting o ≡ true → isPlain o ≡ false
+setting-no-plain o h = ways (isPlain o) refl
+  where
+    ways : (b : Bool) → isPlain o ≡ b → isPlain o ≡ false
+    ways true t = true≢false (sym h ∙ plain-no-setting o t)
+    ways false t = t
+
+pub number-other : (o : Opening) (s : List ℕ) (at : ℕ) → OneOf (0 ∷ 1 ∷ 2 ∷ 3 ∷ 4 ∷ 5 ∷ 7 ∷ 9 ∷ []) (tagOf the-type o) → 0 ≡ numberOpened o s at
 unfolding numberOpened
 number-other (Constant shape) s at k = refl
 number-other Bootstrap s at k = refl
@@ -72,9 +108,23 @@ number-other NamedConstant s at k = refl
 number-other NamedBootstrap s at k = refl
 number-other RawConstant s at k = refl
 number-other RawBootstrap s at k = refl
-number-other Version s at k = absurd (miss (0 ∷ 1 ∷ 2 ∷ 3 ∷ 4 ∷ 5 ∷ 7 ∷ []) 6 tt k)
+number-other Version s at k = absurd (miss (0 ∷ 1 ∷ 2 ∷ 3 ∷ 4 ∷ 5 ∷ 7 ∷ 9 ∷ []) 6 tt k)
 number-other Texts s at k = refl
-number-other Highest s at k = absurd (miss (0 ∷ 1 ∷ 2 ∷ 3 ∷ 4 ∷ 5 ∷ 7 ∷ []) 8 tt k)
+number-other Highest s at k = absurd (miss (0 ∷ 1 ∷ 2 ∷ 3 ∷ 4 ∷ 5 ∷ 7 ∷ 9 ∷ []) 8 tt k)
+number-other Expression s at k = refl
+
+pub fault-other : (o : Opening) (number : ℕ) (c : JobCounts) → OneOf (0 ∷ 1 ∷ 2 ∷ 3 ∷ 4 ∷ 5 ∷ 9 ∷ []) (tagOf the-type o) → 0 ≡ settingFault o number c
+unfolding settingFault
+fault-other (Constant shape) number c k = refl
+fault-other Bootstrap number c k = refl
+fault-other NamedConstant number c k = refl
+fault-other NamedBootstrap number c k = refl
+fault-other RawConstant number c k = refl
+fault-other RawBootstrap number c k = refl
+fault-other Version number c k = absurd (miss (0 ∷ 1 ∷ 2 ∷ 3 ∷ 4 ∷ 5 ∷ 9 ∷ []) 6 tt k)
+fault-other Texts number c k = absurd (miss (0 ∷ 1 ∷ 2 ∷ 3 ∷ 4 ∷ 5 ∷ 9 ∷ []) 7 tt k)
+fault-other Highest number c k = absurd (miss (0 ∷ 1 ∷ 2 ∷ 3 ∷ 4 ∷ 5 ∷ 9 ∷ []) 8 tt k)
+fault-other Expression number c k = refl
 
 -- ---- 49 behind so many records
 
@@ -104,6 +154,7 @@ fault-plain RawBootstrap number c h = refl
 fault-plain Version number c h = true≢false h
 fault-plain Texts number c h = true≢false h
 fault-plain Highest number c h = true≢false h
+fault-plain Expression number c h = refl
 
 pub counted-plain : (o : Opening) (k number : ℕ) (c : JobCounts) → isSetting o ≡ false → countedAs o k 0 c ≡ countedAs o k number c
 unfolding isSetting countedAs
@@ -116,6 +167,7 @@ counted-plain RawBootstrap k number c h = refl
 counted-plain Version k number c h = true≢false h
 counted-plain Texts k number c h = true≢false h
 counted-plain Highest k number c h = true≢false h
+counted-plain Expression k number c h = refl
 
 pub room-setting : (o : Opening) (constants bootstraps : ℕ) → isSetting o ≡ true → roomFor o constants bootstraps ≡ true
 unfolding isSetting roomFor
@@ -128,3 +180,4 @@ room-setting RawBootstrap constants bootstraps h = refl
 room-setting Version constants bootstraps h = refl
 room-setting Texts constants bootstraps h = refl
 room-setting Highest constants bootstraps h = refl
+room-setting Expression constants bootstraps h = true≢false (sym h)

@@ -11,12 +11,13 @@ use lib.ListN.{length, drop, getElem?}
 use borrow.Author.Tests.{eqb-true}
 use Rattle.definition.specs.Basics.{good, atRecord, unless, lookup}
 use Rattle.definition.specs.Bytes.{Parser, _>>=_, one}
-use Rattle.definition.specs.Job.{Build, Job, readDefinition, asks, readRequest, readBuild}
+use Rattle.definition.specs.Job.{Build, Job, asks, readRequest, readBuild}
 use Rattle.definition.specs.Form.{Counts, nothingYet, counted, whole, cites, citesRequest, Definitions, formDefinitions, formRequest, nothingBehind, formBuild, Requests, formRequests, form}
-use Rattle.laws.proofs.form.DefinitionsRead.{formed-read, formed-end, formed-step}
+use Rattle.laws.proofs.form.DefinitionsRead.{formed-end, formed-step}
 use Rattle.facts.proofs.Lists.{true≢false, front}
 use Rattle.facts.proofs.Results.{bad≢good, good-inj, good-then, atRecord-good, unless-good, whole-good, decided}
-use Rattle.job.specs.Stored.{Found, InTurn, anyDefinition, anyRequest, Laid}
+use Rattle.job.specs.Stored.{Found, InTurn, formedDefinition, anyDefinition, anyRequest, Laid}
+use Rattle.job.proofs.Expressions.{formed-stands}
 use Rattle.job.proofs.Taking.{Takes, takes-definition, takes-request, finds}
 
 no-bytes-left : (l : List ℕ) → nothingBehind l ≡ true → l ≡ []
@@ -74,7 +75,7 @@ module _ (s : List ℕ) where
           subst (λ x. Ended anyDefinition at 0x50 (x .list) (x .rest)) (sym (formed-end fuel n place first l d t e)) (ended-now anyDefinition at 0x50 first l same t)
       ways false t later =
           let g = formed-step fuel n place first l d t e in
-          let h = stands-first readDefinition takes-definition at first l (g .0 .0) (g .0 .1) same (formed-read n first l (g .0) (g .2)) in
+          let h = stands-first formedDefinition takes-definition at first l (g .0 .0) (g .0 .1) same (formed-stands first l n (g .0) (g .2)) in
           subst (λ x. Ended anyDefinition at 0x50 (x .list) (x .rest)) (sym (g .4))
           (ended-later anyDefinition at 0x50 (g .0 .0) (h .0) (g .1 .list) (g .1 .rest) (h .2)
           (later (counted (g .0 .0) n) (suc place) (h .0) (g .0 .1) (g .1) (h .1) (g .3)))

@@ -1,5 +1,6 @@
 pub mod Laws
 pub mod Table
+pub mod Expressions
 pub mod Entries
 pub mod Several
 pub mod Records
@@ -13,6 +14,7 @@ pub mod Whole
 pub mod Taking
 pub mod Standing
 pub mod Stored
+pub mod Working
 pub mod Laying
 pub mod Single
 pub mod Endings

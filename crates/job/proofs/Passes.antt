@@ -25,7 +25,7 @@ use Rattle.job.specs.declared.Formed.{Formed}
 use Rattle.job.specs.declared.Formed.the-variants as formed
 use Rattle.job.specs.Forms.{isVersion, isHolding, isBroken, asBroken, brokenWith, brokenAt, referencesIn, versionFrom, highestFrom, countsOf, more, textsHold, tablesIn, Moved, tallied, placeOf, formedRequests, formedBuild}
 use Rattle.job.specs.Stored.{Found, anyDefinition}
-use Rattle.laws.proofs.form.DefinitionsRead.{formed-read}
+use Rattle.job.proofs.Expressions.{formed-stands}
 use Rattle.job.proofs.Laws.{one-at}
 use Rattle.job.proofs.Settling.{broken-there, text-within}
 use Rattle.job.proofs.Blind.{definition-blind}
@@ -199,7 +199,7 @@ module _ (s : List ℕ) (at : ℕ) (c : JobCounts) (low : at < length s) (small 
     moved-found : Found anyDefinition s at (m .value) next
     moved-found =
         record {
-          read = rw (one-at s at low) (formed-read (tablesIn c) (getD s at 0) (drop (at + 1) s) (m .value, drop next s) (m .read));
+          read = rw (one-at s at low) (formed-stands (getD s at 0) (drop (at + 1) s) (tablesIn c) (m .value, drop next s) (m .read));
           past = omega (arith, m .past);
           within = m .within;
         }

@@ -2,21 +2,36 @@
 use mathlib.Core.Bool.{Bool, true}
 use mathlib.Core.List.{List}
 use mathlib.Core.Option.{none, some}
-use mathlib.Core.Path.{_≡_, refl}
+use mathlib.Core.Path.{_≡_, refl, sym, ap}
 use Prim.Native.Nat.{ℕ, _+_, _-_, _≤_, _<_}
 use native.Mathlib.Omega.{arith}
 use lib.Dec.{ltb}
 use lib.ListN.{length, drop}
 use Rattle.definition.specs.Basics.{every}
 use Rattle.definition.specs.Bytes.{return, _>>=_, two}
+use Rattle.definition.specs.Expression.{readExpression}
+use Rattle.definition.specs.Value.{folded}
 use Rattle.definition.specs.Settings.{Setting}
 use Rattle.definition.specs.Shapes.{Kind, Field, readEntry}
-use Rattle.definition.specs.Job.{define, named, placed, setting, ofEntry, ofName, ofRaw, ofNumber, ofNothing, shortName, reference, readBody}
+use Rattle.definition.specs.Job.{define, named, placed, setting, ofEntry, ofName, ofRaw, ofExpression, ofNumber, ofNothing, workedOut, shortName, reference, readBody}
 use Rattle.definition.specs.Form.{Counts, countOf, cites, citesEarlier}
 use Rattle.job.specs.declared.Skipped.{Skipped}
 use Rattle.job.specs.declared.Skipped.the-variants.{To, Cut}
 use Rattle.job.specs.Forms.{Read, Skips, SkipsEntry, SkipsDefinition, kidsIn}
+use Rattle.folding.specs.Folding.{Ends}
+use Rattle.job.proofs.Expressions.{worked-bare}
 use Rattle.job.proofs.Laws.{number, two-cut, then-two, mapped}
+
+module _ (s : List ℕ) (at : ℕ) where
+  pub whole-expression : (next : ℕ) → Ends s at next → Skips readExpression (λ _. true) (λ _. 0) s at (To next true 0)
+  whole-expression next v =
+      record { value = some (v .what); read = v .read; past = omega (arith, v .past); within = v .within; cites = refl; count = refl }
+
+  pub bad-expression :
+      (next : ℕ) → readExpression (drop at s) ≡ some (none, drop next s) → at < next → next ≤ length s →
+      Skips readExpression (λ _. true) (λ _. 0) s at (To next true 0)
+  bad-expression next read past within =
+      record { value = none; read = read; past = omega arith; within = within; cites = refl; count = refl }
 
 module _ (n : Counts) (s : List ℕ) (at : ℕ) where
   pub entry-to : (fields : List Field) (r : Skipped) → SkipsEntry n fields s at r → SkipsDefinition n (some (ofEntry fields)) s at r
@@ -42,6 +57,17 @@ module _ (n : Counts) (s : List ℕ) (at : ℕ) where
   pub nothing-to : (rule : Setting) → at ≤ length s → SkipsDefinition n (some (ofNothing rule)) s at (To at true 0)
   unfolding readBody citesEarlier kidsIn
   nothing-to rule low = λ first. record { value = setting rule; read = refl; past = omega arith; within = low; cites = refl; count = refl }
+
+  -- ---- an expression
+
+  pub expression-to : (r : Skipped) → Skips readExpression (λ _. true) (λ _. 0) s at r → SkipsDefinition n (some ofExpression) s at r
+  unfolding readBody citesEarlier kidsIn every
+  expression-to r v =
+      λ first.
+      mapped readExpression (λ x. define (workedOut (folded x))) (λ _. true) (λ _. 0) (citesEarlier n) kidsIn s at r
+      (λ x. sym (ap (every (cites n)) (worked-bare (folded x))))
+      (λ x. sym (ap length (worked-bare (folded x))))
+      v
 
   module _ (kind : Kind) where
     -- ---- a name and what it stands for

@@ -5,29 +5,31 @@ use mathlib.Core.Path.{_≡_, refl, sym, ap, _∙_}
 use Prim.Native.Nat.{ℕ, _+_, _-_, _≤_, _<_}
 use native.Mathlib.Omega.{arith}
 use lib.Dec.{eqb}
-use lib.ListN.{length, getD}
+use lib.ListN.{length, getD, drop}
 use borrow.Author.Tests.{eqb-true}
-use Rattle.definition.specs.Basics.{lookup}
+use Rattle.definition.specs.Basics.{good, lookup}
+use Rattle.definition.specs.Form.{comesOut}
 use Rattle.definition.specs.Shapes.{Entry, shapes}
-use Rattle.definition.specs.Job.{Reference, Definition, define, named, placed, setting, bodies, readBody, readDefinition}
+use Rattle.definition.specs.Job.{Reference, Definition, define, named, placed, setting, bodies, asConstant, readBody, readDefinition}
 use Rattle.raw_const.specs.declared.Shape.the-variants.{Text}
 use Rattle.job.specs.declared.Opening.{Opening}
-use Rattle.job.specs.declared.Opening.the-variants.{Constant, Bootstrap, NamedConstant, NamedBootstrap, RawConstant, RawBootstrap, Version, Texts, Highest}
+use Rattle.job.specs.declared.Opening.the-variants.{Constant, Bootstrap, NamedConstant, NamedBootstrap, RawConstant, RawBootstrap, Version, Texts, Highest, Expression}
 use Rattle.job.specs.Forms.{Read, entryBody, bodyOf, NumberRoom, numberOpened, numberIn, brokenAt, isBroken}
-use Rattle.job.specs.Stored.{Found, anyDefinition}
+use Rattle.job.specs.Stored.{Found, anyDefinition, isWorked}
 use Rattle.job.proofs.Laws.{number, one-at}
 use Rattle.job.proofs.Table.{Right}
-use Rattle.job.proofs.Standing.{DefinitionIs, tag-there, entry-there, definition-there}
+use Rattle.job.proofs.Expressions.{formed-passed, number-no-text}
+use Rattle.job.proofs.Standing.{DefinitionIs, tag-there, entry-there, worked-there, definition-there}
 
-module _ (s : List ℕ) (at : ℕ) (opening : Opening) (right : Right (getD s at 0) opening) where
-  -- what was read behind the first byte stands at its place
+module _ (s : List ℕ) (at : ℕ) (opening : Opening) (right : Right (getD s at 0) opening) (out : comesOut (getD s at 0) (drop (at + 1) s) ≡ good tt) where
+  -- what was read behind the first byte and comes out stands at its place
   pub found-there :
       (ok : Definition (List ℕ) → Bool) (kids : Definition (List ℕ) → ℕ) (next : ℕ) (cited : Bool) (references : ℕ) → at < length s →
       (v : Read (readBody (getD s at 0) (bodyOf opening)) ok kids s (at + 1) next cited references) →
       Found anyDefinition s at (v .value) next
   unfolding readDefinition
   found-there ok kids next cited references low v =
-      record { read = rw (one-at s at low, ← right .0) (v .read); past = omega (arith, v .past); within = v .within }
+      record { read = rw (one-at s at low) (formed-passed (getD s at 0) (drop (at + 1) s) out ∙ rw (← right .0) (v .read)); past = omega (arith, v .past); within = v .within }
 
   module _ (d : Definition (List ℕ)) (next : ℕ) (f : Found anyDefinition s at d next) where
     opened : DefinitionIs s at opening d next
@@ -46,6 +48,7 @@ module _ (s : List ℕ) (at : ℕ) (opening : Opening) (right : Right (getD s at
         ways Version h = omega (arith, h .0, f .within)
         ways Texts h = tt
         ways Highest h = omega (arith, h .0, f .within)
+        ways Expression h = tt
 
     pub number-there : numberOpened opening s (at + 1) ≡ numberIn d
     unfolding numberOpened numberIn
@@ -61,12 +64,22 @@ module _ (s : List ℕ) (at : ℕ) (opening : Opening) (right : Right (getD s at
         ways Version h = rw (h .1)
         ways Texts h = rw (h .1)
         ways Highest h = rw (h .1)
+        ways Expression h = rw (h .1)
 
 module _ (s : List ℕ) (at next : ℕ) where
-  -- what doesn't begin with 1 is no broken text
+  -- what doesn't begin with 1 is no text
+  no-text-tag : (e : Entry (List ℕ) Reference) → Found anyDefinition s at (define e) next → eqb (getD s at 0) 1 ≡ false → eqb (e .tag) 1 ≡ false
+  unfolding asConstant
+  no-text-tag e f h = ways (isWorked s at) refl
+    where
+      ways : (b : Bool) → isWorked s at ≡ b → eqb (e .tag) 1 ≡ false
+      ways true t = let w = worked-there s at e next f t in ap (λ (y : Entry (List ℕ) Reference). eqb (y .tag) 1) (w .is) ∙ number-no-text (w .number .0)
+      ways false t = ap (λ k. eqb k 1) (tag-there s at e next f t) ∙ h
+
+  -- and so no broken one
   unbroken : (d : Definition (List ℕ)) → Found anyDefinition s at d next → eqb (getD s at 0) 1 ≡ false → isBroken d ≡ false
   unfolding isBroken
-  unbroken (define e) f h = rw (tag-there s at e next f, h)
+  unbroken (define e) f h = rw (no-text-tag e f h)
   unbroken (named kind l r) f h = refl
   unbroken (placed kind slot n) f h = refl
   unbroken (setting rule) f h = refl
@@ -79,7 +92,7 @@ module _ (s : List ℕ) (at next : ℕ) where
   -- whose length and bytes stand ahead of the next record
   text-ends : (e : Entry (List ℕ) Reference) → Found anyDefinition s at (define e) next → getD s at 0 ≡ 1 → at + 3 ≤ next
   text-ends e g h =
-      let l = entry-there s at e next (Constant Text) g (opens-text h ∙ ap (λ k. lookup k bodies) (sym (tag-there s at e next g))) in
+      let l = entry-there s at e next g (Constant Text) (opens-text h) in
       omega (arith, l .end)
 
   pub text-within : (d : Definition (List ℕ)) → Found anyDefinition s at d next → getD s at 0 ≡ 1 → at + 3 ≤ next
@@ -91,8 +104,9 @@ module _ (s : List ℕ) (at next : ℕ) where
   unfolding brokenAt isBroken
   text-there d e same f h =
       let g = rw same at f in
-      let tag = tag-there s at e next g in
-      let l = entry-there s at e next (Constant Text) g (opens-text (eqb-true (getD s at 0) 1 h) ∙ ap (λ k. lookup k bodies) (sym tag)) in
+      let first = eqb-true (getD s at 0) 1 h in
+      let tag = tag-there s at e next g (rw first) in
+      let l = entry-there s at e next g (Constant Text) (opens-text first) in
       let place : at + 1 + 2 ≡ at + 3 = omega arith in
       let size : next - (at + 3) ≡ number s (at + 1) = omega (arith, l .end) in
       rw (same, tag, h, size, ← place, l .literal)

@@ -1,28 +1,33 @@
 -- What stands at a place of a job, part by part: names, references, entries. Assumes nothing.
-use mathlib.Core.Bool.{Bool}
+use mathlib.Core.Bool.{Bool, true, false}
 use mathlib.Core.List.{List, [], _∷_}
 use mathlib.Core.Option.{Option, none, some}
 use mathlib.Core.Path.{_≡_, refl, sym, ap, subst, _∙_}
 use Prim.Native.Nat.{ℕ, zero, suc, _+_, _-_, _≤_, _<_}
 use native.Mathlib.Omega.{arith}
+use lib.Dec.{eqb}
 use lib.ListN.{length, getD, take, drop, length-drop}
-use Rattle.facts.proofs.Lists.{clash, none≢some, some-inj}
+use borrow.Author.Tests.{eq-eqb, eqb-true}
+use Rattle.facts.proofs.Lists.{clash, true≢false, none≢some, some-inj}
 use Rattle.facts.proofs.Results.{some-then}
-use Rattle.definition.specs.Basics.{lookup}
+use Rattle.definition.specs.Basics.{good, lookup}
 use Rattle.definition.specs.Bytes.{return, andThen, _>>=_, one, two, many}
+use Rattle.definition.specs.Value.{folded}
+use Rattle.definition.specs.Form.{kindOf, comesOut}
 use Rattle.definition.specs.Settings.{Setting, version, texts, highest}
 use Rattle.definition.specs.Shapes.{Kind, constant, bootstrap, Field, text, bits, byte, to, bootstrapShape, Entry, withKids, withLiteral, withByte, readFields, readEntry}
-use Rattle.definition.specs.Job.{Reference, raw, entry, name, Definition, define, named, placed, setting, Request, ClassSlot, slot, request, Build, Body, ofEntry, ofName, ofRaw, ofNumber, ofNothing, bodies, shortName, referenceForm, reference, readBody, readDefinition, asks, readRequest, classForm, nameForm, readBuild}
+use Rattle.definition.specs.Job.{Reference, raw, entry, name, Definition, define, named, placed, setting, Request, ClassSlot, slot, request, Build, Body, ofEntry, ofName, ofRaw, ofExpression, ofNumber, ofNothing, bodies, asConstant, workedOut, shortName, referenceForm, reference, readBody, readDefinition, asks, readRequest, classForm, nameForm, readBuild}
 use Rattle.job.specs.declared.Stretch.{Stretch}
 use Rattle.raw_const.specs.Entries.{fieldsOf}
 use Rattle.raw_const.specs.declared.Shape.{Shape}
 use Rattle.raw_const.specs.declared.Shape.the-variants.{Text, Bits, One, Two, Dynamic, KindOne, Unknown}
 use Rattle.job.specs.declared.Opening.{Opening}
-use Rattle.job.specs.declared.Opening.the-variants.{Constant, Bootstrap, NamedConstant, NamedBootstrap, RawConstant, RawBootstrap, Version, Texts, Highest}
+use Rattle.job.specs.declared.Opening.the-variants.{Constant, Bootstrap, NamedConstant, NamedBootstrap, RawConstant, RawBootstrap, Version, Texts, Highest, Expression}
 use Rattle.job.specs.Forms.{entryBody, bodyOf}
-use Rattle.job.specs.Stored.{Found, InTurn, Spans, anyDefinition, anyRequest}
+use Rattle.job.specs.Stored.{Found, InTurn, Spans, formedDefinition, anyDefinition, isWorked, anyRequest}
 use Rattle.job.proofs.Laws.{number}
-use Rattle.job.proofs.Stepping.{entry-read, name-read, raw-read, setting-read, bare-read}
+use Rattle.job.proofs.Expressions.{expression-first, opens-expression, formed-was, WorkedIs, worked-is, number-table, number-no-text}
+use Rattle.job.proofs.Stepping.{entry-read, name-read, raw-read, setting-read, bare-read, worked-read}
 use Rattle.job.proofs.Taking.{takes-name, takes-reference, finds-then, byte-then, two-then, bytes-then, ends}
 
 -- from a place on, so many bytes
@@ -233,6 +238,16 @@ module _ (s : List ℕ) (p : ℕ) where
           count = ap suc (g .3);
         })
 
+-- ---- the definition at a place: it comes out, and is read behind its first byte
+
+pub definition-read :
+    (s : List ℕ) (at : ℕ) (d : Definition (List ℕ)) (next : ℕ) → Found anyDefinition s at d next →
+    (at < length s) × (comesOut (getD s at 0) (drop (at + 1) s) ≡ good tt) × (readDefinition (getD s at 0) (drop (at + 1) s) ≡ some (d, drop next s))
+definition-read s at d next f =
+    let b = byte-then s at formedDefinition d (drop next s) (f .read) in
+    let r = formed-was (getD s at 0) (drop (at + 1) s) (d, drop next s) (b .1) in
+    (b .0, r .0, r .1)
+
 -- ---- the entry at a place, by what its first byte opens
 
 -- what was read for an entry is that entry
@@ -247,7 +262,7 @@ is-entry x e rest left h =
     let pair = some-inj h in
     rw (same-entry x e (ap (λ r. r .0) pair), ap (λ r. r .1) pair)
 
--- a name, a raw definition or a setting is no entry, and an entry has the tag that it was read from
+-- a name, a raw definition or a setting is no entry, and an entry that wasn't worked out has the tag that it was read from
 module _ (first : ℕ) (l : List ℕ) (e : Entry (List ℕ) Reference) (left : List ℕ) where
   no-naming : {X : Type 0} (kind : Kind) → readBody first (some (ofName kind)) l ≡ some (define e, left) → X
   no-naming kind h = let n = name-read first kind l left (define e) h .2 in clash (cc)
@@ -261,17 +276,18 @@ module _ (first : ℕ) (l : List ℕ) (e : Entry (List ℕ) Reference) (left : L
   no-bare : {X : Type 0} (rule : Setting) → readBody first (some (ofNothing rule)) l ≡ some (define e, left) → X
   no-bare rule h = let n = bare-read first rule l left (define e) h in clash (cc)
 
-  body-tag : (body : Option Body) → readBody first body l ≡ some (define e, left) → e .tag ≡ first
+  body-tag : (body : Option Body) → (body ≡ some ofExpression → ⊥) → readBody first body l ≡ some (define e, left) → e .tag ≡ first
   unfolding readBody
-  body-tag none h = none≢some h
-  body-tag (some (ofEntry fields)) h =
+  body-tag none n h = none≢some h
+  body-tag (some (ofEntry fields)) n h =
       let r = entry-read first fields l left (define e) h in
       let same : e ≡ r .0 = same-entry e (r .0) (r .1) in
       ap (λ x. x .tag) same ∙ r .2
-  body-tag (some (ofName kind)) h = no-naming kind h
-  body-tag (some (ofRaw kind)) h = no-placing kind h
-  body-tag (some (ofNumber rule)) h = no-setting rule h
-  body-tag (some (ofNothing rule)) h = no-bare rule h
+  body-tag (some (ofName kind)) n h = no-naming kind h
+  body-tag (some (ofRaw kind)) n h = no-placing kind h
+  body-tag (some ofExpression) n h = absurd (n refl)
+  body-tag (some (ofNumber rule)) n h = no-setting rule h
+  body-tag (some (ofNothing rule)) n h = no-bare rule h
 
 module _ (s : List ℕ) (at : ℕ) where
   abbrev pub EntryIs : Opening → Entry (List ℕ) Reference → ℕ → Type 0
@@ -284,9 +300,10 @@ module _ (s : List ℕ) (at : ℕ) where
   EntryIs Version e next = ⊥
   EntryIs Texts e next = ⊥
   EntryIs Highest e next = ⊥
+  EntryIs Expression e next = WorkedIs s (at + 1) e next
 
   module _ (e : Entry (List ℕ) Reference) (next : ℕ) where
-    module _ (low : at + 1 ≤ length s) (high : next ≤ length s) where
+    module _ (low : at + 1 ≤ length s) (high : next ≤ length s) (out : comesOut (getD s at 0) (drop (at + 1) s) ≡ good tt) where
       abbrev EntryRead : Option Body → Type 0
       EntryRead body = readBody (getD s at 0) body (drop (at + 1) s) ≡ some (define e, drop next s)
 
@@ -306,32 +323,67 @@ module _ (s : List ℕ) (at : ℕ) where
       constant-is KindOne h = handle-is s (at + 1) (getD s at 0) e next low high (read-as (byte ∷ to constant ∷ []) h)
       constant-is Unknown h = none≢some h
 
-      body-is : (opening : Opening) → EntryRead (bodyOf opening) → EntryIs opening e next
+      expression-is : eqb (getD s at 0) 0x46 ≡ true → EntryRead (some ofExpression) → WorkedIs s (at + 1) e next
+      expression-is first h =
+          let r = worked-read (getD s at 0) (drop (at + 1) s) (drop next s) (define e) h in
+          worked-is s (getD s at 0) (at + 1) next e (r .0) first out (r .1) (same-entry e (workedOut (folded (r .0))) (r .2))
+
+      body-is : (opening : Opening) → bodyOf opening ≡ lookup (getD s at 0) bodies → EntryRead (bodyOf opening) → EntryIs opening e next
       unfolding bodyOf
-      body-is (Constant shape) h = constant-is shape h
-      body-is Bootstrap h = bootstrap-is s (at + 1) (getD s at 0) e next low high (read-as bootstrapShape h)
-      body-is NamedConstant h = no-naming (getD s at 0) (drop (at + 1) s) e (drop next s) constant h
-      body-is NamedBootstrap h = no-naming (getD s at 0) (drop (at + 1) s) e (drop next s) bootstrap h
-      body-is RawConstant h = no-placing (getD s at 0) (drop (at + 1) s) e (drop next s) constant h
-      body-is RawBootstrap h = no-placing (getD s at 0) (drop (at + 1) s) e (drop next s) bootstrap h
-      body-is Version h = no-setting (getD s at 0) (drop (at + 1) s) e (drop next s) version h
-      body-is Texts h = no-bare (getD s at 0) (drop (at + 1) s) e (drop next s) texts h
-      body-is Highest h = no-setting (getD s at 0) (drop (at + 1) s) e (drop next s) highest h
+      body-is (Constant shape) t h = constant-is shape h
+      body-is Bootstrap t h = bootstrap-is s (at + 1) (getD s at 0) e next low high (read-as bootstrapShape h)
+      body-is NamedConstant t h = no-naming (getD s at 0) (drop (at + 1) s) e (drop next s) constant h
+      body-is NamedBootstrap t h = no-naming (getD s at 0) (drop (at + 1) s) e (drop next s) bootstrap h
+      body-is RawConstant t h = no-placing (getD s at 0) (drop (at + 1) s) e (drop next s) constant h
+      body-is RawBootstrap t h = no-placing (getD s at 0) (drop (at + 1) s) e (drop next s) bootstrap h
+      body-is Version t h = no-setting (getD s at 0) (drop (at + 1) s) e (drop next s) version h
+      body-is Texts t h = no-bare (getD s at 0) (drop (at + 1) s) e (drop next s) texts h
+      body-is Expression t h = expression-is (expression-first (getD s at 0) (sym t)) h
+      body-is Highest t h = no-setting (getD s at 0) (drop (at + 1) s) e (drop next s) highest h
 
-    -- whatever entry stands at a place, its first byte is its tag
-    pub tag-there : Found anyDefinition s at (define e) next → e .tag ≡ getD s at 0
-    unfolding readDefinition
-    tag-there f =
-        let b = byte-then s at readDefinition (define e) (drop next s) (f .read) in
-        body-tag (getD s at 0) (drop (at + 1) s) e (drop next s) (lookup (getD s at 0) bodies) (b .1)
+    module _ (f : Found anyDefinition s at (define e) next) where
+      -- whatever entry stands at a place is what its first byte opens
+      pub entry-there : (opening : Opening) → bodyOf opening ≡ lookup (getD s at 0) bodies → EntryIs opening e next
+      unfolding readDefinition
+      entry-there opening told =
+          let b = definition-read s at (define e) next f in
+          body-is (omega (arith, b .0)) (f .within) (b .1) opening told (rw told (b .2))
 
-    -- and it is what the tag opens
-    pub entry-there : (opening : Opening) → Found anyDefinition s at (define e) next → bodyOf opening ≡ lookup (e .tag) bodies → EntryIs opening e next
-    unfolding readDefinition
-    entry-there opening f t =
-        let b = byte-then s at readDefinition (define e) (drop next s) (f .read) in
-        let told : bodyOf opening ≡ lookup (getD s at 0) bodies = t ∙ ap (λ k. lookup k bodies) (tag-there f) in
-        body-is (omega arith) (f .within) opening (rw told (b .1))
+      pub worked-there : isWorked s at ≡ true → WorkedIs s (at + 1) e next
+      unfolding bodyOf
+      worked-there h = entry-there Expression (sym (opens-expression (getD s at 0) h))
+
+      -- and its first byte is its tag, if it wasn't worked out
+      pub tag-there : isWorked s at ≡ false → e .tag ≡ getD s at 0
+      unfolding readDefinition
+      tag-there h =
+          let b = definition-read s at (define e) next f in
+          body-tag (getD s at 0) (drop (at + 1) s) e (drop next s) (lookup (getD s at 0) bodies)
+          (λ t. true≢false (sym (expression-first (getD s at 0) t) ∙ h))
+          (b .2)
+
+      -- which tells its table in any case
+      pub table-there : kindOf (e .tag) ≡ kindOf (getD s at 0)
+      unfolding asConstant kindOf
+      table-there = ways (isWorked s at) refl
+        where
+          ways : (b : Bool) → isWorked s at ≡ b → kindOf (e .tag) ≡ kindOf (getD s at 0)
+          ways true h =
+              let w = worked-there h in
+              ap (λ (y : Entry (List ℕ) Reference). kindOf (y .tag)) (w .is) ∙ number-table (w .number .0) ∙ sym (ap kindOf (eqb-true (getD s at 0) 0x46 h))
+          ways false h = ap kindOf (tag-there h)
+
+      -- a text was not worked out
+      pub text-plain : e .tag ≡ 1 → isWorked s at ≡ false
+      unfolding asConstant
+      text-plain t = ways (isWorked s at) refl
+        where
+          ways : (b : Bool) → isWorked s at ≡ b → isWorked s at ≡ false
+          ways true h =
+              let w = worked-there h in
+              let same = ap (λ (y : Entry (List ℕ) Reference). y .tag) (w .is) in
+              true≢false (sym (eq-eqb (e .tag) 1 t) ∙ ap (λ k. eqb k 1) same ∙ number-no-text (w .number .0))
+          ways false h = h
 
 -- ---- the other records
 
@@ -362,6 +414,7 @@ module _ (s : List ℕ) (at : ℕ) where
   DefinitionIs Version d next = SettingIs version d next
   DefinitionIs Texts d next = BareIs texts d next
   DefinitionIs Highest d next = SettingIs highest d next
+  DefinitionIs Expression d next = (e : Entry (List ℕ) Reference) × (d ≡ define e)
 
   module _ (d : Definition (List ℕ)) (next : ℕ) (low : at + 1 ≤ length s) (high : next ≤ length s) where
     abbrev BodyRead : ℕ → Option Body → Type 0
@@ -413,13 +466,14 @@ module _ (s : List ℕ) (at : ℕ) where
     definition-is first Version h = ruling first version h
     definition-is first Texts h = bare first texts h
     definition-is first Highest h = ruling first highest h
+    definition-is first Expression h = let r = worked-read first (drop (at + 1) s) (drop next s) d h in (workedOut (folded (r .0)), r .2)
 
   pub definition-there :
       (d : Definition (List ℕ)) (next : ℕ) (opening : Opening) → Found anyDefinition s at d next → bodyOf opening ≡ lookup (getD s at 0) bodies → DefinitionIs opening d next
   unfolding readDefinition
   definition-there d next opening f told =
-      let b = byte-then s at readDefinition d (drop next s) (f .read) in
-      definition-is d next (omega arith) (f .within) (getD s at 0) opening (rw told (b .1))
+      let b = definition-read s at d next f in
+      definition-is d next (omega (arith, b .0)) (f .within) (getD s at 0) opening (rw told (b .2))
 
   -- a request: its first byte tells whether it is ldc, and its reference stands behind
   pub request-there :

@@ -1,6 +1,7 @@
 -- What the readers at stored places rest on: they stay inside the job, and find what stands there. Assumes nothing.
 use mathlib.Core.Bool.{Bool, true, false, _&&_}
 use mathlib.Core.List.{List, [], _∷_}
+use mathlib.Core.Option.{Option, none, some}
 use mathlib.Core.Path.{_≡_, refl, sym, ap, _∙_}
 use Prim.Native.Nat.{ℕ, zero, suc, _+_, _-_, _≤_, _<_}
 use native.Mathlib.Nat.{add-zero}
@@ -12,9 +13,11 @@ use lib.Seq.{drop-drop}
 use borrow.Author.Tests.{ne-eqb}
 use types.Run.{OneOf, miss}
 use denote.Enum.Declared.{tagOf}
+use Rattle.facts.proofs.Lists.{clash, true≢false, none≢some}
+use Rattle.laws.proofs.form.WorkedOut.{sizeOf}
 use Rattle.definition.specs.Basics.{lookup}
-use Rattle.definition.specs.Shapes.{Kind, constant, bootstrap, Entry, bootstrapShape}
-use Rattle.definition.specs.Job.{Reference, name, define, bodies, shortName, reference}
+use Rattle.definition.specs.Shapes.{Kind, constant, bootstrap, Field, bits, Entry, bootstrapShape}
+use Rattle.definition.specs.Job.{Reference, name, define, ofEntry, bodies, asConstant, shortName, reference}
 use Rattle.definition.specs.Form.{kindOf}
 use Rattle.job.specs.declared.Stretch.{Stretch}
 use Rattle.job.specs.declared.RefType.the-variants as refType
@@ -22,13 +25,14 @@ use Rattle.raw_const.specs.Entries.{fieldsOf}
 use Rattle.raw_const.specs.declared.Shape.{Shape}
 use Rattle.raw_const.specs.declared.Shape.the-variants.{Text, Bits, One, Two, Dynamic, KindOne, Unknown}
 use Rattle.job.specs.declared.Opening.{Opening}
-use Rattle.job.specs.declared.Opening.the-variants.{Constant, Bootstrap, NamedConstant, NamedBootstrap, RawConstant, RawBootstrap, Version, Texts, Highest}
+use Rattle.job.specs.declared.Opening.the-variants.{Constant, Bootstrap, NamedConstant, NamedBootstrap, RawConstant, RawBootstrap, Version, Texts, Highest, Expression}
 use Rattle.raw_const.proofs.Shape.{the-type as shape-type}
 use Rattle.job.proofs.Opening.{the-type}
 use Rattle.job.specs.Forms.{entryBody, bodyOf, tableOf}
-use Rattle.job.specs.Stored.{Found, InTurn, Stands, WhatStands, ReferenceStands, WhatReference, EntryStands, WhatEntry, Spans, Tells, anyDefinition, firstKind, kindIn, kidKind, bytesBetween, KidAt}
+use Rattle.job.specs.Stored.{Found, InTurn, Stands, WhatStands, ReferenceStands, WhatReference, EntryStands, WhatEntry, Spans, Tells, anyDefinition, isWorked, firstKind, kindIn, kidKind, bytesBetween, KidAt}
 use Rattle.job.proofs.Laws.{number}
-use Rattle.job.proofs.Standing.{stretch, spans, name-there, Says, reference-says, Refers, FieldsAre, BootstrapIs, EntryIs, tag-there, entry-there}
+use Rattle.job.proofs.Expressions.{expression-first, WorkedIs, number-body}
+use Rattle.job.proofs.Standing.{stretch, spans, name-there, Says, reference-says, Refers, LiteralIs, FieldsAre, BootstrapIs, EntryIs, definition-read, tag-there, entry-there, worked-there}
 
 -- how many references a constant has, by its shape
 abbrev pub kidsOf : Shape → ℕ
@@ -166,24 +170,123 @@ module _ (s : List ℕ) (at : ℕ) where
 
   -- ---- entries
 
-  pub tag-found : WhatEntry s at (λ e. getD s at 0 ≡ e .tag)
-  tag-found e next f = sym (tag-there s at e next f)
+  pub entry-room : EntryStands s at → at < length s
+  entry-room h = definition-read s at (define (h .0)) (h .1) (h .2) .0
+
+  pub tag-found : isWorked s at ≡ false → WhatEntry s at (λ e. getD s at 0 ≡ e .tag)
+  tag-found h e next f = sym (tag-there s at e next f h)
+
+  -- a number by its tag: its literal stands behind the tag, unless it was worked out
+  record NumberIs (n : ℕ) (e : Entry (List ℕ) Reference) (next : ℕ) : Type 0 where
+    pub noByte : e .byte ≡ 0
+    pub noKids : e .kids ≡ []
+    pub plain : isWorked s at ≡ false → LiteralIs s (at + 1) (at + 1) n e next
+
+  -- what an entry is by its tag
+  abbrev ShapeIs : Shape → Entry (List ℕ) Reference → ℕ → Type 0
+  ShapeIs Text e next = FieldsAre s (at + 1) Text e next
+  ShapeIs (Bits n) e next = NumberIs n e next
+  ShapeIs One e next = FieldsAre s (at + 1) One e next
+  ShapeIs Two e next = FieldsAre s (at + 1) Two e next
+  ShapeIs Dynamic e next = FieldsAre s (at + 1) Dynamic e next
+  ShapeIs KindOne e next = FieldsAre s (at + 1) KindOne e next
+  ShapeIs Unknown e next = ⊥
+
+  abbrev ByTag : Opening → Entry (List ℕ) Reference → ℕ → Type 0
+  ByTag (Constant shape) e next = ShapeIs shape e next
+  ByTag Bootstrap e next = BootstrapIs s (at + 1) e next
+  ByTag NamedConstant e next = ⊥
+  ByTag NamedBootstrap e next = ⊥
+  ByTag RawConstant e next = ⊥
+  ByTag RawBootstrap e next = ⊥
+  ByTag Version e next = ⊥
+  ByTag Texts e next = ⊥
+  ByTag Highest e next = ⊥
+  ByTag Expression e next = ⊥
+
+  module _ (e : Entry (List ℕ) Reference) (next : ℕ) where
+    by-shape : (shape : Shape) → FieldsAre s (at + 1) shape e next → ShapeIs shape e next
+    by-shape Text h = h
+    by-shape (Bits n) h = record { noByte = h .noByte; noKids = h .noKids; plain = λ _. h }
+    by-shape One h = h
+    by-shape Two h = h
+    by-shape Dynamic h = h
+    by-shape KindOne h = h
+    by-shape Unknown h = h
+
+    -- the tag is the first byte
+    by-first : isWorked s at ≡ false → (o : Opening) → bodyOf o ≡ lookup (getD s at 0) bodies → EntryIs s at o e next → ByTag o e next
+    unfolding bodyOf
+    by-first plain (Constant shape) t h = by-shape shape h
+    by-first plain Bootstrap t h = h
+    by-first plain NamedConstant t h = h
+    by-first plain NamedBootstrap t h = h
+    by-first plain RawConstant t h = h
+    by-first plain RawBootstrap t h = h
+    by-first plain Version t h = h
+    by-first plain Texts t h = h
+    by-first plain Highest t h = h
+    by-first plain Expression t h = true≢false (sym (expression-first (getD s at 0) (sym t)) ∙ plain)
+
+    -- the tag is that of what was worked out
+    by-bits : (n : ℕ) (shape : Shape) → NumberIs n e next → fieldsOf shape ≡ some (bits n ∷ []) → ShapeIs shape e next
+    by-bits n Text h t = clash (cc)
+    by-bits n (Bits m) h t = let same : m ≡ n = cc in rw same h
+    by-bits n One h t = clash (cc)
+    by-bits n Two h t = clash (cc)
+    by-bits n Dynamic h t = clash (cc)
+    by-bits n KindOne h t = clash (cc)
+    by-bits n Unknown h t = clash (cc)
+
+    by-fields : (n : ℕ) (o : Opening) → NumberIs n e next → bodyOf o ≡ some (ofEntry (bits n ∷ [])) → ByTag o e next
+    unfolding bodyOf entryBody bootstrapShape
+    by-fields n (Constant shape) h t = by-bits n shape h (listed (fieldsOf shape) t)
+      where
+        listed : (fields : Option (List Field)) → entryBody fields ≡ some (ofEntry (bits n ∷ [])) → fields ≡ some (bits n ∷ [])
+        listed none t = none≢some t
+        listed (some fields) t = let same : fields ≡ bits n ∷ [] = cc in ap some same
+    by-fields n Bootstrap h t = clash (cc)
+    by-fields n NamedConstant h t = clash (cc)
+    by-fields n NamedBootstrap h t = clash (cc)
+    by-fields n RawConstant h t = clash (cc)
+    by-fields n RawBootstrap h t = clash (cc)
+    by-fields n Version h t = clash (cc)
+    by-fields n Texts h t = clash (cc)
+    by-fields n Highest h t = clash (cc)
+    by-fields n Expression h t = clash (cc)
+
+    by-number : isWorked s at ≡ true → WorkedIs s (at + 1) e next → (o : Opening) → bodyOf o ≡ lookup (e .tag) bodies → ByTag o e next
+    unfolding asConstant
+    by-number worked w o t =
+        let y = ap (λ (y : Entry (List ℕ) Reference). y .byte) (w .is) in
+        let k = ap (λ (y : Entry (List ℕ) Reference). y .kids) (w .is) in
+        let tag = ap (λ (y : Entry (List ℕ) Reference). lookup (y .tag) bodies) (w .is) ∙ number-body (w .number .0) in
+        by-fields (sizeOf (w .number .0)) o (record { noByte = y; noKids = k; plain = λ h. true≢false (sym worked ∙ h) }) (t ∙ tag)
 
   -- what an entry's tag tells
   module _ (tag : ℕ) (opening : Opening) (is : WhatEntry s at (λ e. tag ≡ e .tag)) (told : bodyOf opening ≡ lookup tag bodies) where
-    opened : (e : Entry (List ℕ) Reference) (next : ℕ) → Found anyDefinition s at (define e) next → EntryIs s at opening e next
-    opened e next f = entry-there s at e next opening f (told ∙ ap (λ k. lookup k bodies) (is e next f))
+    opened : (e : Entry (List ℕ) Reference) (next : ℕ) → Found anyDefinition s at (define e) next → ByTag opening e next
+    opened e next f = ways (isWorked s at) refl
+      where
+        first : lookup tag bodies ≡ lookup (e .tag) bodies
+        first = ap (λ k. lookup k bodies) (is e next f)
+
+        ways : (b : Bool) → isWorked s at ≡ b → ByTag opening e next
+        ways true h = by-number e next h (worked-there s at e next f h) opening (told ∙ first)
+        ways false h =
+            let t = told ∙ first ∙ ap (λ k. lookup k bodies) (tag-there s at e next f h) in
+            by-first e next h opening t (entry-there s at e next f opening t)
 
     -- what isn't a constant is a bootstrap
     bootstrap-shaped :
-        OneOf (1 ∷ 2 ∷ 3 ∷ 4 ∷ 5 ∷ 6 ∷ 7 ∷ 8 ∷ []) (tagOf the-type opening) →
+        OneOf (1 ∷ 2 ∷ 3 ∷ 4 ∷ 5 ∷ 6 ∷ 7 ∷ 8 ∷ 9 ∷ []) (tagOf the-type opening) →
         (e : Entry (List ℕ) Reference) (next : ℕ) →
         Found anyDefinition s at (define e) next →
         BootstrapIs s (at + 1) e next
     bootstrap-shaped k e next f = ways opening k (opened e next f)
       where
-        ways : (x : Opening) → OneOf (1 ∷ 2 ∷ 3 ∷ 4 ∷ 5 ∷ 6 ∷ 7 ∷ 8 ∷ []) (tagOf the-type x) → EntryIs s at x e next → BootstrapIs s (at + 1) e next
-        ways (Constant shape) k h = absurd (miss (1 ∷ 2 ∷ 3 ∷ 4 ∷ 5 ∷ 6 ∷ 7 ∷ 8 ∷ []) 0 tt k)
+        ways : (x : Opening) → OneOf (1 ∷ 2 ∷ 3 ∷ 4 ∷ 5 ∷ 6 ∷ 7 ∷ 8 ∷ 9 ∷ []) (tagOf the-type x) → ByTag x e next → BootstrapIs s (at + 1) e next
+        ways (Constant shape) k h = absurd (miss (1 ∷ 2 ∷ 3 ∷ 4 ∷ 5 ∷ 6 ∷ 7 ∷ 8 ∷ 9 ∷ []) 0 tt k)
         ways Bootstrap k h = h
         ways NamedConstant k h = absurd h
         ways NamedBootstrap k h = absurd h
@@ -192,6 +295,7 @@ module _ (s : List ℕ) (at : ℕ) where
         ways Version k h = absurd h
         ways Texts k h = absurd h
         ways Highest k h = absurd h
+        ways Expression k h = absurd h
 
     -- ---- literals
 
@@ -200,11 +304,11 @@ module _ (s : List ℕ) (at : ℕ) where
         let size : at - at ≡ 0 = omega arith in
         record { are = rw (size, e); rising = omega arith; within = h }
 
-    pub bootstrap-literal : OneOf (1 ∷ 2 ∷ 3 ∷ 4 ∷ 5 ∷ 6 ∷ 7 ∷ 8 ∷ []) (tagOf the-type opening) → WhatEntry s at (λ e. Spans s (record { start = at; end = at }) (e .literal))
+    pub bootstrap-literal : OneOf (1 ∷ 2 ∷ 3 ∷ 4 ∷ 5 ∷ 6 ∷ 7 ∷ 8 ∷ 9 ∷ []) (tagOf the-type opening) → WhatEntry s at (λ e. Spans s (record { start = at; end = at }) (e .literal))
     bootstrap-literal k e next f = nothing-spans (e .literal) (omega arith) (bootstrap-shaped k e next f .noLiteral)
 
     module _ (shape : Shape) (constant-opened : opening ≡ Constant shape) where
-      constant-shaped : (e : Entry (List ℕ) Reference) (next : ℕ) → Found anyDefinition s at (define e) next → FieldsAre s (at + 1) shape e next
+      constant-shaped : (e : Entry (List ℕ) Reference) (next : ℕ) → Found anyDefinition s at (define e) next → ShapeIs shape e next
       constant-shaped e next f = rw constant-opened at (opened e next f)
 
       pub text-room : shape ≡ Text → EntryStands s at → at + 3 + number s (at + 1) ≤ length s
@@ -216,18 +320,18 @@ module _ (s : List ℕ) (at : ℕ) where
           let place : at + 1 + 2 ≡ at + 3 = omega arith in
           rw (← place) (spans s (at + 1 + 2) (number s (at + 1)) (e .literal) (omega (arith, g .end, f .within)) (g .literal))
 
-      pub bits-room : (n : ℕ) → shape ≡ Bits n → EntryStands s at → at + 1 + n ≤ length s
-      bits-room n t h = let g = rw t at (constant-shaped (h .0) (h .1) (h .2)) in omega (arith, g .end, h .2 .within)
+      pub bits-room : isWorked s at ≡ false → (n : ℕ) → shape ≡ Bits n → EntryStands s at → at + 1 + n ≤ length s
+      bits-room plain n t h = let g = rw t at (constant-shaped (h .0) (h .1) (h .2)) in omega (arith, g .plain plain .end, h .2 .within)
 
-      pub bits-literal : (n : ℕ) → shape ≡ Bits n → WhatEntry s at (λ e. Spans s (record { start = at + 1; end = at + 1 + n }) (e .literal))
-      bits-literal n t e next f =
-          let g = rw t at (constant-shaped e next f) in
+      pub bits-literal : isWorked s at ≡ false → (n : ℕ) → shape ≡ Bits n → WhatEntry s at (λ e. Spans s (record { start = at + 1; end = at + 1 + n }) (e .literal))
+      bits-literal plain n t e next f =
+          let g = (rw t at (constant-shaped e next f)) .plain plain in
           spans s (at + 1) n (e .literal) (omega (arith, g .end, f .within)) (g .literal)
 
       pub no-literal : OneOf (2 ∷ 3 ∷ 4 ∷ 5 ∷ 6 ∷ []) (tagOf shape-type shape) → WhatEntry s at (λ e. Spans s (record { start = at; end = at }) (e .literal))
       no-literal k e next f = nothing-spans (e .literal) (omega arith) (ways shape k (constant-shaped e next f))
         where
-          ways : (x : Shape) → OneOf (2 ∷ 3 ∷ 4 ∷ 5 ∷ 6 ∷ []) (tagOf shape-type x) → FieldsAre s (at + 1) x e next → e .literal ≡ []
+          ways : (x : Shape) → OneOf (2 ∷ 3 ∷ 4 ∷ 5 ∷ 6 ∷ []) (tagOf shape-type x) → ShapeIs x e next → e .literal ≡ []
           ways Text k h = absurd (miss (2 ∷ 3 ∷ 4 ∷ 5 ∷ 6 ∷ []) 0 tt k)
           ways (Bits n) k h = absurd (miss (2 ∷ 3 ∷ 4 ∷ 5 ∷ 6 ∷ []) 1 tt k)
           ways One k h = h .noLiteral
@@ -247,7 +351,7 @@ module _ (s : List ℕ) (at : ℕ) where
       pub no-byte : OneOf (0 ∷ 1 ∷ 2 ∷ 3 ∷ 4 ∷ 6 ∷ []) (tagOf shape-type shape) → WhatEntry s at (λ e. 0 ≡ e .byte)
       no-byte k e next f = ways shape k (constant-shaped e next f)
         where
-          ways : (x : Shape) → OneOf (0 ∷ 1 ∷ 2 ∷ 3 ∷ 4 ∷ 6 ∷ []) (tagOf shape-type x) → FieldsAre s (at + 1) x e next → 0 ≡ e .byte
+          ways : (x : Shape) → OneOf (0 ∷ 1 ∷ 2 ∷ 3 ∷ 4 ∷ 6 ∷ []) (tagOf shape-type x) → ShapeIs x e next → 0 ≡ e .byte
           ways Text k h = sym (h .noByte)
           ways (Bits n) k h = sym (h .noByte)
           ways One k h = sym (h .kindByte)
@@ -261,7 +365,7 @@ module _ (s : List ℕ) (at : ℕ) where
       pub constant-count : (n : ℕ) → kidsOf shape ≡ n → WhatEntry s at (λ e. n ≡ length (e .kids))
       constant-count n t e next f = ways shape t (constant-shaped e next f)
         where
-          ways : (x : Shape) → kidsOf x ≡ n → FieldsAre s (at + 1) x e next → n ≡ length (e .kids)
+          ways : (x : Shape) → kidsOf x ≡ n → ShapeIs x e next → n ≡ length (e .kids)
           ways Text t h = sym t ∙ sym (ap length (h .noKids))
           ways (Bits m) t h = sym t ∙ sym (ap length (h .noKids))
           ways One t h = sym t ∙ sym (h .count)
@@ -300,7 +404,7 @@ module _ (s : List ℕ) (at : ℕ) where
 
             ways :
                 (x : Shape) → OneOf (0 ∷ 1 ∷ 2 ∷ 3 ∷ 4 ∷ 6 ∷ []) (tagOf shape-type x) → kidKind (e .tag) 0 ≡ kindIn (entryBody (fieldsOf x)) →
-                FieldsAre s (at + 1) x e next → KidAt s e 0 (at + 1)
+                ShapeIs x e next → KidAt s e 0 (at + 1)
             ways Text k same h = absurd (omega (arith, ap length (h .noKids)))
             ways (Bits n) k same h = absurd (omega (arith, ap length (h .noKids)))
             ways One k same h = first constant same (h .refers)
@@ -311,7 +415,7 @@ module _ (s : List ℕ) (at : ℕ) where
 
     -- ---- a bootstrap: its first reference, and its count behind it
 
-    module _ (k : OneOf (1 ∷ 2 ∷ 3 ∷ 4 ∷ 5 ∷ 6 ∷ 7 ∷ 8 ∷ []) (tagOf the-type opening)) where
+    module _ (k : OneOf (1 ∷ 2 ∷ 3 ∷ 4 ∷ 5 ∷ 6 ∷ 7 ∷ 8 ∷ 9 ∷ []) (tagOf the-type opening)) where
       pub bootstrap-byte : WhatEntry s at (λ e. 0 ≡ e .byte)
       bootstrap-byte e next f = sym (bootstrap-shaped k e next f .noByte)
 
@@ -324,9 +428,9 @@ module _ (s : List ℕ) (at : ℕ) where
           ways opening k (opened e next f) (told ∙ ap (λ t. lookup t bodies) (is e next f)) (table ∙ ap kindOf (is e next f))
         where
           ways :
-              (x : Opening) → OneOf (1 ∷ 2 ∷ 3 ∷ 4 ∷ 5 ∷ 6 ∷ 7 ∷ 8 ∷ []) (tagOf the-type x) → EntryIs s at x e next → bodyOf x ≡ lookup (e .tag) bodies →
+              (x : Opening) → OneOf (1 ∷ 2 ∷ 3 ∷ 4 ∷ 5 ∷ 6 ∷ 7 ∷ 8 ∷ 9 ∷ []) (tagOf the-type x) → ByTag x e next → bodyOf x ≡ lookup (e .tag) bodies →
               tableOf x ≡ kindOf (e .tag) → KidAt s e 0 (at + 1)
-          ways (Constant shape) k h b t = absurd (miss (1 ∷ 2 ∷ 3 ∷ 4 ∷ 5 ∷ 6 ∷ 7 ∷ 8 ∷ []) 0 tt k)
+          ways (Constant shape) k h b t = absurd (miss (1 ∷ 2 ∷ 3 ∷ 4 ∷ 5 ∷ 6 ∷ 7 ∷ 8 ∷ 9 ∷ []) 0 tt k)
           ways Bootstrap k h b t =
               kid-first s e constant (at + 1) 2 next (ap kindIn (sym b)) (ap (λ kind. bytesBetween kind 0) (sym t)) (h .refers)
           ways NamedConstant k h b t = absurd h
@@ -336,6 +440,7 @@ module _ (s : List ℕ) (at : ℕ) where
           ways Version k h b t = absurd h
           ways Texts k h b t = absurd h
           ways Highest k h b t = absurd h
+          ways Expression k h b t = absurd h
 
       module _ (p : ℕ) (behind : WhatReference s (at + 1) (λ kind a next. p ≡ next)) where
         pub count-room : EntryStands s at → p + 2 ≤ length s

@@ -37,10 +37,10 @@ tags-first x (r ∷ t) kinds h = ways (eqb x (r .0)) refl (tags-first x t kinds 
 
 pub tag-right :
     (x : ℕ) (shape : Shape) → fieldsOf shape ≡ lookup x shapes → (x ≡ 0x40 → ⊥) → (x ≡ 0x41 → ⊥) → (x ≡ 0x42 → ⊥) → (x ≡ 0x43 → ⊥) → (x ≡ 0x44 → ⊥) →
-    (x ≡ 0x47 → ⊥) → (x ≡ 0x48 → ⊥) → (x ≡ 0x49 → ⊥) →
+    (x ≡ 0x47 → ⊥) → (x ≡ 0x48 → ⊥) → (x ≡ 0x49 → ⊥) → (x ≡ 0x46 → ⊥) →
     Right x (Constant shape)
 unfolding bodyOf tableOf kindOf bodies
-tag-right x shape told h₀ h₁ h₂ h₃ h₄ h₇ h₈ h₉ = (
-  ap entryBody told ∙ tags-first x shapes _ (h₀, (h₁, (h₂, (h₃, (h₄, (h₇, (h₈, (h₉, tt)))))))),
+tag-right x shape told h₀ h₁ h₂ h₃ h₄ h₇ h₈ h₉ h₆ = (
+  ap entryBody told ∙ tags-first x shapes _ (h₀, (h₁, (h₂, (h₃, (h₄, (h₆, (h₇, (h₈, (h₉, tt))))))))),
   sym (rw (ne-eqb x 0x40 h₀, kindOf)),
 )

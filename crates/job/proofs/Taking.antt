@@ -3,7 +3,7 @@ use mathlib.Core.Bool.{Bool, true, false}
 use mathlib.Core.List.{List, [], _∷_, _++_}
 use mathlib.Core.Option.{Option, none, some}
 use mathlib.Core.Path.{_≡_, refl, sym, ap, _∙_}
-use Prim.Native.Nat.{ℕ, zero, suc, _+_, _-_, _≤_, _<_}
+use Prim.Native.Nat.{ℕ, zero, suc, _+_, _-_, _*_, _≤_, _<_}
 use native.Mathlib.Omega.{arith}
 use lib.Dec.{ltb}
 use lib.ListN.{length, getD, take, drop, length-drop}
@@ -13,9 +13,12 @@ use Rattle.facts.proofs.Lists.{none≢some, same-place}
 use Rattle.facts.proofs.Results.{some-then}
 use Rattle.definition.specs.Basics.{lookup}
 use Rattle.definition.specs.Bytes.{Parser, return, fail, _>>=_, one, two, many}
+use Rattle.definition.specs.Expression.{Number, int, float, long, double, Sign, Expression, leaf, four, eight, bits as readBits, Opening, ofLeaf, ofSign, openings, joined, secondPart, openedPart, expression, readExpression}
+use Rattle.definition.specs.Value.{folded}
 use Rattle.definition.specs.Shapes.{Kind, constant, Field, text, bits, byte, to, toMany, Entry, withKids, withLiteral, withByte, readFields, readEntry}
-use Rattle.definition.specs.Job.{Reference, raw, entry, name, define, named, placed, setting, Body, ofEntry, ofName, ofRaw, ofNumber, ofNothing, bodies, asks, shortName, referenceForm, reference, readBody, readDefinition, readRequest}
-use Rattle.job.specs.Stored.{Found, anyDefinition, anyRequest}
+use Rattle.definition.specs.Job.{Reference, raw, entry, name, define, named, placed, setting, Body, ofEntry, ofName, ofRaw, ofExpression, ofNumber, ofNothing, bodies, workedOut, asks, shortName, referenceForm, reference, readBody, readDefinition, readRequest}
+use Rattle.job.specs.Stored.{Found, formedDefinition, anyDefinition, anyRequest}
+use Rattle.job.proofs.Expressions.{formed-was}
 use Rattle.job.proofs.Laws.{number, many-reads, many-cut, one-at, one-cut, two-at, two-cut}
 
 -- whatever a parser reads, it takes at least so many bytes from the front and leaves the others
@@ -91,6 +94,44 @@ takes-fields (toMany ∷ fields) e =
     takes-bind 0 (many size (reference constant)) _ (takes-many size (reference constant) (takes-kid constant)) λ rs.
     takes-fields fields (withKids (e .kids ++ rs) e)
 
+-- an expression, by its fuel
+takes-four : Takes 0 four
+unfolding four
+takes-four =
+    takes-bind 0 two _ (takes-any two takes-two) λ a. takes-bind 0 two _ (takes-any two takes-two) λ b. takes-return (65536 * a + b)
+
+takes-eight : Takes 0 eight
+unfolding eight
+takes-eight = takes-bind 0 four _ takes-four λ a. takes-bind 0 four _ takes-four λ b. takes-return (4294967296 * a + b)
+
+takes-bits : (kind : Number) → Takes 0 (readBits kind)
+unfolding readBits
+takes-bits int = takes-four
+takes-bits float = takes-four
+takes-bits long = takes-eight
+takes-bits double = takes-eight
+
+takes-second : (part : Parser (Option Expression)) → Takes 0 part → (sign : Sign) (a : Option Expression) → Takes 0 (secondPart part sign a)
+unfolding secondPart
+takes-second part t sign none = takes-return none
+takes-second part t sign (some a) = takes-bind 0 part _ t λ b. takes-return (joined sign a b)
+
+takes-part : (part : Parser (Option Expression)) → Takes 0 part → (o : Option Opening) → Takes 0 (openedPart part o)
+unfolding openedPart
+takes-part part t none = takes-return none
+takes-part part t (some (ofLeaf kind)) = takes-bind 0 (readBits kind) _ (takes-bits kind) λ b. takes-return (some (leaf kind b))
+takes-part part t (some (ofSign sign)) = takes-bind 0 part _ t (takes-second part t sign)
+
+takes-fuelled : (fuel : ℕ) → Takes 0 (expression fuel)
+unfolding expression
+takes-fuelled zero = takes-fail
+takes-fuelled (suc fuel) =
+    takes-bind 0 one _ (takes-any one takes-one) λ first. takes-part (expression fuel) (takes-fuelled fuel) (lookup first openings)
+
+takes-expression : Takes 0 readExpression
+unfolding readExpression
+takes-expression l = takes-fuelled (length l) l
+
 takes-body : (first : ℕ) (body : Option Body) → Takes 0 (readBody first body)
 unfolding readBody readEntry
 takes-body first none = takes-fail
@@ -100,12 +141,16 @@ takes-body first (some (ofName kind)) =
     takes-bind 0 (reference kind) _ (takes-kid kind) λ r. takes-return (named kind s r)
 takes-body first (some (ofRaw kind)) =
     takes-bind 0 two _ (takes-any two takes-two) λ at. takes-bind 0 two _ (takes-any two takes-two) λ n. takes-return (placed kind at n)
+takes-body first (some ofExpression) = takes-bind 0 readExpression _ takes-expression λ x. takes-return (define (workedOut (folded x)))
 takes-body first (some (ofNumber rule)) = takes-bind 0 two _ (takes-any two takes-two) λ n. takes-return (setting (rule n))
 takes-body first (some (ofNothing rule)) = takes-return (setting rule)
 
-pub takes-definition : Takes 1 anyDefinition
+takes-formed : (first : ℕ) → Takes 0 (formedDefinition first)
 unfolding readDefinition
-takes-definition = takes-bind 1 one _ takes-one λ first. takes-body first (lookup first bodies)
+takes-formed first l a rest e = takes-body first (lookup first bodies) l a rest (formed-was first l (a, rest) e .1)
+
+pub takes-definition : Takes 1 anyDefinition
+takes-definition = takes-bind 1 one _ takes-one takes-formed
 
 takes-ask : (o : Option Bool) → Takes 0 (readRequest o)
 unfolding readRequest

@@ -11,13 +11,13 @@ use Rattle.definition.specs.Bytes.{Parser}
 use Rattle.definition.specs.Settings.{version, texts, highest, isSlot, highestOf, newest}
 use Rattle.definition.specs.Shapes.{Kind, constant, bootstrap, Field, bootstrapShape, readEntry}
 use Rattle.definition.specs.Texts.{isText}
-use Rattle.definition.specs.Job.{Definition, define, named, placed, setting, Build, Job, Body, ofEntry, ofName, ofRaw, ofNumber, ofNothing, bodies, reference, readBody}
+use Rattle.definition.specs.Job.{Definition, define, named, placed, setting, Build, Job, Body, ofEntry, ofName, ofRaw, ofExpression, ofNumber, ofNothing, bodies, reference, readBody}
 use Rattle.definition.specs.Form.{Counts, countOf, kindOf, withBroken, cites, citesEarlier, tableSize, Definitions, Requests}
 use Rattle.definition.specs.Numbering.{constantsOf, bootstrapsOf, settings}
 use Rattle.definition.specs.Definitions.{sameKind}
 use Rattle.raw_const.specs.Entries.{fieldsOf}
 use Rattle.job.specs.declared.Opening.{Opening}
-use Rattle.job.specs.declared.Opening.the-variants.{Constant, Bootstrap, NamedConstant, NamedBootstrap, RawConstant, RawBootstrap, Version, Texts, Highest}
+use Rattle.job.specs.declared.Opening.the-variants.{Constant, Bootstrap, NamedConstant, NamedBootstrap, RawConstant, RawBootstrap, Version, Texts, Highest, Expression}
 use Rattle.job.specs.declared.JobCounts.{JobCounts}
 use Rattle.job.specs.declared.Formed.{Formed}
 use Rattle.job.specs.declared.Formed.the-variants as formed
@@ -46,6 +46,7 @@ bodyOf RawBootstrap = some (ofRaw bootstrap)
 bodyOf Version = some (ofNumber version)
 bodyOf Texts = some (ofNothing texts)
 bodyOf Highest = some (ofNumber highest)
+bodyOf Expression = some ofExpression
 
 -- the table that an entry goes into: as kindOf has it, the first for all but 40 hex
 unfoldable pub tableOf : Opening → Kind
@@ -58,6 +59,7 @@ tableOf RawBootstrap = constant
 tableOf Version = constant
 tableOf Texts = constant
 tableOf Highest = constant
+tableOf Expression = constant
 
 unfoldable pub isSetting : Opening → Bool
 isSetting (Constant shape) = false
@@ -69,6 +71,20 @@ isSetting RawBootstrap = false
 isSetting Version = true
 isSetting Texts = true
 isSetting Highest = true
+isSetting Expression = false
+
+-- neither a setting nor an expression
+unfoldable pub isPlain : Opening → Bool
+isPlain (Constant shape) = true
+isPlain Bootstrap = true
+isPlain NamedConstant = true
+isPlain NamedBootstrap = true
+isPlain RawConstant = true
+isPlain RawBootstrap = true
+isPlain Version = false
+isPlain Texts = false
+isPlain Highest = false
+isPlain Expression = false
 
 -- the byte at a place opens this
 abbrev pub Opens : List ℕ → ℕ → Opening → Type 0
@@ -124,6 +140,7 @@ NumberRoom RawBootstrap s at = Unit {0}
 NumberRoom Version s at = at + 2 ≤ length s
 NumberRoom Texts s at = Unit {0}
 NumberRoom Highest s at = at + 2 ≤ length s
+NumberRoom Expression s at = Unit {0}
 
 unfoldable pub numberOpened : Opening → List ℕ → ℕ → ℕ
 numberOpened (Constant shape) s at = 0
@@ -135,6 +152,7 @@ numberOpened RawBootstrap s at = 0
 numberOpened Version s at = 256 * getD s at 0 + getD s (at + 1) 0
 numberOpened Texts s at = 0
 numberOpened Highest s at = 256 * getD s at 0 + getD s (at + 1) 0
+numberOpened Expression s at = 0
 
 -- the number of a setting
 unfoldable pub numberIn : Definition (List ℕ) → ℕ
@@ -295,6 +313,7 @@ countedAs RawBootstrap k number c = grown 0 0 k 0 0 1 0 0 (c .version) (c .highe
 countedAs Version k number c = grown 0 0 k 0 0 0 1 0 number (c .highest) c
 countedAs Texts k number c = grown 0 0 k 0 0 0 0 1 (c .version) (c .highest) c
 countedAs Highest k number c = grown 0 0 k 0 0 0 0 0 (c .version) number c
+countedAs Expression k number c = grown 1 0 k 0 0 0 0 0 (c .version) (c .highest) c
 
 -- no count is above m, nor are definitions and requests together
 pub record Bounded (m : ℕ) (c : JobCounts) : Type 0 where
@@ -325,6 +344,7 @@ roomFor RawBootstrap constants bootstraps = true
 roomFor Version constants bootstraps = true
 roomFor Texts constants bootstraps = true
 roomFor Highest constants bootstraps = true
+roomFor Expression constants bootstraps = ltb constants tableSize
 
 -- a setting that mayn't stand behind what was counted: 3, then 26; else 0
 unfoldable pub onceFault : ℕ → ℕ
@@ -343,6 +363,7 @@ settingFault RawBootstrap number c = 0
 settingFault Version number c = onceFault (c .versions)
 settingFault Texts number c = onceFault (c .texts)
 settingFault Highest number c = highestFault (c .definitions) number
+settingFault Expression number c = 0
 
 -- no record 48 stands with a text that isn't one, where there are so many, and one more than the record of the first such text is this
 unfoldable pub textsHold : ℕ → ℕ → Bool

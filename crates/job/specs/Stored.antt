@@ -1,16 +1,16 @@
 -- Where a job's records stand, and what stands at a stored place. Assumes nothing.
-use mathlib.Core.Bool.{true, false}
-use mathlib.Core.List.{List, [], _∷_}
+use mathlib.Core.Bool.{Bool, true, false}
+use mathlib.Core.List.{List, [], _∷_, _++_}
 use mathlib.Core.Option.{Option, none, some}
 use mathlib.Core.Path.{_≡_}
 use Prim.Native.Nat.{ℕ, zero, suc, _+_, _-_, _≤_, _<_}
 use lib.Dec.{eqb}
-use lib.ListN.{length, take, drop, getElem?}
-use Rattle.definition.specs.Basics.{lookup}
-use Rattle.definition.specs.Bytes.{Parser, _>>=_, one}
-use Rattle.definition.specs.Shapes.{Kind, constant, bootstrap, Field, text, bits, byte, to, toMany, Entry}
-use Rattle.definition.specs.Job.{Reference, raw, entry, name, Definition, define, Request, Job, Body, ofEntry, ofName, ofRaw, ofNumber, ofNothing, bodies, reference, readDefinition, asks, readRequest, readBuild}
-use Rattle.definition.specs.Form.{kindOf}
+use lib.ListN.{length, getD, take, drop, getElem?}
+use Rattle.definition.specs.Basics.{good, bad, lookup}
+use Rattle.definition.specs.Bytes.{Parser, _>>=_, one, be4}
+use Rattle.definition.specs.Shapes.{Kind, constant, bootstrap, Field, text, bits, byte, to, toMany, Entry, isWide}
+use Rattle.definition.specs.Job.{Reference, raw, entry, name, Definition, define, Request, Job, Body, ofEntry, ofName, ofRaw, ofExpression, ofNumber, ofNothing, bodies, reference, readDefinition, asks, readRequest, readBuild}
+use Rattle.definition.specs.Form.{kindOf, comesOut}
 use Rattle.job.specs.declared.Stretch.{Stretch}
 use Rattle.job.specs.declared.RefType.{RefType}
 use Rattle.job.specs.declared.RefType.the-variants as refType
@@ -26,9 +26,13 @@ abbrev pub InTurn : {A : Type 0} → Parser A → List ℕ → ℕ → List A �
 InTurn p s at [] end = at ≡ end
 InTurn p s at (x ∷ xs) end = (next : ℕ) × Found p s at x next × InTurn p s next xs end
 
+-- a definition behind its first byte, as the form pass leaves it: a 46 that comes to no constant is none
+unfoldable pub formedDefinition : ℕ → Parser (Definition (List ℕ))
+formedDefinition first bytes = elim (comesOut first bytes) [ good u ↦ readDefinition first bytes | bad code ↦ none ]
+
 -- a definition and a request, first byte included
 abbrev pub anyDefinition : Parser (Definition (List ℕ))
-anyDefinition = one >>= readDefinition
+anyDefinition = one >>= formedDefinition
 
 abbrev pub anyRequest : Parser Request
 anyRequest = one >>= λ first. readRequest (lookup first asks)
@@ -60,6 +64,14 @@ EntryStands s at = (e : Entry (List ℕ) Reference) × (next : ℕ) × Found any
 abbrev pub WhatEntry : List ℕ → ℕ → (Entry (List ℕ) Reference → Type 0) → Type 0
 WhatEntry s at P = (e : Entry (List ℕ) Reference) (next : ℕ) → Found anyDefinition s at (define e) next → P e
 
+-- an entry at a place is a constant worked out
+abbrev pub isWorked : List ℕ → ℕ → Bool
+isWorked s at = eqb (getD s at 0) 0x46
+
+-- the bytes of a number with this tag, by its words
+unfoldable pub wordsBytes : ℕ → ℕ → ℕ → List ℕ
+wordsBytes tag high low = elim (isWide tag) [ true ↦ be4 high ++ be4 low | false ↦ be4 low ]
+
 -- what a reference at a place of s says
 unfoldable pub Tells : List ℕ → Kind → Reference → RefType → Type 0
 Tells s kind r (refType.Raw number) = r ≡ raw number
@@ -80,6 +92,7 @@ kindIn none = constant
 kindIn (some (ofEntry fields)) = firstKind fields
 kindIn (some (ofName kind)) = constant
 kindIn (some (ofRaw kind)) = constant
+kindIn (some ofExpression) = constant
 kindIn (some (ofNumber rule)) = constant
 kindIn (some (ofNothing rule)) = constant
 

@@ -1,5 +1,7 @@
 // The form pass (document 01, "A job"): goes over a job's records once, twice if there is a record 48, keeps nothing of them, and
 // counts them. Behind it, readers of entries, references and names at stored places.
+use folding::Constant;
+use folding::Span;
 use raw_const::Shape;
 ghost use mathlib.Core.Path.{_≡_};
 ghost use mathlib.Core.Bool.{true, false};
@@ -10,12 +12,14 @@ ghost use lib.Dec.{ltb};
 ghost use lib.ListN.{length, getD, take, drop};
 ghost use Rattle.definition.specs.Basics.{every, lookup};
 ghost use Rattle.definition.specs.Bytes.{one, two, many};
+ghost use Rattle.definition.specs.Expression.{readExpression};
 ghost use Rattle.definition.specs.Shapes.{Kind, Entry, constant, text, byte, to, bootstrapShape};
 ghost use Rattle.definition.specs.Job.{Reference, define, shortName, referenceForm, reference, bodies, ofName, ofRaw, asks, readRequest, readBuild};
 ghost use Rattle.definition.specs.Form.{Counts, nothingYet, countOf, cites, kindOf, citesRequest, formDefinition, formDefinitions, formRequest, formBuild, formRequests, form};
 ghost use Rattle.raw_const.specs.Entries.{fieldsOf};
-ghost use Rattle.job.specs.Forms.{Skips, SkipsReference, SkipsEntry, SkipsDefinition, SkipsAfter, entryBody, bodyOf, tableOf, isSetting, Opens, roomFor, NumberRoom, numberOpened, onceFault, highestFault, settingFault, brokenAt, brokenWith, textsHold, Bounded, Room, countedAs, countsOf, tablesIn, Steps, tallied, definedAs, Within, placeOf, formedBuild, formedRequests, formedOf};
-ghost use Rattle.job.specs.Stored.{Found, Stands, WhatStands, ReferenceStands, WhatReference, EntryStands, WhatEntry, Spans, Tells, anyDefinition, KidAt};
+ghost use Rattle.job.specs.Forms.{Skips, SkipsReference, SkipsEntry, SkipsDefinition, SkipsAfter, entryBody, bodyOf, tableOf, isPlain, isSetting, Opens, roomFor, NumberRoom, numberOpened, onceFault, highestFault, settingFault, brokenAt, brokenWith, textsHold, Bounded, Room, countedAs, countsOf, tablesIn, Steps, tallied, definedAs, Within, placeOf, formedBuild, formedRequests, formedOf};
+ghost use Rattle.job.specs.declared.Opening.the-variants.{Expression};
+ghost use Rattle.job.specs.Stored.{Found, Stands, WhatStands, ReferenceStands, WhatReference, EntryStands, WhatEntry, Spans, Tells, anyDefinition, isWorked, wordsBytes, KidAt};
 
 // How many entries each table takes.
 const TABLE_SIZE: usize = 65536;
@@ -65,6 +69,8 @@ enum Opening {
     Version,
     Texts,
     Highest,
+    // A constant worked out.
+    Expression,
 }
 
 // What skipping a part of a record finds.
@@ -103,6 +109,7 @@ fn opening_of(first: u8) -> Opening
         0x47 => Opening::Version,
         0x48 => Opening::Texts,
         0x49 => Opening::Highest,
+        0x46 => Opening::Expression,
         _ => Opening::Constant(raw_const::shape_of(first)),
     }
 }
@@ -369,6 +376,26 @@ fn skip_placing(job: &[u8], at: usize, entries: usize) -> Skipped
     skip_number(job, at + 2, entries)
 }
 
+// An expression; a byte that is neither leaf tag nor sign ends it and doesn't cut it.
+fn skip_expression(job: &[u8], at: usize) -> Skipped
+    requires { ⌜ at ≤ length (now job) ⌝ }
+    ensures { λ r. ⌜ Skips readExpression (λ _. true) (λ _. 0) (now (job .entry)) at r ⌝ }
+{
+    match folding::end_of(job, at) {
+        Span::To(next) => Skipped::To {
+            next,
+            cited: true,
+            references: 0,
+        },
+        Span::Bad(next) => Skipped::To {
+            next,
+            cited: true,
+            references: 0,
+        },
+        Span::Cut => Skipped::Cut,
+    }
+}
+
 // A definition behind its first byte.
 fn skip_definition(
     job: &[u8],
@@ -394,6 +421,7 @@ fn skip_definition(
             references: 0,
         },
         Opening::Highest => skip_raw_slot(job, at),
+        Opening::Expression => skip_expression(job, at),
     }
 }
 
@@ -450,6 +478,7 @@ fn has_room(opening: Opening, constants: usize, bootstraps: usize) -> bool
     match opening {
         Opening::Constant(_) => constants < TABLE_SIZE,
         Opening::Bootstrap => bootstraps < TABLE_SIZE,
+        Opening::Expression => constants < TABLE_SIZE,
         _ => true,
     }
 }
@@ -524,6 +553,10 @@ fn counted(counts: JobCounts, opening: Opening, references: usize, number: usize
             c.highest = number;
             c
         }
+        Opening::Expression => {
+            c.constants += 1;
+            c
+        }
     }
 }
 
@@ -534,21 +567,22 @@ fn texts_hold(texts: usize, broken: usize) -> bool
     (broken == 0) | (texts == 0)
 }
 
-// A setting is opened.
-fn is_setting(opening: Opening) -> bool
-    ensures { λ r. ⌜ r ≡ isSetting opening ⌝ }
+// Neither a setting nor an expression is opened.
+fn is_plain(opening: Opening) -> bool
+    ensures { λ r. ⌜ r ≡ isPlain opening ⌝ }
 {
     match opening {
-        Opening::Version => true,
-        Opening::Texts => true,
-        Opening::Highest => true,
-        _ => false,
+        Opening::Version => false,
+        Opening::Texts => false,
+        Opening::Highest => false,
+        Opening::Expression => false,
+        _ => true,
     }
 }
 
-// A definition so opened that is no setting: 3 if it is cut or unknown, then 5 if its table is full, then 4 if it cites what isn't there.
+// A definition so opened that is neither setting nor expression: 3 if it is cut or unknown, then 5 if its table is full, then 4 if it cites what isn't there.
 fn form_entry(job: &[u8], at: usize, opening: Opening, counts: JobCounts) -> Step
-    requires { ⌜ (at < length (now job)) × Bounded at counts × Opens (now job) at opening × (isSetting opening ≡ false) ⌝ }
+    requires { ⌜ (at < length (now job)) × Bounded at counts × Opens (now job) at opening × (isPlain opening ≡ true) ⌝ }
     ensures { λ r. ⌜ Steps (formDefinition (tablesIn counts)) (λ d. d ∷ []) 0 (now (job .entry)) at counts r ⌝ }
 {
     let constants = counts.constants;
@@ -601,16 +635,46 @@ fn form_setting(job: &[u8], at: usize, opening: Opening, counts: JobCounts) -> S
     }
 }
 
-// One definition: most jobs have no setting, so that what only settings need stands apart.
+// A 46: 3 if it is cut, then 5 if the constants are full, then 22 or 23 if it comes to none. It cites nothing.
+fn form_worked(job: &[u8], at: usize, counts: JobCounts) -> Step
+    requires { ⌜ (at < length (now job)) × Bounded at counts × Opens (now job) at Expression ⌝ }
+    ensures { λ r. ⌜ Steps (formDefinition (tablesIn counts)) (λ d. d ∷ []) 0 (now (job .entry)) at counts r ⌝ }
+{
+    let opening = Opening::Expression;
+    let constants = counts.constants;
+    let bootstraps = counts.bootstraps;
+    let Skipped::To {
+        next,
+        cited: _,
+        references,
+    } = skip_definition(job, at + 1, opening, constants, bootstraps)
+    else {
+        return Step::Refused(3);
+    };
+    if !has_room(opening, constants, bootstraps) {
+        return Step::Refused(5);
+    }
+    match folding::constant_at(job, at + 1) {
+        Constant::Of { tag: _, bits: _ } => Step::To {
+            next,
+            counts: counted(counts, opening, references, 0),
+        },
+        Constant::Refused(code) => Step::Refused(code),
+    }
+}
+
+// One definition: most jobs have neither setting nor expression, so that what only those need stands apart.
 fn form_definition(job: &[u8], at: usize, counts: JobCounts) -> Step
     requires { ⌜ (at < length (now job)) × Bounded at counts ⌝ }
     ensures { λ r. ⌜ Steps (formDefinition (tablesIn counts)) (λ d. d ∷ []) 0 (now (job .entry)) at counts r ⌝ }
 {
     let opening = opening_of(writer::get_u8(job, at));
-    if is_setting(opening) {
-        form_setting(job, at, opening, counts)
-    } else {
-        form_entry(job, at, opening, counts)
+    if is_plain(opening) {
+        return form_entry(job, at, opening, counts);
+    }
+    match opening {
+        Opening::Expression => form_worked(job, at, counts),
+        _ => form_setting(job, at, opening, counts),
     }
 }
 
@@ -830,7 +894,7 @@ fn form_requests(job: &[u8], start: usize, defined: JobCounts) -> Formed
     }
 }
 
-// The form pass over a whole job: refusal 3, 26, 5, 25 or 4 at a record, or what the job counts.
+// The form pass over a whole job: refusal 3, 26, 5, 25, 4, 22 or 23 at a record, or what the job counts.
 pub fn form(job: &[u8]) -> Formed
     ensures { λ r. ⌜ r ≡ formedOf (form (now (job .entry))) ⌝ }
 {
@@ -896,12 +960,57 @@ pub fn tag_at(job: &[u8], at: usize) -> u8
     requires { ⌜ EntryStands (now job) at ⌝ }
     ensures { λ r. ⌜ WhatEntry (now (job .entry)) at (λ e. r ≡ e .tag) ⌝ }
 {
-    writer::get_u8(job, at)
+    let first = writer::get_u8(job, at);
+    if first == 0x46 {
+        folding::tag_at(job, at + 1)
+    } else {
+        first
+    }
 }
 
-// The literal of the entry at a place: no bytes if it has none.
+// The entry at a place is a constant worked out: its literal doesn't stand in the job.
+pub fn is_worked(job: &[u8], at: usize) -> bool
+    requires { ⌜ at < length (now job) ⌝ }
+    ensures { λ r. ⌜ r ≡ isWorked (now (job .entry)) at ⌝ }
+{
+    writer::get_u8(job, at) == 0x46
+}
+
+// The bits of a constant worked out: in `low`, or the upper half in `high` if it is wide.
+pub struct Worked {
+    pub high: u32,
+    pub low: u32,
+}
+
+// What the entry at a place was worked out to. It came out in the form pass.
+pub fn worked_at(job: &[u8], at: usize) -> Worked
+    requires { ⌜ EntryStands (now job) at × (isWorked (now job) at ≡ true) ⌝ }
+    ensures { λ r. ⌜ WhatEntry (now (job .entry)) at (λ e. wordsBytes (e .tag) (r .high) (r .low) ≡ e .literal) ⌝ }
+{
+    match folding::constant_at(job, at + 1) {
+        Constant::Of { tag: _, bits } => Worked {
+            high: (bits / 0x1_0000_0000) as u32,
+            low: (bits % 0x1_0000_0000) as u32,
+        },
+        Constant::Refused(_) => Worked { high: 0, low: 0 },
+    }
+}
+
+// The place behind the entry at a place, which was worked out.
+pub fn after_worked(job: &[u8], at: usize) -> usize
+    requires { ⌜ EntryStands (now job) at × (isWorked (now job) at ≡ true) ⌝ }
+    ensures { λ r. ⌜ WhatStands anyDefinition (now (job .entry)) at (λ d next. r ≡ next) ⌝ }
+{
+    match folding::end_of(job, at + 1) {
+        Span::To(next) => next,
+        Span::Bad(next) => next,
+        Span::Cut => at,
+    }
+}
+
+// The literal of the entry at a place, which was not worked out: no bytes if it has none.
 pub fn literal_at(job: &[u8], at: usize) -> Stretch
-    requires { ⌜ EntryStands (now job) at ⌝ }
+    requires { ⌜ EntryStands (now job) at × (isWorked (now job) at ≡ false) ⌝ }
     ensures { λ r. ⌜ WhatEntry (now (job .entry)) at (λ e. Spans (now (job .entry)) r (e .literal)) ⌝ }
 {
     let Opening::Constant(shape) = opening_of(tag_at(job, at)) else {

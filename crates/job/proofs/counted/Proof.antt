@@ -62,6 +62,12 @@ add-c-10 c = search needs
 enum-told-9 : tie.Need-enum-told-9
 enum-told-9 c = search needs
 
+enum-told-10 : tie.Need-enum-told-10
+enum-told-10 c = search needs
+
+add-c-11 : tie.Need-add-c-11
+add-c-11 c = search needs
+
 returns : tie.Need-returns
 unfolding countedAs
 returns c = rw (c .before .enum-told .given .1) (simp add-zero)
@@ -98,6 +104,10 @@ returns-9 : tie.Need-returns-9
 unfolding countedAs
 returns-9 c = rw (c .enum-told9 .given .1) (simp add-zero)
 
+returns-10 : tie.Need-returns-10
+unfolding countedAs
+returns-10 c = rw (c .before .enum-told10 .given .1) (simp add-zero)
+
 pub counted-spec : {M : Type 1} → statement M
 counted-spec =
     tie.close
@@ -121,6 +131,8 @@ counted-spec =
     enum-told-8
     add-c-10
     enum-told-9
+    enum-told-10
+    add-c-11
     returns
     returns-2
     returns-3
@@ -129,4 +141,5 @@ counted-spec =
     returns-6
     returns-7
     returns-8
-    returns-9)
+    returns-9
+    returns-10)

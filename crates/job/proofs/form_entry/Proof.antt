@@ -4,7 +4,8 @@ use mathlib.Core.Path.{refl, sym, _∙_}
 use lib.ListN.{getD}
 use borrow.Author.Tests.{not-true, not-false}
 use Rattle.job.specs.Forms.{tablesIn}
-use Rattle.job.proofs.Stepping.{step-cut, plain-full, plain-missing, plain-to}
+use Rattle.job.proofs.Stepping.{step-cut, plain-comes, plain-full, plain-missing, plain-to}
+use Rattle.job.proofs.Faults.{plain-no-setting}
 use borrow.Author.Needs.{needs}
 use Rattle.job.proofs.form_entry.Statement.{statement}
 use Rattle.job.proofs.form_entry.Tie as tie
@@ -26,14 +27,14 @@ returns c = let a = c .before .before .before .before .before .before .before .a
     let p = c .before .before .before .before .before .before .before .pre in
     let g = c .before .before .before .next .given in
     let v = rw (g .1) at (c .before .before .before .before .before .skip-definition .ensures (tablesIn (a .counts)) refl refl (getD (a .job .now) (a .at) 0)) in
-    plain-full (a .counts) (a .job .now) (a .at) (a .opening) (p .2) (g .0 .0) (g .0 .1 .0) (g .0 .1 .1 .0) v (p .3) (sym (c .before .has-room .ensures) ∙ not-true (c .before .has-room .result) (c .if1 .taken))
+    plain-full (a .counts) (a .job .now) (a .at) (a .opening) (p .2) (g .0 .0) (g .0 .1 .0) (g .0 .1 .1 .0) v (plain-no-setting (a .opening) (p .3)) (sym (c .before .has-room .ensures) ∙ not-true (c .before .has-room .result) (c .if1 .taken))
 
 returns-2 : tie.Need-returns-2
 returns-2 c = let a = c .before .before .before .before .before .before .before .before .args in
     let p = c .before .before .before .before .before .before .before .before .pre in
     let g = c .before .before .before .before .next .given in
     let v = rw (g .1) at (c .before .before .before .before .before .before .skip-definition .ensures (tablesIn (a .counts)) refl refl (getD (a .job .now) (a .at) 0)) in
-    plain-missing (a .counts) (a .job .now) (a .at) (a .opening) (p .2) (g .0 .0) (g .0 .1 .0) (g .0 .1 .1 .0) v (p .3)
+    plain-missing (a .counts) (a .job .now) (a .at) (a .opening) (p .2) (g .0 .0) (g .0 .1 .0) (g .0 .1 .1 .0) v (plain-no-setting (a .opening) (p .3))
     (sym (c .before .before .has-room .ensures) ∙ not-false (c .before .before .has-room .result) (c .before .if1 .left))
     (not-true (g .0 .1 .0) (c .if2 .taken))
 
@@ -53,9 +54,9 @@ returns-3 c = let a = c .before .before .before .before .before .before .before 
     let g = c .before .before .before .before .before .next .given in
     let v = rw (g .1) at (c .before .before .before .before .before .before .before .skip-definition .ensures (tablesIn (a .counts)) refl refl (getD (a .job .now) (a .at) 0)) in
     rw (c .counted .ensures)
-    (plain-to (a .counts) (a .job .now) (a .at) (a .opening) (p .2) (g .0 .0) (g .0 .1 .0) (g .0 .1 .1 .0) v (p .3)
+    (plain-to (a .counts) (a .job .now) (a .at) (a .opening) (p .2) (g .0 .0) (g .0 .1 .0) (g .0 .1 .1 .0) v (plain-no-setting (a .opening) (p .3))
     (sym (c .before .before .before .has-room .ensures) ∙ not-false (c .before .before .before .has-room .result) (c .before .before .if1 .left))
-    (not-false (g .0 .1 .0) (c .before .if2 .left)) (p .1))
+    (not-false (g .0 .1 .0) (c .before .if2 .left)) (plain-comes (a .counts) (a .job .now) (a .at) (a .opening) (p .2) (p .3)) (p .1))
 
 returns-4 : tie.Need-returns-4
 returns-4 c = let a = c .before .before .before .before .args in

@@ -5,7 +5,7 @@ use lib.ListN.{getD}
 use Rattle.definition.specs.Form.{citesEarlier}
 use Rattle.job.specs.Forms.{tablesIn, kidsIn}
 use Rattle.job.proofs.Settling.{found-there, number-room, number-there}
-use Rattle.job.proofs.Stepping.{step-cut, setting-refused, setting-to}
+use Rattle.job.proofs.Stepping.{step-cut, setting-comes, setting-refused, setting-to}
 use borrow.Author.Needs.{needs}
 use Rattle.job.proofs.form_setting.Statement.{statement}
 use Rattle.job.proofs.form_setting.Tie as tie
@@ -27,8 +27,9 @@ setting-number-requires c κs = let a = c .before .before .before .before .befor
     let p = c .before .before .before .before .before .pre in
     let g = c .before .next .given in
     let v = rw (g .1) at (c .before .before .before .skip-definition .ensures (tablesIn (a .counts)) refl refl (getD (a .job .now) (a .at) 0)) in
-    let f = found-there (a .job .now) (a .at) (a .opening) (p .2) (citesEarlier (tablesIn (a .counts))) kidsIn (g .0 .0) (g .0 .1 .0) (g .0 .1 .1 .0) (p .0) v in
-    number-room (a .job .now) (a .at) (a .opening) (p .2) (v .value) (g .0 .0) f
+    let out = setting-comes (a .counts) (a .job .now) (a .at) (a .opening) (p .2) (p .3) in
+    let f = found-there (a .job .now) (a .at) (a .opening) (p .2) out (citesEarlier (tablesIn (a .counts))) kidsIn (g .0 .0) (g .0 .1 .0) (g .0 .1 .1 .0) (p .0) v in
+    number-room (a .job .now) (a .at) (a .opening) (p .2) out (v .value) (g .0 .0) f
 
 setting-fault-requires : tie.Need-setting-fault-requires
 setting-fault-requires c κs = search needs
@@ -38,8 +39,9 @@ returns c = let a = c .before .before .before .before .before .before .before .b
     let p = c .before .before .before .before .before .before .before .before .pre in
     let g = c .before .before .before .before .next .given in
     let v = rw (g .1) at (c .before .before .before .before .before .before .skip-definition .ensures (tablesIn (a .counts)) refl refl (getD (a .job .now) (a .at) 0)) in
-    let f = found-there (a .job .now) (a .at) (a .opening) (p .2) (citesEarlier (tablesIn (a .counts))) kidsIn (g .0 .0) (g .0 .1 .0) (g .0 .1 .1 .0) (p .0) v in
-    let number = c .before .before .setting-number .ensures ∙ number-there (a .job .now) (a .at) (a .opening) (p .2) (v .value) (g .0 .0) f in
+    let out = setting-comes (a .counts) (a .job .now) (a .at) (a .opening) (p .2) (p .3) in
+    let f = found-there (a .job .now) (a .at) (a .opening) (p .2) out (citesEarlier (tablesIn (a .counts))) kidsIn (g .0 .0) (g .0 .1 .0) (g .0 .1 .1 .0) (p .0) v in
+    let number = c .before .before .setting-number .ensures ∙ number-there (a .job .now) (a .at) (a .opening) (p .2) out (v .value) (g .0 .0) f in
     setting-refused (a .counts) (a .job .now) (a .at) (a .opening) (p .2) (g .0 .0) (g .0 .1 .0) (g .0 .1 .1 .0) v (p .3)
     (c .before .setting-fault .result) (rw number at (c .before .setting-fault .ensures)) (c .if1 .taken)
 
@@ -58,8 +60,9 @@ returns-2 c = let a = c .before .before .before .before .before .before .before 
     let p = c .before .before .before .before .before .before .before .before .before .pre in
     let g = c .before .before .before .before .before .next .given in
     let v = rw (g .1) at (c .before .before .before .before .before .before .before .skip-definition .ensures (tablesIn (a .counts)) refl refl (getD (a .job .now) (a .at) 0)) in
-    let f = found-there (a .job .now) (a .at) (a .opening) (p .2) (citesEarlier (tablesIn (a .counts))) kidsIn (g .0 .0) (g .0 .1 .0) (g .0 .1 .1 .0) (p .0) v in
-    let number = c .before .before .before .setting-number .ensures ∙ number-there (a .job .now) (a .at) (a .opening) (p .2) (v .value) (g .0 .0) f in
+    let out = setting-comes (a .counts) (a .job .now) (a .at) (a .opening) (p .2) (p .3) in
+    let f = found-there (a .job .now) (a .at) (a .opening) (p .2) out (citesEarlier (tablesIn (a .counts))) kidsIn (g .0 .0) (g .0 .1 .0) (g .0 .1 .1 .0) (p .0) v in
+    let number = c .before .before .before .setting-number .ensures ∙ number-there (a .job .now) (a .at) (a .opening) (p .2) out (v .value) (g .0 .0) f in
     rw (c .counted .ensures, number)
     (setting-to (a .counts) (a .job .now) (a .at) (a .opening) (p .2) (g .0 .0) (g .0 .1 .0) (g .0 .1 .1 .0) v (p .3)
     (c .before .before .setting-fault .result) (rw number at (c .before .before .setting-fault .ensures)) (c .before .if1 .left) (p .1))

@@ -6,7 +6,7 @@ use Rattle.job.proofs.literal_at.Statement.{statement}
 use Rattle.job.proofs.literal_at.Tie as tie
 
 tag-at-requires : tie.Need-tag-at-requires
-tag-at-requires c κs = search needs
+tag-at-requires c κs = c .before .pre .0
 
 opening-of-requires : tie.Need-opening-of-requires
 opening-of-requires c κs = search needs
@@ -30,7 +30,7 @@ add-get-u16 c = search needs
 get-u16-requires : tie.Need-get-u16-requires
 get-u16-requires c κs = let a = c .before .before .before .before .before .before .before .before .args in
     let g = c .before .before .before .shape .given in
-    omega (arith, text-room (a .job .now) (a .at) _ _ (c .before .before .before .before .before .before .tag-at .ensures) (c .before .before .before .before .before .opening-of .ensures .0) (g .0 .0) (g .1) (c .enum-told .given .1) (c .before .before .before .before .before .before .before .before .pre))
+    omega (arith, text-room (a .job .now) (a .at) _ _ (c .before .before .before .before .before .before .tag-at .ensures) (c .before .before .before .before .before .opening-of .ensures .0) (g .0 .0) (g .1) (c .enum-told .given .1) (c .before .before .before .before .before .before .before .before .pre .0))
 
 cast-n : tie.Need-cast-n
 cast-n c = search needs
@@ -38,7 +38,7 @@ cast-n c = search needs
 add-t11 : tie.Need-add-t11
 add-t11 c = let a = c .before .before .before .before .before .before .before .before .before .args in
     let g = c .before .before .before .before .shape .given in
-    omega (arith, c .get-u16 .ensures, text-room (a .job .now) (a .at) _ _ (c .before .before .before .before .before .before .before .tag-at .ensures) (c .before .before .before .before .before .before .opening-of .ensures .0) (g .0 .0) (g .1) (c .before .enum-told .given .1) (c .before .before .before .before .before .before .before .before .before .pre))
+    omega (arith, c .get-u16 .ensures, text-room (a .job .now) (a .at) _ _ (c .before .before .before .before .before .before .before .tag-at .ensures) (c .before .before .before .before .before .before .opening-of .ensures .0) (g .0 .0) (g .1) (c .before .enum-told .given .1) (c .before .before .before .before .before .before .before .before .before .pre .0))
 
 enum-known-shape-2 : tie.Need-enum-known-shape-2
 enum-known-shape-2 c = search needs
@@ -56,7 +56,7 @@ add-t15 : tie.Need-add-t15
 add-t15 c = let a = c .before .before .before .before .before .before .before .before .before .args in
     let g = c .before .before .before .before .shape .given in
     let n = c .before .shape2 .given in
-    omega (arith, bits-room (a .job .now) (a .at) _ _ (c .before .before .before .before .before .before .before .tag-at .ensures) (c .before .before .before .before .before .before .opening-of .ensures .0) (g .0 .0) (g .1) (n .0 .0) (n .1) (c .before .before .before .before .before .before .before .before .before .pre))
+    omega (arith, bits-room (a .job .now) (a .at) _ _ (c .before .before .before .before .before .before .before .tag-at .ensures) (c .before .before .before .before .before .before .opening-of .ensures .0) (g .0 .0) (g .1) (c .before .before .before .before .before .before .before .before .before .pre .1) (n .0 .0) (n .1) (c .before .before .before .before .before .before .before .before .before .pre .0))
 
 returns-2 : tie.Need-returns-2
 returns-2 c = let a = c .before .before .before .before .before .before .before .before .before .args in
@@ -67,7 +67,7 @@ returns-3 : tie.Need-returns-3
 returns-3 c = let a = c .before .before .before .before .before .before .before .before .before .args in
     let g = c .before .before .before .before .shape .given in
     let n = c .before .shape2 .given in
-    bits-literal (a .job .now) (a .at) _ _ (c .before .before .before .before .before .before .before .tag-at .ensures) (c .before .before .before .before .before .before .opening-of .ensures .0) (g .0 .0) (g .1) (n .0 .0) (n .1)
+    bits-literal (a .job .now) (a .at) _ _ (c .before .before .before .before .before .before .before .tag-at .ensures) (c .before .before .before .before .before .before .opening-of .ensures .0) (g .0 .0) (g .1) (c .before .before .before .before .before .before .before .before .before .pre .1) (n .0 .0) (n .1)
 
 returns-4 : tie.Need-returns-4
 returns-4 c = let a = c .before .before .before .before .before .before .before .args in

@@ -46,9 +46,13 @@ unfolding bodyOf tableOf lookup bodies shapes kindOf
 returns-8 c = rw (c .match .keys8) (refl, refl)
 
 returns-9 : tie.Need-returns-9
-returns-9 c =
+unfolding bodyOf tableOf lookup bodies shapes kindOf
+returns-9 c = rw (c .match .keys9) (refl, refl)
+
+returns-10 : tie.Need-returns-10
+returns-10 c =
     let other = c .before .match .rest in
-    tag-right (c .before .before .args .first) (c .shape-of .result) (c .shape-of .ensures) (other .0 .0 .0 .0 .0 .0 .0 .1) (other .0 .0 .0 .0 .0 .0 .1) (other .0 .0 .0 .0 .0 .1) (other .0 .0 .0 .0 .1) (other .0 .0 .0 .1) (other .0 .0 .1) (other .0 .1) (other .1)
+    tag-right (c .before .before .args .first) (c .shape-of .result) (c .shape-of .ensures) (other .0 .0 .0 .0 .0 .0 .0 .0 .1) (other .0 .0 .0 .0 .0 .0 .0 .1) (other .0 .0 .0 .0 .0 .0 .1) (other .0 .0 .0 .0 .0 .1) (other .0 .0 .0 .0 .1) (other .0 .0 .0 .1) (other .0 .0 .1) (other .0 .1) (other .1)
 
 pub opening-of-spec : {M : Type 1} → statement M
-opening-of-spec = tie.close (tie.spec shape-of-requires returns returns-2 returns-3 returns-4 returns-5 returns-6 returns-7 returns-8 returns-9)
+opening-of-spec = tie.close (tie.spec shape-of-requires returns returns-2 returns-3 returns-4 returns-5 returns-6 returns-7 returns-8 returns-9 returns-10)

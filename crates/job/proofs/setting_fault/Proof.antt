@@ -1,6 +1,5 @@
 -- `job::setting_fault` meets its contract. Assumes nothing.
-use mathlib.Core.Path.{sym}
-use Rattle.job.proofs.Faults.{setting-other, fault-plain}
+use Rattle.job.proofs.Faults.{fault-other}
 use Rattle.job.specs.Forms.{settingFault}
 use borrow.Author.Needs.{needs}
 use Rattle.job.proofs.setting_fault.Statement.{statement}
@@ -37,7 +36,7 @@ unfolding settingFault
 returns-3 c = rw (c .before .enum-told3 .given .1) (c .highest-fault .ensures)
 
 returns-4 : tie.Need-returns-4
-returns-4 c = let a = c .before .args in sym (fault-plain (a .opening) (a .number) (a .counts) (sym (setting-other (a .opening) (c .match .keys4))))
+returns-4 c = let a = c .before .args in fault-other (a .opening) (a .number) (a .counts) (c .match .keys4)
 
 pub setting-fault-spec : {M : Type 1} → statement M
 setting-fault-spec =

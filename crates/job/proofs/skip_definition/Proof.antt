@@ -3,7 +3,7 @@ use Rattle.definition.specs.Form.{countOf}
 use Rattle.definition.specs.Shapes.{constant, bootstrap, bootstrapShape}
 use Rattle.definition.specs.Settings.{version, texts, highest}
 use Rattle.job.specs.Forms.{bodyOf}
-use Rattle.job.proofs.Records.{entry-to, number-to, nothing-to}
+use Rattle.job.proofs.Records.{entry-to, number-to, nothing-to, expression-to}
 use borrow.Author.Needs.{needs}
 use Rattle.job.proofs.skip_definition.Statement.{statement}
 use Rattle.job.proofs.skip_definition.Tie as tie
@@ -59,6 +59,12 @@ enum-told-8 c = search needs
 skip-raw-slot-requires-2 : tie.Need-skip-raw-slot-requires-2
 skip-raw-slot-requires-2 c κs = search needs
 
+enum-told-9 : tie.Need-enum-told-9
+enum-told-9 c = search needs
+
+skip-expression-requires : tie.Need-skip-expression-requires
+skip-expression-requires c κs = search needs
+
 returns : tie.Need-returns
 unfolding bodyOf
 returns c = let g = c .before .before .opening .given in rw (g .1) (c .skip-constant .ensures)
@@ -98,6 +104,11 @@ unfolding bodyOf
 returns-9 c = let a = c .before .before .before .before .args in
     λ n e f. rw (c .before .enum-told8 .given .1) (number-to n (a .job .now) (a .at) highest (c .skip-raw-slot2 .result) (c .skip-raw-slot2 .ensures))
 
+returns-10 : tie.Need-returns-10
+unfolding bodyOf
+returns-10 c = let a = c .before .before .before .before .args in
+    λ n e f. rw (c .before .enum-told9 .given .1) (expression-to n (a .job .now) (a .at) (c .skip-expression .result) (c .skip-expression .ensures))
+
 pub skip-definition-spec : {M : Type 1} → statement M
 skip-definition-spec =
     tie.close
@@ -119,6 +130,8 @@ skip-definition-spec =
     enum-told-7
     enum-told-8
     skip-raw-slot-requires-2
+    enum-told-9
+    skip-expression-requires
     returns
     returns-2
     returns-3
@@ -127,4 +140,5 @@ skip-definition-spec =
     returns-6
     returns-7
     returns-8
-    returns-9)
+    returns-9
+    returns-10)
