@@ -34,30 +34,31 @@ module _
   abbrev words : AskedWords p top s t g d
   words = asked .words
 
-  later : Later t u
+  later : r ≡ 0 → Later t u
   later = built-later s p (countsIn s .version) t u g h r built
 
-  -- the record in turn is 60 from then on
+  -- the record in turn is 60 from then on, unless building refuses
   pub place-at : (v : Store) → Later t v → placeCount v ≡ suc (length (definitionsIn s) + length (jobIn s .requests))
   place-at v l = l .counters PLACE refl ∙ words .place
 
   pub built-refused : 0 < r → layout top (numbered (jobIn s)) ≡ bad (record { code = r; place = placeCount u })
   built-refused more =
-      refused-building top s d ready (t ANSWERS) (readyIn s t pool) (asked .isAsked) r
-      (built .refused pool _ (held-version p top s t g d ready pool asked) (asked .pooled) (raws-are p top s t g d work long words) more)
-      ∙ ap (λ n. bad (record { code = r; place = n })) (sym (place-at u later))
+      let told = built .refused pool _ (held-version p top s t g d ready pool asked) (asked .pooled) (raws-are p top s t g d work long words) more in
+      refused-building top s d ready (t ANSWERS) (readyIn s t pool) (asked .isAsked) _ (told .refused)
+      ∙ ap (λ n. bad (record { code = r; place = n })) (sym (told .place ∙ words .records (told .node) (told .made)))
 
-  pub can-end : top ≤ highestSlot → CanEnd s p top u h
-  can-end few =
-      let rests = rests-stay s t u later (size p NODE-HEADS) (words .rests) in
+  pub can-end : r ≡ 0 → top ≤ highestSlot → CanEnd s p top u h
+  can-end fine few =
+      let since = later fine in
+      let rests = rests-stay s t u since (size p NODE-HEADS) (words .rests) in
       record {
-        nodes = (work, table-stays s t u later (words .table) .entered, rests .nodes);
-        raws = ready-stays s t u later p (rows-ready p top s t g d work long words);
-        gaps = built .live .gaps;
-        apart = built .apart top (words .apart);
+        nodes = (work, table-stays s t u since (words .table) .entered, rests .nodes);
+        raws = ready-stays s t u since p (rows-ready p top s t g d work long words);
+        gaps = built .live fine .gaps;
+        apart = built .apart fine top (words .apart);
         few = few;
-        build = rw (built .counters AT refl) (words .build);
-        unnamed = built .counters NAME-SLOT refl ∙ words .name;
+        build = rw (built .counters fine AT refl) (words .build);
+        unnamed = built .counters fine NAME-SLOT refl ∙ words .name;
       }
 
   -- what was made
@@ -77,11 +78,11 @@ module _
     named-since = named-later u v (ended .kept) (ended .counters)
 
     pub asked-since : Later t v
-    asked-since = later-then t u v later named-since
+    asked-since = later-then t u v (later fine) named-since
 
     pub named-refused : 0 < n → layout top (numbered (jobIn s)) ≡ bad (record { code = n; place = placeCount v })
     named-refused more =
         let (m, b) = made fine in
         refused-naming top s d ready (t ANSWERS) (readyIn s t pool) (asked .isAsked) m n (b .is)
-        (rw (nodes-same s t u later) at (ended .refused m (b .pooled) (b .rowed) more))
+        (rw (nodes-same s t u (later fine)) at (ended .refused m (b .pooled) (b .rowed) more))
         ∙ ap (λ x. bad (record { code = n; place = x })) (sym (place-at v asked-since))

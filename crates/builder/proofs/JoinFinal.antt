@@ -72,7 +72,7 @@ module _
     low =
         name-low s (jobIn s) _ bytes (formed-job s (work-formed s p work))
         (laid-out (topOf (jobIn s)) s d ready (t ANSWERS) (readyIn s t pool) (asked .isAsked) m (nameIn v, after) (b .is)
-        (rw (nodes-same s t u (built-later s p (countsIn s .version) t u g h r built)) at is))
+        (rw (nodes-same s t u (built-later s p (countsIn s .version) t u g h r built fine)) at is))
 
     pub final-words : Final s p v i d ready (readyIn s t pool) m after
     final-words =

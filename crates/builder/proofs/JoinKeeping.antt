@@ -38,10 +38,10 @@ pub record Later (t u : Store) : Type 0 where
   pub kept : Kept builtRegions t u
   pub counters : SameBut laterCounters (t COUNTS) (u COUNTS)
 
-pub built-later : (s p : List ℕ) (version : ℕ) (t u : Store) (g h : GapTable) (r : ℕ) → BuiltAll s p version t u g h r → Later t u
+pub built-later : (s p : List ℕ) (version : ℕ) (t u : Store) (g h : GapTable) (r : ℕ) → BuiltAll s p version t u g h r → r ≡ 0 → Later t u
 unfolding every
-built-later s p version t u g h r b =
-    record { kept = b .kept; counters = same-more builtCounters laterCounters (t COUNTS) (u COUNTS) refl (b .counters) }
+built-later s p version t u g h r b fine =
+    record { kept = b .kept fine; counters = same-more builtCounters laterCounters (t COUNTS) (u COUNTS) refl (b .counters fine) }
 
 pub named-later : (t u : Store) → Kept (COUNTS ∷ []) t u → SameBut namedCounters (t COUNTS) (u COUNTS) → Later t u
 unfolding every
@@ -78,6 +78,7 @@ module _ (s : List ℕ) (t u : Store) (later : Later t u) where
             rw (later .counters NODE-COUNT refl, later .kept NODES refl, later .kept FIRSTS refl, later .kept SIZES refl, later .kept CHILDREN refl, later .kept NODE-HEADS refl, later .kept NODE-LINKS refl)
             (g .nodes);
         made = rw (later .counters NODE-COUNT refl, later .kept NODES refl, later .kept MARKS refl) (g .made);
+        lowest = rw (later .counters NODE-COUNT refl, later .kept NODES refl, later .kept MARKS refl) (g .lowest);
         room = rw (later .counters NODE-COUNT refl, later .kept MARKS refl) (g .room);
         faithful = subst (Faithful (linkedIn s)) (sym resolved-same) (g .faithful);
         owed = rw (later .kept MARKS refl) (g .owed);

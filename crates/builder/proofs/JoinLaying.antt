@@ -88,11 +88,11 @@ module _
             refused = λ _. built-refused p top s t u g h r work (length-store p w) (q .0) (q .1) (q .2) (q .3) built more;
           }
 
-      pub to-end : On p (length x) × CanEnd s p (c .highest) u h
-      to-end =
+      pub to-end : r ≡ 0 → On p (length x) × CanEnd s p (c .highest) u h
+      to-end built-fine =
           let q = asked .through fine in
           let low = top-low s (jobIn s) (formed-job s (work-formed s p work)) in
-          let ready = can-end p top s t u g h r work (length-store p w) (q .0) (q .1) (q .2) (q .3) built low in
+          let ready = can-end p top s t u g h r work (length-store p w) (q .0) (q .1) (q .2) (q .3) built built-fine low in
           (places-built .1, subst (λ (n : ℕ). CanEnd s p n u h) (sym (top-counted s c is)) ready)
 
       -- BEHIND THE NAME AND THE COUNT: y are the words

@@ -6,6 +6,8 @@ use lib.ListN.{length}
 use Rattle.definition.specs.Basics.{Result, good, _>>=_, Refusal, atRecord}
 use Rattle.definition.specs.Numbering.{topOf, numbered}
 use Rattle.definition.specs.Definitions.{Defined}
+use Rattle.definition.specs.Resolving.{Mark}
+use Rattle.definition.specs.Places.{tableRecords, atNodes}
 use Rattle.definition.specs.Building.{Made, nameWanted, nameSlot}
 use Rattle.definition.specs.Layout.{Ready, Layout, layoutOf, buildLayout, indexNodes, layout}
 use Rattle.slots.specs.Gaps.{GapTable}
@@ -28,6 +30,13 @@ at-record : {A B : Type 0} (place : ℕ) (r : Result ℕ A) (a : A) (f : A → R
 unfolding atRecord
 at-record place r a f e = ap (λ x. atRecord place x >>= f) e
 
+-- at the records of nodes
+at-nodes :
+    {A B : Type 0} (records : List ℕ) (marks : List Mark) (r : Result Refusal A) (a : A) (f : A → Result Refusal B) → r ≡ good a →
+    (atNodes records marks r >>= f) ≡ f a
+unfolding atNodes
+at-nodes records marks r a f e = ap (λ x. atNodes records marks x >>= f) e
+
 -- what the definition lays out, by the name's slot and what is made when it has one
 abbrev pub layoutIn : List ℕ → Store → Ready → Made → Made → Layout
 layoutIn s v asked m after =
@@ -36,12 +45,14 @@ layoutIn s v asked m after =
 module _ (s p : List ℕ) (v : Store) (h : GapTable) (d : Defined) (ready asked : Ready) (m after : Made) (f : Final s p v h d ready asked m after) where
   -- record 60
   built-out :
-      buildLayout (topOf (jobIn s)) (indexNodes (constantsIn s) (asked .resolved .marks) (d .indexes)) (jobIn s .build) (v ANSWERS) asked
+      (place : ℕ) →
+      buildLayout (topOf (jobIn s)) (tableRecords (recordsIn s)) place (indexNodes (constantsIn s) (asked .resolved .marks) (d .indexes)) (jobIn s .build) (v ANSWERS) asked
       ≡ good (layoutIn s v asked m after)
   unfolding buildLayout
-  built-out =
-      then _ m _ (f .isMade)
-      ∙ then
+  built-out place =
+      at-nodes _ _ _ m _ (f .isMade)
+      ∙ at-record
+      place
       (nameSlot (nameWanted (jobIn s .build .nameByte) (length (rowed.tableOf (m .rows)))) (asked .resolved .nodes) m)
       (nameIn v, after)
       _
@@ -54,4 +65,4 @@ module _ (s p : List ℕ) (v : Store) (h : GapTable) (d : Defined) (ready asked 
       ∙ rw (linked-is (topOf (jobIn s)) s d (f .isDefined), constants-many s, records-many s)
       (at-record (length (definitionsIn s)) _ ready _ (f .isReady)
       ∙ then _ (v ANSWERS, asked) _ (f .isAsked)
-      ∙ ap (atRecord _) built-out)
+      ∙ built-out _)

@@ -9,6 +9,7 @@ use Rattle.definition.specs.Job.{Definition, define, named, placed, setting}
 use Rattle.definition.specs.Numbering.{constantsOf, bootstrapsOf, literals, numberedDefinition, numbered}
 use Rattle.definition.specs.Definitions.{Defined}
 use Rattle.definition.specs.Resolving.{linked}
+use Rattle.definition.specs.Places.{tableRecords, recordOf, atNodes}
 use Rattle.definition.specs.Building.{Made, buildAll, nameWanted, nameSlot}
 use Rattle.definition.specs.Layout.{Ready, Layout, answerAll, endDefinitions, layoutOf, buildLayout, indexNodes, layout}
 use Rattle.facts.proofs.Results.{good-first, good-inj}
@@ -87,7 +88,8 @@ module _ (top : ℕ) (s : List ℕ) where
 
   -- the record, where the requests have come to this
   unfoldable pub sixtyIn : Defined × Ready × List ℕ × Ready → Result Refusal Layout
-  sixtyIn r = atRecord sixty (buildLayout top (indexNodes (constantsIn s) (r .3 .resolved .marks) (r .0 .indexes)) (jobIn s .build) (r .2) (r .3))
+  sixtyIn r =
+      buildLayout top (tableRecords (recordsIn s)) sixty (indexNodes (constantsIn s) (r .3 .resolved .marks) (r .0 .indexes)) (jobIn s .build) (r .2) (r .3)
 
   pub layout-is : layout top (numbered (jobIn s)) ≡ (askedIn top s >>= sixtyIn)
   unfolding layout askedIn begunIn fiftyIn requestsIn sixtyIn recordsIn numbered
@@ -132,23 +134,26 @@ module _ (top : ℕ) (s : List ℕ) where
     at-sixty : layout top (numbered (jobIn s)) ≡ sixtyIn (d, ready, answers, asked)
     at-sixty = layout-is ∙ ap (λ x. x >>= sixtyIn) is
 
-    abbrev builtIn : Result ℕ Made
+    abbrev builtIn : Result Refusal Made
     builtIn = buildAll (asked .resolved .nodes) (indexNodes (constantsIn s) (asked .resolved .marks) (d .indexes)) (asked .pool)
 
-    pub refused-building : (r : ℕ) → builtIn ≡ bad r → layout top (numbered (jobIn s)) ≡ bad (record { code = r; place = sixty })
-    unfolding sixtyIn buildLayout atRecord
+    -- building is refused at a node, and so at its record
+    pub refused-building :
+        (r : Refusal) → builtIn ≡ bad r →
+        layout top (numbered (jobIn s)) ≡ bad (record { code = r .code; place = recordOf (tableRecords (recordsIn s)) (asked .resolved .marks) (r .place) })
+    unfolding sixtyIn buildLayout atNodes
     refused-building r built = at-sixty ∙ rw built
 
     pub refused-naming :
         (m : Made) (r : ℕ) → builtIn ≡ good m →
         nameSlot (nameWanted (jobIn s .build .nameByte) (length (rowsOf (m .rows)))) (asked .resolved .nodes) m ≡ bad r →
         layout top (numbered (jobIn s)) ≡ bad (record { code = r; place = sixty })
-    unfolding sixtyIn buildLayout atRecord
+    unfolding sixtyIn buildLayout atNodes atRecord
     refused-naming m r built name = at-sixty ∙ rw (built, name)
 
     pub laid-out :
         (m : Made) (r : ℕ × Made) → builtIn ≡ good m →
         nameSlot (nameWanted (jobIn s .build .nameByte) (length (rowsOf (m .rows)))) (asked .resolved .nodes) m ≡ good r →
         layout top (numbered (jobIn s)) ≡ good (layoutOf top answers (asked .origins) (asked .resolved .visits) (jobIn s .build .class) (rowsOf (m .rows)) r)
-    unfolding sixtyIn buildLayout atRecord
+    unfolding sixtyIn buildLayout atNodes atRecord
     laid-out m r built name = at-sixty ∙ rw (built, name)

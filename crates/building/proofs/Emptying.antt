@@ -7,7 +7,7 @@ use mathlib.Core.Path.{_≡_, refl, ap, subst, _∙_}
 use Prim.Native.Nat.{ℕ, zero, suc, _+_, _≤_, _<_}
 use native.Mathlib.Omega.{arith}
 use lib.ListN.{length, getD, getElem?}
-use Rattle.definition.specs.Basics.{Result, good, bad, every, unless, _>>=_}
+use Rattle.definition.specs.Basics.{Result, good, bad, Refusal, atRecord, every, unless, _>>=_}
 use Rattle.definition.specs.Settings.{known}
 use Rattle.definition.specs.Shapes.{withKids}
 use Rattle.definition.specs.Definitions.{tagAt}
@@ -15,27 +15,27 @@ use Rattle.definition.specs.Resolving.{Node}
 use Rattle.definition.specs.Building.{Pool, Rows, Made, kidsOf, childNumbers, finish, withPending, drain}
 use Rattle.facts.specs.Lists.{Among}
 use Rattle.facts.proofs.Lists.{inside-found, among-cons, true≢false}
-use Rattle.facts.proofs.Results.{unless-first}
+use Rattle.facts.proofs.Results.{good-first}
 use Rattle.laws.proofs.resolving.NodesAndChildren.{kids-found}
 use Rattle.laws.proofs.building.VersionsKept.{childNumbers-version}
 use Rattle.slots.specs.Gaps.{GapTable}
 use Rattle.store.specs.Store.{Store, size, among}
 use Rattle.store.specs.Regions.{COUNTS, MARKS, GIVEN, NODES, RAW-KEYS, RAW-ENTRIES, PENDING, NODE-COUNT, GAP-COUNT, PENDING-COUNT, RAW-COUNT, Work}
 use Rattle.store.proofs.Keeping.{kept-more}
-use Rattle.interner.specs.Nodes.{nodeCount, nodesIn}
+use Rattle.interner.specs.Nodes.{nodeCount, nodesIn, recordIn}
 use Rattle.rows.specs.Rowed.{RowedIn}
-use Rattle.pool.specs.Pooled.{moving, pendingCount, PooledIn, LiveIn, Goes, Popped}
+use Rattle.pool.specs.Pooled.{placeCount, moving, pendingCount, PooledIn, LiveIn, Goes, Popped}
 use Rattle.pool.specs.Owning.{RawOwner, IsOwner, OnStack}
 use Rattle.building.specs.Numbers.{KidsDone}
 use Rattle.building.specs.Working.{Working, Owners, owing, Grows, Finished, judged, Judged, Drained}
 use Rattle.building.proofs.Paying.{stack-among, among-stack, stack-long, somePool, some-pooled}
-use Rattle.building.proofs.Lasting.{nodes-same, grows-not, grows-then, kids-done-stay, grows-goes, rows-goes, working-goes}
+use Rattle.building.proofs.Lasting.{nodes-same, told-since, grows-not, grows-then, told-as, kids-done-stay, grows-goes, rows-goes, working-goes}
 use Rattle.building.proofs.Kids.{nodes-many}
 
 -- ONE TURN of the definition
 
 bind-thrice :
-    {A B C : Type 0} (u : Result ℕ (Unit {0})) (r : Result ℕ A) (f : A → B) (k : B → Result ℕ C) →
+    {A B C : Type 0} (u : Result Refusal (Unit {0})) (r : Result Refusal A) (f : A → B) (k : B → Result Refusal C) →
     (u >>= λ _. (r >>= λ x. good (f x)) >>= k) ≡ ((u >>= λ _. r) >>= λ x. k (f x))
 bind-thrice (good tt) (good a) f k = refl
 bind-thrice (good tt) (bad e) f k = refl
@@ -60,7 +60,7 @@ drain-turn (suc f) nodes m slot k rest n l e at = (
   f,
   refl,
   rw (e, drain, at, finish, kids-found nodes k n at)
-      (bind-thrice (unless (known (m .pool .version) (tagAt nodes k)) 24) (childNumbers nodes (n .kids) (taken rest (m .pool)) (m .rows)) (made slot n m)
+      (bind-thrice (atRecord k (unless (known (m .pool .version) (tagAt nodes k)) 24)) (childNumbers nodes (n .kids) (taken rest (m .pool)) (m .rows)) (made slot n m)
       (λ m′. drain f nodes (m′ .pool .pending) m′)),
 )
 
@@ -90,40 +90,40 @@ judged-version :
     r .1 .version ≡ p .version
 unfolding judged
 judged-version nodes version k p rows r e =
-    childNumbers-version nodes (kidsOf nodes k) p rows r (unless-first (known version (tagAt nodes k)) 24 _ r e .1)
+    childNumbers-version nodes (kidsOf nodes k) p rows r
+    (good-first (atRecord k (unless (known version (tagAt nodes k)) 24)) (λ _. childNumbers nodes (kidsOf nodes k) p rows) r e .2)
 
 module _ (s p : List ℕ) (version k : ℕ) (t : Store) (g : GapTable) where
-  -- the version hasn't its kind
-  pub judged-not : Working s p t g → known version (tagAt (nodesIn s t) k) ≡ false → Judged s p version k t t g g 24
-  unfolding judged unless
-  judged-not w not =
-      record {
+  -- the version hasn't its kind, which is told at its record
+  pub judged-not :
+      k < nodeCount t → known version (tagAt (nodesIn s t) k) ≡ false → (u : Store) (r : ℕ) → (r ≡ 24) × (placeCount u ≡ recordIn t k) →
+      Judged s p version k t u g g r
+  unfolding judged unless atRecord
+  judged-not low not u r (same, place) =
+      rw same
+      (record {
         step =
             record {
               met = λ pool rows q rowed z. absurd (omega arith);
-              refused = λ pool rows q rowed z. rw (not, unless);
+              refused = λ pool rows q rowed z. record { node = k; made = low; refused = rw (not, unless, atRecord); place = place };
               again = λ z. absurd (omega arith);
               stacked = λ z. absurd (omega arith);
-              words = w .rowed .1 .words;
-              live = w .live;
-              grows = grows-not t g;
+              grows = λ z. absurd (omega arith);
             };
         done = λ z. absurd (omega arith);
-      }
+      })
 
   -- it has, and what comes is as the children's numbers come
   pub judged-so : (u : Store) (h : GapTable) (r : ℕ) → known version (tagAt (nodesIn s t) k) ≡ true → Finished s p k t u g h r → Judged s p version k t u g h r
-  unfolding judged unless
+  unfolding judged unless atRecord
   judged-so u h r so f =
       record {
         step =
             record {
-              met = λ pool rows q rowed z. let (a, pool′, rows′, e, q′, rowed′) = f .step .met pool rows q rowed z in (a, pool′, rows′, rw (so, unless) e, q′, rowed′);
-              refused = λ pool rows q rowed z. rw (so, unless) (f .step .refused pool rows q rowed z);
+              met = λ pool rows q rowed z. let (a, pool′, rows′, e, q′, rowed′) = f .step .met pool rows q rowed z in (a, pool′, rows′, rw (so, unless, atRecord) e, q′, rowed′);
+              refused = λ pool rows q rowed z. told-as _ _ t u r (λ e a. rw (so, unless, atRecord) a) (f .step .refused pool rows q rowed z);
               again = f .step .again;
               stacked = f .step .stacked;
-              words = f .step .words;
-              live = f .step .live;
               grows = f .step .grows;
             };
         done = f .done;
@@ -214,9 +214,7 @@ module _ (s p : List ℕ) (version : ℕ) (t u : Store) (g h : GapTable) (l : Em
         refused = λ fuel m o held q r z. absurd (omega arith);
         done = λ z k owner. ⊎-elim (λ (on : OnStack u k). absurd (omega (arith, on .1))) (λ (d : KidsDone s p u k). d) (l .owners k owner);
         again = λ z. l .again;
-        words = l .again .rowed .1 .words;
-        live = l .again .live;
-        grows = l .grows;
+        grows = λ z. l .grows;
       }
 
   module _ (some′ : 0 < n) (work : Work s p) (v : Store) (k : ℕ) (x : Popped u v k) where
@@ -233,13 +231,13 @@ module _ (s p : List ℕ) (version : ℕ) (t u : Store) (g h : GapTable) (l : Em
     pub turn-asks : Working s p v h × (k < nodeCount v)
     turn-asks = (w, made-low)
 
+    before : Grows t v g h
+    before = grows-then t u v g h h (l .grows) (grows-goes s p u v h h goes)
+
     nodes-now : nodesIn s v ≡ nodes
-    nodes-now = nodes-same s p u v (grows-goes s p u v h h goes .kept) (grows-goes s p u v h h goes .counters) ∙ nodes-are
+    nodes-now = nodes-same s p t v (before .kept) (before .counters)
 
     module _ (long : length (v NODES) ≡ size p NODES) (y : Store) (o : GapTable) (r : ℕ) (f : Judged s p version k v y h o r) where
-      grown : Grows u y h o
-      grown = grows-then u v y h h o (grows-goes s p u v h h goes) (f .step .grows)
-
       node : (nd : Node) × (getElem? nodes k ≡ some nd)
       node = inside-found nodes k (rw (← nodes-now, nodes-many s p v work (w .standing) long) made-low)
 
@@ -276,17 +274,20 @@ module _ (s p : List ℕ) (version : ℕ) (t u : Store) (g h : GapTable) (l : Em
                 λ fuel m enough held q rowed z.
                 let (fuel₁, m₁, e, enough₁, held₁, q₁, rowed₁) = l .rest fuel m enough held q rowed in
                 let (fuel₂, slot, rest, less, turn, q₂, rowed₂) = turned fuel₁ m₁ enough₁ held₁ q₁ rowed₁ in
-                let b : judged version nodes k (taken rest (m₁ .pool)) (m₁ .rows) ≡ bad r =
-                rw nodes-now at (f .step .refused (taken rest (m₁ .pool)) (m₁ .rows) q₂ rowed₂ z) in
-                e ∙ turn ∙ rw b;
+                told-since s p t v (before .kept) (before .counters) _ _ y r
+                (λ told a.
+                let b : judged version nodes k (taken rest (m₁ .pool)) (m₁ .rows) ≡ bad told = rw nodes-now at a in
+                e ∙ turn ∙ rw b)
+                (f .step .refused (taken rest (m₁ .pool)) (m₁ .rows) q₂ rowed₂ z);
             done = λ z. absurd (no-zero z);
             again = λ z. absurd (no-zero z);
-            words = f .step .words;
-            live = f .step .live;
-            grows = grows-then t u y g h o (l .grows) grown;
+            grows = λ z. absurd (no-zero z);
           }
 
       module _ (z : r ≡ 0) where
+        grown : Grows u y h o
+        grown = grows-then u v y h h o (grows-goes s p u v h h goes) (f .step .grows z)
+
         pub turn-less : owing y < owing u
         turn-less = omega (arith, f .step .stacked z .fewer, popped-owes s p u v h k x)
 

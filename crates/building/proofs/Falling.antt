@@ -19,7 +19,7 @@ use Rattle.rows.specs.Rowed.{backwards, rawRows, rawIndex, rawNode, rowIn, Raws
 use Rattle.pool.specs.Pooled.{PooledIn, LiveIn, NodesThere, KidsThere, Goes, SlottedAll}
 use Rattle.pool.proofs.Giving.{goes-not, goes-then}
 use Rattle.building.specs.Working.{NodeSlotted, Standing, Stacked, Grows, RawsSlotted, rawRow}
-use Rattle.building.proofs.Lasting.{made-same, raws-same, raw-node-same, nodes-same, standing-stays, node-stays, node-row-same, there-now, stacked-not, stacked-then, grows-goes}
+use Rattle.building.proofs.Lasting.{made-same, raws-same, raw-node-same, nodes-same, told-since, standing-stays, node-stays, node-row-same, there-now, stacked-not, stacked-then, grows-goes}
 use Rattle.building.proofs.Kids.{row-kids, kids-slotted, all-slotted-stacks}
 
 -- a raw bootstrap by rising index
@@ -78,7 +78,7 @@ module _
         refused = λ pool q f. absurd (omega arith);
         has = λ f j less. l .has j (omega arith) less;
         stacked = λ f. l .stacked;
-        goes = l .goes;
+        goes = λ f. l .goes;
       }
 
   -- what the code asks for the next
@@ -107,16 +107,17 @@ module _
               refused =
                   λ pool q z.
                   let (mid, e, q′) = l .rest pool q in
-                  let b : slotsOf nodes (kidsOf nodes k) mid ≡ bad r = rw nodes-are at (x .refused mid q′ z) in
-                  e ∙ rw (pulled, rowsOfRaws, b);
+                  told-since s p t u (grown .kept) (grown .counters) _ _ v r
+                  (λ told a. let b : slotsOf nodes (kidsOf nodes k) mid ≡ bad told = rw nodes-are at a in e ∙ rw (pulled, rowsOfRaws, b))
+                  (x .refused mid q′ z);
               has = λ z. absurd (f z);
               stacked = λ z. absurd (f z);
-              goes = goes-then t u v g h o (l .goes) (x .goes);
+              goes = λ z. absurd (f z);
             }
 
         module _ (z : r ≡ 0) (long : length (u NODES) ≡ size p NODES) (long′ : length (v NODES) ≡ size p NODES) where
           abbrev grown′ : Grows u v h o
-          grown′ = grows-goes s p u v h o (x .goes)
+          grown′ = grows-goes s p u v h o (x .goes z)
 
           standing-v : Standing s p v
           standing-v = standing-stays s p u v (grown′ .kept) (grown′ .counters) standing-u
@@ -144,7 +145,7 @@ module _
               (from-same (rawRow t u) (rawRow t v) i (rawRows t - i)
               (λ a low high.
               ap (λ (row : Row). (rawIndex t a, row))
-              (sym (node-row-same s p u v (grown′ .kept) (grown′ .counters) (x .goes .given) (rawNode t a) (l .has a low (omega (arith, l .low))))))))
+              (sym (node-row-same s p u v (grown′ .kept) (grown′ .counters) (x .goes z .given) (rawNode t a) (l .has a low (omega (arith, l .low))))))))
 
           pub falling-next : Falling s t v g o j
           unfolding rowsOfRaws
@@ -161,8 +162,8 @@ module _
                     λ a low high.
                     ⊎-elim
                     (λ (y : a ≡ j). rw (y, ← node-is) has-now)
-                    (λ (y : a ≡ j → ⊥). node-stays s p u v (grown′ .kept) (grown′ .counters) (x .goes .given) (rawNode t a) (l .has a (omega arith) high))
+                    (λ (y : a ≡ j → ⊥). node-stays s p u v (grown′ .kept) (grown′ .counters) (x .goes z .given) (rawNode t a) (l .has a (omega arith) high))
                     (equal a j);
                 stacked = stacked-then t u v (l .stacked) (all-slotted-stacks s p u work standing-u long v h o (l .goes .live live) k made r x z);
-                goes = goes-then t u v g h o (l .goes) (x .goes);
+                goes = goes-then t u v g h o (l .goes) (x .goes z);
               }

@@ -7,7 +7,7 @@ use native.Mathlib.Numerals.{add-one}
 use native.Mathlib.Omega.{arith}
 use lib.ListN.{length, getD, drop}
 use lib.Seq.{drop-cons, drop-length}
-use Rattle.definition.specs.Basics.{Result, good, bad, _>>=_}
+use Rattle.definition.specs.Basics.{Result, good, bad, _>>=_, Refusal}
 use Rattle.definition.specs.Resolving.{Node}
 use Rattle.definition.specs.Building.{Pool, Rows, kidsOf, childNumber, childNumbers}
 use Rattle.facts.proofs.Lists.{order}
@@ -21,13 +21,13 @@ use Rattle.pool.specs.Pooled.{PooledIn}
 use Rattle.pool.proofs.Nodal.{node-kids-fit}
 use Rattle.building.specs.Numbers.{ChildDone}
 use Rattle.building.specs.Working.{Working, Stacked, Grows, Numbered, Finished}
-use Rattle.building.proofs.Lasting.{made-same, nodes-same, there-now, grows-not, grows-then, stacked-not, stacked-then, done-stays}
+use Rattle.building.proofs.Lasting.{made-same, nodes-same, told-since, there-now, grows-not, grows-then, stacked-not, stacked-then, done-stays}
 use Rattle.building.proofs.Kids.{kids-many, kid-at}
 
 -- THE LOOP: what the rest of the children gives, behind the numbers of those passed, is the whole
 
 abbrev Numbers : Type 0
-Numbers = Result ℕ (List ℕ × Pool × Rows)
+Numbers = Result Refusal (List ℕ × Pool × Rows)
 
 -- more in front of what the rest gives
 abbrev ahead : List ℕ → Numbers → Numbers
@@ -94,9 +94,7 @@ module _ (s p : List ℕ) (k : ℕ) (t u : Store) (g h : GapTable) (i : ℕ) (l 
               refused = λ pool rows q m f. absurd (omega arith);
               again = λ f. l .again;
               stacked = λ f. l .stacked;
-              words = l .again .rowed .1 .words;
-              live = l .again .live;
-              grows = l .grows;
+              grows = λ f. l .grows;
             };
         done = λ f. rw nodes-are (λ j less. l .done j (omega arith));
       }
@@ -117,13 +115,12 @@ module _ (s p : List ℕ) (k : ℕ) (t u : Store) (g h : GapTable) (i : ℕ) (l 
                 refused =
                     λ pool rows q m z.
                     let (numbers, pool′, rows′, e, q′, m′) = l .rest pool rows q m in
-                    let b : childNumber nodes child pool′ rows′ ≡ bad r = rw nodes-are at (x .step .refused pool′ rows′ q′ m′ z) in
-                    e ∙ rw (next, childNumbers, b);
+                    told-since s p t u (l .grows .kept) (l .grows .counters) _ _ v r
+                    (λ told a. let b : childNumber nodes child pool′ rows′ ≡ bad told = rw nodes-are at a in e ∙ rw (next, childNumbers, b))
+                    (x .step .refused pool′ rows′ q′ m′ z);
                 again = λ z. absurd (f z);
                 stacked = λ z. absurd (f z);
-                words = x .step .words;
-                live = x .step .live;
-                grows = grows-then t u v g h o (l .grows) (x .step .grows);
+                grows = λ z. absurd (f z);
               };
           done = λ z. absurd (f z);
         }
@@ -150,12 +147,12 @@ module _ (s p : List ℕ) (k : ℕ) (t u : Store) (g h : GapTable) (i : ℕ) (l 
           done =
               λ j b.
               ⊎-elim
-              (λ (low : j < i). done-stays s p u v h o (x .step .grows) (getD kids j 0) (l .done j low))
+              (λ (low : j < i). done-stays s p u v h o (x .step .grows z) (getD kids j 0) (l .done j low))
               (λ (high : i ≤ j). let e : j ≡ i = omega arith in rw (e, ← is) (x .done z))
               (order j i);
           again = x .step .again z;
           stacked = stacked-then t u v (l .stacked) (x .step .stacked z);
-          grows = grows-then t u v g h o (l .grows) (x .step .grows);
+          grows = grows-then t u v g h o (l .grows) (x .step .grows z);
         })
 
 -- AS THE CODE HAS IT

@@ -7,7 +7,7 @@ use Prim.Native.Nat.{ℕ, suc, _+_, _-_, _<_}
 use native.Mathlib.Omega.{arith}
 use lib.ListN.{length, getD, take, length-map, length-take}
 use borrow.Author.Tests.{lt-ltb, le-ltb}
-use Rattle.definition.specs.Basics.{good}
+use Rattle.definition.specs.Basics.{good, atRecord}
 use Rattle.definition.specs.Resolving.{Node}
 use Rattle.definition.specs.Building.{Pool, slotOf, slotsOf, kidsOf}
 use Rattle.facts.proofs.Chunks.{length-from, from-get}
@@ -44,7 +44,7 @@ module _ (nodes : List Node) (pool : Pool) (t : Store) (g : GapTable) (q : Poole
 
   pub slotsOf-had :
       (cs : List ℕ) → ((i : ℕ) → i < length cs → Has (t GIVEN) (getD cs i 0)) → slotsOf nodes cs pool ≡ good (map (childSlot (t GIVEN)) cs, pool)
-  unfolding slotsOf
+  unfolding slotsOf atRecord
   slotsOf-had [] h = refl
   slotsOf-had (c ∷ cs) h =
       let a = slotOf-had false c (h 0 (omega arith)) in
@@ -115,6 +115,6 @@ module _ (s p : List ℕ) (t : Store) (work : Work s p) (standing : Standing s p
         stacked (nodesIn s t) t u g h (somePool t g) after (some-pooled t g) q
         (slotsOf-paid (nodesIn s t) (kidsOf (nodesIn s t) k) (somePool t g) (map (childSlot (u GIVEN)) (kidsOf (nodesIn s t) k), after) (kids-inside k low) e)
         nodes-many
-        (count-stays s t u g h (x .goes))
+        (count-stays s t u g h (x .goes z))
         (omega (arith, live .room))
-        (omega (arith, x .goes .live live .room))
+        (omega (arith, x .goes z .live live .room))

@@ -5,20 +5,21 @@ use mathlib.Core.Path.{_≡_, refl, ap, _∙_}
 use Prim.Native.Nat.{ℕ, _+_, _-_, _<_}
 use native.Mathlib.Omega.{arith}
 use lib.ListN.{getD, take}
-use Rattle.definition.specs.Basics.{Result, every}
+use Rattle.definition.specs.Basics.{Result, bad, Refusal, every}
 use Rattle.definition.specs.Building.{Rows}
 use Rattle.facts.proofs.Lists.{equal}
 use Rattle.slots.specs.Gaps.{GapTable}
-use Rattle.store.specs.Store.{Store, Kept}
-use Rattle.store.specs.Regions.{COUNTS, MARKS, GIVEN, INDEXES, NODE-HEADS, NODE-LINKS, ROW-HEADS, ROW-LINKS, OFFSETS, FIRSTS, SIZES, CHILDREN, RAW-KEYS, RAW-ENTRIES, ORDER, NODES, PENDING, INLINE, NODE-COUNT, GAP-COUNT, ODD, WIDE, PLAIN, PENDING-COUNT, RAW-COUNT, HELD-COUNT, ROW-COUNT, WRITTEN-COUNT, INLINE-COUNT, Work}
+use Rattle.store.specs.Store.{Store, size, Kept}
+use Rattle.store.specs.Regions.{COUNTS, MARKS, GIVEN, INDEXES, NODE-HEADS, NODE-LINKS, ROW-HEADS, ROW-LINKS, RECORDS, OFFSETS, FIRSTS, SIZES, CHILDREN, RAW-KEYS, RAW-ENTRIES, ORDER, NODES, PENDING, INLINE, PLACE, NODE-COUNT, GAP-COUNT, ODD, WIDE, PLAIN, PENDING-COUNT, RAW-COUNT, HELD-COUNT, ROW-COUNT, WRITTEN-COUNT, INLINE-COUNT, Work}
 use Rattle.store.specs.Words.{ENTRY}
 use Rattle.store.proofs.Keeping.{kept-then, kept-more}
-use Rattle.interner.specs.Nodes.{nodeAt, nodeCount, nodesIn}
+use Rattle.interner.specs.Nodes.{nodeAt, nodeCount, nodesIn, recordIn}
 use Rattle.rows.specs.Rowed.{constantsOf, rawRows, rawIndex, rawNode, entryRow, rowIn, RowedIn, IsBootstrapIn, Indexed, SameBut, written, HasNumber}
 use Rattle.rows.proofs.Asking.{rows-given, row-stays}
 use Rattle.rows.proofs.Staying.{same-more}
-use Rattle.pool.specs.Pooled.{moving, LiveIn, NodesThere, Goes}
+use Rattle.pool.specs.Pooled.{moving, LiveIn, NodesThere, Goes, Told}
 use Rattle.pool.proofs.Words.{child-kept, has-kept}
+use Rattle.pool.proofs.Nodal.{record-asks}
 use Rattle.pool.proofs.Giving.{gaps-live-same}
 use Rattle.building.specs.Numbers.{ChildDone, KidsDone}
 use Rattle.building.specs.Built.{builtCounters, builtRegions}
@@ -44,6 +45,21 @@ module _ (s p : List ℕ) (t u : Store) (kept : Kept builtRegions t u) (same : S
       λ i.
       map (λ (e : ℕ). nodeAt s (kept FIRSTS refl i) (kept SIZES refl i) (kept CHILDREN refl i) e) (take (made-same i) (kept NODES refl i))
 
+  pub record-same : (k : ℕ) → recordIn u k ≡ recordIn t k
+  record-same k = rw (kept RECORDS refl, kept NODES refl)
+
+  -- what is refused from u on is told at the record that the node had
+  pub told-since :
+      {A B : Type 0} (x : Result Refusal A) (y : Result Refusal B) (v : Store) (r : ℕ) → ((e : Refusal) → x ≡ bad e → y ≡ bad e) →
+      Told x u v r → Told y t v r
+  told-since x y v r on told =
+      record {
+        node = told .node;
+        made = rw (← made-same) (told .made);
+        refused = on _ (told .refused);
+        place = told .place ∙ record-same (told .node);
+      }
+
   pub standing-stays : Standing s p t → Standing s p u
   standing-stays h =
       record {
@@ -55,6 +71,12 @@ module _ (s p : List ℕ) (t u : Store) (kept : Kept builtRegions t u) (same : S
             rw (kept MARKS refl, kept RAW-KEYS refl, kept RAW-ENTRIES refl, kept ORDER refl, same HELD-COUNT refl, same RAW-COUNT refl, made-same)
             (h .raws);
       }
+
+  -- what `refuse_at` asks of u
+  pub tells :
+      Work s p → Standing s p t → (k : ℕ) → k < nodeCount t →
+      (PLACE < size p COUNTS) × (k < size p NODES) × (getD (u NODES) k 0 < size p RECORDS)
+  tells work h k low = let still = standing-stays h in record-asks s p u (work, still .entered, still .nodes) k (rw made-same low)
 
   module _ (keeps : (k : ℕ) → 0 < getD (t GIVEN) k 0 → getD (u GIVEN) k 0 ≡ getD (t GIVEN) k 0) where
     pub entry-stays : (e : ℕ) → EntrySlotted t e → EntrySlotted u e
@@ -97,6 +119,12 @@ grows-then t u v g h o a b =
       counters = λ c f. b .counters c f ∙ a .counters c f;
       kept = kept-then builtRegions t u v (a .kept) (b .kept);
     }
+
+-- a refusal stays where it was told
+pub told-as :
+    {A B : Type 0} (x : Result Refusal A) (y : Result Refusal B) (t u : Store) (r : ℕ) → ((e : Refusal) → x ≡ bad e → y ≡ bad e) →
+    Told x t u r → Told y t u r
+told-as x y t u r on told = record { node = told .node; made = told .made; refused = on _ (told .refused); place = told .place }
 
 pub stacked-not : (t : Store) → Stacked t t
 stacked-not t = record { owners = λ k l. inl l; waits = λ k on. on; fewer = omega arith }

@@ -10,12 +10,12 @@ use lib.Dec.{ltb}
 use lib.ListN.{length, getD, take, length-map, length-take, length-reverse}
 use lib.Seq.{getD-take}
 use borrow.Author.Tests.{ltb-false}
-use Rattle.definition.specs.Basics.{good, lookup, _>>=_}
+use Rattle.definition.specs.Basics.{good, lookup, _>>=_, atRecord}
 use Rattle.definition.specs.Resolving.{Node, firstNode}
 use Rattle.definition.specs.Building.{Pool, allocate, slotOf, slotsOf}
 use Rattle.facts.specs.Lists.{Among}
 use Rattle.facts.proofs.Lists.{none≢some, order, equal, found-inside, found-read, read-found, among-later, among-left, among-right, among-either, among-forth, among-back, map-at, unmap}
-use Rattle.facts.proofs.Results.{good-inj, good-first}
+use Rattle.facts.proofs.Results.{good-inj, good-first, atRecord-good}
 use Rattle.facts.proofs.Tables.{lookup-hit, lookup-miss, lookup-at, among-lookup}
 use Rattle.laws.proofs.resolving.NodesAndChildren.{InNodes}
 use Rattle.laws.proofs.slots.SlotRequest.{Met, old, new, met}
@@ -108,12 +108,12 @@ module _ (nodes : List Node) where
   unfolding slotsOf
   slotsOf-pays [] p r inside e = ap (λ (x : List ℕ × Pool). owed (length nodes) (x .1)) (good-inj (sym e))
   slotsOf-pays (c ∷ cs) p r inside e =
-      let first = good-first (slotOf nodes false c p) (λ x. slotsOf nodes cs (x .1) >>= λ rest. good (x .0 ∷ rest .0, rest .1)) r e in
+      let first = good-first (atRecord (c - firstNode) (slotOf nodes false c p)) (λ x. slotsOf nodes cs (x .1) >>= λ rest. good (x .0 ∷ rest .0, rest .1)) r e in
       let x = first .0 in
       let others = good-first (slotsOf nodes cs (x .1)) (λ rest. good (x .0 ∷ rest .0, rest .1)) r (first .2) in
       ap (λ (y : List ℕ × Pool). owed (length nodes) (y .1)) (good-inj (sym (others .2)))
       ∙ slotsOf-pays cs (x .1) (others .0) (λ d m. inside d (among-later d c cs m)) (others .1)
-      ∙ slotOf-pays false c p x (inside c (0, refl)) (first .1)
+      ∙ slotOf-pays false c p x (inside c (0, refl)) (atRecord-good _ _ _ (first .1))
 
   pub slotOf-paid : (ldc : Bool) (c : ℕ) (p : Pool) (r : ℕ × Pool) → Inside c → slotOf nodes ldc c p ≡ good r → Paid nodes p (r .1)
   slotOf-paid ldc c p r inside e = record { grows = slotted nodes ldc c p r inside e .0; owes = slotOf-pays ldc c p r inside e }

@@ -5,7 +5,7 @@ use mathlib.Core.Path.{_≡_, refl, sym, ap, subst, _∙_}
 use Prim.Native.Nat.{ℕ, _+_, _-_, _≤_, _<_}
 use native.Mathlib.Omega.{arith}
 use lib.ListN.{length, getD}
-use Rattle.definition.specs.Basics.{Result, from, _>>=_}
+use Rattle.definition.specs.Basics.{Result, Refusal, from, _>>=_}
 use Rattle.definition.specs.Resolving.{Node}
 use Rattle.definition.specs.Building.{Pool, Row, Made, drain, rawRows as rowsOfRaws, buildAll}
 use Rattle.facts.proofs.Chunks.{from-same}
@@ -17,13 +17,13 @@ use Rattle.store.specs.Regions.{COUNTS, GIVEN, INDEXES, ROW-HEADS, NODES, INLIN
 use Rattle.interner.specs.Nodes.{nodeCount, nodesIn}
 use Rattle.rows.specs.Rowed.{backwards, baseIn, constantsOf, rawRows, rawIndex, rawNode, rowIn, RawsReady, RowedIn}
 use Rattle.rows.proofs.Starting.{rows-begin}
-use Rattle.pool.specs.Pooled.{slotWord, pendingCount, PooledIn}
+use Rattle.pool.specs.Pooled.{slotWord, pendingCount, PooledIn, Goes}
 use Rattle.pool.specs.Owning.{OnStack}
 use Rattle.building.specs.Numbers.{KidsSlotted}
 use Rattle.building.specs.Built.{CanBuild, RawsAre, BuiltAll}
 use Rattle.building.specs.Working.{Standing, Working, Owners, owing, Grows, RawsSlotted, rawRow, Drained}
 use Rattle.building.proofs.Paying.{lacking-le, stack-long}
-use Rattle.building.proofs.Lasting.{made-same, raws-same, raw-node-same, raw-index-same, nodes-same, standing-stays, grows-then, grows-goes}
+use Rattle.building.proofs.Lasting.{made-same, raws-same, raw-node-same, raw-index-same, nodes-same, told-since, standing-stays, grows-then, told-as, grows-goes}
 use Rattle.building.proofs.Kids.{nodes-many, slotted-kids}
 use Rattle.building.proofs.Emptying.{raw-owner}
 
@@ -50,7 +50,7 @@ module _ (s p : List ℕ) (version : ℕ) (t : Store) (g : GapTable) (work : Wor
   abbrev nodes : List Node
   nodes = nodesIn s t
 
-  abbrev drained : List (ℕ × Row) × Pool → Result ℕ Made
+  abbrev drained : List (ℕ × Row) × Pool → Result Refusal Made
   drained r = drain (length (r .1 .pending) + length nodes) nodes (r .1 .pending) (startMade r)
 
   -- the definition, over the words' table of raw bootstraps
@@ -61,36 +61,37 @@ module _ (s p : List ℕ) (version : ℕ) (t : Store) (g : GapTable) (work : Wor
   build-is indexes pool are = ap (λ (falling : List (ℕ × ℕ)). rowsOfRaws nodes falling pool [] >>= drained) are
 
   module _ (u : Store) (h : GapTable) (r : ℕ) (x : RawsSlotted s t u g h r) where
-    abbrev grown : Grows t u g h
-    grown = grows-goes s p t u g h (x .goes)
-
-    -- no row has an index yet
-    begun : RowedIn p (record { written = []; waiting = from (baseIn p u .raw) 0 (rawRows u); inline = [] }) u
-    begun =
-        rows-begin p u
-        (λ i. ap (λ (z : List ℕ). getD z i 0) (x .goes .kept INDEXES refl) ∙ can .indexes i)
-        (λ i. ap (λ (z : List ℕ). getD z i 0) (x .goes .kept ROW-HEADS refl) ∙ can .rowHeads i)
-        (x .goes .counters ROW-COUNT refl ∙ can .rows)
-        (x .goes .counters WRITTEN-COUNT refl ∙ can .written)
-        (x .goes .counters INLINE-COUNT refl ∙ can .inline)
-
     pub raws-refused : (r ≡ 0 → ⊥) → BuiltAll s p version t u g h r
     raws-refused f =
         record {
           met = λ pool indexes held q are z. absurd (f z);
-          refused = λ pool indexes held q are z. let e = x .refused pool q z in build-is indexes pool are ∙ rw e;
+          refused = λ pool indexes held q are z. told-as _ _ t u r (λ e a. build-is indexes pool are ∙ rw a) (x .refused pool q z);
           done = λ z. absurd (f z);
           rawSlots = λ z. absurd (f z);
           inlineSlots = λ z. absurd (f z);
-          words = begun .words;
-          live = x .goes .live (can .live);
-          apart = x .goes .apart;
-          long = x .goes .long;
-          counters = grown .counters;
-          kept = grown .kept;
+          live = λ z. absurd (f z);
+          apart = λ z. absurd (f z);
+          counters = λ z. absurd (f z);
+          kept = λ z. absurd (f z);
         }
 
     module _ (z : r ≡ 0) where
+      abbrev goes : Goes t u g h
+      goes = x .goes z
+
+      abbrev grown : Grows t u g h
+      grown = grows-goes s p t u g h goes
+
+      -- no row has an index yet
+      begun : RowedIn p (record { written = []; waiting = from (baseIn p u .raw) 0 (rawRows u); inline = [] }) u
+      begun =
+          rows-begin p u
+          (λ i. ap (λ (z : List ℕ). getD z i 0) (goes .kept INDEXES refl) ∙ can .indexes i)
+          (λ i. ap (λ (z : List ℕ). getD z i 0) (goes .kept ROW-HEADS refl) ∙ can .rowHeads i)
+          (goes .counters ROW-COUNT refl ∙ can .rows)
+          (goes .counters WRITTEN-COUNT refl ∙ can .written)
+          (goes .counters INLINE-COUNT refl ∙ can .inline)
+
       -- the rows that the definition has made are those of the words
       rows-are : from (rawRow t u) 0 (rawRows t) ≡ from (baseIn p u .raw) 0 (rawRows u)
       rows-are =
@@ -105,9 +106,9 @@ module _ (s p : List ℕ) (version : ℕ) (t : Store) (g : GapTable) (work : Wor
       working-first =
           record {
             standing = standing-stays s p t u (grown .kept) (grown .counters) standing-first;
-            live = x .goes .live (can .live);
+            live = goes .live (can .live);
             rowed = (_, begun);
-            indexed = λ e low word. absurd (omega (arith, ap (λ (z : List ℕ). getD z (e - constantsOf p) 0) (x .goes .kept INDEXES refl), can .indexes (e - constantsOf p)));
+            indexed = λ e low word. absurd (omega (arith, ap (λ (z : List ℕ). getD z (e - constantsOf p) 0) (goes .kept INDEXES refl), can .indexes (e - constantsOf p)));
             raw =
                 λ i l.
                 rw (raw-node-same s p t u (grown .kept) (grown .counters) i)
@@ -133,11 +134,11 @@ module _ (s p : List ℕ) (version : ℕ) (t : Store) (g : GapTable) (work : Wor
             )
 
         module _ (v : Store) (o : GapTable) (c : ℕ) (d : Drained s p version u v h o c) (long′ : length (v NODES) ≡ size p NODES) where
-          abbrev all : Grows t v g o
-          all = grows-then t u v g h o grown (d .grows)
+          abbrev all : c ≡ 0 → Grows t v g o
+          all zero = grows-then t u v g h o grown (d .grows zero)
 
           stack : (pool : Pool) → PooledIn pool u h → owing u ≤ length (pool .pending) + length nodes
-          stack pool q = enough pool (stack-long pool u h q (omega (arith, x .goes .live (can .live) .room)))
+          stack pool q = enough pool (stack-long pool u h q (omega (arith, goes .live (can .live) .room)))
 
           start-rowed : (pool : Pool) → RowedIn p (startMade (from (rawRow t u) 0 (rawRows t), pool) .rows) u
           start-rowed pool = subst (λ (rows : List (ℕ × Row)). RowedIn p (startMade (rows, pool) .rows) u) (sym rows-are) begun
@@ -157,15 +158,14 @@ module _ (s p : List ℕ) (version : ℕ) (t : Store) (g : GapTable) (work : Wor
                     let (pool′, e, q′) = x .met pool q z in
                     let held′ = rawRows-version nodes _ pool [] _ e ∙ held in
                     let m = startMade (from (rawRow t u) 0 (rawRows t), pool′) in
-                    let f = d .refused (length (pool′ .pending) + length nodes) m (stack pool′ q′) held′ q′ (start-rowed pool′) more in
-                    build-is indexes pool are ∙ rw e (rw nodes-are at f);
+                    told-since s p t u (grown .kept) (grown .counters) _ _ v c
+                    (λ told f. build-is indexes pool are ∙ rw e (rw nodes-are at f))
+                    (d .refused (length (pool′ .pending) + length nodes) m (stack pool′ q′) held′ q′ (start-rowed pool′) more);
                 done = λ zero k low owner. d .done zero k owner;
                 rawSlots = λ zero. raw-slots s p v o work (d .again zero) long′;
                 inlineSlots = λ zero. inline-slots s p v o work (d .again zero) long′;
-                words = d .words;
-                live = d .live;
-                apart = all .apart;
-                long = all .long;
-                counters = all .counters;
-                kept = all .kept;
+                live = λ zero. d .again zero .live;
+                apart = λ zero. all zero .apart;
+                counters = λ zero. all zero .counters;
+                kept = λ zero. all zero .kept;
               }

@@ -6,7 +6,7 @@ use mathlib.Core.Option.{Option, none, some}
 use mathlib.Core.Path.{_≡_}
 use Prim.Native.Nat.{ℕ, zero, suc, _+_, _-_, _≤_, _<_}
 use lib.ListN.{length, getD}
-use Rattle.definition.specs.Basics.{Result, good, bad, _>>=_, unless, from}
+use Rattle.definition.specs.Basics.{Result, good, _>>=_, Refusal, atRecord, unless, from}
 use Rattle.definition.specs.Settings.{known}
 use Rattle.definition.specs.Definitions.{tagAt}
 use Rattle.definition.specs.Resolving.{Node}
@@ -16,8 +16,8 @@ use Rattle.slots.specs.Gaps.{GapTable}
 use Rattle.store.specs.Store.{Store, size, among, Kept}
 use Rattle.store.specs.Regions.{COUNTS, GIVEN, INDEXES, NODE-HEADS, FIRSTS, SIZES, CHILDREN, NODES}
 use Rattle.interner.specs.Nodes.{nodeCount, nodesIn, EnteredIn, NodesIn}
-use Rattle.rows.specs.Rowed.{backwards, constantsOf, rawRows, rawIndex, rawNode, rowIn, RawsReadyIn, RowWordsIn, RowedIn, indexWord}
-use Rattle.pool.specs.Pooled.{Has, slotWord, gapsIn, pendingCount, PooledIn, LiveIn, KidsThere, Goes}
+use Rattle.rows.specs.Rowed.{backwards, constantsOf, rawRows, rawIndex, rawNode, rowIn, RawsReadyIn, RowedIn, indexWord}
+use Rattle.pool.specs.Pooled.{Has, slotWord, gapsIn, pendingCount, PooledIn, LiveIn, KidsThere, Goes, Told}
 use Rattle.pool.specs.Owning.{IsOwner, OnStack}
 use Rattle.building.specs.Numbers.{ChildDone, KidsDone}
 use Rattle.building.specs.Built.{builtCounters, builtRegions}
@@ -82,17 +82,15 @@ pub record Grows (t u : Store) (g h : GapTable) : Type 0 where
   pub counters : (c : ℕ) → among c builtCounters ≡ false → getD (u COUNTS) c 0 ≡ getD (t COUNTS) c 0
   pub kept : Kept builtRegions t u
 
--- a step f of the definition was taken, r ≡ 0, or r is the refusal's number
-pub record Stepped {A : Type 0} (f : Pool → Rows → Result ℕ (A × Pool × Rows)) (s p : List ℕ) (t u : Store) (g h : GapTable) (r : ℕ) : Type 0 where
+-- a step f of the definition was taken, r ≡ 0, or r is the refusal's number, told at a node
+pub record Stepped {A : Type 0} (f : Pool → Rows → Result Refusal (A × Pool × Rows)) (s p : List ℕ) (t u : Store) (g h : GapTable) (r : ℕ) : Type 0 where
   pub met :
       (pool : Pool) (rows : Rows) → PooledIn pool t g → RowedIn p rows t → r ≡ 0 →
       (a : A) × (pool′ : Pool) × (rows′ : Rows) × (f pool rows ≡ good (a, pool′, rows′)) × PooledIn pool′ u h × RowedIn p rows′ u
-  pub refused : (pool : Pool) (rows : Rows) → PooledIn pool t g → RowedIn p rows t → 0 < r → f pool rows ≡ bad r
+  pub refused : (pool : Pool) (rows : Rows) → PooledIn pool t g → RowedIn p rows t → 0 < r → Told (f pool rows) t u r
   pub again : r ≡ 0 → Working s p u h
   pub stacked : r ≡ 0 → Stacked t u
-  pub words : RowWordsIn p u
-  pub live : LiveIn u h
-  pub grows : Grows t u g h
+  pub grows : r ≡ 0 → Grows t u g h
 
 -- bootstrap node k has an index
 pub record RowNumbered (s p : List ℕ) (k : ℕ) (t u : Store) (g h : GapTable) (r : ℕ) : Type 0 where
@@ -110,9 +108,9 @@ pub record Finished (s p : List ℕ) (k : ℕ) (t u : Store) (g h : GapTable) (r
   pub done : r ≡ 0 → KidsDone s p u k
 
 -- 24 unless the version has the kind of node k, then its children's numbers
-unfoldable pub judged : ℕ → List Node → ℕ → Pool → Rows → Result ℕ (List ℕ × Pool × Rows)
+unfoldable pub judged : ℕ → List Node → ℕ → Pool → Rows → Result Refusal (List ℕ × Pool × Rows)
 judged version nodes k pool rows =
-    unless (known version (tagAt nodes k)) 24 >>= λ _. childNumbers nodes (kidsOf nodes k) pool rows
+    atRecord k (unless (known version (tagAt nodes k)) 24) >>= λ _. childNumbers nodes (kidsOf nodes k) pool rows
 
 -- node k passes, and all its children have their numbers
 pub record Judged (s p : List ℕ) (version k : ℕ) (t u : Store) (g h : GapTable) (r : ℕ) : Type 0 where
@@ -132,10 +130,10 @@ pub record RawsSlotted (s : List ℕ) (t u : Store) (g h : GapTable) (r : ℕ) :
       × PooledIn pool′ u h
   pub refused :
       (pool : Pool) → PooledIn pool t g → 0 < r →
-      rowsOfRaws (nodesIn s t) (backwards (λ i. (rawIndex t i, rawNode t i)) (rawRows t)) pool [] ≡ bad r
+      Told (rowsOfRaws (nodesIn s t) (backwards (λ i. (rawIndex t i, rawNode t i)) (rawRows t)) pool []) t u r
   pub has : r ≡ 0 → (i : ℕ) → i < rawRows t → NodeSlotted u (rawNode t i)
   pub stacked : r ≡ 0 → Stacked t u
-  pub goes : Goes t u g h
+  pub goes : r ≡ 0 → Goes t u g h
 
 -- the stack is empty, constants being held to the version
 pub record Drained (s p : List ℕ) (version : ℕ) (t u : Store) (g h : GapTable) (r : ℕ) : Type 0 where
@@ -144,9 +142,7 @@ pub record Drained (s p : List ℕ) (version : ℕ) (t u : Store) (g h : GapTabl
       (m′ : Made) × (drain fuel (nodesIn s t) (m .pool .pending) m ≡ good m′) × PooledIn (m′ .pool) u h × RowedIn p (m′ .rows) u
   pub refused :
       (fuel : ℕ) (m : Made) → owing t ≤ fuel → m .pool .version ≡ version → PooledIn (m .pool) t g → RowedIn p (m .rows) t → 0 < r →
-      drain fuel (nodesIn s t) (m .pool .pending) m ≡ bad r
+      Told (drain fuel (nodesIn s t) (m .pool .pending) m) t u r
   pub done : r ≡ 0 → (k : ℕ) → IsOwner u k → KidsDone s p u k
   pub again : r ≡ 0 → Working s p u h
-  pub words : RowWordsIn p u
-  pub live : LiveIn u h
-  pub grows : Grows t u g h
+  pub grows : r ≡ 0 → Grows t u g h

@@ -4,6 +4,7 @@ use pool::code_of;
 use pool::first_child;
 use pool::node_tag;
 use pool::pop_pending;
+use pool::refuse_at;
 use pool::slot_of;
 use pool::slots_of;
 use rows::index_of;
@@ -69,7 +70,11 @@ fn number_bootstrap(job: &[u8], w: &mut [u32], p: &[usize], gaps: &mut [Gap], k:
     if code != 0 {
         return code;
     }
-    row_index(w, p, k)
+    let code = row_index(w, p, k);
+    if code != 0 {
+        return refuse_at(w, p, k, code);
+    }
+    0
 }
 
 // A child has its number from then on, 0, or 14 or 17: `childNumber`.
@@ -81,7 +86,11 @@ fn number_child(job: &[u8], w: &mut [u32], p: &[usize], gaps: &mut [Gap], child:
         return number_bootstrap(job, w, p, gaps, child - ENTRY);
     }
     let reply = slot_of(job, w, p, gaps, child, false);
-    code_of(reply)
+    let code = code_of(reply);
+    if code != 0 {
+        return refuse_at(w, p, child - ENTRY, code);
+    }
+    0
 }
 
 // Node k's children have their numbers from then on, in field order, 0, or 14 or 17: `childNumbers`.
@@ -147,7 +156,7 @@ fn judge(
     if has_kind(job, w, p, version, k) {
         return finish(job, w, p, gaps, k);
     }
-    24
+    refuse_at(w, p, k, 24)
 }
 
 // Takes from the building stack until it is empty, 0, or 24, 14 or 17: `drain`.

@@ -262,6 +262,7 @@ module _
             record {
               nodes = there-stays s v m g o goes p there-now .2;
               made = rw (goes .kept MARKS refl, goes .kept NODES refl, count-stays s v m g o goes) (a .made);
+              lowest = rw (goes .kept MARKS refl, goes .kept NODES refl, count-stays s v m g o goes) (a .lowest);
               room = rw (goes .kept MARKS refl, count-stays s v m g o goes) (a .room);
               faithful = subst (Faithful (linkedIn s)) (sym same-resolved) (a .faithful);
               owed = rw (goes .kept MARKS refl) (a .owed);
@@ -280,7 +281,7 @@ module _
                     entered = rw (slot-kept OFFSETS refl, slot-kept FIRSTS refl, slot-kept SIZES refl) (asking .table .entered);
                     linked = rw (slot-kept FIRSTS refl, slot-kept GOALS refl) (asking .table .linked);
                   };
-              rests = record { nodes = a .nodes; made = a .made; room = a .room; faithful = a .faithful; owed = a .owed };
+              rests = record { nodes = a .nodes; made = a .made; lowest = a .lowest; room = a .room; faithful = a .faithful; owed = a .owed };
               names =
                   rw (slot-kept NAME-PLACES refl, slot-kept NAME-HEADS refl, slot-kept NAME-LINKS refl, slot-counters NAME-COUNT refl) names;
               goals = rw (slot-kept NAME-GOALS refl) (asking .goals);

@@ -3,25 +3,25 @@ use mathlib.Core.Bool.{false}
 use mathlib.Core.List.{List, [], _∷_, _++_, map, map-append, append-nil, append-assoc}
 use mathlib.Core.Logic.{⊎-elim}
 use mathlib.Core.Path.{_≡_, refl, sym, _∙_}
-use Prim.Native.Nat.{ℕ, suc, _+_, _≤_, _<_}
+use Prim.Native.Nat.{ℕ, suc, _+_, _-_, _≤_, _<_}
 use native.Mathlib.Numerals.{add-one}
 use native.Mathlib.Omega.{arith}
 use lib.ListN.{length, getD, take, drop, length-take}
 use lib.Seq.{take-suc, take-all, drop-cons, drop-length, getD-take}
-use Rattle.definition.specs.Basics.{Result, good, bad, _>>=_}
+use Rattle.definition.specs.Basics.{Result, good, bad, _>>=_, Refusal, atRecord}
 use Rattle.definition.specs.Resolving.{Node}
 use Rattle.definition.specs.Building.{Pool, slotOf, slotsOf, kidsOf}
 use Rattle.facts.proofs.Lists.{order, found-inside, found-read, map-same}
 use Rattle.facts.proofs.Chunks.{length-from, from-get}
 use Rattle.slots.specs.Gaps.{GapTable}
 use Rattle.store.specs.Store.{Store, size}
-use Rattle.store.specs.Regions.{GIVEN, NODE-HEADS, NODE-LINKS, OFFSETS, FIRSTS, SIZES, CHILDREN, NODES, NODE-COUNT}
+use Rattle.store.specs.Regions.{COUNTS, GIVEN, NODE-HEADS, NODE-LINKS, RECORDS, OFFSETS, FIRSTS, SIZES, CHILDREN, NODES, PLACE, NODE-COUNT}
 use Rattle.store.specs.Words.{ENTRY, cut, childSlot}
-use Rattle.interner.specs.Nodes.{nodeAt, nodeCount, nodesIn}
-use Rattle.pool.specs.Pooled.{Has, PooledIn, LiveIn, NodesThere, KidsThere, Goes, Slotted, SlottedAll}
+use Rattle.interner.specs.Nodes.{nodeAt, nodeCount, nodesIn, recordIn}
+use Rattle.pool.specs.Pooled.{placeCount, Has, PooledIn, LiveIn, NodesThere, KidsThere, Goes, Slotted, SlottedAll}
 use Rattle.pool.proofs.Words.{child-kept, has-kept}
 use Rattle.pool.proofs.Giving.{goes-not, goes-then}
-use Rattle.pool.proofs.Nodal.{entryOf, node-kids, node-kids-fit}
+use Rattle.pool.proofs.Nodal.{entryOf, node-kids, node-kids-fit, record-asks}
 
 -- THE NODES stay while slots are given
 
@@ -35,6 +35,9 @@ module _ (s : List ℕ) (t u : Store) (g h : GapTable) (goes : Goes t u g h) whe
       map
       (λ (e : ℕ). nodeAt s (goes .kept FIRSTS refl i) (goes .kept SIZES refl i) (goes .kept CHILDREN refl i) e)
       (take (count-stays i) (goes .kept NODES refl i))
+
+  pub record-stays : (k : ℕ) → recordIn u k ≡ recordIn t k
+  record-stays k = rw (goes .kept RECORDS refl, goes .kept NODES refl)
 
   pub there-stays : (p : List ℕ) → NodesThere s p t → NodesThere s p u
   there-stays p there = (
@@ -66,7 +69,7 @@ pub record Slotting (s : List ℕ) (k : ℕ) (t u : Store) (g h : GapTable) (i :
   pub has : (j : ℕ) → j < i → Has (u GIVEN) (getD (kidsOf (nodesIn s t) k) j 0)
   pub goes : Goes t u g h
 
-good-again : {A : Type 0} (r : Result ℕ (List ℕ × A)) → r ≡ (r >>= λ x. good (x .0, x .1))
+good-again : {A : Type 0} (r : Result Refusal (List ℕ × A)) → r ≡ (r >>= λ x. good (x .0, x .1))
 good-again (good a) = refl
 good-again (bad e) = refl
 
@@ -80,14 +83,14 @@ slotting-begin s k t g =
     }
 
 -- one more in front of what the rest gives
-abbrev ahead : {A : Type 0} → List ℕ → List ℕ × A → Result ℕ (List ℕ × A)
+abbrev ahead : {A : Type 0} → List ℕ → List ℕ × A → Result Refusal (List ℕ × A)
 ahead l x = good (l ++ x .0, x .1)
 
-abbrev behind : {A : Type 0} → ℕ → List ℕ × A → Result ℕ (List ℕ × A)
+abbrev behind : {A : Type 0} → ℕ → List ℕ × A → Result Refusal (List ℕ × A)
 behind c x = good (c ∷ x .0, x .1)
 
 regroup :
-    {A : Type 0} (r : Result ℕ (List ℕ × A)) (c : ℕ) (l : List ℕ) → ((r >>= behind c) >>= ahead l) ≡ (r >>= ahead (l ++ (c ∷ [])))
+    {A : Type 0} (r : Result Refusal (List ℕ × A)) (c : ℕ) (l : List ℕ) → ((r >>= behind c) >>= ahead l) ≡ (r >>= ahead (l ++ (c ∷ [])))
 regroup (good a) c l = rw (append-assoc l (c ∷ []) (a .0))
 regroup (bad e) c l = refl
 
@@ -111,27 +114,35 @@ module _ (s : List ℕ) (k : ℕ) (t u : Store) (g h : GapTable) (i : ℕ) (l : 
             (mid, is ∙ rw (z, take-all i kids e, slotsOf, append-nil), r);
         refused = λ pool q f. absurd (omega arith);
         has = λ f j b. l .has j (omega arith);
-        goes = l .goes;
+        goes = λ f. l .goes;
       }
 
   module _ (more : i < length kids) (child r : ℕ) (is : child ≡ getD kids i 0) (v : Store) (o : GapTable) (slotted : Slotted s false child u v h o r) where
     next : drop i kids ≡ child ∷ drop (suc i) kids
     next = drop-cons kids i 0 more ∙ rw is
 
-    -- its slot is refused
-    pub slotting-refused : 0 < r → SlottedAll s k t v g o r
-    unfolding slotsOf
-    slotting-refused z =
-        record {
+    -- its slot is refused, which is told at its record
+    pub slotting-refused :
+        0 < r → child < ENTRY + nodeCount u → (y : Store) (r′ : ℕ) → (r′ ≡ r) × (placeCount y ≡ recordIn v (child - ENTRY)) →
+        SlottedAll s k t y g o r′
+    unfolding slotsOf atRecord
+    slotting-refused z low y r′ (same, told) =
+        rw same
+        (record {
           met = λ pool q f. absurd (omega arith);
           refused =
               λ pool q f.
               let (mid, e, m) = l .rest pool q in
               let b : slotOf nodes false child mid ≡ bad r = rw (nodes-stay s t u g h (l .goes)) at (slotted .refused mid m z) in
-              e ∙ rw (next, slotsOf, b);
+              record {
+                node = child - ENTRY;
+                made = omega (arith, slotted .node z, count-stays s t u g h (l .goes));
+                refused = e ∙ rw (next, slotsOf, b, atRecord);
+                place = told ∙ record-stays s t v g o (goes-then t u v g h o (l .goes) (slotted .goes)) (child - ENTRY);
+              };
           has = λ f. absurd (omega arith);
-          goes = goes-then t u v g h o (l .goes) (slotted .goes);
-        }
+          goes = λ f. absurd (omega arith);
+        })
 
     -- those passed keep theirs
     passed : map (childSlot (v GIVEN)) (take i kids) ≡ map (childSlot (u GIVEN)) (take i kids)
@@ -147,7 +158,7 @@ module _ (s : List ℕ) (k : ℕ) (t u : Store) (g h : GapTable) (i : ℕ) (l : 
 
     -- it has one
     pub slotting-next : r ≡ 0 → Slotting s k t v g o (i + 1)
-    unfolding slotsOf
+    unfolding slotsOf atRecord
     slotting-next z =
         rw (add-one i)
         (record {
@@ -159,7 +170,7 @@ module _ (s : List ℕ) (k : ℕ) (t u : Store) (g h : GapTable) (i : ℕ) (l : 
               let b : slotOf nodes false child mid ≡ good (childSlot (v GIVEN) child, after) = rw (nodes-stay s t u g h (l .goes)) at f in (
                 after,
                 e
-                    ∙ rw (next, slotsOf, b, one-more)
+                    ∙ rw (next, slotsOf, b, atRecord, one-more)
                     (regroup (slotsOf nodes (drop (suc i) kids) after) (childSlot (v GIVEN) child) (map (childSlot (u GIVEN)) (take i kids))),
                 n,
               );
@@ -202,3 +213,14 @@ module _
       l .goes .live live,
       rw (child-is, count-stays s t u g h (l .goes)) (kidsThere i (omega (arith, kids-count))),
     )
+
+    -- what `refuse_at` asks
+    pub child-tells :
+        LiveIn t g → (v : Store) (o : GapTable) (r : ℕ) → Slotted s false child u v h o r → 0 < r →
+        (ENTRY ≤ child) × (PLACE < size p COUNTS) × (child - ENTRY < size p NODES) × (getD (v NODES) (child - ENTRY) 0 < size p RECORDS)
+    child-tells live v o r slotted some =
+        let asks = child-asks live in
+        let high = slotted .node some in
+        let made : child - ENTRY < nodeCount v = omega (arith, asks .2, count-stays s u v h o (slotted .goes)) in
+        let tells = record-asks s p v (there-stays s u v h o (slotted .goes) p (asks .0)) (child - ENTRY) made in
+        (high, tells .0, tells .1, tells .2)

@@ -30,8 +30,8 @@ use Rattle.job.specs.Forms.{countsOf}
 use Rattle.interner.specs.Nodes.{nodeIn}
 use Rattle.resolver.specs.Resolved.{resolvedIn, visitsOwed}
 use Rattle.sym_refs.specs.Names.{CitedIn}
-use Rattle.pool.specs.Pooled.{gapsIn, PooledIn, LiveIn}
-use Rattle.pool.specs.Replying.{RequestAt, WhatRequest, goalFor, originWord, readySoFar, readyIn, Asking, askedCounters, askedRegions, Replied, placeCount, RequestsAt, answeredIn, RepliedAll}
+use Rattle.pool.specs.Pooled.{gapsIn, PooledIn, LiveIn, placeCount}
+use Rattle.pool.specs.Replying.{RequestAt, WhatRequest, goalFor, originWord, readySoFar, readyIn, Asking, askedCounters, askedRegions, Replied, RequestsAt, answeredIn, RepliedAll}
 use Rattle.pool.proofs.Words.{not-among}
 use Rattle.pool.proofs.Giving.{SameGaps, slots-same, gaps-live-same}
 
@@ -93,6 +93,7 @@ module _ (s p : List ℕ) (t : Store) (c n : ℕ) (low : c < 2) where
             record {
               nodes = rw (placed-same NODE-COUNT (omega arith)) (r .nodes);
               made = rw (placed-same NODE-COUNT (omega arith)) (r .made);
+              lowest = rw (placed-same NODE-COUNT (omega arith)) (r .lowest);
               room = rw (placed-same NODE-COUNT (omega arith)) (r .room);
               faithful = subst (Faithful (linkedIn s)) (sym placed-resolved) (r .faithful);
               owed = r .owed;

@@ -75,6 +75,7 @@ slotted-old s ldc child t g has =
     record {
       met = λ pool q z. (pool, is pool q has, q);
       refused = λ pool q z. absurd (omega arith);
+      node = λ z. absurd (omega arith);
       has = λ z. has;
       goes = goes-not t g;
     }
@@ -134,6 +135,7 @@ module _
         record {
           met = λ pool q f. absurd (omega (arith, no-slot-some ldc));
           refused = λ pool q f. asked pool q ∙ rw (took .unmet z, e);
+          node = λ f. lacks .0;
           has = λ f. absurd (omega (arith, no-slot-some ldc));
           goes = rw same (goes-took wide ldc t v g h slot took);
         }
@@ -149,6 +151,7 @@ module _
                     (pooled-took wide ldc t v g h slot took pool q)),
               );
           refused = λ pool q f. absurd (omega arith);
+          node = λ f. lacks .0;
           has = λ f. inr (lacks .0, omega (arith, is-slot, ap (λ (x : ℕ). getD (u GIVEN) x 0) is));
           goes =
               goes-then t v u g h h (goes-took wide ldc t v g h slot took)

@@ -8,7 +8,7 @@ use mathlib.Core.Path.{_≡_}
 use Prim.Native.Nat.{ℕ, zero, suc, _+_, _-_, _≤_, _<_}
 use lib.Dec.{ltb}
 use lib.ListN.{length, getD, take}
-use Rattle.definition.specs.Basics.{good, bad, lookup}
+use Rattle.definition.specs.Basics.{Result, good, bad, Refusal, lookup}
 use Rattle.definition.specs.Slots.{highestSlot, Gap, Slots, slotFor}
 use Rattle.definition.specs.Building.{Pool, noSlot, slotOf, originOf, markOf, slotsOf, kidsOf}
 use Rattle.laws.specs.Gaps.{Apart}
@@ -17,9 +17,9 @@ use Rattle.slots.specs.declared.Found.{Found}
 use Rattle.slots.specs.declared.Found.the-variants.{Slot, None}
 use Rattle.slots.specs.Gaps.{GapTable, gapsAt, slotsAt}
 use Rattle.store.specs.Store.{Store, size, put, among, Kept}
-use Rattle.store.specs.Regions.{COUNTS, GIVEN, NODE-HEADS, PENDING, NODE-COUNT, GAP-COUNT, ODD, WIDE, PLAIN, PENDING-COUNT, Work}
+use Rattle.store.specs.Regions.{COUNTS, GIVEN, NODE-HEADS, PENDING, PLACE, NODE-COUNT, GAP-COUNT, ODD, WIDE, PLAIN, PENDING-COUNT, Work}
 use Rattle.store.specs.Words.{ENTRY, childSlot}
-use Rattle.interner.specs.Nodes.{EnteredIn, NodesIn, nodesIn}
+use Rattle.interner.specs.Nodes.{EnteredIn, NodesIn, nodeCount, nodesIn, recordIn}
 use Rattle.pool.specs.declared.Reply.{Reply}
 use Rattle.pool.specs.declared.Reply.the-variants as reply
 
@@ -170,19 +170,32 @@ pub record Slotted (s : List ℕ) (ldc : Bool) (child : ℕ) (t u : Store) (g h 
       (pool : Pool) → PooledIn pool t g → r ≡ 0 →
       (after : Pool) × (slotOf (nodesIn s t) ldc child pool ≡ good (childSlot (u GIVEN) child, after)) × PooledIn after u h
   pub refused : (pool : Pool) → PooledIn pool t g → 0 < r → slotOf (nodesIn s t) ldc child pool ≡ bad r
+  -- a raw number is never refused
+  pub node : 0 < r → ENTRY ≤ child
   pub has : r ≡ 0 → Has (u GIVEN) child
   pub goes : Goes t u g h
 
--- so have all children of node k
+-- the record in turn
+abbrev pub placeCount : Store → ℕ
+placeCount t = getD (t COUNTS) PLACE 0
+
+-- what is refused while building is refused at a node, and PLACE tells its record: t before, u after
+pub record Told {A : Type 0} (x : Result Refusal A) (t u : Store) (r : ℕ) : Type 0 where
+  pub node : ℕ
+  pub made : node < nodeCount t
+  pub refused : x ≡ bad (record { code = r; place = node })
+  pub place : placeCount u ≡ recordIn t node
+
+-- so have all children of node k, or r is the refusal's number, told at the child
 pub record SlottedAll (s : List ℕ) (k : ℕ) (t u : Store) (g h : GapTable) (r : ℕ) : Type 0 where
   pub met :
       (pool : Pool) → PooledIn pool t g → r ≡ 0 →
       (after : Pool)
       × (slotsOf (nodesIn s t) (kidsOf (nodesIn s t) k) pool ≡ good (map (childSlot (u GIVEN)) (kidsOf (nodesIn s t) k), after))
       × PooledIn after u h
-  pub refused : (pool : Pool) → PooledIn pool t g → 0 < r → slotsOf (nodesIn s t) (kidsOf (nodesIn s t) k) pool ≡ bad r
+  pub refused : (pool : Pool) → PooledIn pool t g → 0 < r → Told (slotsOf (nodesIn s t) (kidsOf (nodesIn s t) k) pool) t u r
   pub has : r ≡ 0 → (i : ℕ) → i < length (kidsOf (nodesIn s t) k) → Has (u GIVEN) (getD (kidsOf (nodesIn s t) k) i 0)
-  pub goes : Goes t u g h
+  pub goes : r ≡ 0 → Goes t u g h
 
 -- node r left the building stack
 pub record Popped (t u : Store) (r : ℕ) : Type 0 where

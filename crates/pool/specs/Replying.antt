@@ -23,7 +23,7 @@ use Rattle.store.specs.Words.{goalWord, IsGoal}
 use Rattle.sym_refs.specs.Names.{CitedIn, Goals}
 use Rattle.sym_refs.specs.Leading.{AllNames}
 use Rattle.resolver.specs.Resolved.{resolvedIn, Table, AtRest, visitsOwed}
-use Rattle.pool.specs.Pooled.{gapsIn, PooledIn, LiveIn}
+use Rattle.pool.specs.Pooled.{gapsIn, PooledIn, LiveIn, placeCount}
 
 -- a request stands at a place, and what it cites is there
 abbrev pub RequestAt : List ℕ → ℕ → Type 0
@@ -103,9 +103,6 @@ pub record Replied (s p : List ℕ) (q : Request) (i : ℕ) (t u : Store) (g h :
   pub kept : Kept askedRegions t u
 
 -- ALL REQUESTS
-
-abbrev pub placeCount : Store → ℕ
-placeCount t = getD (t COUNTS) PLACE 0
 
 -- the requests of a job stand in turn from a place on, and what they cite is there. It is shut, so that a search takes it whole
 unfoldable pub RequestsAt : List ℕ → ℕ → Type 0

@@ -23,6 +23,7 @@ use store::PENDING;
 use store::PENDING_COUNT;
 use store::PLACE;
 use store::PLAIN;
+use store::RECORDS;
 use store::SIZES;
 use store::WIDE;
 use store::load;
@@ -41,17 +42,17 @@ ghost use Rattle.definition.specs.Building.{noSlot};
 ghost use Rattle.job.specs.Stored.{Stands, WhatStands, anyRequest};
 ghost use Rattle.slots.specs.Gaps.{AtMost, Written};
 ghost use Rattle.store.specs.Store.{size, store, put, On, IsWord, Read};
-ghost use Rattle.store.specs.Regions.{COUNTS, GIVEN, NAME-HEADS, NAME-GOALS, RAW-KEYS, RAW-ENTRIES, ORDER, PENDING, ANSWERS, ORIGINS, NODES, OFFSETS, FIRSTS, SIZES, AT, HELD-COUNT, PLAIN, PENDING-COUNT, Work};
+ghost use Rattle.store.specs.Regions.{COUNTS, GIVEN, NAME-HEADS, NAME-GOALS, RAW-KEYS, RAW-ENTRIES, ORDER, PENDING, ANSWERS, ORIGINS, NODES, RECORDS, OFFSETS, FIRSTS, SIZES, PLACE, AT, HELD-COUNT, PLAIN, PENDING-COUNT, Work};
 ghost use Rattle.store.specs.JobIn.{jobIn};
 ghost use Rattle.store.specs.Words.{ENTRY, childSlot};
-ghost use Rattle.interner.specs.Nodes.{nodeCount, nodesIn};
-ghost use Rattle.pool.specs.Pooled.{Has, Lacks, positionsIn, GapsLive, NodesThere, withPositions, pendingCount, withPending, slotFound, LiveIn, KidsThere, Took, Gave, keptReply, newReply, codeIn, markIn, Marked, Slotted, SlottedAll, Popped};
+ghost use Rattle.interner.specs.Nodes.{nodeCount, nodesIn, recordIn};
+ghost use Rattle.pool.specs.Pooled.{placeCount, Has, Lacks, positionsIn, GapsLive, NodesThere, withPositions, pendingCount, withPending, slotFound, LiveIn, KidsThere, Took, Gave, keptReply, newReply, codeIn, markIn, Marked, Slotted, SlottedAll, Popped};
 ghost use Rattle.raws.specs.Raws.{heldCount};
 ghost use Rattle.pool.specs.Starting.{orderKeys, rawAt, CanPush, RawPushed, CanPushAll, RawsPushed, SomeStart, PoolStarted};
 ghost use Rattle.sym_refs.specs.Names.{Goals};
 ghost use Rattle.sym_refs.specs.Leading.{AllNames};
 ghost use Rattle.resolver.specs.Resolved.{visitsOwed};
-ghost use Rattle.pool.specs.Replying.{RequestAt, WhatRequest, goalFor, LeadsTo, low, KeptAnswer, Asking, Replied, placeCount, RequestsAt, RepliedAll};
+ghost use Rattle.pool.specs.Replying.{RequestAt, WhatRequest, goalFor, LeadsTo, low, KeptAnswer, Asking, Replied, RequestsAt, RepliedAll};
 
 // How a child comes by its slot: it is a raw number, or it gets the slot now, or it was given earlier; or there is none, 14 or 15.
 pub enum Reply {
@@ -263,7 +264,17 @@ pub fn slot_of(
     new_slot(code)
 }
 
-// Node k's children have slots from then on, left to right, 0, or 14.
+// A refusal met while building is told at node k's record, not at the build record: PLACE has it from then on.
+pub fn refuse_at(w: &mut [u32], p: &[usize], k: usize, code: usize) -> usize
+    requires { ⌜ On (now p) (length (now w)) × (PLACE < size (now p) COUNTS) × (k < size (now p) NODES) × (getD (store (now p) (now w) NODES) k 0 < size (now p) RECORDS) ⌝ }
+    ensures { λ r. ⌜ (r ≡ code) × (placeCount (store (now (p .entry)) (now (w .exit))) ≡ recordIn (store (now (p .entry)) (now (w .entry))) k) ⌝ }
+{
+    let place = load(w, p, RECORDS, load(w, p, NODES, k));
+    save(w, p, COUNTS, PLACE, place);
+    code
+}
+
+// Node k's children have slots from then on, left to right, 0, or 14 at the child that gets none.
 pub fn slots_of(job: &[u8], w: &mut [u32], p: &[usize], gaps: &mut [Gap], k: usize) -> usize
     requires { ⌜ On (now p) (length (now w)) × NodesThere (now job) (now p) (store (now p) (now w)) × LiveIn (store (now p) (now w)) (now gaps) × (k < nodeCount (store (now p) (now w))) × KidsThere (now job) (store (now p) (now w)) k ⌝ }
     ensures { λ r. ⌜ SlottedAll (now (job .entry)) k (store (now (p .entry)) (now (w .entry))) (store (now (p .entry)) (now (w .exit))) (now (gaps .entry)) (now (gaps .exit)) r ⌝ }
@@ -276,7 +287,7 @@ pub fn slots_of(job: &[u8], w: &mut [u32], p: &[usize], gaps: &mut [Gap], k: usi
         let reply = slot_of(job, w, p, gaps, child, false);
         let code = code_of(reply);
         if code != 0 {
-            return code;
+            return refuse_at(w, p, child - ENTRY, code);
         }
         i += 1;
     }

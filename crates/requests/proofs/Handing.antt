@@ -50,6 +50,7 @@ module _ (s p : List ℕ) (top : ℕ) (t u : Store) (d : Defined) (f : AtFifty p
       record {
         nodes = rw (k FIRSTS refl, k SIZES refl, k CHILDREN refl, k NODES refl, k NODE-HEADS refl, k NODE-LINKS refl, n) (a .nodes);
         made = rw (k MARKS refl, k NODES refl, n) (a .made);
+        lowest = rw (k MARKS refl, k NODES refl, n) (a .lowest);
         room = rw (k MARKS refl, n) (a .room);
         faithful = subst (Faithful (linkedIn s)) (sym same-resolved) (a .faithful);
         owed = rw (k MARKS refl) (a .owed);

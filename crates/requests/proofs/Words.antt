@@ -9,14 +9,17 @@ use lib.ListN.{getD, drop}
 use Rattle.definition.specs.Basics.{good, _>>=_}
 use Rattle.definition.specs.Job.{readBuild}
 use Rattle.definition.specs.Definitions.{Defined}
+use Rattle.definition.specs.Places.{tableRecords, recordOf}
 use Rattle.definition.specs.Building.{Pool, markOf}
 use Rattle.laws.specs.Statements.{IsBytes}
 use Rattle.slots.specs.Gaps.{GapTable}
 use Rattle.store.specs.Store.{Store, among, On}
 use Rattle.store.specs.JobIn.{jobIn, constantsIn}
-use Rattle.store.specs.Regions.{COUNTS, INDEXES, RAW-HEADS, ROW-HEADS, OWNER-HEADS, RAW-LINKS, RAW-KEYS, RAW-ENTRIES, ORDER, PENDING, ANSWERS, ORIGINS, PLACE, AT, RAW-COUNT, HELD-COUNT, GAP-COUNT, PENDING-COUNT, ROW-COUNT, WRITTEN-COUNT, INLINE-COUNT, NAME-SLOT, Work}
+use Rattle.store.specs.Regions.{COUNTS, INDEXES, RAW-HEADS, ROW-HEADS, OWNER-HEADS, RAW-LINKS, RECORDS, RAW-KEYS, RAW-ENTRIES, ORDER, NODES, PENDING, ANSWERS, ORIGINS, PLACE, AT, RAW-COUNT, HELD-COUNT, GAP-COUNT, PENDING-COUNT, ROW-COUNT, WRITTEN-COUNT, INLINE-COUNT, NAME-SLOT, Work}
+use Rattle.interner.specs.Nodes.{nodeCount, recordIn}
 use Rattle.raws.specs.Raws.{rawCount, RawsIn}
 use Rattle.resolver.specs.Resolved.{resolvedIn}
+use Rattle.definitions.specs.Defining.{recordsIn}
 use Rattle.definitions.specs.Begun.{readyFrom, Begun, AtFifty}
 use Rattle.pool.specs.Pooled.{PooledIn}
 use Rattle.pool.specs.Starting.{CanStart, PoolStarted}
@@ -50,6 +53,16 @@ module _
     same-raws =
         rw (same-region RAW-KEYS refl refl, same-region RAW-ENTRIES refl refl, same-region RAW-HEADS refl refl, same-region RAW-LINKS refl refl, same-count, same-counter HELD-COUNT refl refl)
         (f .raws)
+
+    -- a node's lowest entry is the first that became it, and its record was kept
+    node-records : (k : ℕ) → k < nodeCount v → recordIn v k ≡ recordOf (tableRecords (recordsIn s)) (resolvedIn s v .marks) k
+    unfolding recordOf
+    node-records k l =
+        let a = replied .again refl .rests in
+        let e = getD (v NODES) k 0 in
+        ap (λ (words : List ℕ). getD words e 0) (same-region RECORDS refl refl)
+        ∙ f .records e (a .nodes .inside k l)
+        ∙ ap (λ (i : ℕ). getD (tableRecords (recordsIn s)) i 0) (a .lowest k l)
 
     -- record 60 stands at the place in turn
     build-there : readBuild (drop (getD (v COUNTS) AT 0 + 1) s) ≡ some (jobIn s .build, [])
@@ -85,6 +98,7 @@ module _
             build = build-there;
             small = answers-small s p work bytes top t d f v pool is;
             marks = marks;
+            records = node-records;
           }
 
       asked-through : Asked p top s v k d (readyFrom top s d (resolvedIn s t)) pool

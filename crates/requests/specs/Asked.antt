@@ -8,6 +8,7 @@ use lib.ListN.{length, getD, drop}
 use Rattle.definition.specs.Basics.{Result, good, bad, _>>=_, Refusal}
 use Rattle.definition.specs.Job.{readBuild}
 use Rattle.definition.specs.Definitions.{Defined}
+use Rattle.definition.specs.Places.{tableRecords, recordOf}
 use Rattle.definition.specs.Building.{Pool, markOf}
 use Rattle.definition.specs.Layout.{Ready, answerAll, endDefinitions}
 use Rattle.laws.specs.Gaps.{Apart}
@@ -16,10 +17,10 @@ use Rattle.store.specs.Store.{Store, size, On}
 use Rattle.store.specs.JobIn.{jobIn, definitionsIn, constantsIn, entriesIn, linkedIn}
 use Rattle.store.specs.Regions.{COUNTS, MARKS, INDEXES, NODE-HEADS, ROW-HEADS, OWNER-HEADS, RAW-KEYS, RAW-ENTRIES, ORDER, ANSWERS, ORIGINS, AT, ROW-COUNT, WRITTEN-COUNT, INLINE-COUNT, NAME-SLOT, Work}
 use Rattle.store.specs.Words.{HALF}
-use Rattle.interner.specs.Nodes.{nodeCount}
+use Rattle.interner.specs.Nodes.{nodeCount, recordIn}
 use Rattle.raws.specs.Raws.{rawCount, RawsIn, Ordered}
-use Rattle.resolver.specs.Resolved.{Table, AtRest}
-use Rattle.definitions.specs.Defining.{definedIn, placeCount}
+use Rattle.resolver.specs.Resolved.{resolvedIn, Table, AtRest}
+use Rattle.definitions.specs.Defining.{recordsIn, definedIn, placeCount}
 use Rattle.definitions.specs.Begun.{begunIn}
 use Rattle.pool.specs.Pooled.{gapsIn, PooledIn, LiveIn}
 use Rattle.pool.specs.Replying.{originsIn, readyIn}
@@ -68,6 +69,8 @@ pub record AskedWords (p : List ℕ) (top : ℕ) (s : List ℕ) (u : Store) (h :
   pub build : readBuild (drop (getD (u COUNTS) AT 0 + 1) s) ≡ some (jobIn s .build, [])
   pub small : (i : ℕ) → i < size p ANSWERS → getD (u ANSWERS) i 0 < 65536
   pub marks : map markOf (originsIn u) ≡ u ORIGINS
+  -- each node carries its record
+  pub records : (k : ℕ) → k < nodeCount u → recordIn u k ≡ recordOf (tableRecords (recordsIn s)) (resolvedIn s u .marks) k
 
 -- all requests are answered, and the words are the definition's answers, resolved state and pool
 pub record Asked (p : List ℕ) (top : ℕ) (s : List ℕ) (u : Store) (h : GapTable) (d : Defined) (ready : Ready) (pool : Pool) : Type 0 where

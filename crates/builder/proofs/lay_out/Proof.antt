@@ -38,7 +38,7 @@ returns-2 : tie.Need-returns-2
 returns-2 c = let k = c .before .before .before .before .before .before .before .before .before .before .before .before .before .before .ask in let b = c .before .before .before .before .build-all in laid-built (k .last .1 .1 .0) (k .last .1 .0) (c .before .before .before .before .before .before .before .before .before .before .before .before .before .before .before .before .before .before .before .before .before .args .job .now) (k .last .1 .1 .1 .0) _ (c .before .before .before .before .before .before .before .before .before .before .before .before .before .before .before .before .before .before .before .before .before .args .c) (c .before .before .before .before .before .before .before .before .before .before .before .before .before .before .before .before .before .before .before .before .before .pre .1) (k .ensures) (c .before .before .before .before .before .before .before .before .if1 .left) (b .last .1 .0) (b .kept .1 .0) (b .last .1 .1 .1 .0) _ (b .ensures) (omega arith)
 
 end-pool-requires : tie.Need-end-pool-requires
-end-pool-requires c κs = let k = c .before .before .before .before .before .before .before .before .before .before .before .before .before .before .before .before .before .ask in let b = c .before .before .before .before .before .before .before .build-all in to-end (k .last .1 .1 .0) (k .last .1 .0) (c .before .before .before .before .before .before .before .before .before .before .before .before .before .before .before .before .before .before .before .before .before .before .before .before .args .job .now) (k .last .1 .1 .1 .0) _ (c .before .before .before .before .before .before .before .before .before .before .before .before .before .before .before .before .before .before .before .before .before .before .before .before .args .c) (c .before .before .before .before .before .before .before .before .before .before .before .before .before .before .before .before .before .before .before .before .before .before .before .before .pre .1) (k .ensures) (c .before .before .before .before .before .before .before .before .before .before .before .if1 .left) (b .last .1 .0) (b .kept .1 .0) (b .last .1 .1 .1 .0) _ (b .ensures)
+end-pool-requires c κs = let k = c .before .before .before .before .before .before .before .before .before .before .before .before .before .before .before .before .before .ask in let b = c .before .before .before .before .before .before .before .build-all in to-end (k .last .1 .1 .0) (k .last .1 .0) (c .before .before .before .before .before .before .before .before .before .before .before .before .before .before .before .before .before .before .before .before .before .before .before .before .args .job .now) (k .last .1 .1 .1 .0) _ (c .before .before .before .before .before .before .before .before .before .before .before .before .before .before .before .before .before .before .before .before .before .before .before .before .args .c) (c .before .before .before .before .before .before .before .before .before .before .before .before .before .before .before .before .before .before .before .before .before .before .before .before .pre .1) (k .ensures) (c .before .before .before .before .before .before .before .before .before .before .before .if1 .left) (b .last .1 .0) (b .kept .1 .0) (b .last .1 .1 .1 .0) _ (b .ensures) (c .before .before .before .if2 .left)
 
 same-length-7 : tie.Need-same-length-7
 same-length-7 c = c .before .before .before .before .end-pool .kept .1 .0 ∙ c .before .before .before .before .before .before .before .before .before .before .before .before .build-all .kept .1 .0 ∙ c .before .before .before .before .before .before .before .before .before .before .before .before .before .before .before .before .before .before .before .before .before .before .ask .kept .1 .0

@@ -3,6 +3,7 @@ mod Lts
 mod Tie
 use Rattle.building.proofs.Emptying.{judged-not, judged-so}
 use Rattle.building.proofs.Lasting.{there-now}
+use Rattle.pool.proofs.Nodal.{record-asks}
 use Rattle.store.specs.Store.{store}
 use mathlib.Core.Path.{sym, _∙_}
 use borrow.Author.Needs.{needs}
@@ -35,15 +36,29 @@ returns c =
     (sym kind ∙ c .before .before .before .before .before .before .if1 .taken)
     (finished .ensures)
 
+refuse-at-requires : tie.Need-refuse-at-requires
+refuse-at-requires c κs =
+    let start = c .before .before .before .before .before .before .before in
+    let a = start .args in
+    let q = start .pre in
+    let t = store (a .p .now) (a .w .now) in
+    let asks = record-asks (a .job .now) (a .p .now) t (there-now (a .job .now) (a .p .now) t (q .1) (q .2 .standing)) (a .k) (q .3) in
+    (search needs, asks .0, asks .1, asks .2)
+
 same-length-3 : tie.Need-same-length-3
 same-length-3 c = search needs
 
 returns-2 : tie.Need-returns-2
 returns-2 c =
-    let start = c .before .before .before .before .before .before in
+    let start = c .before .before .before .before .before .before .before .before .before .before in
     let a = start .args in
     let p = a .p .now in
-    judged-not (a .job .now) p (a .version) (a .k) (store p (a .w .now)) (a .gaps .now) (start .pre .2) (sym (c .before .has-kind .ensures) ∙ c .if1 .left)
+    let told = c .before .before .refuse-at in
+    judged-not (a .job .now) p (a .version) (a .k) (store p (a .w .now)) (a .gaps .now) (start .pre .3)
+    (sym (c .before .before .before .before .before .has-kind .ensures) ∙ c .before .before .before .before .if1 .left)
+    (store p (told .last .0))
+    (told .result)
+    (told .ensures)
 
 pub judge-spec : {M : Type 1} → statement M
-judge-spec = tie.close (tie.spec has-kind-requires finish-requires same-length same-length-2 returns same-length-3 returns-2)
+judge-spec = tie.close (tie.spec has-kind-requires finish-requires same-length same-length-2 returns refuse-at-requires same-length-3 returns-2)

@@ -1,7 +1,7 @@
 -- `building::number_bootstrap` meets its contract. Assumes nothing.
 mod Lts
 mod Tie
-use Rattle.building.proofs.Stepping.{bootstrap-had, bootstrap-refused, bootstrap-indexed}
+use Rattle.building.proofs.Stepping.{bootstrap-had, bootstrap-refused, unindexed-tells, bootstrap-unindexed, bootstrap-indexed}
 use Rattle.building.proofs.Kids.{kids-now}
 use Rattle.building.proofs.Lasting.{there-now, working-goes, boot-goes}
 use Rattle.rows.proofs.Starting.{row-room}
@@ -36,7 +36,41 @@ returns-2 : tie.Need-returns-2
 returns-2 c = let a = c .before .before .before .before .before .before .before .before .before .before .before .before .before .args in let q = c .before .before .before .before .before .before .before .before .before .before .before .before .before .pre in let p = a .p .now in let x = c .before .before .before .before .slots-of in bootstrap-refused (a .job .now) p (store p (a .w .now)) (a .gaps .now) (q .1) (q .2) (length-store p (a .w .now) NODES) (a .k) (q .3) (store p (x .last .1 .0)) (x .last .1 .1 .1 .0) (x .result) (x .ensures) (c .if2 .taken)
 
 row-index-requires : tie.Need-row-index-requires
-row-index-requires c κs = let a = c .before .before .before .before .before .before .before .before .before .before .before .before .before .before .args in let q = c .before .before .before .before .before .before .before .before .before .before .before .before .before .before .pre in let s = a .job .now in let p = a .p .now in let x = c .before .before .before .before .before .slots-of in let t = store p (a .w .now) in let u = store p (x .last .1 .0) in let w = working-goes s p t u (a .gaps .now) (x .last .1 .1 .1 .0) (x .ensures .goes) (q .2) in (search needs, row-room s p (q .1), kids-now s p u (q .1) (w .standing) (length-store p (x .last .1 .0) NODES), w .standing .raws, w .rowed .1 .words, boot-goes s p t u (a .gaps .now) (x .last .1 .1 .1 .0) (x .ensures .goes) (a .k) (q .3))
+row-index-requires c κs =
+    let start = c .before .before .before .before .before .before .before .before .before .before .before .before .before .before in
+    let a = start .args in
+    let q = start .pre in
+    let s = a .job .now in
+    let p = a .p .now in
+    let t = store p (a .w .now) in
+    let long = length-store p (a .w .now) NODES in
+    let x = c .before .before .before .before .before .slots-of in
+    let u = store p (x .last .1 .0) in
+    let h = x .last .1 .1 .1 .0 in
+    let fine = c .before .if2 .left in
+    let long′ = length-store p (x .last .1 .0) NODES in
+    let goes = x .ensures .goes fine in
+    let w = working-goes s p t u (a .gaps .now) h goes (q .2) in
+    (search needs, row-room s p (q .1), kids-now s p u (q .1) (w .standing) long′, w .standing .raws, w .rowed .1 .words, boot-goes s p t u (a .gaps .now) h goes (a .k) (q .3))
+
+refuse-at-requires : tie.Need-refuse-at-requires
+refuse-at-requires c κs =
+    let start = c .before .before .before .before .before .before .before .before .before .before .before .before .before .before .before .before .before .before .before in
+    let a = start .args in
+    let q = start .pre in
+    let s = a .job .now in
+    let p = a .p .now in
+    let t = store p (a .w .now) in
+    let long = length-store p (a .w .now) NODES in
+    let x = c .before .before .before .before .before .before .before .before .before .before .slots-of in
+    let u = store p (x .last .1 .0) in
+    let h = x .last .1 .1 .1 .0 in
+    let fine = c .before .before .before .before .before .before .if2 .left in
+    let long′ = length-store p (x .last .1 .0) NODES in
+    let y = c .before .before .before .before .row-index in
+    let v = store p (y .last .0) in
+    let asks = unindexed-tells s p t (a .gaps .now) (q .1) (q .2) long (a .k) (q .3) u h (x .result) (x .ensures) fine long′ v (y .result) (y .ensures) in
+    (search needs, asks .0, asks .1, asks .2)
 
 same-length-4 : tie.Need-same-length-4
 same-length-4 c = search needs
@@ -45,7 +79,53 @@ same-length-5 : tie.Need-same-length-5
 same-length-5 c = search needs
 
 returns-3 : tie.Need-returns-3
-returns-3 c = let a = c .before .before .before .before .before .before .before .before .before .before .before .before .before .before .before .before .before .args in let q = c .before .before .before .before .before .before .before .before .before .before .before .before .before .before .before .before .before .pre in let s = a .job .now in let p = a .p .now in let x = c .before .before .before .before .before .before .before .before .slots-of in let t = store p (a .w .now) in let u = store p (x .last .1 .0) in let y = c .before .before .row-index in bootstrap-indexed s p t (a .gaps .now) (q .1) (q .2) (length-store p (a .w .now) NODES) (a .k) (q .3) u (x .last .1 .1 .1 .0) (x .result) (x .ensures) (c .before .before .before .before .if2 .left) (length-store p (x .last .1 .0) NODES) (boot-goes s p t u (a .gaps .now) (x .last .1 .1 .1 .0) (x .ensures .goes) (a .k) (q .3)) (store p (y .last .0)) (y .result) (y .ensures) (y .ensures .others)
+returns-3 c =
+    let start = c .before .before .before .before .before .before .before .before .before .before .before .before .before .before .before .before .before .before .before .before .before .before in
+    let a = start .args in
+    let q = start .pre in
+    let s = a .job .now in
+    let p = a .p .now in
+    let t = store p (a .w .now) in
+    let long = length-store p (a .w .now) NODES in
+    let x = c .before .before .before .before .before .before .before .before .before .before .before .before .before .slots-of in
+    let u = store p (x .last .1 .0) in
+    let h = x .last .1 .1 .1 .0 in
+    let fine = c .before .before .before .before .before .before .before .before .before .if2 .left in
+    let long′ = length-store p (x .last .1 .0) NODES in
+    let y = c .before .before .before .before .before .before .before .row-index in
+    let v = store p (y .last .0) in
+    let told = c .before .before .refuse-at in
+    bootstrap-unindexed s p t (a .gaps .now) (q .1) (q .2) long (a .k) (q .3) u h (x .result) (x .ensures) fine long′ v (y .result) (y .ensures)
+    (c .before .before .before .before .if3 .taken)
+    (store p (told .last .0))
+    (told .result)
+    (told .ensures)
+
+same-length-6 : tie.Need-same-length-6
+same-length-6 c = search needs
+
+same-length-7 : tie.Need-same-length-7
+same-length-7 c = search needs
+
+returns-4 : tie.Need-returns-4
+returns-4 c =
+    let start = c .before .before .before .before .before .before .before .before .before .before .before .before .before .before .before .before .before .before in
+    let a = start .args in
+    let q = start .pre in
+    let s = a .job .now in
+    let p = a .p .now in
+    let t = store p (a .w .now) in
+    let long = length-store p (a .w .now) NODES in
+    let x = c .before .before .before .before .before .before .before .before .before .slots-of in
+    let u = store p (x .last .1 .0) in
+    let h = x .last .1 .1 .1 .0 in
+    let fine = c .before .before .before .before .before .if2 .left in
+    let long′ = length-store p (x .last .1 .0) NODES in
+    let y = c .before .before .before .row-index in
+    let v = store p (y .last .0) in
+    bootstrap-indexed s p t (a .gaps .now) (q .1) (q .2) long (a .k) (q .3) u h (x .result) (x .ensures) fine long′ v (y .result) (y .ensures)
+    (boot-goes s p t u (a .gaps .now) h (x .ensures .goes fine) (a .k) (q .3))
+    (c .if3 .left)
 
 pub number-bootstrap-spec : {M : Type 1} → statement M
 number-bootstrap-spec =
@@ -59,6 +139,10 @@ number-bootstrap-spec =
     same-length-3
     returns-2
     row-index-requires
+    refuse-at-requires
     same-length-4
     same-length-5
-    returns-3)
+    returns-3
+    same-length-6
+    same-length-7
+    returns-4)
