@@ -11,7 +11,7 @@ use Rattle.laws.specs.Faithful.{Faithful}
 use Rattle.slots.specs.Gaps.{GapTable}
 use Rattle.store.specs.Store.{Store, Kept}
 use Rattle.store.specs.JobIn.{linkedIn}
-use Rattle.store.specs.Regions.{COUNTS, MARKS, GIVEN, INDEXES, NODE-HEADS, RAW-HEADS, ROW-HEADS, NODE-LINKS, RAW-LINKS, ROW-LINKS, OFFSETS, FIRSTS, SIZES, GOALS, CHILDREN, RAW-KEYS, RAW-ENTRIES, ORDER, NODES, INLINE, RAW-COUNT, HELD-COUNT, NODE-COUNT, VISITS, ODD, WIDE, PLAIN, PENDING-COUNT, ROW-COUNT, WRITTEN-COUNT, INLINE-COUNT, NAME-SLOT, POOL-COUNT}
+use Rattle.store.specs.Regions.{COUNTS, MARKS, GIVEN, INDEXES, NODE-HEADS, RAW-HEADS, ROW-HEADS, NODE-LINKS, RAW-LINKS, ROW-LINKS, OFFSETS, FIRSTS, SIZES, GOALS, CHILDREN, RAW-KEYS, RAW-ENTRIES, ORDER, NODES, INLINE, VALUES, RAW-COUNT, HELD-COUNT, NODE-COUNT, VISITS, ODD, WIDE, PLAIN, PENDING-COUNT, ROW-COUNT, WRITTEN-COUNT, INLINE-COUNT, NAME-SLOT, POOL-COUNT}
 use Rattle.store.specs.Words.{markWord}
 use Rattle.store.proofs.Keeping.{kept-more, kept-then}
 use Rattle.interner.specs.Nodes.{nodeAt, nodesIn}
@@ -67,7 +67,7 @@ module _ (s : List ℕ) (t u : Store) (later : Later t u) where
   pub table-stays : Table s t → Table s u
   table-stays g =
       record {
-        entered = rw (later .kept OFFSETS refl, later .kept FIRSTS refl, later .kept SIZES refl) (g .entered);
+        entered = rw (later .kept OFFSETS refl, later .kept FIRSTS refl, later .kept SIZES refl, later .kept VALUES refl) (g .entered);
         linked = rw (later .kept FIRSTS refl, later .kept GOALS refl) (g .linked);
       }
 

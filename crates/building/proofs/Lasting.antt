@@ -10,7 +10,7 @@ use Rattle.definition.specs.Building.{Rows}
 use Rattle.facts.proofs.Lists.{equal}
 use Rattle.slots.specs.Gaps.{GapTable}
 use Rattle.store.specs.Store.{Store, size, Kept}
-use Rattle.store.specs.Regions.{COUNTS, MARKS, GIVEN, INDEXES, NODE-HEADS, NODE-LINKS, ROW-HEADS, ROW-LINKS, RECORDS, OFFSETS, FIRSTS, SIZES, CHILDREN, RAW-KEYS, RAW-ENTRIES, ORDER, NODES, PENDING, INLINE, PLACE, NODE-COUNT, GAP-COUNT, ODD, WIDE, PLAIN, PENDING-COUNT, RAW-COUNT, HELD-COUNT, ROW-COUNT, WRITTEN-COUNT, INLINE-COUNT, Work}
+use Rattle.store.specs.Regions.{COUNTS, MARKS, GIVEN, INDEXES, NODE-HEADS, NODE-LINKS, ROW-HEADS, ROW-LINKS, RECORDS, OFFSETS, FIRSTS, SIZES, CHILDREN, RAW-KEYS, RAW-ENTRIES, ORDER, NODES, PENDING, INLINE, VALUES, PLACE, NODE-COUNT, GAP-COUNT, ODD, WIDE, PLAIN, PENDING-COUNT, RAW-COUNT, HELD-COUNT, ROW-COUNT, WRITTEN-COUNT, INLINE-COUNT, Work}
 use Rattle.store.specs.Words.{ENTRY}
 use Rattle.store.proofs.Keeping.{kept-then, kept-more}
 use Rattle.interner.specs.Nodes.{nodeAt, nodeCount, nodesIn, recordIn}
@@ -63,7 +63,7 @@ module _ (s p : List ℕ) (t u : Store) (kept : Kept builtRegions t u) (same : S
   pub standing-stays : Standing s p t → Standing s p u
   standing-stays h =
       record {
-        entered = rw (kept OFFSETS refl, kept FIRSTS refl, kept SIZES refl) (h .entered);
+        entered = rw (kept OFFSETS refl, kept FIRSTS refl, kept SIZES refl, kept VALUES refl) (h .entered);
         nodes =
             rw (kept FIRSTS refl, kept SIZES refl, kept CHILDREN refl, kept NODES refl, kept NODE-HEADS refl, kept NODE-LINKS refl, made-same) (h .nodes);
         kids = rw (nodes-same, made-same) (h .kids);

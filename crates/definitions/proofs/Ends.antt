@@ -14,7 +14,7 @@ use Rattle.laws.specs.Statements.{IsBytes}
 use Rattle.laws.proofs.resolving.OwedVisits.{owing-start}
 use Rattle.store.specs.Store.{Store, size, Kept}
 use Rattle.store.specs.JobIn.{countsIn, constantsIn, entriesIn, linkedIn}
-use Rattle.store.specs.Regions.{COUNTS, MARKS, NAME-HEADS, NODE-HEADS, RAW-HEADS, NAME-LINKS, RAW-LINKS, NAME-PLACES, OFFSETS, FIRSTS, SIZES, GOALS, NAME-GOALS, RAW-KEYS, RAW-ENTRIES, ORDER, RAW-COUNT, VISITS, Work}
+use Rattle.store.specs.Regions.{COUNTS, MARKS, NAME-HEADS, NODE-HEADS, RAW-HEADS, NAME-LINKS, RAW-LINKS, NAME-PLACES, OFFSETS, FIRSTS, SIZES, GOALS, NAME-GOALS, RAW-KEYS, RAW-ENTRIES, ORDER, VALUES, RAW-COUNT, VISITS, Work}
 use Rattle.store.specs.Words.{ENTRY, HALF, markWord, goalWord, IsReference}
 use Rattle.store.specs.Small.{Small}
 use Rattle.store.proofs.Bounds.{small}
@@ -88,7 +88,7 @@ pub record SoFar (h : ℕ) (s : List ℕ) (t u : Store) (i n : ℕ) : Type 0 whe
 
 pub table-still : (s : List ℕ) (t u : Store) → Kept resolvedRegions t u → Table s t → Table s u
 table-still s t u kept table =
-    record { entered = rw (kept OFFSETS refl, kept FIRSTS refl, kept SIZES refl) (table .entered); linked = rw (kept FIRSTS refl, kept GOALS refl) (table .linked) }
+    record { entered = rw (kept OFFSETS refl, kept FIRSTS refl, kept SIZES refl, kept VALUES refl) (table .entered); linked = rw (kept FIRSTS refl, kept GOALS refl) (table .linked) }
 
 module _ (h : ℕ) (s : List ℕ) (t : Store) (n : ℕ) where
   pub raws-begin : AtRest h s t → SoFar h s t t 0 n
@@ -213,7 +213,7 @@ module _ (p : List ℕ) (top : ℕ) (s : List ℕ) (t : Store) (d : Defined) (al
         pub end-table : Table s t3
         end-table =
             record {
-              entered = rw (kept3 OFFSETS refl, kept3 FIRSTS refl, kept3 SIZES refl) (all .entered);
+              entered = rw (kept3 OFFSETS refl, kept3 FIRSTS refl, kept3 SIZES refl, kept3 VALUES refl) (all .entered);
               linked =
                   rw (kept3 FIRSTS refl, goals3)
                   (words-linked s (t OFFSETS) (t FIRSTS) (t SIZES) (t1 GOALS) (t2 GOALS) (all .entered) (λ e x h i r g. rw (followed .kept GOALS refl) (all .kids e x h i r g)) (refs .goes));

@@ -3,11 +3,13 @@ pub mod Reading
 pub mod Turning
 pub mod Prefixes
 pub mod Entering
+pub mod Valued
 pub mod Cited
 pub mod Runs
 pub mod Adding
 pub mod Steps
 pub mod Placed
+pub mod Valuing
 pub mod Whole
 pub mod Ordering
 pub mod Linking

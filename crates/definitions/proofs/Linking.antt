@@ -27,7 +27,7 @@ linked-row s e x h =
     let two = map-some (numberedEntry (literals (jobIn s))) (tableIn s) e (one .0) (sym (ap (λ l. getElem? l e) (numbered-table s)) ∙ one .1) in
     (two .0, two .1, sym (ap (λ z. z .kids) (one .2)) ∙ ap (λ z. map goal (z .kids)) (sym (two .2)))
 
-module _ (s offsets firsts sizes before after : List ℕ) (entered : Entered s offsets firsts sizes) where
+module _ (s offsets firsts sizes before after : List ℕ) {values : List ℕ} (entered : Entered s offsets firsts sizes values) where
   pub words-linked :
       ((e : ℕ) (x : Entry (List ℕ) Reference) → getElem? (tableIn s) e ≡ some x → (i : ℕ) (r : Reference) → getElem? (x .kids) i ≡ some r →
       referenceWord s (constantsIn s) (getD before (getD firsts e 0 + i) 0) ≡ r) →

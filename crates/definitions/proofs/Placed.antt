@@ -7,7 +7,7 @@ use Prim.Native.Nat.{ℕ, zero, suc, _+_, _-_, _≤_, _<_}
 use native.Mathlib.Omega.{arith}
 use lib.Dec.{eqb, ltb, leb}
 use lib.ListN.{length, getD, getElem?, take}
-use borrow.Author.Tests.{ne-eqb}
+use borrow.Author.Tests.{ne-eqb, eqb-true}
 use Rattle.definition.specs.Basics.{Result, good, bad, _>>=_, unless, lookup}
 use Rattle.definition.specs.Shapes.{Kind, constant, bootstrap, Entry, isWide}
 use Rattle.definition.specs.Job.{Reference, define, named}
@@ -16,10 +16,11 @@ use Rattle.definition.specs.Definitions.{Held, starts, half, Naming, isNone, st
 use Rattle.laws.specs.Statements.{IsBytes}
 use Rattle.job.specs.Stored.{Found, EntryStands, WhatEntry, anyDefinition}
 use Rattle.job.proofs.Laws.{number}
-use Rattle.job.proofs.Standing.{tag-there}
+use Rattle.job.proofs.Standing.{table-there}
 use Rattle.store.specs.Store.{Store, size}
 use Rattle.store.specs.JobIn.{namingsIn, constantsIn, entriesIn}
-use Rattle.store.specs.Regions.{COUNTS, NAME-HEADS, OFFSETS, RAW-KEYS, CONSTANT-COUNT, BOOTSTRAP-COUNT, Work}
+use Rattle.store.specs.Regions.{COUNTS, NAME-HEADS, OFFSETS, RAW-KEYS, VALUES, CONSTANT-COUNT, BOOTSTRAP-COUNT, Work}
+use Rattle.store.specs.Entries.{WordsAt}
 use Rattle.sym_refs.specs.Names.{kindByte, NamingAt, nameCount, NamesIn, Tried}
 use Rattle.raws.specs.Raws.{outcome, rawCount, SomeRaws, TriedConstant, TriedBootstrap}
 use Rattle.definitions.specs.Kids.{counted, CanEnter, Enters}
@@ -189,7 +190,7 @@ module _ (p : List ℕ) (top : ℕ) (s : List ℕ) (t : Store) (at : ℕ) (place
       module _ (n0 : getD s at 0 ≡ 0x40 → ⊥) where
         constant-kind : (x : Entry (List ℕ) Reference) (next : ℕ) → Found anyDefinition s at (define x) next → kindOf (x .tag) ≡ constant
         unfolding kindOf
-        constant-kind x next f = rw (tag-there s at x next f, ne-eqb (getD s at 0) 0x40 n0, kindOf)
+        constant-kind x next f = table-there s at x next f ∙ rw (ne-eqb (getD s at 0) 0x40 n0, kindOf)
 
         pub constant-needs : (x : Entry (List ℕ) Reference) × (next : ℕ) × CanEnter s t at (0 + getD (t COUNTS) CONSTANT-COUNT 0) x next
         unfolding SomePlace
@@ -201,19 +202,19 @@ module _ (p : List ℕ) (top : ℕ) (s : List ℕ) (t : Store) (at : ℕ) (place
         pub constant-done :
             (u : Store) (res : ℕ) →
             ((x : Entry (List ℕ) Reference) (next : ℕ) → CanEnter s t at (0 + getD (t COUNTS) CONSTANT-COUNT 0) x next → Enters s (counted t CONSTANT-COUNT) u at (0 + getD (t COUNTS) CONSTANT-COUNT 0) res x next) →
-            Stepped p top s t u res
+            WordsAt s (t VALUES) at → Stepped p top s t u res
         unfolding SomePlace
-        constant-done u res enters =
+        constant-done u res enters words =
             let n = now-entry p top s t at (place .0) (place .1) n1 n2 n3 n4 n7 n8 n9 in
             let kind = constant-kind (n .0) (n .1) (n .2 .found) in
             let few = constant-few p top s t at (place .0) (place .1) (room s p work) work bytes long (n .0) (n .1) (n .2) kind in
             let can = can-enter p top s t at (place .0) (place .1) (room s p work) work bytes long (n .0) (n .1) (n .2) CONSTANT-COUNT _ (omega arith) (omega arith) few in
-            constant-entered p top s t at (place .0) (place .1) (room s p work) work bytes long (n .0) (n .1) (n .2) kind u res (enters (n .0) (n .1) can)
+            constant-entered p top s t at (place .0) (place .1) (room s p work) work bytes long (n .0) (n .1) (n .2) kind u res (enters (n .0) (n .1) can) words
 
       module _ (byte : getD s at 0 ≡ 0x40) where
         bootstrap-kind : (x : Entry (List ℕ) Reference) (next : ℕ) → Found anyDefinition s at (define x) next → kindOf (x .tag) ≡ bootstrap
         unfolding kindOf
-        bootstrap-kind x next f = rw (tag-there s at x next f, byte)
+        bootstrap-kind x next f = table-there s at x next f ∙ rw byte
 
         pub bootstrap-needs : (x : Entry (List ℕ) Reference) × (next : ℕ) × CanEnter s t at (constantsIn s + getD (t COUNTS) BOOTSTRAP-COUNT 0) x next
         unfolding SomePlace
@@ -233,3 +234,4 @@ module _ (p : List ℕ) (top : ℕ) (s : List ℕ) (t : Store) (at : ℕ) (place
             let few = bootstrap-few p top s t at (place .0) (place .1) (room s p work) work bytes long (n .0) (n .1) (n .2) kind in
             let can = can-enter p top s t at (place .0) (place .1) (room s p work) work bytes long (n .0) (n .1) (n .2) BOOTSTRAP-COUNT _ (omega arith) (omega arith) few in
             bootstrap-entered p top s t at (place .0) (place .1) (room s p work) work bytes long (n .0) (n .1) (n .2) kind u res (enters (n .0) (n .1) can)
+            (λ w. absurd (omega (arith, eqb-true (getD s at 0) 0x46 w)))

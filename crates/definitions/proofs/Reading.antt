@@ -8,7 +8,7 @@ use lib.ListN.{length}
 use borrow.Author.Tests.{ne-eqb}
 use Rattle.definition.specs.Shapes.{Kind, Entry, isWide}
 use Rattle.definition.specs.Job.{Reference, define, named, shortName}
-use Rattle.job.specs.Stored.{Found, Stands, WhatStands, ReferenceStands, WhatReference, WhatEntry, anyDefinition, firstPlace}
+use Rattle.job.specs.Stored.{Found, Stands, WhatStands, ReferenceStands, WhatReference, WhatEntry, anyDefinition, isWorked, firstPlace}
 use Rattle.job.proofs.Laws.{number}
 use Rattle.job.proofs.Endings.{literalEnd, literal-there, naming-there}
 use Rattle.store.specs.Regions.{Work}
@@ -39,9 +39,9 @@ module _ (s : List ℕ) (at behind : ℕ) (after : WhatReference s at (λ kind a
 abbrev pub Behind : List ℕ → ℕ → ℕ → Type 0
 Behind s at r = (x : Entry (List ℕ) Reference) (next : ℕ) → Found anyDefinition s at (define x) next → length (x .kids) ≡ 0 → r ≡ next
 
-module _ (s : List ℕ) (at tag : ℕ) (is : WhatEntry s at (λ e. tag ≡ e .tag)) where
+module _ (s : List ℕ) (at tag : ℕ) (is : WhatEntry s at (λ e. tag ≡ e .tag)) (plain : isWorked s at ≡ false) where
   ended : (r : ℕ) → r ≡ literalEnd s at tag → Behind s at r
-  ended r e x next f bare = e ∙ ap (literalEnd s at) (is x next f) ∙ literal-there s at x next f bare
+  ended r e x next f bare = e ∙ ap (literalEnd s at) (is x next f) ∙ literal-there s at x next f plain bare
 
   pub text-end : tag ≡ 1 → Behind s at (at + 3 + number s (at + 1))
   unfolding literalEnd

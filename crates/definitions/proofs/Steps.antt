@@ -25,8 +25,9 @@ use Rattle.job.proofs.Laws.{number}
 use Rattle.job.proofs.Endings.{opens-name, opens-raw, opens-version, opens-texts, opens-highest, opens-entry}
 use Rattle.store.specs.Store.{Store, size, Kept}
 use Rattle.store.specs.JobIn.{jobIn, definitionsIn, namingsIn, constantsIn, entriesIn}
-use Rattle.store.specs.Regions.{COUNTS, NAME-HEADS, RAW-HEADS, NAME-LINKS, RAW-LINKS, RECORDS, OFFSETS, FIRSTS, SIZES, GOALS, NAME-PLACES, RAW-KEYS, RAW-ENTRIES, PLACE, CONSTANT-COUNT, BOOTSTRAP-COUNT, REFERENCE-COUNT, NAME-COUNT, RAW-COUNT, HELD-COUNT, rawsOf, Work}
+use Rattle.store.specs.Regions.{COUNTS, NAME-HEADS, RAW-HEADS, NAME-LINKS, RAW-LINKS, RECORDS, OFFSETS, FIRSTS, SIZES, GOALS, NAME-PLACES, RAW-KEYS, RAW-ENTRIES, VALUES, PLACE, CONSTANT-COUNT, BOOTSTRAP-COUNT, REFERENCE-COUNT, NAME-COUNT, RAW-COUNT, HELD-COUNT, rawsOf, Work}
 use Rattle.store.specs.Words.{REFUSED}
+use Rattle.store.specs.Entries.{WordsAt}
 use Rattle.store.proofs.Keeping.{kept-put, kept-then, kept-more}
 use Rattle.store.proofs.Laying.{work-formed}
 use Rattle.sym_refs.specs.Names.{NamingAt, nameCount, NamesIn, Tried}
@@ -36,6 +37,7 @@ use Rattle.definitions.specs.Defining.{doneIn, EntriesIn, Counters, reco
 use Rattle.definitions.proofs.Rooms.{Room}
 use Rattle.definitions.proofs.Prefixes.{take-next, drop-next, noEntry}
 use Rattle.definitions.proofs.Entering.{entries-skip, entries-more, entered-low}
+use Rattle.definitions.proofs.Valued.{values-skip, values-more}
 use Rattle.definitions.proofs.Cited.{kids-cited, name-cited, bootstrap-cited, constant-cited}
 use Rattle.definitions.proofs.Runs.{passes, refuses, one-entry, one-setting, one-name, one-old, one-constant, one-bootstrap, tag-of, few-constants, few-bootstraps, earlier-constant, references-next, references-room, raws-next, raws-room, counts-constant, counts-bootstrap, counts-other, name-here, names-next, names-same, noName}
 
@@ -192,6 +194,7 @@ module _ (p : List ℕ) (top : ℕ) (s : List ℕ) (t : Store) (at : ℕ) (d : D
                   laid = here .0 .laid;
                   turn = n .later;
                   entries = entries-still s K (setting rule) (n .turn) refl t t still (here .0 .entries);
+                  values = values-skip s K t t at (here .0 .values) (setting rule) (n .turn) refl next (omega (arith, n .found .past)) refl refl;
                   counters = counters-still s K (setting rule) (n .turn) refl t t still (here .0 .counters);
                   names = here .0 .names;
                   named = here .0 .named ∙ sym (names-same s K (setting rule) (n .turn) refl);
@@ -271,6 +274,7 @@ module _ (p : List ℕ) (top : ℕ) (s : List ℕ) (t : Store) (at : ℕ) (d : D
                 laid = here .0 .laid;
                 turn = n .later;
                 entries = entries-still s K (named kind l r) (n .turn) refl t u name-entries (here .0 .entries);
+                values = values-skip s K t u at (here .0 .values) (named kind l r) (n .turn) refl next (omega (arith, n .found .past)) (tried .kept OFFSETS refl) (tried .kept VALUES refl);
                 counters = counters-still s K (named kind l r) (n .turn) refl t u name-entries (here .0 .counters);
                 names = g .1;
                 named = g .2 ∙ ap (λ m. m + 1) (here .0 .named) ∙ sym (names-next s K kind l r (n .turn));
@@ -343,6 +347,7 @@ module _ (p : List ℕ) (top : ℕ) (s : List ℕ) (t : Store) (at : ℕ) (d : D
           laid = here .0 .laid;
           turn = now .later;
           entries = entries-still s K (placed kind n e) (now .turn) refl t u raw-entries (here .0 .entries);
+          values = values-skip s K t u at (here .0 .values) (placed kind n e) (now .turn) refl (at + 5) (omega arith) (kept OFFSETS refl) (kept VALUES refl);
           counters = counters-still s K (placed kind n e) (now .turn) refl t u raw-entries (here .0 .counters);
           names = names-still (size p NAME-HEADS) s t u raw-names (here .0 .names);
           named = raw-names .count ∙ here .0 .named ∙ sym (names-same s K (placed kind n e) (now .turn) refl);
@@ -444,7 +449,7 @@ module _ (p : List ℕ) (top : ℕ) (s : List ℕ) (t : Store) (at : ℕ) (d : D
           }
 
       module _ (new : placeOf (constantsIn s) (kindOf (x .tag)) (countIn (kindOf (x .tag)) (doneIn s K)) ≡ e) (u : Store) (res : ℕ) (enters : Enters s (counted t c) u at e res x next)
-          (counters : Counters s (u COUNTS) (suc K)) where
+          (words : WordsAt s (t VALUES) at) (counters : Counters s (u COUNTS) (suc K)) where
         same-counter : (j : ℕ) → (j ≡ c → ⊥) → (j ≡ REFERENCE-COUNT → ⊥) → getD (u COUNTS) j 0 ≡ getD (t COUNTS) j 0
         same-counter j m n = ap (λ l. getD l j 0) (enters .counts) ∙ two-sets (t COUNTS) c _ REFERENCE-COUNT _ j m n
 
@@ -506,6 +511,9 @@ module _ (p : List ℕ) (top : ℕ) (s : List ℕ) (t : Store) (at : ℕ) (d : D
                       laid = here .0 .laid;
                       turn = now .later;
                       entries = entry-entries;
+                      values =
+                          values-more s K t u at (here .0 .values) x (now .turn) (few-constants s (suc K)) next (now .found) e new (omega (arith, long OFFSETS, room .offsets)) (enters .offsets) (enters .kept VALUES refl)
+                          words;
                       counters = counters;
                       names = names-still (size p NAME-HEADS) s t u entry-names (here .0 .names);
                       named = entry-names .count ∙ here .0 .named ∙ sym (names-same s K (define x) (now .turn) refl);
@@ -525,9 +533,9 @@ module _ (p : List ℕ) (top : ℕ) (s : List ℕ) (t : Store) (at : ℕ) (d : D
       pub constant-few : 0 + getD (t COUNTS) CONSTANT-COUNT 0 < entriesIn s
       constant-few = omega (arith, here .0 .counters .constants, counts-constant s K x (now .turn) kind .0, few-constants s (suc K), few-bootstraps s K)
 
-      pub constant-entered : (u : Store) (res : ℕ) → Enters s (counted t CONSTANT-COUNT) u at (0 + getD (t COUNTS) CONSTANT-COUNT 0) res x next → Stepped p top s t u res
+      pub constant-entered : (u : Store) (res : ℕ) → Enters s (counted t CONSTANT-COUNT) u at (0 + getD (t COUNTS) CONSTANT-COUNT 0) res x next → WordsAt s (t VALUES) at → Stepped p top s t u res
       unfolding placeOf countIn kidsIn
-      constant-entered u res enters = entry-step CONSTANT-COUNT (0 + getD (t COUNTS) CONSTANT-COUNT 0) (omega arith) (omega arith) constant-few (rw kind (omega (arith, here .0 .counters .constants))) u res enters counters
+      constant-entered u res enters words = entry-step CONSTANT-COUNT (0 + getD (t COUNTS) CONSTANT-COUNT 0) (omega arith) (omega arith) constant-few (rw kind (omega (arith, here .0 .counters .constants))) u res enters words counters
         where
           counters : Counters s (u COUNTS) (suc K)
           counters =
@@ -552,9 +560,9 @@ module _ (p : List ℕ) (top : ℕ) (s : List ℕ) (t : Store) (at : ℕ) (d : D
       pub bootstrap-few : constantsIn s + getD (t COUNTS) BOOTSTRAP-COUNT 0 < entriesIn s
       bootstrap-few = omega (arith, here .0 .counters .bootstraps, counts-bootstrap s K x (now .turn) kind .1, few-bootstraps s (suc K))
 
-      pub bootstrap-entered : (u : Store) (res : ℕ) → Enters s (counted t BOOTSTRAP-COUNT) u at (constantsIn s + getD (t COUNTS) BOOTSTRAP-COUNT 0) res x next → Stepped p top s t u res
+      pub bootstrap-entered : (u : Store) (res : ℕ) → Enters s (counted t BOOTSTRAP-COUNT) u at (constantsIn s + getD (t COUNTS) BOOTSTRAP-COUNT 0) res x next → WordsAt s (t VALUES) at → Stepped p top s t u res
       unfolding placeOf countIn kidsIn
-      bootstrap-entered u res enters = entry-step BOOTSTRAP-COUNT (constantsIn s + getD (t COUNTS) BOOTSTRAP-COUNT 0) (omega arith) (omega arith) bootstrap-few (rw kind (omega (arith, here .0 .counters .bootstraps))) u res enters counters
+      bootstrap-entered u res enters words = entry-step BOOTSTRAP-COUNT (constantsIn s + getD (t COUNTS) BOOTSTRAP-COUNT 0) (omega arith) (omega arith) bootstrap-few (rw kind (omega (arith, here .0 .counters .bootstraps))) u res enters words counters
         where
           counters : Counters s (u COUNTS) (suc K)
           counters =

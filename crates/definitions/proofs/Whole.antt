@@ -28,6 +28,7 @@ use Rattle.definitions.specs.Defining.{doneIn, enteredAt, recordsIn, def
 use Rattle.definitions.proofs.Rooms.{room}
 use Rattle.definitions.proofs.Prefixes.{take-all, drop-all, no-constants}
 use Rattle.definitions.proofs.Entering.{entered-low, entered-high, entered-all}
+use Rattle.definitions.proofs.Valued.{values-as}
 use Rattle.definitions.proofs.Steps.{SameEntries, SameNames, SameRaws, names-still, raws-still, entries-as, counters-as}
 
 -- the counters that the definitions don't know
@@ -77,6 +78,7 @@ module _ (p : List ℕ) (top : ℕ) (s : List ℕ) (t : Store) (work : Work s p)
               apart = λ d e x y h. none-entered d x h;
               words = λ i l. absurd (omega (arith, zero-at COUNTS (omega arith) REFERENCE-COUNT));
             };
+        values = λ e x h. none-entered e x h;
         counters =
             record {
               constants = zero-at COUNTS (omega arith) CONSTANT-COUNT ∙ sym (ap length (no-constants .0));
@@ -124,6 +126,7 @@ module _ (p : List ℕ) (top : ℕ) (s : List ℕ) (t : Store) (k at : ℕ) (d :
         laid = g .laid;
         turn = g .turn;
         entries = entries-as s k t (put t COUNTS j v) same-entries (g .entries);
+        values = values-as s k t (put t COUNTS j v) at (g .values) refl (λ i l. refl);
         counters = counters-as s k t (put t COUNTS j v) same-entries (g .counters);
         names = names-still (size p NAME-HEADS) s t (put t COUNTS j v) same-names (g .names);
         named = same-names .count ∙ g .named;
@@ -192,6 +195,7 @@ module _ (p : List ℕ) (top : ℕ) (s : List ℕ) (t : Store) (work : Work s p)
             record {
               at = λ e x h. rw references-are at (g .entries .at e x (entry-of e x h) .at);
               apart = λ a b low high n. let x = inside-found (tableIn s) a low in let y = inside-found (tableIn s) b high in g .entries .apart a b (x .0) (y .0) (entry-of a (x .0) (x .1)) (entry-of b (y .0) (y .1)) n;
+              worked = λ e low. let x = inside-found (tableIn s) e low in g .values e (x .0) (entry-of e (x .0) (x .1)) .1;
             };
         kids = λ e x h i r. g .entries .at e x (entry-of e x h) .kids i r;
         words = λ i l. g .entries .words i (omega (arith, references-are));

@@ -15,12 +15,12 @@ use Rattle.definition.specs.Definitions.{Defined, defineAll, nothingDefined}
 use Rattle.definition.specs.Resolving.{placeOf}
 use Rattle.laws.specs.Counted.{countIn}
 use Rattle.job.specs.Forms.{referencesIn, countsOf}
-use Rattle.job.specs.Stored.{InTurn, anyDefinition, Laid}
+use Rattle.job.specs.Stored.{InTurn, anyDefinition, isWorked, Laid}
 use Rattle.store.specs.Store.{Store, size, Kept}
 use Rattle.store.specs.JobIn.{jobIn, definitionsIn, countsIn, namingsOf, namingsIn, tableIn, constantsIn, entriesIn}
-use Rattle.store.specs.Regions.{COUNTS, NAME-HEADS, RAW-HEADS, NAME-LINKS, RAW-LINKS, RECORDS, OFFSETS, FIRSTS, SIZES, GOALS, NAME-PLACES, RAW-KEYS, RAW-ENTRIES, PLACE, AT, CONSTANT-COUNT, BOOTSTRAP-COUNT, REFERENCE-COUNT, HELD-COUNT, rawsOf}
+use Rattle.store.specs.Regions.{COUNTS, NAME-HEADS, RAW-HEADS, NAME-LINKS, RAW-LINKS, RECORDS, OFFSETS, FIRSTS, SIZES, GOALS, NAME-PLACES, RAW-KEYS, RAW-ENTRIES, VALUES, PLACE, AT, CONSTANT-COUNT, BOOTSTRAP-COUNT, REFERENCE-COUNT, HELD-COUNT, rawsOf}
 use Rattle.store.specs.Words.{REFUSED, referenceWord, IsReference}
-use Rattle.store.specs.Entries.{EntryAt, Apart, Entered}
+use Rattle.store.specs.Entries.{EntryAt, Apart, WordsAt, Entered}
 use Rattle.sym_refs.specs.Names.{nameCount, NamesIn}
 use Rattle.raws.specs.Raws.{rawCount, RawsIn}
 
@@ -58,6 +58,12 @@ pub record Entries (s records offsets firsts sizes goals : List ℕ) (k end : �
 abbrev pub EntriesIn : List ℕ → Store → ℕ → Type 0
 EntriesIn s t k = Entries s (t RECORDS) (t OFFSETS) (t FIRSTS) (t SIZES) (t GOALS) k (getD (t COUNTS) REFERENCE-COUNT 0)
 
+-- the constants worked out among the entries of the first k definitions stand before a place, and their words are kept
+abbrev pub ValuesIn : List ℕ → Store → ℕ → ℕ → Type 0
+ValuesIn s t k at =
+    (e : ℕ) (x : Entry (List ℕ) Reference) → enteredAt (constantsIn s) (doneIn s k) e ≡ some x →
+    (isWorked s (getD (t OFFSETS) e 0) ≡ true → getD (t OFFSETS) e 0 + 6 ≤ at) × WordsAt s (t VALUES) (getD (t OFFSETS) e 0)
+
 -- what was counted
 pub record Counters (s counts : List ℕ) (k : ℕ) : Type 0 where
   pub constants : getD counts CONSTANT-COUNT 0 ≡ length (constantsOf (doneIn s k))
@@ -83,6 +89,7 @@ pub record Defining (p : List ℕ) (top : ℕ) (s : List ℕ) (t : Store) (k at 
   pub laid : Laid s (jobIn s)
   pub turn : InTurn anyDefinition s at (drop k (definitionsIn s)) (laid .fifty)
   pub entries : EntriesIn s t k
+  pub values : ValuesIn s t k at
   pub counters : Counters s (t COUNTS) k
   pub names : NamesIn (size p NAME-HEADS) s t
   pub named : nameCount t ≡ length (namingsOf (doneIn s k))
@@ -110,6 +117,7 @@ definedRegions =
     ∷ NAME-PLACES
     ∷ RAW-KEYS
     ∷ RAW-ENTRIES
+    ∷ VALUES
     ∷ []
 
 -- the definition in turn is at a place
@@ -137,7 +145,7 @@ pub record Stepped (p : List ℕ) (top : ℕ) (s : List ℕ) (t u : Store) (r : 
 pub record DefinedAll (p : List ℕ) (top : ℕ) (s : List ℕ) (u : Store) (d : Defined) : Type 0 where
   pub is : definedIn top s ≡ good d
   pub naming : d .names ≡ namingsIn s
-  pub entered : Entered s (u OFFSETS) (u FIRSTS) (u SIZES)
+  pub entered : Entered s (u OFFSETS) (u FIRSTS) (u SIZES) (u VALUES)
   pub kids :
       (e : ℕ) (x : Entry (List ℕ) Reference) → getElem? (tableIn s) e ≡ some x → (i : ℕ) (r : Reference) → getElem? (x .kids) i ≡ some r →
       referenceWord s (constantsIn s) (getD (u GOALS) (getD (u FIRSTS) e 0 + i) 0) ≡ r

@@ -3,15 +3,16 @@ use mathlib.Core.Bool.{Bool, true, false}
 use mathlib.Core.List.{List, [], _∷_}
 use mathlib.Core.Option.{some}
 use mathlib.Core.Path.{_≡_}
-use Prim.Native.Nat.{ℕ, _+_, _<_, _≤_}
+use Prim.Native.Nat.{ℕ, _+_, _/_, _<_, _≤_}
 use lib.ListN.{length, getD, getElem?, set, drop}
 use Rattle.definition.specs.Shapes.{Entry}
 use Rattle.definition.specs.Job.{Reference, define}
 use Rattle.job.specs.Stored.{Found, anyDefinition, KidsTurn}
 use Rattle.store.specs.Store.{Store, put, Kept}
 use Rattle.store.specs.JobIn.{countsIn, constantsIn, entriesIn}
-use Rattle.store.specs.Regions.{COUNTS, RECORDS, OFFSETS, FIRSTS, SIZES, GOALS, PLACE, REFERENCE-COUNT}
+use Rattle.store.specs.Regions.{COUNTS, RECORDS, OFFSETS, FIRSTS, SIZES, GOALS, VALUES, PLACE, REFERENCE-COUNT}
 use Rattle.store.specs.Words.{referenceWord, IsReference}
+use Rattle.store.specs.Entries.{WordsAt}
 use Rattle.sym_refs.specs.Names.{CitedIn}
 
 -- entry e is the record in turn, at a place, with n references, whose words begin behind those that were counted
@@ -22,6 +23,12 @@ entryPut t e at n =
 -- one more is counted
 abbrev pub counted : Store → ℕ → Store
 counted t c = put t COUNTS c (getD (t COUNTS) c 0 + 1)
+
+-- the value of the constant worked out at a place is kept, behind those before it: t before, u after
+pub record Valued (s : List ℕ) (t u : Store) (at : ℕ) : Type 0 where
+  pub words : WordsAt s (u VALUES) at
+  pub before : (i : ℕ) → i < at / 3 → getD (u VALUES) i 0 ≡ getD (t VALUES) i 0
+  pub kept : Kept (VALUES ∷ []) t u
 
 -- the bytes of a bootstrap's count, where it stands behind a reference
 unfoldable pub gapAfter : Bool → ℕ

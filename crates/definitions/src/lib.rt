@@ -20,6 +20,7 @@ use store::RECORDS;
 use store::REFERENCE_COUNT;
 use store::REFUSED;
 use store::SIZES;
+use store::VALUES;
 use store::constants;
 use store::load;
 use store::next_count;
@@ -29,6 +30,7 @@ use sym_refs::add_name;
 use sym_refs::link_references;
 use sym_refs::reference_word;
 use sym_refs::resolve_names;
+ghost use mathlib.Core.Bool.{true, cond};
 ghost use mathlib.Core.List.{List};
 ghost use mathlib.Core.Path.{_≡_};
 ghost use Prim.Native.Nat.{ℕ, _+_, _*_, _<_, _≤_};
@@ -36,7 +38,7 @@ ghost use lib.ListN.{length, getD};
 ghost use Rattle.definition.specs.Shapes.{Kind, Entry};
 ghost use Rattle.definition.specs.Job.{Reference, define, named};
 ghost use Rattle.definition.specs.Definitions.{Defined};
-ghost use Rattle.job.specs.Stored.{Found, ReferenceStands, WhatReference, anyDefinition, firstPlace};
+ghost use Rattle.job.specs.Stored.{Found, ReferenceStands, WhatReference, EntryStands, anyDefinition, isWorked, firstPlace};
 ghost use Rattle.store.specs.Store.{size, store, put, On, IsWord};
 ghost use Rattle.store.specs.JobIn.{WellFormed, definitionsIn, countsIn};
 ghost use Rattle.store.specs.Regions.{Work, COUNTS, RECORDS, OFFSETS, FIRSTS, SIZES, GOALS, PLACE, REFERENCE-COUNT, NODE-HEADS, ORDER, RAW-ENTRIES};
@@ -44,7 +46,7 @@ ghost use Rattle.sym_refs.specs.Names.{kindByte};
 ghost use Rattle.raws.specs.Raws.{rawCount};
 ghost use Rattle.resolver.specs.Resolved.{Table, AtRest, visitsOwed};
 ghost use Rattle.definitions.specs.Begun.{Begun};
-ghost use Rattle.definitions.specs.Kids.{entryPut, gapAfter, HasKids, ReadsAll, CanEnter, Enters, counted};
+ghost use Rattle.definitions.specs.Kids.{entryPut, Valued, gapAfter, HasKids, ReadsAll, CanEnter, Enters, counted};
 ghost use Rattle.definitions.specs.Defining.{SomePlace, answered, Stepped, DefinedAll, Defines, Zeros};
 ghost use Rattle.definitions.specs.Ending.{rawGoal, rawAt, rawGoals, ResolvesAll, IsRaw, CanResolve, Fresh, Ended};
 
@@ -92,11 +94,34 @@ fn place_behind(job: &[u8], at: usize, counted: bool) -> usize
     if counted { behind + 2 } else { behind }
 }
 
+// The first word of a number's bits.
+fn first_word(wide: bool, high: u32, low: u32) -> u32
+    ensures { λ r. ⌜ r ≡ cond wide high low ⌝ }
+{
+    if wide { high } else { low }
+}
+
+// The value of the constant at a place, which was worked out, is kept as words.
+fn put_value(job: &[u8], w: &mut [u32], p: &[usize], at: usize)
+    requires { ⌜ On (now p) (length (now w)) × Work (now job) (now p) × EntryStands (now job) at × (isWorked (now job) at ≡ true) ⌝ }
+    ensures { λ _. ⌜ Valued (now (job .entry)) (store (now (p .entry)) (now (w .entry))) (store (now (p .entry)) (now (w .exit))) at ⌝ }
+{
+    let value = job::worked_at(job, at);
+    let high = value.high;
+    let low = value.low;
+    let first = first_word(raw_const::is_long(job::tag_at(job, at)), high, low);
+    save(w, p, VALUES, at / 3, first as usize);
+    save(w, p, VALUES, at / 3 + 1, low as usize);
+}
+
 // The place behind an entry that has no references.
 fn after_literal(job: &[u8], at: usize) -> usize
     requires { ⌜ ((x : Entry (List ℕ) Reference) × (next : ℕ) × Found anyDefinition (now job) at (define x) next × (length (x .kids) ≡ 0)) × (length (now job) ≤ 1048576) ⌝ }
     ensures { λ r. ⌜ ((x : Entry (List ℕ) Reference) (next : ℕ) → Found anyDefinition (now (job .entry)) at (define x) next → length (x .kids) ≡ 0 → r ≡ next) ⌝ }
 {
+    if job::is_worked(job, at) {
+        return job::after_worked(job, at);
+    }
     let tag = job::tag_at(job, at);
     if raw_const::is_text(tag) {
         return at + 3 + writer::get_u16(job, at + 1) as usize;
@@ -205,6 +230,15 @@ fn add_bs_raw_def(job: &[u8], w: &mut [u32], p: &[usize], at: usize) -> usize
     answer(code, at + 5)
 }
 
+// A constant worked out, its value first: `define`.
+fn add_worked(job: &[u8], w: &mut [u32], p: &[usize], at: usize) -> usize
+    requires { ⌜ On (now p) (length (now w)) × Work (now job) (now p) × ((top : ℕ) × SomePlace (now p) top (now job) (store (now p) (now w)) at) × (getD (now job) at 0 ≡ 0x46) ⌝ }
+    ensures { λ r. ⌜ ((top : ℕ) → SomePlace (now (p .entry)) top (now (job .entry)) (store (now (p .entry)) (now (w .entry))) at → Stepped (now (p .entry)) top (now (job .entry)) (store (now (p .entry)) (now (w .entry))) (store (now (p .entry)) (now (w .exit))) r) ⌝ }
+{
+    put_value(job, w, p, at);
+    add_counted(job, w, p, at, CONSTANT_COUNT, 0)
+}
+
 // The definition at a place; the place behind it, or REFUSED + a number: `defineOne`. The form pass has read what settings say.
 fn define_one(job: &[u8], w: &mut [u32], p: &[usize], at: usize, top: usize) -> usize
     requires { ⌜ On (now p) (length (now w)) × Work (now job) (now p) × SomePlace (now p) top (now job) (store (now p) (now w)) at ⌝ }
@@ -216,6 +250,7 @@ fn define_one(job: &[u8], w: &mut [u32], p: &[usize], at: usize, top: usize) -> 
         0x42 => add_sym_def(job, w, p, at),
         0x43 => add_raw_def(job, w, p, at, top),
         0x44 => add_bs_raw_def(job, w, p, at),
+        0x46 => add_worked(job, w, p, at),
         0x47 => at + 3,
         0x48 => at + 1,
         0x49 => at + 3,

@@ -1,4 +1,5 @@
 pub mod Runs
+pub mod Words
 pub mod Children
 pub mod Shaped
 pub mod Alike

@@ -12,7 +12,8 @@ use Rattle.job.specs.Stored.{Found, EntryStands, WhatEntry, anyDefinition}
 use Rattle.store.specs.Store.{Store, size, IsWord}
 use Rattle.store.specs.Chains.{Heads}
 use Rattle.store.specs.JobIn.{entriesIn}
-use Rattle.store.specs.Regions.{COUNTS, NODE-HEADS, NODE-LINKS, OFFSETS, FIRSTS, SIZES, CHILDREN, NODES, NODE-COUNT, Work}
+use Rattle.store.specs.Regions.{COUNTS, NODE-HEADS, NODE-LINKS, OFFSETS, FIRSTS, SIZES, CHILDREN, NODES, VALUES, NODE-COUNT, Work}
+use Rattle.store.specs.Entries.{WordsAt}
 use Rattle.store.specs.Words.{cut}
 use Rattle.store.proofs.Bounds.{small}
 use Rattle.store.proofs.Laying.{work-sizes, work-formed, entries-counted}
@@ -66,6 +67,9 @@ module _ (s : List ℕ) (t : Store) (e : ℕ) (all : EnteredIn s t) (low : e < e
   -- an entry stands at its place, and its children have room
   pub stands : (at : ℕ) → at ≡ getD (t OFFSETS) e 0 → EntryStands s at
   stands at is = (the .entry, the .at .next, stands-at s (t OFFSETS) (t FIRSTS) (t SIZES) (t CHILDREN) e the at is)
+
+  pub words-at : (at : ℕ) → at ≡ getD (t OFFSETS) e 0 → WordsAt s (t VALUES) at
+  words-at at is = rw is (all .worked e low)
 
   pub kids-fit : (p : List ℕ) → Work s p → (first n : ℕ) → first ≡ getD (t FIRSTS) e 0 → n ≡ getD (t SIZES) e 0 → first + n ≤ size p CHILDREN
   kids-fit p work first n is size = omega (arith, the .at .room, work-sizes s p work .children)

@@ -9,10 +9,12 @@ use Prim.Native.Nat.{ℕ, suc, _+_, _≤_, _<_}
 use native.Mathlib.Omega.{arith}
 use lib.ListN.{length, getD, getElem?, drop, length-append}
 use borrow.Author.Tests.{not-true}
-use Rattle.definition.specs.Basics.{every, only, lookup}
+use Rattle.definition.specs.Basics.{Result, good, bad, every, only, lookup}
 use Rattle.definition.specs.Bytes.{Parser, one, two, many}
+use Rattle.definition.specs.Expression.{Number, readExpression}
+use Rattle.definition.specs.Value.{folded}
 use Rattle.definition.specs.Shapes.{Kind, constant, Field, text, bits, byte, to, toMany, Entry, shapes, bootstrapShape, withKids, withLiteral, withByte, readFields, readEntry}
-use Rattle.definition.specs.Job.{Reference, Definition, define, Body, ofEntry, ofName, ofRaw, ofNumber, ofNothing, bodies, shortName, reference, readBody, readDefinition}
+use Rattle.definition.specs.Job.{Reference, Definition, define, Body, ofEntry, ofName, ofRaw, ofExpression, ofNumber, ofNothing, bodies, asConstant, workedOut, shortName, reference, readBody, readDefinition}
 use Rattle.definition.specs.Numbering.{entries, isBootstrap, constantsOf, bootstrapsOf, literals, numberedEntry}
 use Rattle.facts.specs.Lists.{Among}
 use Rattle.facts.proofs.Lists.{clash, both-true, none≢some, some-inj, inside-found, among-either, only-at, map-at}
@@ -22,7 +24,7 @@ use Rattle.laws.proofs.form.EntryShapes.{showsLiteral}
 use Rattle.laws.proofs.form.EmptyLiterals.{litOf, fields-keep}
 use Rattle.laws.proofs.numbering.NumberedCited.{constants-numbered, bootstraps-numbered}
 use Rattle.job.specs.Stored.{Found, anyDefinition}
-use Rattle.job.proofs.Taking.{byte-then}
+use Rattle.job.proofs.Standing.{definition-read}
 use Rattle.store.specs.JobIn.{jobIn, definitionsIn, countsIn, tableOf, tableIn, entriesIn, numberedIn}
 use Rattle.store.specs.Words.{cut}
 use Rattle.store.specs.Entries.{EntryAt, Entered}
@@ -56,6 +58,7 @@ shapedBody : ℕ × Body → Bool
 shapedBody (tag, ofEntry fields) = leaf fields || (refers fields && not (showsLiteral fields))
 shapedBody (tag, ofName kind) = true
 shapedBody (tag, ofRaw kind) = true
+shapedBody (tag, ofExpression) = true
 shapedBody (tag, ofNumber rule) = true
 shapedBody (tag, ofNothing rule) = true
 
@@ -148,6 +151,12 @@ fields-shaped first fields bytes r h p = ways (leaf fields) refl h
         let k = both-true (refers fields) (not (showsLiteral fields)) h in
         inr (kids-more reference fields start bytes r (k .0) p, fields-keep reference fields start bytes r p .1 (not-true (showsLiteral fields) (k .1)))
 
+-- what was worked out has no references
+worked-shaped : (r : Result ℕ (Number × ℕ)) → Shaped (workedOut r)
+unfolding workedOut asConstant
+worked-shaped (good n) = inl (refl, refl)
+worked-shaped (bad code) = inl (refl, refl)
+
 body-shaped :
     (first : ℕ) (o : Option Body) (bytes : List ℕ) (r : Definition (List ℕ) × List ℕ) (x : Entry (List ℕ) Reference) →
     lookup first bodies ≡ o →
@@ -168,13 +177,17 @@ body-shaped first (some (ofRaw kind)) bytes r x o p q =
     some-then (two bytes) _ r p λ n rest _ s.
     some-then (two rest) _ r s λ k rest _ t.
     clash (cc)
+body-shaped first (some ofExpression) bytes r x o p q =
+    some-then (readExpression bytes) _ r p λ y rest _ t.
+    let same : workedOut (folded y) ≡ x = cc in
+    rw (← same) (worked-shaped (folded y))
 body-shaped first (some (ofNumber rule)) bytes r x o p q = some-then (two bytes) _ r p λ n rest _ s. clash (cc)
 body-shaped first (some (ofNothing rule)) bytes r x o p q = clash (cc)
 
 pub found-shaped : (s : List ℕ) (at : ℕ) (x : Entry (List ℕ) Reference) (next : ℕ) → Found anyDefinition s at (define x) next → Shaped x
 unfolding readDefinition
 found-shaped s at x next f =
-    body-shaped (getD s at 0) (lookup (getD s at 0) bodies) (drop (at + 1) s) (define x, drop next s) x refl (byte-then s at readDefinition (define x) (drop next s) (f .read) .1) refl
+    body-shaped (getD s at 0) (lookup (getD s at 0) bodies) (drop (at + 1) s) (define x, drop next s) x refl (definition-read s at (define x) next f .2) refl
 
 -- ITS LITERAL is one of the job's
 
@@ -205,7 +218,7 @@ pub record Known (s offsets firsts sizes : List ℕ) (e : ℕ) : Type 0 where
   pub among : Among (litOf entry) (literals (jobIn s))
   pub shaped : Shaped entry
 
-pub known : (s offsets firsts sizes : List ℕ) (e : ℕ) → Entered s offsets firsts sizes → e < entriesIn s → Known s offsets firsts sizes e
+pub known : (s offsets firsts sizes : List ℕ) {values : List ℕ} (e : ℕ) → Entered s offsets firsts sizes values → e < entriesIn s → Known s offsets firsts sizes e
 known s offsets firsts sizes e all h =
     let (x, is) = inside-found (tableIn s) e h in
     let at = all .at e x is in

@@ -12,7 +12,7 @@ use Rattle.definition.specs.Resolving.{Node, sameNode, intern}
 use Rattle.store.specs.Store.{Store, put, Kept}
 use Rattle.store.specs.Chains.{mixed, headOf, Chains}
 use Rattle.store.specs.JobIn.{tableIn, entriesIn, numberedIn}
-use Rattle.store.specs.Regions.{COUNTS, NODE-HEADS, NODE-LINKS, OFFSETS, FIRSTS, SIZES, CHILDREN, NODES, RECORDS, NODE-COUNT}
+use Rattle.store.specs.Regions.{COUNTS, NODE-HEADS, NODE-LINKS, OFFSETS, FIRSTS, SIZES, CHILDREN, NODES, RECORDS, VALUES, NODE-COUNT}
 use Rattle.store.specs.Words.{cut}
 use Rattle.store.specs.Entries.{Entered}
 
@@ -68,7 +68,7 @@ NodesIn h s t = Nodes h s (t FIRSTS) (t SIZES) (t CHILDREN) (t NODES) (t NODE-HE
 
 -- all entries are there
 abbrev pub EnteredIn : List ℕ → Store → Type 0
-EnteredIn s t = Entered s (t OFFSETS) (t FIRSTS) (t SIZES)
+EnteredIn s t = Entered s (t OFFSETS) (t FIRSTS) (t SIZES) (t VALUES)
 
 -- the node that an entry would be, its hash, and all nodes
 abbrev pub nodeIn : List ℕ → Store → ℕ → Node

@@ -9,6 +9,7 @@ use store::NODE_LINKS;
 use store::NODES;
 use store::OFFSETS;
 use store::SIZES;
+use store::VALUES;
 use store::first_link;
 use store::load;
 use store::mix;
@@ -17,17 +18,19 @@ use store::push_link;
 use store::save;
 ghost use mathlib.Core.Bool.{true};
 ghost use mathlib.Core.Path.{_≡_};
-ghost use Prim.Native.Nat.{_+_, _<_, _≤_};
+ghost use Prim.Native.Nat.{_+_, _*_, _<_, _≤_};
 ghost use lib.ListN.{length, getD, take, drop};
 ghost use Rattle.definition.specs.Basics.{same, position};
+ghost use Rattle.definition.specs.Bytes.{be4};
 ghost use Rattle.definition.specs.Numbering.{attributeName, sameLiteral};
 ghost use Rattle.definition.specs.Resolving.{sameNode};
 ghost use Rattle.definition.specs.Building.{attributeText};
-ghost use Rattle.job.specs.Stored.{EntryStands, WhatEntry};
+ghost use Rattle.job.specs.Stored.{EntryStands, WhatEntry, isWorked};
 ghost use Rattle.store.specs.Store.{size, store, On, IsWord};
 ghost use Rattle.store.specs.Chains.{Sought};
 ghost use Rattle.store.specs.JobIn.{entriesIn};
-ghost use Rattle.store.specs.Regions.{NODE-HEADS, CHILDREN, NODES, Work};
+ghost use Rattle.store.specs.Entries.{WordsAt};
+ghost use Rattle.store.specs.Regions.{NODE-HEADS, CHILDREN, NODES, VALUES, Work};
 ghost use Rattle.store.specs.Words.{cut};
 ghost use Rattle.interner.specs.Nodes.{hashBytes, hashWords, hashIn, nodeIn, nodeCount, nodesIn, EnteredIn, NodesIn, Lowers, Interned};
 
@@ -102,21 +105,92 @@ fn same_children(w: &[u32], p: &[usize], a: usize, b: usize, n: usize) -> bool
     true
 }
 
-// The hash of the literal of the entry at a place, its tag included.
-fn hash_literal(job: &[u8], at: usize) -> usize
-    requires { ⌜ EntryStands (now job) at × IsWord (length (now job)) ⌝ }
+// How many bytes the literal of the entry at a place has.
+pub fn literal_size(job: &[u8], at: usize) -> usize
+    requires { ⌜ EntryStands (now job) at ⌝ }
+    ensures { λ r. ⌜ WhatEntry (now (job .entry)) at (λ x. r ≡ length (x .literal)) ⌝ }
+{
+    if job::is_worked(job, at) {
+        return if raw_const::is_long(job::tag_at(job, at)) {
+            8
+        } else {
+            4
+        };
+    }
+    let s = job::literal_at(job, at);
+    let start = s.start;
+    s.end - start
+}
+
+// Four bytes of the literal of the entry at a place, behind i times four, as a word: it is kept as words if it was worked out.
+fn literal_word(job: &[u8], w: &[u32], p: &[usize], at: usize, i: usize) -> usize
+    requires { ⌜ On (now p) (length (now w)) × Work (now job) (now p) × EntryStands (now job) at × WordsAt (now job) (store (now p) (now w) VALUES) at × (i < 2) × WhatEntry (now job) at (λ x. 4 * i + 4 ≤ length (x .literal)) ⌝ }
+    ensures { λ r. ⌜ WhatEntry (now (job .entry)) at (λ x. take 4 (drop (4 * i) (x .literal)) ≡ be4 r) × IsWord r ⌝ }
+{
+    if job::is_worked(job, at) {
+        return load(w, p, VALUES, at / 3 + i);
+    }
+    let s = job::literal_at(job, at);
+    let start = s.start;
+    writer::get_u32(job, start + 4 * i) as usize
+}
+
+// The hash of the literal of the entry at a place, which was worked out, its tag included: as `hash_bytes` has it.
+fn hash_worked(job: &[u8], w: &[u32], p: &[usize], at: usize) -> usize
+    requires { ⌜ On (now p) (length (now w)) × Work (now job) (now p) × EntryStands (now job) at × WordsAt (now job) (store (now p) (now w) VALUES) at × (isWorked (now job) at ≡ true) ⌝ }
     ensures { λ r. ⌜ WhatEntry (now (job .entry)) at (λ x. r ≡ hashBytes (x .tag) (x .literal)) × IsWord r ⌝ }
 {
+    let tag = job::tag_at(job, at);
+    let first = load(w, p, VALUES, at / 3);
+    if raw_const::is_long(tag) {
+        let hash = mix(mix(tag as usize, 8), first);
+        return mix(hash, load(w, p, VALUES, at / 3 + 1));
+    }
+    mix(mix(tag as usize, 4), first)
+}
+
+// The hash of the literal of the entry at a place, its tag included.
+fn hash_literal(job: &[u8], w: &[u32], p: &[usize], at: usize) -> usize
+    requires { ⌜ On (now p) (length (now w)) × Work (now job) (now p) × EntryStands (now job) at × WordsAt (now job) (store (now p) (now w) VALUES) at ⌝ }
+    ensures { λ r. ⌜ WhatEntry (now (job .entry)) at (λ x. r ≡ hashBytes (x .tag) (x .literal)) × IsWord r ⌝ }
+{
+    if job::is_worked(job, at) {
+        return hash_worked(job, w, p, at);
+    }
     let s = job::literal_at(job, at);
     let start = s.start;
     hash_bytes(job, start, s.end - start, job::tag_at(job, at) as usize)
 }
 
-// The literals of the entries at two places are the same bytes.
-fn same_literal(job: &[u8], at: usize, other: usize) -> bool
-    requires { ⌜ EntryStands (now job) at × EntryStands (now job) other ⌝ }
+// The literal of the entry at a place, which was worked out, is the same bytes as that of another.
+fn same_worked(job: &[u8], w: &[u32], p: &[usize], at: usize, other: usize) -> bool
+    requires { ⌜ On (now p) (length (now w)) × Work (now job) (now p) × EntryStands (now job) at × EntryStands (now job) other × WordsAt (now job) (store (now p) (now w) VALUES) at × WordsAt (now job) (store (now p) (now w) VALUES) other × (isWorked (now job) at ≡ true) ⌝ }
     ensures { λ r. ⌜ WhatEntry (now (job .entry)) at (λ x. WhatEntry (now (job .entry)) other (λ y. r ≡ same (x .literal) (y .literal))) ⌝ }
 {
+    let n = literal_size(job, at);
+    if literal_size(job, other) != n {
+        return false;
+    }
+    if literal_word(job, w, p, at, 0) != literal_word(job, w, p, other, 0) {
+        return false;
+    }
+    if n == 4 {
+        return true;
+    }
+    literal_word(job, w, p, at, 1) == literal_word(job, w, p, other, 1)
+}
+
+// The literals of the entries at two places are the same bytes.
+fn same_literal(job: &[u8], w: &[u32], p: &[usize], at: usize, other: usize) -> bool
+    requires { ⌜ On (now p) (length (now w)) × Work (now job) (now p) × EntryStands (now job) at × EntryStands (now job) other × WordsAt (now job) (store (now p) (now w) VALUES) at × WordsAt (now job) (store (now p) (now w) VALUES) other ⌝ }
+    ensures { λ r. ⌜ WhatEntry (now (job .entry)) at (λ x. WhatEntry (now (job .entry)) other (λ y. r ≡ same (x .literal) (y .literal))) ⌝ }
+{
+    if job::is_worked(job, at) {
+        return same_worked(job, w, p, at, other);
+    }
+    if job::is_worked(job, other) {
+        return same_worked(job, w, p, other, at);
+    }
     let a = job::literal_at(job, at);
     let b = job::literal_at(job, other);
     let n = a.end - a.start;
@@ -134,7 +208,7 @@ fn hash_entry(job: &[u8], w: &[u32], p: &[usize], e: usize) -> usize
     let at = load(w, p, OFFSETS, e);
     let n = load(w, p, SIZES, e);
     if n == 0 {
-        return hash_literal(job, at);
+        return hash_literal(job, w, p, at);
     }
     let seed = job::tag_at(job, at) as usize * 256 + job::kind_byte(job, at) as usize;
     hash_children(w, p, load(w, p, FIRSTS, e), n, seed)
@@ -155,7 +229,7 @@ fn same_entry(job: &[u8], w: &[u32], p: &[usize], a: usize, b: usize) -> bool
         return false;
     }
     if n == 0 {
-        return same_literal(job, at, other);
+        return same_literal(job, w, p, at, other);
     }
     if job::kind_byte(job, at) != job::kind_byte(job, other) {
         return false;

@@ -1,6 +1,7 @@
 pub mod Numbers
 pub mod Showing
 pub mod Shown
+pub mod Working
 pub mod Owners
 pub mod Holding
 pub mod Pools

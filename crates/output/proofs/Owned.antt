@@ -8,7 +8,7 @@ use lib.ListN.{getD}
 use Rattle.definition.specs.Definitions.{Held}
 use Rattle.store.specs.Store.{Store, size, Kept}
 use Rattle.store.specs.JobIn.{entriesIn}
-use Rattle.store.specs.Regions.{COUNTS, MARKS, GIVEN, INDEXES, RAW-HEADS, OWNER-HEADS, RAW-LINKS, OWNER-LINKS, OFFSETS, FIRSTS, SIZES, CHILDREN, RAW-KEYS, RAW-ENTRIES, ORDER, NODES, INLINE, Work}
+use Rattle.store.specs.Regions.{COUNTS, MARKS, GIVEN, INDEXES, RAW-HEADS, OWNER-HEADS, RAW-LINKS, OWNER-LINKS, OFFSETS, FIRSTS, SIZES, CHILDREN, RAW-KEYS, RAW-ENTRIES, ORDER, NODES, INLINE, VALUES, Work}
 use Rattle.store.specs.Words.{HALF}
 use Rattle.store.proofs.Laying.{work-sizes}
 use Rattle.interner.specs.Nodes.{nodeCount}
@@ -28,7 +28,7 @@ module _ (s p : List ℕ) (t u : Store) (k : Kept (OWNER-HEADS ∷ OWNER-LINKS �
   made-kept : Made s t → Made s u
   made-kept m =
       record {
-        entered = rw (k OFFSETS refl, k FIRSTS refl, k SIZES refl) (m .entered);
+        entered = rw (k OFFSETS refl, k FIRSTS refl, k SIZES refl, k VALUES refl) (m .entered);
         few = rw (k COUNTS refl) (m .few);
         inside = rw (k COUNTS refl, k NODES refl) (m .inside);
       }

@@ -8,7 +8,7 @@ use native.Mathlib.Omega.{arith}
 use lib.ListN.{length, getD, drop}
 use Rattle.definition.specs.Basics.{lookup}
 use Rattle.definition.specs.Shapes.{Field, text, bits, shapes, bootstrapTag, Entry, withKids}
-use Rattle.definition.specs.Job.{Reference, define, readDefinition}
+use Rattle.definition.specs.Job.{Reference, define}
 use Rattle.definition.specs.Run.{entryBytes}
 use Rattle.facts.proofs.Lists.{none≢some, some-inj, found-read, place-drop}
 use Rattle.facts.proofs.Each.{Each, each-from}
@@ -19,7 +19,7 @@ use Rattle.laws.proofs.form.FormedEntries.{ShapeOf, FormedEntry, yields-definit
 use Rattle.raw_const.specs.Entries.{LiteralFits, EntryTakes}
 use Rattle.job.specs.Stored.{Found, EntryStands, WhatEntry, Spans, anyDefinition}
 use Rattle.job.specs.declared.Stretch.{Stretch}
-use Rattle.job.proofs.Taking.{byte-then}
+use Rattle.job.proofs.Standing.{definition-read}
 use Rattle.store.specs.Store.{Store, size}
 use Rattle.store.specs.Regions.{OFFSETS, FIRSTS, SIZES, CHILDREN, NODES, Work}
 use Rattle.store.specs.Words.{cut}
@@ -41,7 +41,7 @@ bytes-each s at b =
 pub entry-formed : (s : List ℕ) (at : ℕ) (x : Entry (List ℕ) Reference) (next : ℕ) → IsBytes s → Found anyDefinition s at (define x) next → FormedEntry x
 entry-formed s at x next b f =
     yields-definition (getD s at 0) (drop (at + 1) s) (bytes-each s (at + 1) b) (define x) (drop next s)
-    (byte-then s at readDefinition (define x) (drop next s) (f .read) .1) .is
+    (definition-read s at (define x) next f .2) .is
 
 no-bootstrap : lookup bootstrapTag shapes ≡ none
 unfolding shapes lookup
@@ -124,6 +124,9 @@ module _ (s : List ℕ) (t : Store) (k : ℕ) (made : Made s t) (low : k < nodeC
     pub byte-read : (byte : ℕ) → WhatEntry s at (λ x. byte ≡ x .byte) → byte ≡ finishedIn s t k .byte
     byte-read byte h = h (entry-known .entry) (entry-known .at .next) found ∙ sym shown-byte
 
+    pub size-read : (n : ℕ) → WhatEntry s at (λ x. n ≡ length (x .literal)) → n ≡ length (finishedIn s t k .literal)
+    size-read n h = h (entry-known .entry) (entry-known .at .next) found ∙ ap length (sym shown-literal)
+
     pub literal-read : (st : Stretch) → WhatEntry s at (λ x. Spans s st (x .literal)) → Spans s st (finishedIn s t k .literal)
     literal-read st h = rw shown-literal (h (entry-known .entry) (entry-known .at .next) found)
 
@@ -162,6 +165,5 @@ module _ (s : List ℕ) (t : Store) (k : ℕ) (made : Made s t) (low : k < nodeC
   length-kids n tag r size-is h q takes = takes (finishedIn s t k) (sym q) (ap length (has-kids n size-is h))
 
   pub length-literal :
-      (tag r : ℕ) (st : Stretch) → tag ≡ finishedIn s t k .tag → Spans s st (finishedIn s t k .literal) → EntryTakes tag (st .end - st .start) r →
-      r ≡ length (entryBytes (finishedIn s t k))
-  length-literal tag r st q spans takes = takes (finishedIn s t k) (sym q) (span-length s st (finishedIn s t k .literal) spans)
+      (tag r n : ℕ) → tag ≡ finishedIn s t k .tag → n ≡ length (finishedIn s t k .literal) → EntryTakes tag n r → r ≡ length (entryBytes (finishedIn s t k))
+  length-literal tag r n q long takes = takes (finishedIn s t k) (sym q) (sym long)

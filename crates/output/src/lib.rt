@@ -25,30 +25,34 @@ use store::RAW_HEADS;
 use store::RAW_KEYS;
 use store::ROW_COUNT;
 use store::SIZES;
+use store::VALUES;
 use store::WRITTEN_COUNT;
 use store::constants;
 use store::find_number;
 use store::load;
 use store::push_link;
 use store::size_of;
-ghost use mathlib.Core.List.{List, [], map};
+ghost use mathlib.Core.List.{List, [], _∷_, map};
 ghost use mathlib.Core.Logic.{_⊎_};
 ghost use mathlib.Core.Path.{_≡_};
 ghost use Prim.Native.Nat.{ℕ, _+_, _-_, _*_, _<_, _≤_};
 ghost use lib.ListN.{length, getD};
-ghost use mathlib.Core.Bool.{_&&_};
+ghost use mathlib.Core.Bool.{true, _&&_};
 ghost use mathlib.Core.Option.{Option, some};
 ghost use lib.Dec.{eqb, ltb};
 ghost use Rattle.definition.specs.Basics.{concat};
 ghost use Rattle.definition.specs.Bytes.{be2};
-ghost use Rattle.definition.specs.Shapes.{isWide};
+ghost use Rattle.definition.specs.Shapes.{Entry, isWide};
+ghost use Rattle.definition.specs.Job.{Reference, define};
 ghost use Rattle.definition.specs.Numbering.{attributeName};
 ghost use Rattle.definition.specs.Run.{entryBytes, slotBytes, rowBytes, classOut, overwrite};
 ghost use Rattle.raw_const.specs.Entries.{Wrote};
+ghost use Rattle.job.specs.Stored.{Found, WhatEntry, anyDefinition, isWorked};
 ghost use Rattle.store.specs.Store.{size, store, On, IsWord, Read};
-ghost use Rattle.store.specs.Regions.{COUNTS, MARKS, GIVEN, INDEXES, OWNER-HEADS, OWNER-LINKS, OFFSETS, FIRSTS, SIZES, CHILDREN, NODES, ANSWERS, ORIGINS, NODE-COUNT, Work};
+ghost use Rattle.store.specs.Regions.{COUNTS, MARKS, GIVEN, INDEXES, OWNER-HEADS, OWNER-LINKS, OFFSETS, FIRSTS, SIZES, CHILDREN, NODES, ANSWERS, ORIGINS, VALUES, NODE-COUNT, Work};
 ghost use Rattle.store.specs.Chains.{Heads};
 ghost use Rattle.store.specs.Words.{ENTRY, HALF, cut, childSlot};
+ghost use Rattle.store.specs.Entries.{WordsAt};
 ghost use Rattle.interner.specs.Nodes.{nodeCount};
 ghost use Rattle.output.specs.Contents.{NOTHING, ATTRIBUTE, childNumber, ChildThere, childCount, finishedIn, Made, KidsNumbered, ShortChild, textEntry, shownIn, wideIn, IsContent, rawWord, linkWord, linkOf, NoneAbove, ownerIn, nameSlot, wideAt, contentIn, Searched, Owned, heldIn, HeldOrder, Sweep, OwnersMade, poolIn, Finished};
 ghost use Rattle.output.specs.Names.{textOf, classSlotIn, classIn, NameIs, ClassAt};
@@ -148,9 +152,7 @@ fn node_length(job: &[u8], w: &[u32], p: &[usize], k: usize) -> usize
     if 0 < child_count(w, p, k) {
         return raw_const::entry_length(tag, 0);
     }
-    let s = job::literal_at(job, at);
-    let start = s.start;
-    raw_const::entry_length(tag, s.end - start)
+    raw_const::entry_length(tag, interner::literal_size(job, at))
 }
 
 // The text that the bootstrap attribute's name needs: `attributeName`.
@@ -210,6 +212,28 @@ fn write_references(
     raw_const::write_entry(pool, at, tag, kind, job, from, 0, first, second)
 }
 
+// Writes the constant at a place of the job, which was worked out; the place behind it.
+fn write_worked(
+    pool: &mut [u8],
+    at: usize,
+    job: &[u8],
+    w: &[u32],
+    p: &[usize],
+    from: usize,
+) -> usize
+    requires { ⌜ On (now p) (length (now w)) × Work (now job) (now p) × WordsAt (now job) (store (now p) (now w) VALUES) from × (isWorked (now job) from ≡ true) × ((x : Entry (List ℕ) Reference) × (next : ℕ) × Found anyDefinition (now job) from (define x) next × (at + 1 + length (x .literal) ≤ length (now pool))) ⌝ }
+    ensures { λ r. ⌜ WhatEntry (now (job .entry)) from (λ x. Wrote (now (pool .entry)) at (x .tag ∷ x .literal) (now (pool .exit)) r) ⌝ }
+{
+    let tag = job::tag_at(job, from);
+    writer::put_u8(pool, at, tag);
+    writer::put_u32(pool, at + 1, load(w, p, VALUES, from / 3) as u32);
+    if raw_const::is_long(tag) {
+        writer::put_u32(pool, at + 5, load(w, p, VALUES, from / 3 + 1) as u32);
+        return at + 9;
+    }
+    at + 5
+}
+
 // Writes a node's entry; the place behind it: `entryBytes`.
 fn write_node(pool: &mut [u8], at: usize, job: &[u8], w: &[u32], p: &[usize], k: usize) -> usize
     requires { ⌜ On (now p) (length (now w)) × Work (now job) (now p) × Made (now job) (store (now p) (now w)) × (k < nodeCount (store (now p) (now w))) × KidsNumbered (now job) (store (now p) (now w)) k × (at + length (entryBytes (finishedIn (now job) (store (now p) (now w)) k)) ≤ length (now pool)) ⌝ }
@@ -220,6 +244,9 @@ fn write_node(pool: &mut [u8], at: usize, job: &[u8], w: &[u32], p: &[usize], k:
         return write_references(pool, at, job, w, p, k, n);
     }
     let from = node_at(w, p, k);
+    if job::is_worked(job, from) {
+        return write_worked(pool, at, job, w, p, from);
+    }
     let tag = job::tag_at(job, from);
     let s = job::literal_at(job, from);
     let start = s.start;

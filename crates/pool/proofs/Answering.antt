@@ -18,7 +18,7 @@ use Rattle.laws.specs.Gaps.{Apart}
 use Rattle.slots.specs.Gaps.{GapTable}
 use Rattle.store.specs.Store.{Store, size, put, among, Kept}
 use Rattle.store.specs.JobIn.{linkedIn}
-use Rattle.store.specs.Regions.{COUNTS, MARKS, GIVEN, NAME-HEADS, NAME-LINKS, NODE-HEADS, NODE-LINKS, OFFSETS, FIRSTS, SIZES, GOALS, CHILDREN, NAME-PLACES, NAME-GOALS, NODES, STACK, PENDING, ANSWERS, ORIGINS, NAME-COUNT, NODE-COUNT, VISITS, GAP-COUNT, ODD, WIDE, PLAIN, PENDING-COUNT, Work}
+use Rattle.store.specs.Regions.{COUNTS, MARKS, GIVEN, NAME-HEADS, NAME-LINKS, NODE-HEADS, NODE-LINKS, OFFSETS, FIRSTS, SIZES, GOALS, CHILDREN, NAME-PLACES, NAME-GOALS, NODES, STACK, PENDING, ANSWERS, ORIGINS, VALUES, NAME-COUNT, NODE-COUNT, VISITS, GAP-COUNT, ODD, WIDE, PLAIN, PENDING-COUNT, Work}
 use Rattle.store.specs.Small.{Small}
 use Rattle.store.specs.Words.{ENTRY, markWord, goalWord, childSlot}
 use Rattle.store.proofs.Bounds.{small}
@@ -184,7 +184,7 @@ module _
     table-now : Table s v
     table-now =
         record {
-          entered = rw (res .kept OFFSETS refl, res .kept FIRSTS refl, res .kept SIZES refl) (asking .table .entered);
+          entered = rw (res .kept OFFSETS refl, res .kept FIRSTS refl, res .kept SIZES refl, res .kept VALUES refl) (asking .table .entered);
           linked = rw (res .kept FIRSTS refl, res .kept GOALS refl) (asking .table .linked);
         }
 
@@ -278,7 +278,7 @@ module _
             record {
               table =
                   record {
-                    entered = rw (slot-kept OFFSETS refl, slot-kept FIRSTS refl, slot-kept SIZES refl) (asking .table .entered);
+                    entered = rw (slot-kept OFFSETS refl, slot-kept FIRSTS refl, slot-kept SIZES refl, slot-kept VALUES refl) (asking .table .entered);
                     linked = rw (slot-kept FIRSTS refl, slot-kept GOALS refl) (asking .table .linked);
                   };
               rests = record { nodes = a .nodes; made = a .made; lowest = a .lowest; room = a .room; faithful = a .faithful; owed = a .owed };

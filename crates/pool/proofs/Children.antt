@@ -15,7 +15,7 @@ use Rattle.facts.proofs.Lists.{order, found-inside, found-read, map-same}
 use Rattle.facts.proofs.Chunks.{length-from, from-get}
 use Rattle.slots.specs.Gaps.{GapTable}
 use Rattle.store.specs.Store.{Store, size}
-use Rattle.store.specs.Regions.{COUNTS, GIVEN, NODE-HEADS, NODE-LINKS, RECORDS, OFFSETS, FIRSTS, SIZES, CHILDREN, NODES, PLACE, NODE-COUNT}
+use Rattle.store.specs.Regions.{COUNTS, GIVEN, NODE-HEADS, NODE-LINKS, RECORDS, OFFSETS, FIRSTS, SIZES, CHILDREN, NODES, VALUES, PLACE, NODE-COUNT}
 use Rattle.store.specs.Words.{ENTRY, cut, childSlot}
 use Rattle.interner.specs.Nodes.{nodeAt, nodeCount, nodesIn, recordIn}
 use Rattle.pool.specs.Pooled.{placeCount, Has, PooledIn, LiveIn, NodesThere, KidsThere, Goes, Slotted, SlottedAll}
@@ -42,7 +42,7 @@ module _ (s : List ℕ) (t u : Store) (g h : GapTable) (goes : Goes t u g h) whe
   pub there-stays : (p : List ℕ) → NodesThere s p t → NodesThere s p u
   there-stays p there = (
     there .0,
-    rw (goes .kept OFFSETS refl, goes .kept FIRSTS refl, goes .kept SIZES refl) (there .1),
+    rw (goes .kept OFFSETS refl, goes .kept FIRSTS refl, goes .kept SIZES refl, goes .kept VALUES refl) (there .1),
     rw (
       goes .kept FIRSTS refl,
       goes .kept SIZES refl,

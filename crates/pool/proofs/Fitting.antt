@@ -8,7 +8,7 @@ use lib.ListN.{length, getD, drop}
 use Rattle.definition.specs.Basics.{good, only, lookup}
 use Rattle.definition.specs.Bytes.{_>>=_, return, two}
 use Rattle.definition.specs.Shapes.{Kind, constant, bootstrap, Entry, readEntry}
-use Rattle.definition.specs.Job.{Definition, define, named, placed, setting, Body, ofEntry, ofName, ofRaw, ofNumber, ofNothing, bodies, shortName, reference, readBody, readDefinition}
+use Rattle.definition.specs.Job.{Definition, define, named, placed, setting, Body, ofEntry, ofName, ofRaw, ofExpression, ofNumber, ofNothing, bodies, shortName, reference, readBody, readDefinition}
 use Rattle.definition.specs.Numbering.{literals, numbered}
 use Rattle.definition.specs.Definitions.{Defined, sameKind, defineAll, nothingDefined}
 use Rattle.definition.specs.Slots.{gapsFrom}
@@ -18,8 +18,9 @@ use Rattle.facts.proofs.Results.{some-then}
 use Rattle.facts.specs.Lists.{keys}
 use Rattle.job.specs.Forms.{isPlacing, countsOf}
 use Rattle.job.specs.Stored.{Found, InTurn, anyDefinition}
-use Rattle.job.proofs.Stepping.{setting-read, bare-read}
-use Rattle.job.proofs.Taking.{byte-then, two-then, ends}
+use Rattle.job.proofs.Stepping.{setting-read, bare-read, worked-read}
+use Rattle.job.proofs.Standing.{definition-read}
+use Rattle.job.proofs.Taking.{two-then, ends}
 use Rattle.store.specs.Store.{size}
 use Rattle.store.specs.JobIn.{WellFormed, jobIn, definitionsIn, countsIn}
 use Rattle.store.specs.Regions.{GIVEN, PENDING, Work}
@@ -32,7 +33,7 @@ use Rattle.pool.proofs.Sparing.{gaps-spare, placings, placings-numbered
 module _ (s : List ℕ) (at : ℕ) (kind : Kind) (n e next : ℕ) where
   placing-long : Found anyDefinition s at (placed kind n e) next → at + 5 ≤ next
   unfolding readDefinition readBody
-  placing-long f = body (lookup (getD s at 0) bodies) (byte-then s at readDefinition (placed kind n e) (drop next s) (f .read) .1)
+  placing-long f = body (lookup (getD s at 0) bodies) (definition-read s at (placed kind n e) next f .2)
     where
       body : (o : Option Body) → readBody (getD s at 0) o (drop (at + 1) s) ≡ some (placed kind n e, drop next s) → at + 5 ≤ next
       body none h = none≢some h
@@ -49,6 +50,9 @@ module _ (s : List ℕ) (at : ℕ) (kind : Kind) (n e next : ℕ) where
           let t = two-then s (at + 1) (λ slot. two >>= λ m. return (placed other slot m)) (placed kind n e) (drop next s) (omega (arith, f .past, f .within)) h in
           let u = two-then s (at + 1 + 2) (λ m. return (placed other _ m)) (placed kind n e) (drop next s) (t .0) (t .1) in
           omega (arith, ends s (at + 1 + 2 + 2) next _ (placed kind n e) (u .0) (f .within) (u .1) .1)
+      body (some ofExpression) h =
+          let q = worked-read (getD s at 0) (drop (at + 1) s) (drop next s) (placed kind n e) h .2 in
+          clash (cc)
       body (some (ofNumber rule)) h =
           let q = setting-read (getD s at 0) rule (drop (at + 1) s) (drop next s) (placed kind n e) h .1 in
           clash (cc)

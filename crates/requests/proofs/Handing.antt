@@ -13,7 +13,7 @@ use Rattle.laws.specs.Faithful.{Faithful}
 use Rattle.slots.specs.Gaps.{GapTable}
 use Rattle.store.specs.Store.{Store, size, IsWord}
 use Rattle.store.specs.JobIn.{jobIn, definitionsIn, countsIn, constantsIn, namingsIn, linkedIn}
-use Rattle.store.specs.Regions.{COUNTS, MARKS, NAME-HEADS, NODE-HEADS, NAME-LINKS, NODE-LINKS, OFFSETS, FIRSTS, SIZES, GOALS, CHILDREN, NAME-PLACES, NAME-GOALS, NODES, PLACE, AT, NAME-COUNT, NODE-COUNT, VISITS, Work}
+use Rattle.store.specs.Regions.{COUNTS, MARKS, NAME-HEADS, NODE-HEADS, NAME-LINKS, NODE-LINKS, OFFSETS, FIRSTS, SIZES, GOALS, CHILDREN, NAME-PLACES, NAME-GOALS, NODES, VALUES, PLACE, AT, NAME-COUNT, NODE-COUNT, VISITS, Work}
 use Rattle.store.specs.Words.{markWord}
 use Rattle.store.proofs.Bounds.{small}
 use Rattle.store.proofs.Laying.{work-sizes, work-formed}
@@ -63,7 +63,7 @@ module _ (s p : List ℕ) (top : ℕ) (t u : Store) (d : Defined) (f : AtFifty p
       record {
         table =
             record {
-              entered = rw (k OFFSETS refl, k FIRSTS refl, k SIZES refl) (f .table .entered);
+              entered = rw (k OFFSETS refl, k FIRSTS refl, k SIZES refl, k VALUES refl) (f .table .entered);
               linked = rw (k FIRSTS refl, k GOALS refl) (f .table .linked);
             };
         rests = rests-still;

@@ -17,7 +17,7 @@ use Rattle.laws.specs.Faithful.{Faithful, InTable, Now}
 use Rattle.laws.proofs.resolving.FaithfulToEntries.{resolve-faithful}
 use Rattle.store.specs.Store.{Store, size, put, IsWord, Kept}
 use Rattle.store.specs.JobIn.{entriesIn, linkedIn}
-use Rattle.store.specs.Regions.{COUNTS, MARKS, OFFSETS, FIRSTS, SIZES, GOALS, CHILDREN, NODES, STACK, NODE-COUNT, VISITS, Work}
+use Rattle.store.specs.Regions.{COUNTS, MARKS, OFFSETS, FIRSTS, SIZES, GOALS, CHILDREN, NODES, STACK, VALUES, NODE-COUNT, VISITS, Work}
 use Rattle.store.specs.Words.{REFUSED, markWord, goalWord, IsGoal}
 use Rattle.store.specs.Small.{Small}
 use Rattle.store.proofs.Laying.{work-sizes}
@@ -89,7 +89,7 @@ module _ (h : ℕ) (s : List ℕ) (t : Store) (goal : ℕ) (few : Small s) (rest
 pub table-kept : (s : List ℕ) (t u : Store) → Table s t → Kept stepRegions t u → Table s u
 table-kept s t u table kept =
     record {
-      entered = rw (kept OFFSETS refl, kept FIRSTS refl, kept SIZES refl) (table .entered);
+      entered = rw (kept OFFSETS refl, kept FIRSTS refl, kept SIZES refl, kept VALUES refl) (table .entered);
       linked = rw (kept FIRSTS refl, kept GOALS refl) (table .linked);
     }
 

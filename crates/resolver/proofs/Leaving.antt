@@ -19,7 +19,7 @@ use Rattle.laws.proofs.resolving.FaithfulToEntries.{leaving-some}
 use Rattle.store.specs.Store.{Store, put, IsWord}
 use Rattle.store.specs.Chains.{headOf}
 use Rattle.store.specs.JobIn.{tableIn, entriesIn, numberedIn, linkedIn}
-use Rattle.store.specs.Regions.{COUNTS, MARKS, NODE-HEADS, NODE-LINKS, OFFSETS, FIRSTS, SIZES, GOALS, CHILDREN, NODES, NODE-COUNT}
+use Rattle.store.specs.Regions.{COUNTS, MARKS, NODE-HEADS, NODE-LINKS, OFFSETS, FIRSTS, SIZES, GOALS, CHILDREN, NODES, VALUES, NODE-COUNT}
 use Rattle.store.specs.Words.{cut, goalWord, markWord}
 use Rattle.store.specs.Entries.{Apart, Entered}
 use Rattle.store.proofs.Keeping.{kept-put, kept-then, kept-more}
@@ -150,8 +150,8 @@ module _
       side (inl a) = inl (omega arith)
       side (inr a) = inr (omega arith)
 
-  pub entered-still : Entered s (v OFFSETS) (v FIRSTS) (v SIZES)
-  entered-still = rw (written .kept OFFSETS refl, written .kept FIRSTS refl, written .kept SIZES refl) (table .entered)
+  pub entered-still : Entered s (v OFFSETS) (v FIRSTS) (v SIZES) (v VALUES)
+  entered-still = rw (written .kept OFFSETS refl, written .kept FIRSTS refl, written .kept SIZES refl, written .kept VALUES refl) (table .entered)
 
   pub nodes-still : NodesIn h s v
   nodes-still =

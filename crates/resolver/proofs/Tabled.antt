@@ -140,7 +140,7 @@ pub record Kids (s firsts sizes goals : List ℕ) (e : ℕ) (x : Entry ℕ Goal)
   pub is : from (λ i. goalWord (getD goals (getD firsts e 0 + i) 0)) 0 (getD sizes e 0) ≡ x .kids
   pub words : (i : ℕ) → i < getD sizes e 0 → IsGoal (entriesIn s) (getD goals (getD firsts e 0 + i) 0)
 
-module _ (s offsets firsts sizes goals : List ℕ) (entered : Entered s offsets firsts sizes) (links : Linked s firsts goals) where
+module _ (s offsets firsts sizes goals : List ℕ) {values : List ℕ} (entered : Entered s offsets firsts sizes values) (links : Linked s firsts goals) where
   pub kids-of : (e : ℕ) (x : Entry ℕ Goal) → getElem? (linkedIn s) e ≡ some x → Kids s firsts sizes goals e x
   kids-of e x at =
       let r = row s e x at in

@@ -12,7 +12,7 @@ use Rattle.laws.specs.Faithful.{owing}
 use Rattle.laws.specs.Faithful.{Faithful}
 use Rattle.store.specs.Store.{Store, Kept}
 use Rattle.store.specs.JobIn.{countsIn, entriesIn, linkedIn}
-use Rattle.store.specs.Regions.{COUNTS, MARKS, NODE-HEADS, NODE-LINKS, OFFSETS, FIRSTS, SIZES, GOALS, CHILDREN, NODES, STACK, NODE-COUNT, VISITS}
+use Rattle.store.specs.Regions.{COUNTS, MARKS, NODE-HEADS, NODE-LINKS, OFFSETS, FIRSTS, SIZES, GOALS, CHILDREN, NODES, STACK, VALUES, NODE-COUNT, VISITS}
 use Rattle.store.specs.Words.{ENTRY, REFUSED, markWord, goalWord}
 use Rattle.store.specs.Entries.{Entered, Linked}
 use Rattle.interner.specs.Nodes.{NodesIn, nodeCount, nodesIn}
@@ -36,7 +36,7 @@ lowestOf k marks = position (became k) (map markWord marks)
 
 -- what stays while entries are resolved: where they stand, and where their references lead
 pub record Table (s : List ℕ) (t : Store) : Type 0 where
-  pub entered : Entered s (t OFFSETS) (t FIRSTS) (t SIZES)
+  pub entered : Entered s (t OFFSETS) (t FIRSTS) (t SIZES) (t VALUES)
   pub linked : Linked s (t FIRSTS) (t GOALS)
 
 -- what holds between two goals that are resolved: h is the number of heads of the nodes' chains

@@ -11,7 +11,7 @@ use Rattle.definition.specs.Basics.{good, unless, only}
 use Rattle.definition.specs.Settings.{version, texts, highest}
 use Rattle.definition.specs.Shapes.{Kind, constant, bootstrap, Entry}
 use Rattle.definition.specs.Job.{Reference, Definition, define, named, placed, setting, readDefinition}
-use Rattle.definition.specs.Form.{Counts, countOf, kindOf, oneMore, oneSetting, withBroken, oneRecord, counted, whole, mayStand, hasRoom, citesEarlier, formDefinition, Definitions, formDefinitions, form}
+use Rattle.definition.specs.Form.{Counts, countOf, kindOf, oneMore, oneSetting, withBroken, oneRecord, counted, whole, mayStand, hasRoom, citesEarlier, comesOut, formDefinition, Definitions, formDefinitions, form}
 use Rattle.definition.specs.Numbering.{entries, isBootstrap, constantsOf, bootstrapsOf}
 use Rattle.definition.specs.Definitions.{sameKind}
 use Rattle.laws.proofs.form.DefinitionsRead.{noEntries, formed-definitions, formed-end, formed-step}
@@ -96,6 +96,7 @@ formed-room n first bytes r e =
     good-then (mayStand n (a .0)) _ r q λ _ _ q.
     good-then (unless (hasRoom n (a .0)) 5) _ r q λ u h s.
     good-then (unless (citesEarlier n (a .0)) 4) _ r s λ _ _ t.
+    good-then (comesOut first bytes) _ r t λ _ _ t.
     subst (λ x. hasRoom n (x .0) ≡ true) (good-inj t) (unless-good (hasRoom n (a .0)) 5 u h)
 
 fit-formed :

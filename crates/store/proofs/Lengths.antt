@@ -2,28 +2,31 @@
 use mathlib.Core.Bool.{Bool, true, false, not}
 use mathlib.Core.List.{List, [], _∷_, _++_}
 use mathlib.Core.Option.{Option, none, some}
-use mathlib.Core.Path.{_≡_, refl, ap, subst, _∙_}
+use mathlib.Core.Path.{_≡_, refl, sym, ap, subst, _∙_}
 use Prim.Native.Nat.{ℕ, zero, suc, _+_, _-_, _*_, _≤_}
 use native.Mathlib.Omega.{arith}
 use lib.Dec.{eqb, leb}
 use lib.ListN.{length, getD, drop, length-append, length-drop}
-use borrow.Author.Tests.{leb-true}
+use borrow.Author.Tests.{leb-true, eqb-true}
 use Rattle.definition.specs.Basics.{every, lookup, only}
 use Rattle.definition.specs.Bytes.{Parser, return, one, two, many}
+use Rattle.definition.specs.Expression.{Number, int, float, long, double, tagOf, Sign, Expression, four, eight, bits as readBits, Opening, ofLeaf, ofSign, openings, joined, secondPart, openedPart, expression, readExpression}
 use Rattle.definition.specs.Settings.{Setting, version, texts, highest}
 use Rattle.definition.specs.Shapes.{Kind, constant, bootstrap, Field, text, bits, byte, to, toMany, shapes, bootstrapShape, bootstrapTag, Entry, withKids, withLiteral, withByte, readFields, readEntry}
-use Rattle.definition.specs.Job.{Reference, raw, entry, name, Definition, define, named, placed, setting, Body, ofEntry, ofName, ofRaw, ofNumber, ofNothing, bodies, shortName, referenceForm, reference, readBody, readDefinition}
+use Rattle.definition.specs.Job.{Reference, raw, entry, name, Definition, define, named, placed, setting, Body, ofEntry, ofName, ofRaw, ofExpression, ofNumber, ofNothing, bodies, asConstant, shortName, referenceForm, reference, readBody, readDefinition}
 use Rattle.definition.specs.Numbering.{entries, isBootstrap, constantsOf, bootstrapsOf}
 use Rattle.definition.specs.Definitions.{sameKind}
 use Rattle.laws.proofs.form.EmptyLiterals.{fields-keep}
-use Rattle.facts.proofs.Lists.{none≢some, only-here, only-later, only-more}
+use Rattle.facts.proofs.Lists.{true≢false, none≢some, only-here, only-later, only-more}
 use Rattle.facts.proofs.Results.{some-then}
 use Rattle.facts.proofs.Tables.{lookup-every}
 use Rattle.job.specs.declared.JobCounts.{JobCounts}
 use Rattle.job.specs.Forms.{isNaming, isPlacing, isVersion, isHolding, kidsIn, referencesIn, countsOf, Bounded}
-use Rattle.job.specs.Stored.{Found, InTurn, anyDefinition}
+use Rattle.job.specs.Stored.{Found, InTurn, anyDefinition, isWorked}
 use Rattle.job.proofs.Counting.{entries-more}
-use Rattle.job.proofs.Taking.{byte-then}
+use Rattle.job.proofs.Expressions.{expression-first}
+use Rattle.job.proofs.Standing.{definition-read, worked-there}
+use Rattle.job.proofs.Endings.{opens-entry}
 use Rattle.store.specs.Regions.{entriesOf}
 
 -- ---- the parts of a record
@@ -90,6 +93,63 @@ cost-references (suc n) l kids rest e =
     let g = same-rest (a ∷ more) kids l₂ rest e₄ in
     omega (arith, cost-reference constant l a l₁ e₁, cost-references n l₁ more l₂ e₃, ap length (g .0), g .1)
 
+-- ---- an expression: a leaf has a tag and four bytes or eight
+
+cost-four : Costs 4 four
+unfolding four
+cost-four l n rest e =
+    some-then (two l) _ (n, rest) e λ a l₁ e₁ e₂.
+    some-then (two l₁) _ (n, rest) e₂ λ b l₂ e₃ e₄.
+    omega (arith, cost-two l a l₁ e₁, cost-two l₁ b l₂ e₃, same-rest (65536 * a + b) n l₂ rest e₄ .1)
+
+cost-eight : Costs 4 eight
+unfolding eight
+cost-eight l n rest e =
+    some-then (four l) _ (n, rest) e λ a l₁ e₁ e₂.
+    some-then (four l₁) _ (n, rest) e₂ λ b l₂ e₃ e₄.
+    omega (arith, cost-four l a l₁ e₁, cost-four l₁ b l₂ e₃, same-rest (4294967296 * a + b) n l₂ rest e₄ .1)
+
+cost-bits : (kind : Number) → Costs 4 (readBits kind)
+unfolding readBits
+cost-bits int = cost-four
+cost-bits float = cost-four
+cost-bits long = cost-eight
+cost-bits double = cost-eight
+
+-- what a parser reads, if it is an expression, takes at least so many bytes
+abbrev CostsSome : ℕ → Parser (Option Expression) → Type 0
+CostsSome least p = (l : List ℕ) (e : Expression) (rest : List ℕ) → p l ≡ some (some e, rest) → least + length rest ≤ length l
+
+cost-second : (part : Parser (Option Expression)) → CostsSome 5 part → (s : Sign) (a : Expression) → CostsSome 0 (secondPart part s (some a))
+unfolding secondPart joined
+cost-second part costs s a l e rest h = some-then (part l) _ (some e, rest) h λ b l₁ h₁ h₂. ways b l₁ h₁ h₂
+  where
+    ways : (b : Option Expression) (l₁ : List ℕ) → part l ≡ some (b, l₁) → return (joined s a b) l₁ ≡ some (some e, rest) → 0 + length rest ≤ length l
+    ways none l₁ h₁ h₂ = none≢some (same-rest none (some e) l₁ rest h₂ .0)
+    ways (some b) l₁ h₁ h₂ = omega (arith, costs l b l₁ h₁, same-rest (joined s a (some b)) (some e) l₁ rest h₂ .1)
+
+cost-opened : (part : Parser (Option Expression)) → CostsSome 5 part → (o : Option Opening) → CostsSome 4 (openedPart part o)
+unfolding openedPart secondPart
+cost-opened part costs none l e rest h = none≢some (same-rest none (some e) l rest h .0)
+cost-opened part costs (some (ofLeaf kind)) l e rest h =
+    some-then (readBits kind l) _ (some e, rest) h λ b l₁ h₁ h₂. omega (arith, cost-bits kind l b l₁ h₁, same-rest _ (some e) l₁ rest h₂ .1)
+cost-opened part costs (some (ofSign s)) l e rest h = some-then (part l) _ (some e, rest) h λ a l₁ h₁ h₂. ways a l₁ h₁ h₂
+  where
+    ways : (a : Option Expression) (l₁ : List ℕ) → part l ≡ some (a, l₁) → secondPart part s a l₁ ≡ some (some e, rest) → 4 + length rest ≤ length l
+    ways none l₁ h₁ h₂ = none≢some (same-rest none (some e) l₁ rest h₂ .0)
+    ways (some a) l₁ h₁ h₂ = omega (arith, costs l a l₁ h₁, cost-second part costs s a l₁ e rest h₂)
+
+cost-fuel : (fuel : ℕ) → CostsSome 5 (expression fuel)
+unfolding expression
+cost-fuel zero l e rest h = none≢some h
+cost-fuel (suc fuel) l e rest h =
+    some-then (one l) _ (some e, rest) h λ first l₁ h₁ h₂.
+    omega (arith, cost-one l first l₁ h₁, cost-opened (expression fuel) (cost-fuel fuel) (lookup first openings) l₁ e rest h₂)
+
+pub cost-expression : CostsSome 5 readExpression
+unfolding readExpression
+cost-expression l e rest h = cost-fuel (length l) l e rest h
+
 -- ---- an entry
 
 -- the bytes of fields beside their references, at the least, and the references that are always there
@@ -155,6 +215,7 @@ unfoldable enough : ℕ → Body → Bool
 enough tag (ofEntry fields) = leb (wanted (eqb tag bootstrapTag)) (17 * fixed fields + 25 * always fields)
 enough tag (ofName kind) = true
 enough tag (ofRaw kind) = true
+enough tag ofExpression = true
 enough tag (ofNumber rule) = true
 enough tag (ofNothing rule) = true
 
@@ -270,7 +331,7 @@ shape-enough tag fields b told same =
     (lookup-every (λ r. enough (r .0) (r .1)) bodies all-enough tag (ofEntry fields) told))
 
 -- a definition behind its first byte
-module _ (n first : ℕ) (l rest : List ℕ) (size : n + length rest ≡ suc (length l)) where
+module _ (n first : ℕ) (l rest : List ℕ) (size : n + length rest ≡ suc (length l)) (plain : eqb first 0x46 ≡ false) where
   enough-entry :
       (fields : List Field) (e : Entry (List ℕ) Reference) →
       lookup first bodies ≡ some (ofEntry fields) →
@@ -308,6 +369,7 @@ module _ (n first : ℕ) (l rest : List ℕ) (size : n + length rest ≡ suc (le
       let g = same-rest (placed kind at number) d l₂ rest h₄ in
       subst (λ x. Enough n (countsOf (x ∷ []) 0)) (g .0)
       (enough-placed kind at number n (omega (arith, cost-two l at l₁ h₁, cost-two l₁ number l₂ h₃, g .1)))
+  enough-body ofExpression d told h = true≢false (sym (expression-first first told) ∙ plain)
   enough-body (ofNumber rule) d told h =
       some-then (two l) _ (d, rest) h λ number l₁ h₁ h₂.
       let g = same-rest (setting (rule number)) d l₁ rest h₂ in
@@ -322,14 +384,51 @@ module _ (n first : ℕ) (l rest : List ℕ) (size : n + length rest ≡ suc (le
   enough-read d none told h = none≢some h
   enough-read d (some body) told h = enough-body body d told h
 
+-- a constant worked out takes six bytes or more, and is no bootstrap
+number-constant : (kind : Number) → eqb (tagOf kind) bootstrapTag ≡ false
+unfolding tagOf
+number-constant int = refl
+number-constant float = refl
+number-constant long = refl
+number-constant double = refl
+
+pub worked-cost :
+    (s : List ℕ) (at : ℕ) (x : Entry (List ℕ) Reference) (next : ℕ) → Found anyDefinition s at (define x) next → isWorked s at ≡ true → at + 6 ≤ next
+worked-cost s at x next f worked =
+    let w = worked-there s at x next f worked in
+    let c = cost-expression (drop (at + 1) s) (w .what) (drop next s) (w .read) in
+    omega (arith, c, length-drop (at + 1) s, length-drop next s, f .within)
+
+enough-expression :
+    (s : List ℕ) (at : ℕ) (d : Definition (List ℕ)) (next : ℕ) → Found anyDefinition s at d next → isWorked s at ≡ true →
+    Enough (next - at) (countsOf (d ∷ []) 0)
+unfolding isBootstrap asConstant
+enough-expression s at d next f worked =
+    let first = eqb-true (getD s at 0) 0x46 worked in
+    let no : (k : ℕ) → (k ≡ 0x46 → ⊥) → getD s at 0 ≡ k → ⊥ = λ k n e. n (sym e ∙ first) in
+    let o =
+    opens-entry s at d next f (no 0x41 (λ e. omega arith)) (no 0x42 (λ e. omega arith)) (no 0x43 (λ e. omega arith)) (no 0x44 (λ e. omega arith))
+    (no 0x47 (λ e. omega arith)) (no 0x48 (λ e. omega arith)) (no 0x49 (λ e. omega arith)) in
+    let x = o .0 in
+    let g : Found anyDefinition s at (define x) next = subst (λ y. Found anyDefinition s at y next) (o .1) f in
+    let w = worked-there s at x next g worked in
+    let kids : length (x .kids) ≡ 0 = ap (λ (y : Entry (List ℕ) Reference). length (y .kids)) (w .is) in
+    let long = worked-cost s at x next g worked in
+    subst (λ y. Enough (next - at) (countsOf (y ∷ []) 0)) (sym (o .1))
+    (enough-constant x (next - at) (omega arith) (ap (λ (y : Entry (List ℕ) Reference). eqb (y .tag) bootstrapTag) (w .is) ∙ number-constant (w .number .0)) (omega arith))
+
 -- a definition at its place
 pub enough-found :
     (s : List ℕ) (at : ℕ) (d : Definition (List ℕ)) (next : ℕ) → Found anyDefinition s at d next → Enough (next - at) (countsOf (d ∷ []) 0)
 unfolding readDefinition
-enough-found s at d next f =
-    let b = byte-then s at readDefinition d (drop next s) (f .read) in
-    let size : next - at + length (drop next s) ≡ suc (length (drop (at + 1) s)) = simp length-drop (omega (arith, f .past, f .within)) in
-    enough-read (next - at) (getD s at 0) (drop (at + 1) s) (drop next s) size d (lookup (getD s at 0) bodies) refl (b .1)
+enough-found s at d next f = ways (isWorked s at) refl
+  where
+    ways : (b : Bool) → isWorked s at ≡ b → Enough (next - at) (countsOf (d ∷ []) 0)
+    ways true worked = enough-expression s at d next f worked
+    ways false plain =
+        let b = definition-read s at d next f in
+        let size : next - at + length (drop next s) ≡ suc (length (drop (at + 1) s)) = simp length-drop (omega (arith, f .past, f .within)) in
+        enough-read (next - at) (getD s at 0) (drop (at + 1) s) (drop next s) size plain d (lookup (getD s at 0) bodies) refl (b .2)
 
 -- all definitions, from a place to another
 enough-none : Enough 0 (countsOf [] 0)

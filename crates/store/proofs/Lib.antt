@@ -10,3 +10,4 @@ pub mod Room
 pub mod Placing
 pub mod Starting
 pub mod Goals
+pub mod Worked

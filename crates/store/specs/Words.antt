@@ -1,14 +1,14 @@
 -- What the words of the regions mean: references, goals, items of the stack, marks. Assumes nothing.
 use mathlib.Core.Bool.{Bool, true, false}
-use mathlib.Core.List.{List}
+use mathlib.Core.List.{List, _++_}
 use mathlib.Core.Logic.{_⊎_}
 use mathlib.Core.Path.{_≡_}
 use Prim.Native.Nat.{ℕ, zero, suc, _+_, _-_, _≤_, _<_}
 use lib.Dec.{ltb}
 use lib.ListN.{length, getD, take, drop}
 use Rattle.definition.specs.Basics.{from}
-use Rattle.definition.specs.Bytes.{Parser}
-use Rattle.definition.specs.Shapes.{constant, bootstrap}
+use Rattle.definition.specs.Bytes.{Parser, be4}
+use Rattle.definition.specs.Shapes.{constant, bootstrap, isWide}
 use Rattle.definition.specs.Job.{Reference, raw, entry, name, shortName}
 use Rattle.definition.specs.Resolving.{Goal, rawNumber, tableEntry, refusal, Mark, fresh, underway, done, Item, enter, leave}
 use Rattle.job.specs.Stored.{Stands}
@@ -92,6 +92,10 @@ unfoldable pub markWord : ℕ → Mark
 markWord zero = fresh
 markWord (suc zero) = underway
 markWord (suc (suc k)) = done k
+
+-- the bytes of a number with this tag: of its first word, and of a second one if it is wide
+unfoldable pub numberBytes : ℕ → ℕ → ℕ → List ℕ
+numberBytes tag first second = elim (isWide tag) [ true ↦ be4 first ++ be4 second | false ↦ be4 first ]
 
 -- n words from a place on
 abbrev pub cut : List ℕ → ℕ → ℕ → List ℕ

@@ -8,14 +8,15 @@ use native.Mathlib.Omega.{arith}
 use lib.ListN.{length, getD, drop}
 use Rattle.definition.specs.Basics.{same, lookup}
 use Rattle.definition.specs.Shapes.{Kind, constant, bootstrap, shapes}
-use Rattle.definition.specs.Job.{Definition, named, Body, ofEntry, ofName, ofRaw, ofNumber, ofNothing, bodies, shortName, reference, readBody, readDefinition}
+use Rattle.definition.specs.Job.{Definition, named, Body, ofEntry, ofName, ofRaw, ofExpression, ofNumber, ofNothing, bodies, shortName, reference, readBody, readDefinition}
 use Rattle.definition.specs.Definitions.{Naming, sameKind}
 use Rattle.facts.proofs.Lists.{clash, none≢some, both-true, same-true, same-refl}
 use Rattle.facts.proofs.Each.{Each, lookup-each}
 use Rattle.laws.proofs.form.CitedEntries.{sameKind-true}
 use Rattle.job.specs.Stored.{Found, anyDefinition}
-use Rattle.job.proofs.Stepping.{entry-read, raw-read, setting-read, bare-read}
-use Rattle.job.proofs.Taking.{takes-name, takes-reference, finds-then, byte-then, ends}
+use Rattle.job.proofs.Stepping.{entry-read, raw-read, setting-read, bare-read, worked-read}
+use Rattle.job.proofs.Standing.{definition-read}
+use Rattle.job.proofs.Taking.{takes-name, takes-reference, finds-then, ends}
 use Rattle.sym_refs.specs.Names.{kindByte, NamingAt, isName}
 
 -- KINDS
@@ -49,12 +50,13 @@ FirstOf : ℕ → Body → Type 0
 FirstOf first (ofEntry fields) = Unit {0}
 FirstOf first (ofName kind) = first ≡ kindByte kind
 FirstOf first (ofRaw kind) = Unit {0}
+FirstOf first ofExpression = Unit {0}
 FirstOf first (ofNumber rule) = Unit {0}
 FirstOf first (ofNothing rule) = Unit {0}
 
 all-first : Each (λ r. FirstOf (r .0) (r .1)) bodies
 unfolding bodies shapes FirstOf kindByte
-all-first = (tt, (tt, (tt, (tt, (tt, (tt, (tt, (tt, (tt, (tt, (tt, (tt, (tt, (tt, (tt, (tt, (tt, (tt, (refl, (refl, (tt, (tt, (tt, (tt, (tt, tt)))))))))))))))))))))))))
+all-first = (tt, (tt, (tt, (tt, (tt, (tt, (tt, (tt, (tt, (tt, (tt, (tt, (tt, (tt, (tt, (tt, (tt, (tt, (refl, (refl, (tt, (tt, (tt, (tt, (tt, (tt, tt))))))))))))))))))))))))))
 
 first-of : (first : ℕ) (kind : Kind) → lookup first bodies ≡ some (ofName kind) → first ≡ kindByte kind
 unfolding FirstOf
@@ -98,6 +100,9 @@ module _ (s : List ℕ) (at : ℕ) (x : Naming) (next : ℕ) (f : Found anyDefin
       let t = raw-read (getD s at 0) kind (drop (at + 1) s) (drop next s) d r in
       let same = t .2 in
       clash (cc)
+  by (some ofExpression) e inside r =
+      let same = worked-read (getD s at 0) (drop (at + 1) s) (drop next s) d r .2 in
+      clash (cc)
   by (some (ofNumber rule)) e inside r =
       let same = setting-read (getD s at 0) rule (drop (at + 1) s) (drop next s) d r .1 in
       clash (cc)
@@ -108,8 +113,8 @@ module _ (s : List ℕ) (at : ℕ) (x : Naming) (next : ℕ) (f : Found anyDefin
   found-there : NamingThere s at x
   unfolding readDefinition
   found-there =
-      let b = byte-then s at readDefinition d (drop next s) (f .read) in
-      by (lookup (getD s at 0) bodies) refl (b .0) (b .1)
+      let b = definition-read s at d next f in
+      by (lookup (getD s at 0) bodies) refl (b .0) (b .2)
 
 pub naming-there : (s : List ℕ) (at : ℕ) (x : Naming) → NamingAt s at x → NamingThere s at x
 naming-there s at x (next, f, cited) = found-there s at x next f

@@ -9,6 +9,7 @@ use lib.ListN.{getD}
 use native.Mathlib.Omega.{arith}
 use mathlib.Core.Path.{_≡_, sym, _∙_}
 use borrow.Author.Needs.{needs}
+use borrow.Author.Tests.{eqb-true}
 use Rattle.definitions.proofs.define_one.Statement.{statement}
 use Rattle.definitions.proofs.define_one.Tie as tie
 
@@ -35,6 +36,9 @@ add-raw-def-requires c κs = let a = c .before .before .before .before .before .
 add-bs-raw-def-requires : tie.Need-add-bs-raw-def-requires
 add-bs-raw-def-requires c κs = let a = c .before .before .before .before .before .before .args in let h = c .before .before .before .before .before .before .pre in (search needs, h .1, (a .top, h .2), sym (c .before .before .get-u8 .ensures) ∙ c .before .match .keys5)
 
+add-worked-requires : tie.Need-add-worked-requires
+add-worked-requires c κs = let a = c .before .before .before .before .before .before .args in let h = c .before .before .before .before .before .before .pre in (search needs, h .1, (a .top, h .2), sym (c .before .before .get-u8 .ensures) ∙ c .before .match .keys6)
+
 add-result : tie.Need-add-result
 add-result c = let a = c .before .before .before .before .before .args in let h = c .before .before .before .before .before .pre in let m = room (a .job .now) (a .p .now) (h .1) in omega (arith, record-stands (a .p .now) (a .top) (a .job .now) (store (a .p .now) (a .w .now)) (a .at) (h .2), m .bytes)
 
@@ -45,7 +49,7 @@ add-result-3 : tie.Need-add-result-3
 add-result-3 c = let a = c .before .before .before .before .before .args in let h = c .before .before .before .before .before .pre in let m = room (a .job .now) (a .p .now) (h .1) in omega (arith, record-stands (a .p .now) (a .top) (a .job .now) (store (a .p .now) (a .w .now)) (a .at) (h .2), m .bytes)
 
 add-counted-requires-2 : tie.Need-add-counted-requires-2
-add-counted-requires-2 c κs = let a = c .before .before .before .before .before .before .args in let h = c .before .before .before .before .before .before .pre in let r = c .before .match .rest in let g = c .before .before .get-u8 .ensures in (search needs, h .1, omega arith, omega arith, constant-needs (a .p .now) (a .top) (a .job .now) (store (a .p .now) (a .w .now)) (a .at) (h .2) (h .1) (λ i. c .before .before .before .before .before .shared-slice-known .given i .fits) (length-store (a .p .now) (a .w .now)) (λ q. r .0 .0 .0 .0 .0 .0 .1 (g ∙ q)) (λ q. r .0 .0 .0 .0 .0 .1 (g ∙ q)) (λ q. r .0 .0 .0 .0 .1 (g ∙ q)) (λ q. r .0 .0 .0 .1 (g ∙ q)) (λ q. r .0 .0 .1 (g ∙ q)) (λ q. r .0 .1 (g ∙ q)) (λ q. r .1 (g ∙ q)) (λ q. r .0 .0 .0 .0 .0 .0 .0 .1 (g ∙ q)))
+add-counted-requires-2 c κs = let a = c .before .before .before .before .before .before .args in let h = c .before .before .before .before .before .before .pre in let r = c .before .match .rest in let g = c .before .before .get-u8 .ensures in (search needs, h .1, omega arith, omega arith, constant-needs (a .p .now) (a .top) (a .job .now) (store (a .p .now) (a .w .now)) (a .at) (h .2) (h .1) (λ i. c .before .before .before .before .before .shared-slice-known .given i .fits) (length-store (a .p .now) (a .w .now)) (λ q. r .0 .0 .0 .0 .0 .0 .0 .1 (g ∙ q)) (λ q. r .0 .0 .0 .0 .0 .0 .1 (g ∙ q)) (λ q. r .0 .0 .0 .0 .0 .1 (g ∙ q)) (λ q. r .0 .0 .0 .0 .1 (g ∙ q)) (λ q. r .0 .0 .1 (g ∙ q)) (λ q. r .0 .1 (g ∙ q)) (λ q. r .1 (g ∙ q)) (λ q. r .0 .0 .0 .0 .0 .0 .0 .0 .1 (g ∙ q)))
 
 same-length : tie.Need-same-length
 same-length c = search needs
@@ -77,20 +81,26 @@ same-length-5 c = search needs
 returns-5 : tie.Need-returns-5
 returns-5 c = c .before .before .add-bs-raw-def .ensures (c .before .before .before .before .before .before .before .before .before .args .top) (c .before .before .before .before .before .before .before .before .before .pre .2)
 
-returns-6 : tie.Need-returns-6
-returns-6 c = let a = c .before .before .before .before .before .args in let h = c .before .before .before .before .before .pre in version-done (a .p .now) (a .top) (a .job .now) (store (a .p .now) (a .w .now)) (a .at) (h .2) (h .1) (λ i. c .before .before .before .before .shared-slice-known .given i .fits) (sym (c .before .get-u8 .ensures) ∙ c .match .keys6)
-
-returns-7 : tie.Need-returns-7
-returns-7 c = let a = c .before .before .before .before .before .args in let h = c .before .before .before .before .before .pre in texts-done (a .p .now) (a .top) (a .job .now) (store (a .p .now) (a .w .now)) (a .at) (h .2) (h .1) (λ i. c .before .before .before .before .shared-slice-known .given i .fits) (sym (c .before .get-u8 .ensures) ∙ c .match .keys7)
-
-returns-8 : tie.Need-returns-8
-returns-8 c = let a = c .before .before .before .before .before .args in let h = c .before .before .before .before .before .pre in highest-done (a .p .now) (a .top) (a .job .now) (store (a .p .now) (a .w .now)) (a .at) (h .2) (h .1) (λ i. c .before .before .before .before .shared-slice-known .given i .fits) (sym (c .before .get-u8 .ensures) ∙ c .match .keys8)
-
 same-length-6 : tie.Need-same-length-6
 same-length-6 c = search needs
 
+returns-6 : tie.Need-returns-6
+returns-6 c = c .before .before .add-worked .ensures (c .before .before .before .before .before .before .before .before .before .args .top) (c .before .before .before .before .before .before .before .before .before .pre .2)
+
+returns-7 : tie.Need-returns-7
+returns-7 c = let a = c .before .before .before .before .before .args in let h = c .before .before .before .before .before .pre in version-done (a .p .now) (a .top) (a .job .now) (store (a .p .now) (a .w .now)) (a .at) (h .2) (h .1) (λ i. c .before .before .before .before .shared-slice-known .given i .fits) (sym (c .before .get-u8 .ensures) ∙ c .match .keys7)
+
+returns-8 : tie.Need-returns-8
+returns-8 c = let a = c .before .before .before .before .before .args in let h = c .before .before .before .before .before .pre in texts-done (a .p .now) (a .top) (a .job .now) (store (a .p .now) (a .w .now)) (a .at) (h .2) (h .1) (λ i. c .before .before .before .before .shared-slice-known .given i .fits) (sym (c .before .get-u8 .ensures) ∙ c .match .keys8)
+
 returns-9 : tie.Need-returns-9
-returns-9 c = let a = c .before .before .before .before .before .before .before .before .before .args in let h = c .before .before .before .before .before .before .before .before .before .pre in let r = c .before .before .before .before .match .rest in let g = c .before .before .before .before .before .get-u8 .ensures in constant-done (a .p .now) (a .top) (a .job .now) (store (a .p .now) (a .w .now)) (a .at) (h .2) (h .1) (λ i. c .before .before .before .before .before .before .before .before .shared-slice-known .given i .fits) (length-store (a .p .now) (a .w .now)) (λ q. r .0 .0 .0 .0 .0 .0 .1 (g ∙ q)) (λ q. r .0 .0 .0 .0 .0 .1 (g ∙ q)) (λ q. r .0 .0 .0 .0 .1 (g ∙ q)) (λ q. r .0 .0 .0 .1 (g ∙ q)) (λ q. r .0 .0 .1 (g ∙ q)) (λ q. r .0 .1 (g ∙ q)) (λ q. r .1 (g ∙ q)) (λ q. r .0 .0 .0 .0 .0 .0 .0 .1 (g ∙ q)) _ (c .before .before .add-counted2 .result) (c .before .before .add-counted2 .ensures)
+returns-9 c = let a = c .before .before .before .before .before .args in let h = c .before .before .before .before .before .pre in highest-done (a .p .now) (a .top) (a .job .now) (store (a .p .now) (a .w .now)) (a .at) (h .2) (h .1) (λ i. c .before .before .before .before .shared-slice-known .given i .fits) (sym (c .before .get-u8 .ensures) ∙ c .match .keys9)
+
+same-length-7 : tie.Need-same-length-7
+same-length-7 c = search needs
+
+returns-10 : tie.Need-returns-10
+returns-10 c = let a = c .before .before .before .before .before .before .before .before .before .args in let h = c .before .before .before .before .before .before .before .before .before .pre in let r = c .before .before .before .before .match .rest in let g = c .before .before .before .before .before .get-u8 .ensures in constant-done (a .p .now) (a .top) (a .job .now) (store (a .p .now) (a .w .now)) (a .at) (h .2) (h .1) (λ i. c .before .before .before .before .before .before .before .before .shared-slice-known .given i .fits) (length-store (a .p .now) (a .w .now)) (λ q. r .0 .0 .0 .0 .0 .0 .0 .1 (g ∙ q)) (λ q. r .0 .0 .0 .0 .0 .0 .1 (g ∙ q)) (λ q. r .0 .0 .0 .0 .0 .1 (g ∙ q)) (λ q. r .0 .0 .0 .0 .1 (g ∙ q)) (λ q. r .0 .0 .1 (g ∙ q)) (λ q. r .0 .1 (g ∙ q)) (λ q. r .1 (g ∙ q)) (λ q. r .0 .0 .0 .0 .0 .0 .0 .0 .1 (g ∙ q)) _ (c .before .before .add-counted2 .result) (c .before .before .add-counted2 .ensures) (λ w. absurd (r .0 .0 .0 .1 (g ∙ eqb-true _ 0x46 w)))
 
 pub define-one-spec : {M : Type 1} → statement M
 define-one-spec =
@@ -103,6 +113,7 @@ define-one-spec =
     add-sym-def-requires-2
     add-raw-def-requires
     add-bs-raw-def-requires
+    add-worked-requires
     add-result
     add-result-2
     add-result-3
@@ -117,8 +128,10 @@ define-one-spec =
     returns-4
     same-length-5
     returns-5
+    same-length-6
     returns-6
     returns-7
     returns-8
-    same-length-6
-    returns-9)
+    returns-9
+    same-length-7
+    returns-10)

@@ -1,5 +1,5 @@
 -- `interner::hash_entry` meets its contract: what it reads of the entry is what the hash goes by. Assumes nothing.
-use Rattle.interner.proofs.Reading.{places, short-job, stands, kids-fit, hashed-literal, hashed-children}
+use Rattle.interner.proofs.Reading.{places, stands, words-at, kids-fit, hashed-literal, hashed-children}
 use Rattle.store.specs.Store.{store}
 use native.Mathlib.Omega.{arith}
 use Rattle.interner.proofs.hash_entry.Statement.{statement}
@@ -12,7 +12,7 @@ load-requires-2 : tie.Need-load-requires-2
 load-requires-2 c κs = let a = c .before .before .before .before .args in let q = c .before .before .before .before .pre in (q .0, places (a .job .now) (a .p .now) (q .1) (a .e) (q .3) .sizes)
 
 hash-literal-requires : tie.Need-hash-literal-requires
-hash-literal-requires c κs = let a = c .before .before .before .before .before .before .args in let q = c .before .before .before .before .before .before .pre in (stands (a .job .now) (store (a .p .now) (a .w .now)) (a .e) (q .2) (q .3) (c .before .before .load .result) (c .before .before .load .ensures .word), short-job (a .job .now) (a .p .now) (q .1))
+hash-literal-requires c κs = let a = c .before .before .before .before .before .before .args in let q = c .before .before .before .before .before .before .pre in let t = store (a .p .now) (a .w .now) in let l = c .before .before .load in (q .0, q .1, stands (a .job .now) t (a .e) (q .2) (q .3) (l .result) (l .ensures .word), words-at (a .job .now) t (a .e) (q .2) (q .3) (l .result) (l .ensures .word))
 
 returns : tie.Need-returns
 returns c = let a = c .before .before .before .before .before .before .before .args in let q = c .before .before .before .before .before .before .before .pre in (hashed-literal (a .job .now) (store (a .p .now) (a .w .now)) (a .e) (q .2) (q .3) (c .before .before .before .load .result) (c .before .before .before .load .ensures .word) (c .hash-literal .result) (c .before .before .load2 .result) (c .before .before .load2 .ensures .word) (c .before .if1 .taken) (c .hash-literal .ensures .0), c .hash-literal .ensures .1)

@@ -1,5 +1,6 @@
 -- `interner::is_attribute` meets its contract: a text of 16 bytes that are those of the name. Assumes nothing.
 use Rattle.interner.proofs.Attribute.{name-fits, other-tag, other-length, by-bytes}
+use Rattle.interner.proofs.Words.{text-plain}
 use native.Mathlib.Omega.{arith}
 use borrow.Author.Needs.{needs}
 use Rattle.interner.proofs.is_attribute.Statement.{statement}
@@ -12,7 +13,7 @@ returns : tie.Need-returns
 returns c = λ x next f. other-tag (x .tag) (x .literal) (c .before .tag-at .result) (c .before .tag-at .ensures x next f) (c .if1 .taken)
 
 literal-at-requires : tie.Need-literal-at-requires
-literal-at-requires c κs = search needs
+literal-at-requires c κs = let a = c .before .before .before .args in let q = c .before .before .before .pre in (q, text-plain (a .job .now) (a .at) (c .before .tag-at .result) (c .before .tag-at .ensures) q (c .if1 .left))
 
 sub-if2 : tie.Need-sub-if2
 sub-if2 c = let q = c .before .before .before .before .before .pre in c .before .literal-at .ensures (q .0) (q .1) (q .2) .rising

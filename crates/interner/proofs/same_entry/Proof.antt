@@ -1,6 +1,6 @@
 -- `interner::same_entry` meets its contract: it compares all that nodes are told apart by, with literals only where there are no references,
 -- and kind bytes only where there are. Assumes nothing.
-use Rattle.interner.proofs.Reading.{places, stands, kids-fit, kids-fit-too, tags-differ, sizes-differ, bytes-differ, by-literals, by-children}
+use Rattle.interner.proofs.Reading.{places, stands, words-at, kids-fit, kids-fit-too, tags-differ, sizes-differ, bytes-differ, by-literals, by-children}
 use Rattle.store.specs.Store.{store}
 use Rattle.interner.proofs.same_entry.Statement.{statement}
 use Rattle.interner.proofs.same_entry.Tie as tie
@@ -30,7 +30,7 @@ returns-2 : tie.Need-returns-2
 returns-2 c = let a = c .before .before .before .before .before .before .before .before .before .before .before .args in let q = c .before .before .before .before .before .before .before .before .before .before .before .pre in sizes-differ (a .job .now) (store (a .p .now) (a .w .now)) (a .a) (a .b) (q .2) (q .3) (q .4) (c .before .before .before .before .before .before .before .load .result) (c .before .before .before .before .before .before .load2 .result) (c .before .before .before .before .before .before .before .load .ensures .word) (c .before .before .before .before .before .before .load2 .ensures .word) (c .before .load4 .result) (c .before .before .load3 .result) (c .before .before .load3 .ensures .word) (c .before .load4 .ensures .word) (c .if2 .taken)
 
 same-literal-requires : tie.Need-same-literal-requires
-same-literal-requires c κs = let a = c .before .before .before .before .before .before .before .before .before .before .before .before .args in let q = c .before .before .before .before .before .before .before .before .before .before .before .before .pre in (stands (a .job .now) (store (a .p .now) (a .w .now)) (a .a) (q .2) (q .3) (c .before .before .before .before .before .before .before .before .load .result) (c .before .before .before .before .before .before .before .before .load .ensures .word), stands (a .job .now) (store (a .p .now) (a .w .now)) (a .b) (q .2) (q .4) (c .before .before .before .before .before .before .before .load2 .result) (c .before .before .before .before .before .before .before .load2 .ensures .word))
+same-literal-requires c κs = let a = c .before .before .before .before .before .before .before .before .before .before .before .before .args in let q = c .before .before .before .before .before .before .before .before .before .before .before .before .pre in let t = store (a .p .now) (a .w .now) in let l = c .before .before .before .before .before .before .before .before .load in let m = c .before .before .before .before .before .before .before .load2 in (q .0, q .1, stands (a .job .now) t (a .a) (q .2) (q .3) (l .result) (l .ensures .word), stands (a .job .now) t (a .b) (q .2) (q .4) (m .result) (m .ensures .word), words-at (a .job .now) t (a .a) (q .2) (q .3) (l .result) (l .ensures .word), words-at (a .job .now) t (a .b) (q .2) (q .4) (m .result) (m .ensures .word))
 
 returns-3 : tie.Need-returns-3
 returns-3 c = let a = c .before .before .before .before .before .before .before .before .before .before .before .before .before .args in let q = c .before .before .before .before .before .before .before .before .before .before .before .before .before .pre in by-literals (a .job .now) (store (a .p .now) (a .w .now)) (a .a) (a .b) (q .2) (q .3) (q .4) (c .before .before .before .before .before .before .before .before .before .load .result) (c .before .before .before .before .before .before .before .before .load2 .result) (c .before .before .before .before .before .before .before .before .before .load .ensures .word) (c .before .before .before .before .before .before .before .before .load2 .ensures .word) (c .before .before .before .before .before .before .before .tag-at .result) (c .before .before .before .before .before .before .tag-at2 .result) (c .before .before .before .load4 .result) (c .before .before .before .before .load3 .result) (c .before .before .before .before .before .before .before .tag-at .ensures) (c .before .before .before .before .before .before .tag-at2 .ensures) (c .before .before .before .before .before .if1 .left) (c .before .before .before .before .load3 .ensures .word) (c .before .before .before .load4 .ensures .word) (c .before .before .if2 .left) (c .before .if3 .taken) (c .same-literal .result) (c .same-literal .ensures)

@@ -4,6 +4,7 @@ use mathlib.Core.Option.{some}
 use native.Mathlib.Omega.{arith}
 use Rattle.store.specs.Store.{store}
 use Rattle.output.specs.Contents.{finishedIn}
+use Rattle.interner.proofs.Words.{text-plain}
 use Rattle.output.proofs.Classes.{text-none, text-some}
 use Rattle.output.proofs.Showing.{node-places, node-stands, tag-read, literal-read}
 use Rattle.output.proofs.node_text.Statement.{statement}
@@ -19,7 +20,7 @@ returns : tie.Need-returns
 returns c = let a = c .before .before .before .before .before .before .args in let q = c .before .before .before .before .before .before .pre in let t = store (a .p .now) (a .w .now) in let tag = tag-read (a .job .now) t (a .k) (q .2) (q .3) (c .before .before .node-at .result) (c .before .before .node-at .ensures .word) (c .before .tag-at .result) (c .before .tag-at .ensures) in text-none (finishedIn (a .job .now) t (a .k)) (λ z. c .if1 .taken (tag ∙ z))
 
 literal-at-requires : tie.Need-literal-at-requires
-literal-at-requires c κs = let a = c .before .before .before .before .before .before .args in let q = c .before .before .before .before .before .before .pre in node-stands (a .job .now) (store (a .p .now) (a .w .now)) (a .k) (q .2) (q .3) (c .before .before .node-at .result) (c .before .before .node-at .ensures .word)
+literal-at-requires c κs = let a = c .before .before .before .before .before .before .args in let q = c .before .before .before .before .before .before .pre in let h = node-stands (a .job .now) (store (a .p .now) (a .w .now)) (a .k) (q .2) (q .3) (c .before .before .node-at .result) (c .before .before .node-at .ensures .word) in (h, text-plain (a .job .now) (c .before .before .node-at .result) (c .before .tag-at .result) (c .before .tag-at .ensures) h (c .if1 .left))
 
 sub-t10 : tie.Need-sub-t10
 sub-t10 c = let a = c .before .before .before .before .before .before .before .before .args in let q = c .before .before .before .before .before .before .before .before .pre in literal-read (a .job .now) (store (a .p .now) (a .w .now)) (a .k) (q .2) (q .3) (c .before .before .before .before .node-at .result) (c .before .before .before .before .node-at .ensures .word) (c .before .literal-at .result) (c .before .literal-at .ensures) .rising
