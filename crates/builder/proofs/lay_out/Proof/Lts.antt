@@ -227,7 +227,7 @@ abbrev b5 : Sy.Body
 b5 = Sy.assign (Sy.place 14 Li.[]) (Sy.aggregate (Li._∷_ (Sy.copy (Sy.place 13 Li.[])) (Li._∷_ (Sy.copy (Sy.place 4 (Li._∷_ (Sy.field 1) Li.[]))) Li.[])))
 
 abbrev b6 : Sy.Body
-b6 = Sy.call "requests::ask" (Li._∷_ (Sy.copy (Sy.place 1 Li.[])) (Li._∷_ (Sy.copy (Sy.place 10 Li.[])) (Li._∷_ (Sy.copy (Sy.place 12 Li.[])) (Li._∷_ (Sy.copy (Sy.place 14 Li.[])) (Li._∷_ (Sy.copy (Sy.place 5 Li.[])) (Li._∷_ (Sy.copy (Sy.place 5 (Li._∷_ (Sy.field 12) Li.[]))) Li.[])))))) (Sy.place 6 Li.[])
+b6 = Sy.call "requests::ask" (Li._∷_ (Sy.copy (Sy.place 1 Li.[])) (Li._∷_ (Sy.copy (Sy.place 10 Li.[])) (Li._∷_ (Sy.copy (Sy.place 12 Li.[])) (Li._∷_ (Sy.copy (Sy.place 14 Li.[])) (Li._∷_ (Sy.copy (Sy.place 5 Li.[])) (Li._∷_ (Sy.copy (Sy.place 5 (Li._∷_ (Sy.field 11) Li.[]))) Li.[])))))) (Sy.place 6 Li.[])
 
 abbrev b7 : Sy.Body
 b7 = Sy.assign (Sy.place 15 Li.[]) (Sy.op2 Sy.ne (Sy.copy (Sy.place 6 Li.[])) (Sy.int Sy.w64 0))
@@ -299,7 +299,7 @@ abbrev b31 : Sy.Body
 b31 = Sy.assign (Sy.place 27 Li.[]) (Sy.aggregate (Li._∷_ (Sy.copy (Sy.place 26 Li.[])) (Li._∷_ (Sy.copy (Sy.place 4 (Li._∷_ (Sy.field 1) Li.[]))) Li.[])))
 
 abbrev b32 : Sy.Body
-b32 = Sy.call "ending::end_pool" (Li._∷_ (Sy.copy (Sy.place 1 Li.[])) (Li._∷_ (Sy.copy (Sy.place 23 Li.[])) (Li._∷_ (Sy.copy (Sy.place 25 Li.[])) (Li._∷_ (Sy.copy (Sy.place 27 Li.[])) (Li._∷_ (Sy.copy (Sy.place 5 (Li._∷_ (Sy.field 12) Li.[]))) Li.[]))))) (Sy.place 8 Li.[])
+b32 = Sy.call "ending::end_pool" (Li._∷_ (Sy.copy (Sy.place 1 Li.[])) (Li._∷_ (Sy.copy (Sy.place 23 Li.[])) (Li._∷_ (Sy.copy (Sy.place 25 Li.[])) (Li._∷_ (Sy.copy (Sy.place 27 Li.[])) (Li._∷_ (Sy.copy (Sy.place 5 (Li._∷_ (Sy.field 11) Li.[]))) Li.[]))))) (Sy.place 8 Li.[])
 
 abbrev b33 : Sy.Body
 b33 = Sy.assign (Sy.place 15 Li.[]) (Sy.op2 Sy.ne (Sy.copy (Sy.place 8 Li.[])) (Sy.int Sy.w64 0))
@@ -852,7 +852,7 @@ module _ (claims· : Claims) where
   s11 = Relend.k-sl-aggregate Gap_.row (Relend.asMut Gap_.row) T12 13 14 6 ty·36 ty·36 (λ x. x) (Sc.oFld 4 (Li._∷_ (Sy.field 1) Li.[]) (Sy.tyInt Sy.w64) 8 λ v. Shared.lenV (v .0))
 
   abbrev s12 : Ty.Both T13 T14
-  s12 = Call.callB ps·0 r·0 (claims· .0) (claims· .1) T13 (record { pos = 1; ty = Sy.tyRef (Sy.named 0) Sy.imm (Sy.tyInt Sy.w8); ref = λ x. x }, (record { pos = 10; ty = Sy.tyRef Sy.erased Sy.mut (Sy.tyInt Sy.w32); ref = λ x. x }, (record { pos = 12; ty = Sy.tyRef Sy.erased Sy.mut (Sy.tyInt Sy.w64); ref = λ x. x }, (record { pos = 14; ty = Sy.tyRef Sy.erased Sy.mut Gap_.behind; ref = λ x. x }, (record { pos = 5; st = Li.[]; d = 0; at = λ x. x }, (Num.vFld 5 (Li._∷_ (Sy.field 12) Li.[]) 96 λ x. JobCounts.struct .as-values x .1 .1 .1 .1 .1 .1 .1 .1 .1 .1 .1 .1 .0, tt)))))) 6 (Li._∷_ 0 (Li._∷_ 4 (Li._∷_ 5 (Li._∷_ 6 Li.[])))) (Sy.tyInt Sy.w64)
+  s12 = Call.callB ps·0 r·0 (claims· .0) (claims· .1) T13 (record { pos = 1; ty = Sy.tyRef (Sy.named 0) Sy.imm (Sy.tyInt Sy.w8); ref = λ x. x }, (record { pos = 10; ty = Sy.tyRef Sy.erased Sy.mut (Sy.tyInt Sy.w32); ref = λ x. x }, (record { pos = 12; ty = Sy.tyRef Sy.erased Sy.mut (Sy.tyInt Sy.w64); ref = λ x. x }, (record { pos = 14; ty = Sy.tyRef Sy.erased Sy.mut Gap_.behind; ref = λ x. x }, (record { pos = 5; st = Li.[]; d = 0; at = λ x. x }, (Num.vFld 5 (Li._∷_ (Sy.field 11) Li.[]) 88 λ x. JobCounts.struct .as-values x .1 .1 .1 .1 .1 .1 .1 .1 .1 .1 .1 .0, tt)))))) 6 (Li._∷_ 0 (Li._∷_ 4 (Li._∷_ 5 (Li._∷_ 6 Li.[])))) (Sy.tyInt Sy.w64)
 
   abbrev s14 : Ty.Both T14 T16
   s14 = Relend.k-back-sl (Rf.rtF (Rf.fInt Sy.w32)) T14 10 2 1 4 ty·33 ty·32 Ro.off (λ x. x) λ x. x
@@ -963,7 +963,7 @@ module _ (claims· : Claims) where
   s66 = Relend.k-sl-aggregate Gap_.row (Relend.asMut Gap_.row) T69 26 27 12 ty·36 ty·36 (λ x. x) (Sc.oFld 4 (Li._∷_ (Sy.field 1) Li.[]) (Sy.tyInt Sy.w64) 8 λ v. Shared.lenV (v .0))
 
   abbrev s67 : Ty.Both T70 T71
-  s67 = Call.callB ps·2 r·2 (claims· .4) (claims· .5) T70 (record { pos = 1; ty = Sy.tyRef (Sy.named 0) Sy.imm (Sy.tyInt Sy.w8); ref = λ x. x }, (record { pos = 23; ty = Sy.tyRef Sy.erased Sy.mut (Sy.tyInt Sy.w32); ref = λ x. x }, (record { pos = 25; ty = Sy.tyRef Sy.erased Sy.imm (Sy.tyInt Sy.w64); ref = λ x. x }, (record { pos = 27; ty = Sy.tyRef Sy.erased Sy.mut Gap_.behind; ref = λ x. x }, (Num.vFld 5 (Li._∷_ (Sy.field 12) Li.[]) 96 λ x. JobCounts.struct .as-values x .1 .1 .1 .1 .1 .1 .1 .1 .1 .1 .1 .1 .0, tt))))) 8 (Li._∷_ 0 (Li._∷_ 10 (Li._∷_ 11 (Li._∷_ 12 Li.[])))) (Sy.tyInt Sy.w64)
+  s67 = Call.callB ps·2 r·2 (claims· .4) (claims· .5) T70 (record { pos = 1; ty = Sy.tyRef (Sy.named 0) Sy.imm (Sy.tyInt Sy.w8); ref = λ x. x }, (record { pos = 23; ty = Sy.tyRef Sy.erased Sy.mut (Sy.tyInt Sy.w32); ref = λ x. x }, (record { pos = 25; ty = Sy.tyRef Sy.erased Sy.imm (Sy.tyInt Sy.w64); ref = λ x. x }, (record { pos = 27; ty = Sy.tyRef Sy.erased Sy.mut Gap_.behind; ref = λ x. x }, (Num.vFld 5 (Li._∷_ (Sy.field 11) Li.[]) 88 λ x. JobCounts.struct .as-values x .1 .1 .1 .1 .1 .1 .1 .1 .1 .1 .1 .0, tt))))) 8 (Li._∷_ 0 (Li._∷_ 10 (Li._∷_ 11 (Li._∷_ 12 Li.[])))) (Sy.tyInt Sy.w64)
 
   abbrev s68 : Ty.Mo T71 → Ty.Mo T72
   s68 = Sc.n-room T71 25 (Sy.tyStruct (Li._∷_ 38 (Li._∷_ 91 (Li._∷_ 93 Li.[]))) (Sy.tcons ty·34 (Sy.tcons (Sy.tyInt Sy.w64) Sy.tnil)))
@@ -1830,7 +1830,7 @@ module _ (claims· : Claims) where
           E = Frame.EnvOf 𝓤 H (Li._∷_ (Kinds.tyR r) (Enter.tysP ps xs)) bs
 
           pub typed : Ty.Typed 𝓤 H A 𝓣 E (Function.Γin 4 ps r xs m κs qs) b78 (Function.Δret 4 ps r xs m κs qs) Φ
-          typed = (Ty.g-pre 𝓤 H A W 𝓣 E G0 G0 b78 Δ0 (Ty.give s0) at118 (Know.g-shs-known 𝓤 H A W (Rf.fInt Sy.w8) E G0 1 0 ty·39 (Ro.lease (κs .0) (qs .0)) 0 (λ x. x) record { fits = Dec'.lit< tt } (Reads'.as-is 𝓤 H A row·5) Pa.refl tt) (Ty.g-pre 𝓤 H A W 𝓣 E G0 G0 b78 Δ0 (Ty.give s1) at117 (Know.g-sl-known 𝓤 H A W (Rf.fInt Sy.w32) E G0 2 1 ty·33 (Ro.lease (κs .1 .0) (qs .1 .0)) 0 (λ x. x) record { fits = Dec'.lit< tt } (Reads'.as-is 𝓤 H A row·11) Pa.refl tt) (Ty.g-pre 𝓤 H A W 𝓣 E G0 G0 b78 Δ0 (Ty.give s2) at116 (Know.g-sl-known 𝓤 H A W (Rf.fInt Sy.w64) E G0 3 2 ty·35 (Ro.lease (κs .1 .1 .0) (qs .1 .1 .0)) 0 (λ x. x) record { fits = Dec'.lit< tt } (Reads'.as-is 𝓤 H A row·12) Pa.refl tt) (Ty.g-pre 𝓤 H A W 𝓣 E G0 G5 b78 Δ0 (λ Ψ. Ψ) at115 (Lifetime.g-begin 𝓤 H A W E G0 4 (tt, (tt, (tt, (tt, (tt, (tt, (tt, (tt, (tt, (tt, (tt, (tt, (tt, (tt, (tt, (tt, (tt, (tt, (tt, (tt, (tt, (tt, (tt, (tt, (tt, (tt, (tt, (tt, (tt, (tt, (tt, (tt, (tt, tt)))))))))))))))))))))))))))))))))) (Ty.s-seq 𝓤 H A W 𝓣 E G5 G6 b0 b77 Δ0 (Ty.give s4) at114 (Relend.t-sl-relend 𝓤 H A W E (Rf.rtF (Rf.fInt Sy.w32)) 𝓣 G5 2 9 1 4 ty·33 ty·32 (Ro.lease (κs .1 .0) (qs .1 .0)) 0 (λ x. x) (Reads'.as-is 𝓤 H A row·11) (Reads'.room-gone 𝓤 H A ty·32) Pa.refl tt Pa.refl Pa.refl Pa.refl λ b o. tt) (Ty.s-seq 𝓤 H A W 𝓣 E G6 G7 b1 b76 Δ0 (Ty.ask s5) at113 (Relend.t-sl-aggregate 𝓤 H A W E (Rf.rtF (Rf.fInt Sy.w32)) 𝓣 (Relend.asMut (Rf.rtF (Rf.fInt Sy.w32))) G6 9 10 4 ty·32 ty·32 (λ x. x) (Sc.oFld 2 (Li._∷_ (Sy.field 1) Li.[]) (Sy.tyInt Sy.w64) 8 λ v. Shared.lenV (v .0)) (Reads'.as-is 𝓤 H A (Relend.msptr (Rf.rtF (Rf.fInt Sy.w32)) ty·32 4)) (Reads'.room-gone 𝓤 H A (Sy.tyStruct (Li._∷_ 38 (Li._∷_ 91 (Li._∷_ 93 Li.[]))) (Sy.tcons ty·32 (Sy.tcons (Sy.tyInt Sy.w64) Sy.tnil)))) (Relend.reads-owed-len 𝓤 H A W (Rf.rtF (Rf.fInt Sy.w32)) ty·33 1 4 (Ro.lease (κs .1 .0) (qs .1 .0)) 8 Pa.refl, Pa.refl) Pa.refl Pa.refl λ b o k. tt) (Ty.g-pre 𝓤 H A W 𝓣 E G7 G8 b76 Δ0 (λ Ψ. Ψ) at112 (Lifetime.g-begin 𝓤 H A W E G7 5 (tt, (tt, ((tt, tt), (tt, (tt, (tt, (tt, (tt, (tt, (tt, (tt, (tt, (tt, (tt, (tt, (tt, (tt, (tt, (tt, (tt, (tt, (tt, (tt, (tt, (tt, (tt, (tt, (tt, (tt, (tt, (tt, (tt, (tt, tt)))))))))))))))))))))))))))))))))) (Ty.s-seq 𝓤 H A W 𝓣 E G8 G9 b2 b75 Δ0 (Ty.give s7) at111 (Relend.t-sl-relend 𝓤 H A W E (Rf.rtF (Rf.fInt Sy.w64)) 𝓣 G8 3 11 2 5 ty·35 ty·38 (Ro.lease (κs .1 .1 .0) (qs .1 .1 .0)) 0 (λ x. x) (Reads'.as-is 𝓤 H A row·12) (Reads'.room-gone 𝓤 H A ty·38) Pa.refl tt Pa.refl Pa.refl Pa.refl λ b o. tt) (Ty.s-seq 𝓤 H A W 𝓣 E G9 G10 b3 b74 Δ0 (Ty.ask s8) at110 (Relend.t-sl-aggregate 𝓤 H A W E (Rf.rtF (Rf.fInt Sy.w64)) 𝓣 (Relend.asMut (Rf.rtF (Rf.fInt Sy.w64))) G9 11 12 5 ty·38 ty·38 (λ x. x) (Sc.oFld 3 (Li._∷_ (Sy.field 1) Li.[]) (Sy.tyInt Sy.w64) 8 λ v. Shared.lenV (v .0)) (Reads'.as-is 𝓤 H A (Relend.msptr (Rf.rtF (Rf.fInt Sy.w64)) ty·38 5)) (Reads'.room-gone 𝓤 H A (Sy.tyStruct (Li._∷_ 38 (Li._∷_ 91 (Li._∷_ 93 Li.[]))) (Sy.tcons ty·38 (Sy.tcons (Sy.tyInt Sy.w64) Sy.tnil)))) (Relend.reads-owed-len 𝓤 H A W (Rf.rtF (Rf.fInt Sy.w64)) ty·35 2 5 (Ro.lease (κs .1 .1 .0) (qs .1 .1 .0)) 8 Pa.refl, Pa.refl) Pa.refl Pa.refl λ b o k. tt) (Ty.g-pre 𝓤 H A W 𝓣 E G10 G11 b74 Δ0 (λ Ψ. Ψ) at109 (Lifetime.g-begin 𝓤 H A W E G10 6 (tt, (tt, ((tt, tt), ((tt, tt), (tt, (tt, (tt, (tt, (tt, (tt, (tt, (tt, (tt, (tt, (tt, (tt, (tt, (tt, (tt, (tt, (tt, (tt, (tt, (tt, (tt, (tt, (tt, (tt, (tt, (tt, (tt, (tt, (tt, tt)))))))))))))))))))))))))))))))))) (Ty.s-seq 𝓤 H A W 𝓣 E G11 G12 b4 b73 Δ0 (Ty.give s10) at108 (Relend.t-sl-relend 𝓤 H A W E Gap_.row 𝓣 G11 4 13 3 6 ty·37 ty·36 (Ro.lease (κs .1 .1 .1 .0) (qs .1 .1 .1 .0)) 0 (λ x. x) (Reads'.as-is 𝓤 H A row·13) (Reads'.room-gone 𝓤 H A ty·36) Pa.refl tt Pa.refl Pa.refl Pa.refl λ b o. tt) (Ty.s-seq 𝓤 H A W 𝓣 E G12 G13 b5 b72 Δ0 (Ty.ask s11) at107 (Relend.t-sl-aggregate 𝓤 H A W E Gap_.row 𝓣 (Relend.asMut Gap_.row) G12 13 14 6 ty·36 ty·36 (λ x. x) (Sc.oFld 4 (Li._∷_ (Sy.field 1) Li.[]) (Sy.tyInt Sy.w64) 8 λ v. Shared.lenV (v .0)) (Reads'.as-is 𝓤 H A (Relend.msptr Gap_.row ty·36 6)) (Reads'.room-gone 𝓤 H A (Sy.tyStruct (Li._∷_ 38 (Li._∷_ 91 (Li._∷_ 93 Li.[]))) (Sy.tcons ty·36 (Sy.tcons (Sy.tyInt Sy.w64) Sy.tnil)))) (Relend.reads-owed-len 𝓤 H A W Gap_.row ty·37 3 6 (Ro.lease (κs .1 .1 .1 .0) (qs .1 .1 .1 .0)) 8 Pa.refl, Pa.refl) Pa.refl Pa.refl λ b o k. tt) (Ty.s-seq 𝓤 H A W 𝓣 E G13 G14 b6 b71 Δ0 (Ty.both s12) at106 (Plain.t-call-plain 𝓤 H A W 𝓣 4 ps·0 r·0 (claims· .0) (claims· .1) "requests::ask" (known .0) E (λ pos β. β) G13 (record { pos = 1; ty = Sy.tyRef (Sy.named 0) Sy.imm (Sy.tyInt Sy.w8); ref = λ x. x }, (record { pos = 10; ty = Sy.tyRef Sy.erased Sy.mut (Sy.tyInt Sy.w32); ref = λ x. x }, (record { pos = 12; ty = Sy.tyRef Sy.erased Sy.mut (Sy.tyInt Sy.w64); ref = λ x. x }, (record { pos = 14; ty = Sy.tyRef Sy.erased Sy.mut Gap_.behind; ref = λ x. x }, (record { pos = 5; st = Li.[]; d = 0; at = λ x. x }, (Num.vFld 5 (Li._∷_ (Sy.field 12) Li.[]) 96 λ x. JobCounts.struct .as-values x .1 .1 .1 .1 .1 .1 .1 .1 .1 .1 .1 .1 .0, tt)))))) 6 (Li._∷_ 0 (Li._∷_ 4 (Li._∷_ 5 (Li._∷_ 6 Li.[])))) (Call.sub-id 𝓤 H A W (G13 .slots)) (ShrSlice.spares-sslice 𝓤 H A W (Rf.rtF (Rf.fInt Sy.w8)) ty·39 0, Shared.reads-sslice 𝓤 H A W (Rf.rtF (Rf.fInt Sy.w8)) ty·39 0, Pa.refl, (Reads'.as-is 𝓤 H A row·16, Mut.reads-mslice 𝓤 H A W (Rf.rtF (Rf.fInt Sy.w32)) ty·32 4, Pa.refl, (Reads'.as-is 𝓤 H A row·23, Mut.reads-mslice 𝓤 H A W (Rf.rtF (Rf.fInt Sy.w64)) ty·38 5, Pa.refl, (Reads'.as-is 𝓤 H A (Mut.mslice Gap_.row ty·36 6), Mut.reads-mslice 𝓤 H A W Gap_.row ty·36 6, Pa.refl, ((Yields.yields-copy 𝓤 H A W (λ ρ. Unit) (Declared.row JobCounts.the-type) Pa.refl (Copies.cStruct JobCounts.the-type Laws.the-laws Laws.the-copy .copy 𝓤 H A W) row·14 (λ x. x) (λ x. x) (λ ρ told. Local.mem-whole 𝓤 H A W (Declared.row JobCounts.the-type) ρ) λ ρ told. Local.whole-mem 𝓤 H A W (Declared.row JobCounts.the-type) ρ, Pa.refl), ((Reads.reads-field 𝓤 H A W JobCounts.the-type Laws.the-laws 12 (Sy.tyInt Sy.w64) 96 Pa.refl, Pa.refl), tt)))))) (Reads'.room-gone 𝓤 H A (Sy.tyInt Sy.w64)) (tt, (tt, (tt, (tt, tt)))) Pa.refl) (Ty.g-pre 𝓤 H A W 𝓣 E G14 G15 b71 Δ0 (λ Ψ. Ψ) at105 (Lifetime.g-end 𝓤 H A W E G14 4 Pa.refl) (Ty.g-pre 𝓤 H A W 𝓣 E G15 G16 b71 Δ0 (Ty.both s14) at104 (Relend.g-back-sl 𝓤 H A W E (Rf.rtF (Rf.fInt Sy.w32)) G15 10 2 1 4 ty·33 ty·32 (Ro.lease (κs .1 .0) (qs .1 .0)) (λ x. x) (λ x. x) (Reads'.as-is 𝓤 H A row·19) (Reads'.as-is 𝓤 H A (Relend.mslice-owed (Rf.rtF (Rf.fInt Sy.w32)) ty·33 1 4 (Ro.lease (κs .1 .0) (qs .1 .0)))) Pa.refl Pa.refl) (Ty.g-pre 𝓤 H A W 𝓣 E G16 G16 b71 Δ0 (Ty.give s15) at103 (Know.g-sl-known 𝓤 H A W (Rf.fInt Sy.w32) E G16 2 1 ty·33 (Ro.lease (κs .1 .0) (qs .1 .0)) 0 (λ x. x) record { fits = Dec'.lit< tt } (Reads'.as-is 𝓤 H A row·11) Pa.refl tt) (Ty.g-pre 𝓤 H A W 𝓣 E G16 G18 b71 Δ0 (λ Ψ. Ψ) at102 (Lifetime.g-forget 𝓤 H A W E G16 4 Ro.dead Pa.refl) (Ty.g-pre 𝓤 H A W 𝓣 E G18 G19 b71 Δ0 (λ Ψ. Ψ) at101 (Lifetime.g-end 𝓤 H A W E G18 5 Pa.refl) (Ty.g-pre 𝓤 H A W 𝓣 E G19 G20 b71 Δ0 (Ty.both s18) at100 (Relend.g-back-sl 𝓤 H A W E (Rf.rtF (Rf.fInt Sy.w64)) G19 12 3 2 5 ty·35 ty·38 (Ro.lease (κs .1 .1 .0) (qs .1 .1 .0)) (λ x. x) (λ x. x) (Reads'.as-is 𝓤 H A row·31) (Reads'.as-is 𝓤 H A (Relend.mslice-owed (Rf.rtF (Rf.fInt Sy.w64)) ty·35 2 5 (Ro.lease (κs .1 .1 .0) (qs .1 .1 .0)))) Pa.refl Pa.refl) (Ty.g-pre 𝓤 H A W 𝓣 E G20 G20 b71 Δ0 (Ty.give s19) at99 (Know.g-sl-known 𝓤 H A W (Rf.fInt Sy.w64) E G20 3 2 ty·35 (Ro.lease (κs .1 .1 .0) (qs .1 .1 .0)) 0 (λ x. x) record { fits = Dec'.lit< tt } (Reads'.as-is 𝓤 H A row·12) Pa.refl tt) (Ty.g-pre 𝓤 H A W 𝓣 E G20 G22 b71 Δ0 (λ Ψ. Ψ) at98 (Lifetime.g-forget 𝓤 H A W E G20 5 Ro.dead Pa.refl) (Ty.g-pre 𝓤 H A W 𝓣 E G22 G23 b71 Δ0 (λ Ψ. Ψ) at97 (Lifetime.g-end 𝓤 H A W E G22 6 Pa.refl) (Ty.g-pre 𝓤 H A W 𝓣 E G23 G24 b71 Δ0 (Ty.both s22) at96 (Relend.g-back-sl 𝓤 H A W E Gap_.row G23 14 4 3 6 ty·37 ty·36 (Ro.lease (κs .1 .1 .1 .0) (qs .1 .1 .1 .0)) (λ x. x) (λ x. x) (Reads'.as-is 𝓤 H A row·18) (Reads'.as-is 𝓤 H A (Relend.mslice-owed Gap_.row ty·37 3 6 (Ro.lease (κs .1 .1 .1 .0) (qs .1 .1 .1 .0)))) Pa.refl Pa.refl) (Ty.g-pre 𝓤 H A W 𝓣 E G24 G25 b71 Δ0 (λ Ψ. Ψ) at95 (Lifetime.g-forget 𝓤 H A W E G24 6 Ro.dead Pa.refl) (Ty.s-seq 𝓤 H A W 𝓣 E G25 G26 b7 b70 Δ0 (Ty.ask s24) at94 (Sc.t-op2 𝓤 H A W E 𝓣 G25 Sy.ne (Sc.oAt 6 (Sy.tyInt Sy.w64) (Ro.valS (Ro.sInt Sy.w64))) (Sc.oInt Sy.w64 0) 15 (Rows.sc-here Ro.sBool) Sy.tyBool (Ro.valS Ro.sBool) (Ro.sBool .of) (Sc.reads-sc 𝓤 H A W (Ro.sInt Sy.w64), Pa.refl) tt (Reads'.room-gone 𝓤 H A Sy.tyBool) (Sc.holds-sc 𝓤 H A W Ro.sBool) Pa.refl (λ u. Pa.refl) λ u. tt) (Ty.t-seq 𝓤 H A W 𝓣 E G26 G25 b12 b69 Δ0 at7 at93 (Sc.t-cond 𝓤 H A W E 𝓣 G26 15 (λ x. x) b10 b11 Δ1 at4 at6 (Sc.reads-sc 𝓤 H A W Ro.sBool) Pa.refl (Ty.g-pre 𝓤 H A W 𝓣 E G26 G28 b10 Δ1 (Ty.pass T26 T28 s25) at3 (Sc.g-room 𝓤 H A W E G26 5 Laws.mir (Local.room-whole 𝓤 H A W (Declared.row JobCounts.the-type) Laws.mir Pa.refl)) (Ty.g-pre 𝓤 H A W 𝓣 E G28 G29 b10 Δ1 (Ty.pass T28 T29 s26) at2 (Sc.g-room 𝓤 H A W E G28 15 Sy.tyBool (Sc.room-sc 𝓤 H A W Ro.sBool)) (Ty.s-seq 𝓤 H A W 𝓣 E G29 G30 b8 b9 Δ1 (Ty.pass T29 T30 s27) at1 (Sc.t-use 𝓤 H A W E 𝓣 G29 (Sc.oAt 6 (Sy.tyInt Sy.w64) (Ro.valS (Ro.sInt Sy.w64))) 0 row·10 (Sy.tyInt Sy.w64) (Ro.valS (Ro.sInt Sy.w64)) (Ro.sInt Sy.w64 .of) (Sc.reads-sc 𝓤 H A W (Ro.sInt Sy.w64), Pa.refl) (Reads'.room-gone 𝓤 H A (Sy.tyInt Sy.w64)) (Sc.holds-sc 𝓤 H A W (Ro.sInt Sy.w64)) Pa.refl (λ u. Pa.refl) λ u. tt) (Ty.g-pre 𝓤 H A W 𝓣 E G30 G1 b9 Δ1 (Ty.pass T30 T1 s28) at0 (Sc.g-room 𝓤 H A W E G30 6 (Sy.tyInt Sy.w64) (Sc.room-sc 𝓤 H A W (Ro.sInt Sy.w64))) (Ty.t-return 𝓤 H A W 𝓣 E Δ1 tt))))) (Ty.g-pre 𝓤 H A W 𝓣 E G26 G25 b11 Δ1 (Ty.pass T26 T24 s29) at5 (Sc.g-room 𝓤 H A W E G26 15 Sy.tyBool (Sc.room-sc 𝓤 H A W Ro.sBool)) (Ty.t-skip 𝓤 H A W 𝓣 E Δ1 tt))) (Ty.g-pre 𝓤 H A W 𝓣 E G25 G33 b69 Δ0 (λ Ψ. Ψ) at92 (Lifetime.g-begin 𝓤 H A W E G25 7 (tt, (tt, (tt, (tt, (tt, (tt, (tt, (tt, (tt, (tt, (tt, (tt, (tt, (tt, (tt, (tt, (tt, (tt, (tt, (tt, (tt, (tt, (tt, (tt, (tt, (tt, (tt, (tt, (tt, (tt, (tt, (tt, (tt, tt)))))))))))))))))))))))))))))))))) (Ty.s-seq 𝓤 H A W 𝓣 E G33 G34 b13 b68 Δ0 (Ty.give s31) at91 (Relend.t-sl-relend 𝓤 H A W E (Rf.rtF (Rf.fInt Sy.w32)) 𝓣 G33 2 16 1 7 ty·33 ty·32 (Ro.lease (κs .1 .0) (qs .1 .0)) 0 (λ x. x) (Reads'.as-is 𝓤 H A row·11) (Reads'.room-gone 𝓤 H A ty·32) Pa.refl tt Pa.refl Pa.refl Pa.refl λ b o. tt) (Ty.s-seq 𝓤 H A W 𝓣 E G34 G35 b14 b67 Δ0 (Ty.ask s32) at90 (Relend.t-sl-aggregate 𝓤 H A W E (Rf.rtF (Rf.fInt Sy.w32)) 𝓣 (Relend.asMut (Rf.rtF (Rf.fInt Sy.w32))) G34 16 17 7 ty·32 ty·32 (λ x. x) (Sc.oFld 2 (Li._∷_ (Sy.field 1) Li.[]) (Sy.tyInt Sy.w64) 8 λ v. Shared.lenV (v .0)) (Reads'.as-is 𝓤 H A (Relend.msptr (Rf.rtF (Rf.fInt Sy.w32)) ty·32 7)) (Reads'.room-gone 𝓤 H A (Sy.tyStruct (Li._∷_ 38 (Li._∷_ 91 (Li._∷_ 93 Li.[]))) (Sy.tcons ty·32 (Sy.tcons (Sy.tyInt Sy.w64) Sy.tnil)))) (Relend.reads-owed-len 𝓤 H A W (Rf.rtF (Rf.fInt Sy.w32)) ty·33 1 7 (Ro.lease (κs .1 .0) (qs .1 .0)) 8 Pa.refl, Pa.refl) Pa.refl Pa.refl λ b o k. tt) (Ty.g-pre 𝓤 H A W 𝓣 E G35 G36 b67 Δ0 (λ Ψ. Ψ) at89 (Lifetime.g-begin 𝓤 H A W E G35 8 (tt, (tt, ((tt, tt), (tt, (tt, (tt, (tt, (tt, (tt, (tt, (tt, (tt, (tt, (tt, (tt, (tt, (tt, (tt, (tt, (tt, (tt, (tt, (tt, (tt, (tt, (tt, (tt, (tt, (tt, (tt, (tt, (tt, (tt, tt)))))))))))))))))))))))))))))))))) (Ty.s-seq 𝓤 H A W 𝓣 E G36 G37 b15 b66 Δ0 (Ty.give s34) at88 (Reshare.t-sl-reshare 𝓤 H A W E (Rf.rtF (Rf.fInt Sy.w64)) 𝓣 G36 3 18 2 8 ty·35 ty·34 (Ro.lease (κs .1 .1 .0) (qs .1 .1 .0)) 0 (λ x. x) (Reads'.as-is 𝓤 H A row·12) (Reads'.room-gone 𝓤 H A ty·34) Pa.refl tt Pa.refl Pa.refl Pa.refl λ b o. tt) (Ty.s-seq 𝓤 H A W 𝓣 E G37 G38 b16 b65 Δ0 (Ty.ask s35) at87 (Relend.t-sl-aggregate 𝓤 H A W E (Rf.rtF (Rf.fInt Sy.w64)) 𝓣 (Relend.asShr (Rf.rtF (Rf.fInt Sy.w64))) G37 18 19 8 ty·34 ty·34 (λ x. x) (Sc.oFld 3 (Li._∷_ (Sy.field 1) Li.[]) (Sy.tyInt Sy.w64) 8 λ v. Shared.lenV (v .0)) (Reads'.as-is 𝓤 H A (Relend.ssptr (Rf.rtF (Rf.fInt Sy.w64)) ty·34 8)) (Reads'.room-gone 𝓤 H A (Sy.tyStruct (Li._∷_ 38 (Li._∷_ 91 (Li._∷_ 93 Li.[]))) (Sy.tcons ty·34 (Sy.tcons (Sy.tyInt Sy.w64) Sy.tnil)))) (Reshare.reads-owedS-len 𝓤 H A W (Rf.rtF (Rf.fInt Sy.w64)) ty·35 2 8 (Ro.lease (κs .1 .1 .0) (qs .1 .1 .0)) 8 Pa.refl, Pa.refl) Pa.refl Pa.refl λ b o k. tt) (Ty.g-pre 𝓤 H A W 𝓣 E G38 G39 b65 Δ0 (λ Ψ. Ψ) at86 (Lifetime.g-begin 𝓤 H A W E G38 9 (tt, (tt, ((tt, tt), ((tt, tt), (tt, (tt, (tt, (tt, (tt, (tt, (tt, (tt, (tt, (tt, (tt, (tt, (tt, (tt, (tt, (tt, (tt, (tt, (tt, (tt, (tt, (tt, (tt, (tt, (tt, (tt, (tt, (tt, (tt, tt)))))))))))))))))))))))))))))))))) (Ty.s-seq 𝓤 H A W 𝓣 E G39 G40 b17 b64 Δ0 (Ty.give s37) at85 (Relend.t-sl-relend 𝓤 H A W E Gap_.row 𝓣 G39 4 20 3 9 ty·37 ty·36 (Ro.lease (κs .1 .1 .1 .0) (qs .1 .1 .1 .0)) 0 (λ x. x) (Reads'.as-is 𝓤 H A row·13) (Reads'.room-gone 𝓤 H A ty·36) Pa.refl tt Pa.refl Pa.refl Pa.refl λ b o. tt) (Ty.s-seq 𝓤 H A W 𝓣 E G40 G41 b18 b63 Δ0 (Ty.ask s38) at84 (Relend.t-sl-aggregate 𝓤 H A W E Gap_.row 𝓣 (Relend.asMut Gap_.row) G40 20 21 9 ty·36 ty·36 (λ x. x) (Sc.oFld 4 (Li._∷_ (Sy.field 1) Li.[]) (Sy.tyInt Sy.w64) 8 λ v. Shared.lenV (v .0)) (Reads'.as-is 𝓤 H A (Relend.msptr Gap_.row ty·36 9)) (Reads'.room-gone 𝓤 H A (Sy.tyStruct (Li._∷_ 38 (Li._∷_ 91 (Li._∷_ 93 Li.[]))) (Sy.tcons ty·36 (Sy.tcons (Sy.tyInt Sy.w64) Sy.tnil)))) (Relend.reads-owed-len 𝓤 H A W Gap_.row ty·37 3 9 (Ro.lease (κs .1 .1 .1 .0) (qs .1 .1 .1 .0)) 8 Pa.refl, Pa.refl) Pa.refl Pa.refl λ b o k. tt) (Ty.s-seq 𝓤 H A W 𝓣 E G41 G42 b19 b62 Δ0 (Ty.both s39) at83 (Plain.t-call-plain 𝓤 H A W 𝓣 4 ps·1 r·1 (claims· .2) (claims· .3) "building::build_all" (known .1) E (λ pos β. β) G41 (record { pos = 1; ty = Sy.tyRef (Sy.named 0) Sy.imm (Sy.tyInt Sy.w8); ref = λ x. x }, (record { pos = 17; ty = Sy.tyRef Sy.erased Sy.mut (Sy.tyInt Sy.w32); ref = λ x. x }, (record { pos = 19; ty = Sy.tyRef Sy.erased Sy.imm (Sy.tyInt Sy.w64); ref = λ x. x }, (record { pos = 21; ty = Sy.tyRef Sy.erased Sy.mut Gap_.behind; ref = λ x. x }, (Num.vFld 5 (Li._∷_ (Sy.field 9) Li.[]) 72 λ x. JobCounts.struct .as-values x .1 .1 .1 .1 .1 .1 .1 .1 .1 .0, tt))))) 7 (Li._∷_ 0 (Li._∷_ 7 (Li._∷_ 8 (Li._∷_ 9 Li.[])))) (Call.sub-id 𝓤 H A W (G41 .slots)) (ShrSlice.spares-sslice 𝓤 H A W (Rf.rtF (Rf.fInt Sy.w8)) ty·39 0, Shared.reads-sslice 𝓤 H A W (Rf.rtF (Rf.fInt Sy.w8)) ty·39 0, Pa.refl, (Reads'.as-is 𝓤 H A row·30, Mut.reads-mslice 𝓤 H A W (Rf.rtF (Rf.fInt Sy.w32)) ty·32 7, Pa.refl, (ShrSlice.spares-sslice 𝓤 H A W (Rf.rtF (Rf.fInt Sy.w64)) ty·34 8, Shared.reads-sslice 𝓤 H A W (Rf.rtF (Rf.fInt Sy.w64)) ty·34 8, Pa.refl, (Reads'.as-is 𝓤 H A (Mut.mslice Gap_.row ty·36 9), Mut.reads-mslice 𝓤 H A W Gap_.row ty·36 9, Pa.refl, ((Reads.reads-field 𝓤 H A W JobCounts.the-type Laws.the-laws 9 (Sy.tyInt Sy.w64) 72 Pa.refl, Pa.refl), tt))))) (Reads'.room-gone 𝓤 H A (Sy.tyInt Sy.w64)) (tt, (tt, (tt, (tt, tt)))) Pa.refl) (Ty.g-pre 𝓤 H A W 𝓣 E G42 G43 b62 Δ0 (Ty.pass T42 T43 s40) at82 (Sc.g-room 𝓤 H A W E G42 19 (Sy.tyStruct (Li._∷_ 38 (Li._∷_ 91 (Li._∷_ 93 Li.[]))) (Sy.tcons ty·34 (Sy.tcons (Sy.tyInt Sy.w64) Sy.tnil))) (Shared.room-sslice 𝓤 H A W (Rf.rtF (Rf.fInt Sy.w64)) ty·34 8)) (Ty.g-pre 𝓤 H A W 𝓣 E G43 G44 b62 Δ0 (λ Ψ. Ψ) at81 (Lifetime.g-end 𝓤 H A W E G43 7 Pa.refl) (Ty.g-pre 𝓤 H A W 𝓣 E G44 G45 b62 Δ0 (Ty.both s42) at80 (Relend.g-back-sl 𝓤 H A W E (Rf.rtF (Rf.fInt Sy.w32)) G44 17 2 1 7 ty·33 ty·32 (Ro.lease (κs .1 .0) (qs .1 .0)) (λ x. x) (λ x. x) (Reads'.as-is 𝓤 H A row·19) (Reads'.as-is 𝓤 H A (Relend.mslice-owed (Rf.rtF (Rf.fInt Sy.w32)) ty·33 1 7 (Ro.lease (κs .1 .0) (qs .1 .0)))) Pa.refl Pa.refl) (Ty.g-pre 𝓤 H A W 𝓣 E G45 G45 b62 Δ0 (Ty.give s43) at79 (Know.g-sl-known 𝓤 H A W (Rf.fInt Sy.w32) E G45 2 1 ty·33 (Ro.lease (κs .1 .0) (qs .1 .0)) 0 (λ x. x) record { fits = Dec'.lit< tt } (Reads'.as-is 𝓤 H A row·11) Pa.refl tt) (Ty.g-pre 𝓤 H A W 𝓣 E G45 G47 b62 Δ0 (λ Ψ. Ψ) at78 (Lifetime.g-forget 𝓤 H A W E G45 7 Ro.dead Pa.refl) (Ty.g-pre 𝓤 H A W 𝓣 E G47 G48 b62 Δ0 (λ Ψ. Ψ) at77 (Lifetime.g-end 𝓤 H A W E G47 8 Pa.refl) (Ty.g-pre 𝓤 H A W 𝓣 E G48 G49 b62 Δ0 (Ty.pass T45 T49 s46) at76 (Reshare.g-back-sl-shr 𝓤 H A W E (Rf.rtF (Rf.fInt Sy.w64)) G48 3 2 8 ty·35 (Ro.lease (κs .1 .1 .0) (qs .1 .1 .0)) (λ x. x) (Reads'.as-is 𝓤 H A (Reshare.mslice-owedS (Rf.rtF (Rf.fInt Sy.w64)) ty·35 2 8 (Ro.lease (κs .1 .1 .0) (qs .1 .1 .0)))) Pa.refl Pa.refl) (Ty.g-pre 𝓤 H A W 𝓣 E G49 G50 b62 Δ0 (λ Ψ. Ψ) at75 (Lifetime.g-forget 𝓤 H A W E G49 8 Ro.dead Pa.refl) (Ty.g-pre 𝓤 H A W 𝓣 E G50 G51 b62 Δ0 (λ Ψ. Ψ) at74 (Lifetime.g-end 𝓤 H A W E G50 9 Pa.refl) (Ty.g-pre 𝓤 H A W 𝓣 E G51 G52 b62 Δ0 (Ty.both s49) at73 (Relend.g-back-sl 𝓤 H A W E Gap_.row G51 21 4 3 9 ty·37 ty·36 (Ro.lease (κs .1 .1 .1 .0) (qs .1 .1 .1 .0)) (λ x. x) (λ x. x) (Reads'.as-is 𝓤 H A row·18) (Reads'.as-is 𝓤 H A (Relend.mslice-owed Gap_.row ty·37 3 9 (Ro.lease (κs .1 .1 .1 .0) (qs .1 .1 .1 .0)))) Pa.refl Pa.refl) (Ty.g-pre 𝓤 H A W 𝓣 E G52 G53 b62 Δ0 (λ Ψ. Ψ) at72 (Lifetime.g-forget 𝓤 H A W E G52 9 Ro.dead Pa.refl) (Ty.s-seq 𝓤 H A W 𝓣 E G53 G54 b20 b61 Δ0 (Ty.ask s51) at71 (Sc.t-op2 𝓤 H A W E 𝓣 G53 Sy.ne (Sc.oAt 7 (Sy.tyInt Sy.w64) (Ro.valS (Ro.sInt Sy.w64))) (Sc.oInt Sy.w64 0) 15 (Rows.sc-here Ro.sBool) Sy.tyBool (Ro.valS Ro.sBool) (Ro.sBool .of) (Sc.reads-sc 𝓤 H A W (Ro.sInt Sy.w64), Pa.refl) tt (Reads'.room-gone 𝓤 H A Sy.tyBool) (Sc.holds-sc 𝓤 H A W Ro.sBool) Pa.refl (λ u. Pa.refl) λ u. tt) (Ty.t-seq 𝓤 H A W 𝓣 E G54 G53 b25 b60 Δ0 at16 at70 (Sc.t-cond 𝓤 H A W E 𝓣 G54 15 (λ x. x) b23 b11 Δ2 at13 at15 (Sc.reads-sc 𝓤 H A W Ro.sBool) Pa.refl (Ty.g-pre 𝓤 H A W 𝓣 E G54 G56 b23 Δ2 (Ty.pass T54 T56 s52) at12 (Sc.g-room 𝓤 H A W E G54 5 Laws.mir (Local.room-whole 𝓤 H A W (Declared.row JobCounts.the-type) Laws.mir Pa.refl)) (Ty.g-pre 𝓤 H A W 𝓣 E G56 G57 b23 Δ2 (Ty.pass T56 T57 s53) at11 (Sc.g-room 𝓤 H A W E G56 15 Sy.tyBool (Sc.room-sc 𝓤 H A W Ro.sBool)) (Ty.s-seq 𝓤 H A W 𝓣 E G57 G58 b21 b9 Δ2 (Ty.pass T57 T58 s54) at10 (Sc.t-use 𝓤 H A W E 𝓣 G57 (Sc.oAt 7 (Sy.tyInt Sy.w64) (Ro.valS (Ro.sInt Sy.w64))) 0 row·10 (Sy.tyInt Sy.w64) (Ro.valS (Ro.sInt Sy.w64)) (Ro.sInt Sy.w64 .of) (Sc.reads-sc 𝓤 H A W (Ro.sInt Sy.w64), Pa.refl) (Reads'.room-gone 𝓤 H A (Sy.tyInt Sy.w64)) (Sc.holds-sc 𝓤 H A W (Ro.sInt Sy.w64)) Pa.refl (λ u. Pa.refl) λ u. tt) (Ty.g-pre 𝓤 H A W 𝓣 E G58 G59 b9 Δ2 (Ty.pass T58 T59 s55) at9 (Sc.g-room 𝓤 H A W E G58 6 (Sy.tyInt Sy.w64) (Sc.room-sc 𝓤 H A W (Ro.sInt Sy.w64))) (Ty.g-pre 𝓤 H A W 𝓣 E G59 G1 b9 Δ2 (Ty.pass T59 T1 s56) at8 (Sc.g-room 𝓤 H A W E G59 7 (Sy.tyInt Sy.w64) (Sc.room-sc 𝓤 H A W (Ro.sInt Sy.w64))) (Ty.t-return 𝓤 H A W 𝓣 E Δ2 tt)))))) (Ty.g-pre 𝓤 H A W 𝓣 E G54 G53 b11 Δ2 (Ty.pass T54 T52 s57) at14 (Sc.g-room 𝓤 H A W E G54 15 Sy.tyBool (Sc.room-sc 𝓤 H A W Ro.sBool)) (Ty.t-skip 𝓤 H A W 𝓣 E Δ2 tt))) (Ty.g-pre 𝓤 H A W 𝓣 E G53 G62 b60 Δ0 (λ Ψ. Ψ) at69 (Lifetime.g-begin 𝓤 H A W E G53 10 (tt, (tt, (tt, (tt, (tt, (tt, (tt, (tt, (tt, (tt, (tt, (tt, (tt, (tt, (tt, (tt, (tt, (tt, (tt, (tt, (tt, (tt, (tt, (tt, (tt, (tt, (tt, (tt, (tt, (tt, (tt, (tt, (tt, tt)))))))))))))))))))))))))))))))))) (Ty.s-seq 𝓤 H A W 𝓣 E G62 G63 b26 b59 Δ0 (Ty.give s59) at68 (Relend.t-sl-relend 𝓤 H A W E (Rf.rtF (Rf.fInt Sy.w32)) 𝓣 G62 2 22 1 10 ty·33 ty·32 (Ro.lease (κs .1 .0) (qs .1 .0)) 0 (λ x. x) (Reads'.as-is 𝓤 H A row·11) (Reads'.room-gone 𝓤 H A ty·32) Pa.refl tt Pa.refl Pa.refl Pa.refl λ b o. tt) (Ty.s-seq 𝓤 H A W 𝓣 E G63 G64 b27 b58 Δ0 (Ty.ask s60) at67 (Relend.t-sl-aggregate 𝓤 H A W E (Rf.rtF (Rf.fInt Sy.w32)) 𝓣 (Relend.asMut (Rf.rtF (Rf.fInt Sy.w32))) G63 22 23 10 ty·32 ty·32 (λ x. x) (Sc.oFld 2 (Li._∷_ (Sy.field 1) Li.[]) (Sy.tyInt Sy.w64) 8 λ v. Shared.lenV (v .0)) (Reads'.as-is 𝓤 H A (Relend.msptr (Rf.rtF (Rf.fInt Sy.w32)) ty·32 10)) (Reads'.room-gone 𝓤 H A (Sy.tyStruct (Li._∷_ 38 (Li._∷_ 91 (Li._∷_ 93 Li.[]))) (Sy.tcons ty·32 (Sy.tcons (Sy.tyInt Sy.w64) Sy.tnil)))) (Relend.reads-owed-len 𝓤 H A W (Rf.rtF (Rf.fInt Sy.w32)) ty·33 1 10 (Ro.lease (κs .1 .0) (qs .1 .0)) 8 Pa.refl, Pa.refl) Pa.refl Pa.refl λ b o k. tt) (Ty.g-pre 𝓤 H A W 𝓣 E G64 G65 b58 Δ0 (λ Ψ. Ψ) at66 (Lifetime.g-begin 𝓤 H A W E G64 11 (tt, (tt, ((tt, tt), (tt, (tt, (tt, (tt, (tt, (tt, (tt, (tt, (tt, (tt, (tt, (tt, (tt, (tt, (tt, (tt, (tt, (tt, (tt, (tt, (tt, (tt, (tt, (tt, (tt, (tt, (tt, (tt, (tt, (tt, tt)))))))))))))))))))))))))))))))))) (Ty.s-seq 𝓤 H A W 𝓣 E G65 G66 b28 b57 Δ0 (Ty.give s62) at65 (Reshare.t-sl-reshare 𝓤 H A W E (Rf.rtF (Rf.fInt Sy.w64)) 𝓣 G65 3 24 2 11 ty·35 ty·34 (Ro.lease (κs .1 .1 .0) (qs .1 .1 .0)) 0 (λ x. x) (Reads'.as-is 𝓤 H A row·12) (Reads'.room-gone 𝓤 H A ty·34) Pa.refl tt Pa.refl Pa.refl Pa.refl λ b o. tt) (Ty.s-seq 𝓤 H A W 𝓣 E G66 G67 b29 b56 Δ0 (Ty.ask s63) at64 (Relend.t-sl-aggregate 𝓤 H A W E (Rf.rtF (Rf.fInt Sy.w64)) 𝓣 (Relend.asShr (Rf.rtF (Rf.fInt Sy.w64))) G66 24 25 11 ty·34 ty·34 (λ x. x) (Sc.oFld 3 (Li._∷_ (Sy.field 1) Li.[]) (Sy.tyInt Sy.w64) 8 λ v. Shared.lenV (v .0)) (Reads'.as-is 𝓤 H A (Relend.ssptr (Rf.rtF (Rf.fInt Sy.w64)) ty·34 11)) (Reads'.room-gone 𝓤 H A (Sy.tyStruct (Li._∷_ 38 (Li._∷_ 91 (Li._∷_ 93 Li.[]))) (Sy.tcons ty·34 (Sy.tcons (Sy.tyInt Sy.w64) Sy.tnil)))) (Reshare.reads-owedS-len 𝓤 H A W (Rf.rtF (Rf.fInt Sy.w64)) ty·35 2 11 (Ro.lease (κs .1 .1 .0) (qs .1 .1 .0)) 8 Pa.refl, Pa.refl) Pa.refl Pa.refl λ b o k. tt) (Ty.g-pre 𝓤 H A W 𝓣 E G67 G68 b56 Δ0 (λ Ψ. Ψ) at63 (Lifetime.g-begin 𝓤 H A W E G67 12 (tt, (tt, ((tt, tt), ((tt, tt), (tt, (tt, (tt, (tt, (tt, (tt, (tt, (tt, (tt, (tt, (tt, (tt, (tt, (tt, (tt, (tt, (tt, (tt, (tt, (tt, (tt, (tt, (tt, (tt, (tt, (tt, (tt, (tt, (tt, tt)))))))))))))))))))))))))))))))))) (Ty.s-seq 𝓤 H A W 𝓣 E G68 G69 b30 b55 Δ0 (Ty.give s65) at62 (Relend.t-sl-relend 𝓤 H A W E Gap_.row 𝓣 G68 4 26 3 12 ty·37 ty·36 (Ro.lease (κs .1 .1 .1 .0) (qs .1 .1 .1 .0)) 0 (λ x. x) (Reads'.as-is 𝓤 H A row·13) (Reads'.room-gone 𝓤 H A ty·36) Pa.refl tt Pa.refl Pa.refl Pa.refl λ b o. tt) (Ty.s-seq 𝓤 H A W 𝓣 E G69 G70 b31 b54 Δ0 (Ty.ask s66) at61 (Relend.t-sl-aggregate 𝓤 H A W E Gap_.row 𝓣 (Relend.asMut Gap_.row) G69 26 27 12 ty·36 ty·36 (λ x. x) (Sc.oFld 4 (Li._∷_ (Sy.field 1) Li.[]) (Sy.tyInt Sy.w64) 8 λ v. Shared.lenV (v .0)) (Reads'.as-is 𝓤 H A (Relend.msptr Gap_.row ty·36 12)) (Reads'.room-gone 𝓤 H A (Sy.tyStruct (Li._∷_ 38 (Li._∷_ 91 (Li._∷_ 93 Li.[]))) (Sy.tcons ty·36 (Sy.tcons (Sy.tyInt Sy.w64) Sy.tnil)))) (Relend.reads-owed-len 𝓤 H A W Gap_.row ty·37 3 12 (Ro.lease (κs .1 .1 .1 .0) (qs .1 .1 .1 .0)) 8 Pa.refl, Pa.refl) Pa.refl Pa.refl λ b o k. tt) (Ty.s-seq 𝓤 H A W 𝓣 E G70 G71 b32 b53 Δ0 (Ty.both s67) at60 (Plain.t-call-plain 𝓤 H A W 𝓣 4 ps·2 r·2 (claims· .4) (claims· .5) "ending::end_pool" (known .2) E (λ pos β. β) G70 (record { pos = 1; ty = Sy.tyRef (Sy.named 0) Sy.imm (Sy.tyInt Sy.w8); ref = λ x. x }, (record { pos = 23; ty = Sy.tyRef Sy.erased Sy.mut (Sy.tyInt Sy.w32); ref = λ x. x }, (record { pos = 25; ty = Sy.tyRef Sy.erased Sy.imm (Sy.tyInt Sy.w64); ref = λ x. x }, (record { pos = 27; ty = Sy.tyRef Sy.erased Sy.mut Gap_.behind; ref = λ x. x }, (Num.vFld 5 (Li._∷_ (Sy.field 12) Li.[]) 96 λ x. JobCounts.struct .as-values x .1 .1 .1 .1 .1 .1 .1 .1 .1 .1 .1 .1 .0, tt))))) 8 (Li._∷_ 0 (Li._∷_ 10 (Li._∷_ 11 (Li._∷_ 12 Li.[])))) (Call.sub-id 𝓤 H A W (G70 .slots)) (ShrSlice.spares-sslice 𝓤 H A W (Rf.rtF (Rf.fInt Sy.w8)) ty·39 0, Shared.reads-sslice 𝓤 H A W (Rf.rtF (Rf.fInt Sy.w8)) ty·39 0, Pa.refl, (Reads'.as-is 𝓤 H A row·29, Mut.reads-mslice 𝓤 H A W (Rf.rtF (Rf.fInt Sy.w32)) ty·32 10, Pa.refl, (ShrSlice.spares-sslice 𝓤 H A W (Rf.rtF (Rf.fInt Sy.w64)) ty·34 11, Shared.reads-sslice 𝓤 H A W (Rf.rtF (Rf.fInt Sy.w64)) ty·34 11, Pa.refl, (Reads'.as-is 𝓤 H A (Mut.mslice Gap_.row ty·36 12), Mut.reads-mslice 𝓤 H A W Gap_.row ty·36 12, Pa.refl, ((Reads.reads-field 𝓤 H A W JobCounts.the-type Laws.the-laws 12 (Sy.tyInt Sy.w64) 96 Pa.refl, Pa.refl), tt))))) (Reads'.room-gone 𝓤 H A (Sy.tyInt Sy.w64)) (tt, (tt, (tt, (tt, tt)))) Pa.refl) (Ty.g-pre 𝓤 H A W 𝓣 E G71 G72 b53 Δ0 (Ty.pass T71 T72 s68) at59 (Sc.g-room 𝓤 H A W E G71 25 (Sy.tyStruct (Li._∷_ 38 (Li._∷_ 91 (Li._∷_ 93 Li.[]))) (Sy.tcons ty·34 (Sy.tcons (Sy.tyInt Sy.w64) Sy.tnil))) (Shared.room-sslice 𝓤 H A W (Rf.rtF (Rf.fInt Sy.w64)) ty·34 11)) (Ty.g-pre 𝓤 H A W 𝓣 E G72 G73 b53 Δ0 (Ty.pass T72 T73 s69) at58 (Sc.g-room 𝓤 H A W E G72 5 Laws.mir (Local.room-whole 𝓤 H A W (Declared.row JobCounts.the-type) Laws.mir Pa.refl)) (Ty.g-pre 𝓤 H A W 𝓣 E G73 G74 b53 Δ0 (λ Ψ. Ψ) at57 (Lifetime.g-end 𝓤 H A W E G73 10 Pa.refl) (Ty.g-pre 𝓤 H A W 𝓣 E G74 G75 b53 Δ0 (Ty.both s71) at56 (Relend.g-back-sl 𝓤 H A W E (Rf.rtF (Rf.fInt Sy.w32)) G74 23 2 1 10 ty·33 ty·32 (Ro.lease (κs .1 .0) (qs .1 .0)) (λ x. x) (λ x. x) (Reads'.as-is 𝓤 H A row·19) (Reads'.as-is 𝓤 H A (Relend.mslice-owed (Rf.rtF (Rf.fInt Sy.w32)) ty·33 1 10 (Ro.lease (κs .1 .0) (qs .1 .0)))) Pa.refl Pa.refl) (Ty.g-pre 𝓤 H A W 𝓣 E G75 G75 b53 Δ0 (Ty.give s72) at55 (Know.g-sl-known 𝓤 H A W (Rf.fInt Sy.w32) E G75 2 1 ty·33 (Ro.lease (κs .1 .0) (qs .1 .0)) 0 (λ x. x) record { fits = Dec'.lit< tt } (Reads'.as-is 𝓤 H A row·11) Pa.refl tt) (Ty.g-pre 𝓤 H A W 𝓣 E G75 G77 b53 Δ0 (λ Ψ. Ψ) at54 (Lifetime.g-forget 𝓤 H A W E G75 10 Ro.dead Pa.refl) (Ty.g-pre 𝓤 H A W 𝓣 E G77 G78 b53 Δ0 (λ Ψ. Ψ) at53 (Lifetime.g-end 𝓤 H A W E G77 11 Pa.refl) (Ty.g-pre 𝓤 H A W 𝓣 E G78 G79 b53 Δ0 (Ty.pass T75 T79 s75) at52 (Reshare.g-back-sl-shr 𝓤 H A W E (Rf.rtF (Rf.fInt Sy.w64)) G78 3 2 11 ty·35 (Ro.lease (κs .1 .1 .0) (qs .1 .1 .0)) (λ x. x) (Reads'.as-is 𝓤 H A (Reshare.mslice-owedS (Rf.rtF (Rf.fInt Sy.w64)) ty·35 2 11 (Ro.lease (κs .1 .1 .0) (qs .1 .1 .0)))) Pa.refl Pa.refl) (Ty.g-pre 𝓤 H A W 𝓣 E G79 G80 b53 Δ0 (λ Ψ. Ψ) at51 (Lifetime.g-forget 𝓤 H A W E G79 11 Ro.dead Pa.refl) (Ty.g-pre 𝓤 H A W 𝓣 E G80 G81 b53 Δ0 (λ Ψ. Ψ) at50 (Lifetime.g-end 𝓤 H A W E G80 12 Pa.refl) (Ty.g-pre 𝓤 H A W 𝓣 E G81 G82 b53 Δ0 (Ty.both s78) at49 (Relend.g-back-sl 𝓤 H A W E Gap_.row G81 27 4 3 12 ty·37 ty·36 (Ro.lease (κs .1 .1 .1 .0) (qs .1 .1 .1 .0)) (λ x. x) (λ x. x) (Reads'.as-is 𝓤 H A row·18) (Reads'.as-is 𝓤 H A (Relend.mslice-owed Gap_.row ty·37 3 12 (Ro.lease (κs .1 .1 .1 .0) (qs .1 .1 .1 .0)))) Pa.refl Pa.refl) (Ty.g-pre 𝓤 H A W 𝓣 E G82 G83 b53 Δ0 (λ Ψ. Ψ) at48 (Lifetime.g-forget 𝓤 H A W E G82 12 Ro.dead Pa.refl) (Ty.s-seq 𝓤 H A W 𝓣 E G83 G84 b33 b52 Δ0 (Ty.ask s80) at47 (Sc.t-op2 𝓤 H A W E 𝓣 G83 Sy.ne (Sc.oAt 8 (Sy.tyInt Sy.w64) (Ro.valS (Ro.sInt Sy.w64))) (Sc.oInt Sy.w64 0) 15 (Rows.sc-here Ro.sBool) Sy.tyBool (Ro.valS Ro.sBool) (Ro.sBool .of) (Sc.reads-sc 𝓤 H A W (Ro.sInt Sy.w64), Pa.refl) tt (Reads'.room-gone 𝓤 H A Sy.tyBool) (Sc.holds-sc 𝓤 H A W Ro.sBool) Pa.refl (λ u. Pa.refl) λ u. tt) (Ty.t-seq 𝓤 H A W 𝓣 E G84 G83 b38 b51 Δ0 at25 at46 (Sc.t-cond 𝓤 H A W E 𝓣 G84 15 (λ x. x) b36 b11 Δ3 at22 at24 (Sc.reads-sc 𝓤 H A W Ro.sBool) Pa.refl (Ty.g-pre 𝓤 H A W 𝓣 E G84 G83 b36 Δ3 (Ty.pass T84 T82 s81) at21 (Sc.g-room 𝓤 H A W E G84 15 Sy.tyBool (Sc.room-sc 𝓤 H A W Ro.sBool)) (Ty.s-seq 𝓤 H A W 𝓣 E G83 G87 b34 b9 Δ3 (Ty.pass T82 T87 s82) at20 (Sc.t-use 𝓤 H A W E 𝓣 G83 (Sc.oAt 8 (Sy.tyInt Sy.w64) (Ro.valS (Ro.sInt Sy.w64))) 0 row·10 (Sy.tyInt Sy.w64) (Ro.valS (Ro.sInt Sy.w64)) (Ro.sInt Sy.w64 .of) (Sc.reads-sc 𝓤 H A W (Ro.sInt Sy.w64), Pa.refl) (Reads'.room-gone 𝓤 H A (Sy.tyInt Sy.w64)) (Sc.holds-sc 𝓤 H A W (Ro.sInt Sy.w64)) Pa.refl (λ u. Pa.refl) λ u. tt) (Ty.g-pre 𝓤 H A W 𝓣 E G87 G88 b9 Δ3 (Ty.pass T87 T88 s83) at19 (Sc.g-room 𝓤 H A W E G87 6 (Sy.tyInt Sy.w64) (Sc.room-sc 𝓤 H A W (Ro.sInt Sy.w64))) (Ty.g-pre 𝓤 H A W 𝓣 E G88 G89 b9 Δ3 (Ty.pass T88 T89 s84) at18 (Sc.g-room 𝓤 H A W E G88 7 (Sy.tyInt Sy.w64) (Sc.room-sc 𝓤 H A W (Ro.sInt Sy.w64))) (Ty.g-pre 𝓤 H A W 𝓣 E G89 G1 b9 Δ3 (Ty.pass T89 T1 s85) at17 (Sc.g-room 𝓤 H A W E G89 8 (Sy.tyInt Sy.w64) (Sc.room-sc 𝓤 H A W (Ro.sInt Sy.w64))) (Ty.t-return 𝓤 H A W 𝓣 E Δ3 tt)))))) (Ty.g-pre 𝓤 H A W 𝓣 E G84 G83 b11 Δ3 (Ty.pass T84 T82 s86) at23 (Sc.g-room 𝓤 H A W E G84 15 Sy.tyBool (Sc.room-sc 𝓤 H A W Ro.sBool)) (Ty.t-skip 𝓤 H A W 𝓣 E Δ3 tt))) (Ty.g-pre 𝓤 H A W 𝓣 E G83 G92 b51 Δ0 (λ Ψ. Ψ) at45 (Lifetime.g-begin 𝓤 H A W E G83 13 (tt, (tt, (tt, (tt, (tt, (tt, (tt, (tt, (tt, (tt, (tt, (tt, (tt, (tt, (tt, (tt, (tt, (tt, (tt, (tt, (tt, (tt, (tt, (tt, (tt, (tt, (tt, (tt, (tt, (tt, (tt, (tt, (tt, tt)))))))))))))))))))))))))))))))))) (Ty.s-seq 𝓤 H A W 𝓣 E G92 G93 b39 b50 Δ0 (Ty.give s88) at44 (Relend.t-sl-relend 𝓤 H A W E (Rf.rtF (Rf.fInt Sy.w32)) 𝓣 G92 2 29 1 13 ty·33 ty·32 (Ro.lease (κs .1 .0) (qs .1 .0)) 0 (λ x. x) (Reads'.as-is 𝓤 H A row·11) (Reads'.room-gone 𝓤 H A ty·32) Pa.refl tt Pa.refl Pa.refl Pa.refl λ b o. tt) (Ty.s-seq 𝓤 H A W 𝓣 E G93 G94 b40 b49 Δ0 (Ty.ask s89) at43 (Relend.t-sl-aggregate 𝓤 H A W E (Rf.rtF (Rf.fInt Sy.w32)) 𝓣 (Relend.asMut (Rf.rtF (Rf.fInt Sy.w32))) G93 29 30 13 ty·32 ty·32 (λ x. x) (Sc.oFld 2 (Li._∷_ (Sy.field 1) Li.[]) (Sy.tyInt Sy.w64) 8 λ v. Shared.lenV (v .0)) (Reads'.as-is 𝓤 H A (Relend.msptr (Rf.rtF (Rf.fInt Sy.w32)) ty·32 13)) (Reads'.room-gone 𝓤 H A (Sy.tyStruct (Li._∷_ 38 (Li._∷_ 91 (Li._∷_ 93 Li.[]))) (Sy.tcons ty·32 (Sy.tcons (Sy.tyInt Sy.w64) Sy.tnil)))) (Relend.reads-owed-len 𝓤 H A W (Rf.rtF (Rf.fInt Sy.w32)) ty·33 1 13 (Ro.lease (κs .1 .0) (qs .1 .0)) 8 Pa.refl, Pa.refl) Pa.refl Pa.refl λ b o k. tt) (Ty.g-pre 𝓤 H A W 𝓣 E G94 G95 b49 Δ0 (λ Ψ. Ψ) at42 (Lifetime.g-begin 𝓤 H A W E G94 14 (tt, (tt, ((tt, tt), (tt, (tt, (tt, (tt, (tt, (tt, (tt, (tt, (tt, (tt, (tt, (tt, (tt, (tt, (tt, (tt, (tt, (tt, (tt, (tt, (tt, (tt, (tt, (tt, (tt, (tt, (tt, (tt, (tt, (tt, tt)))))))))))))))))))))))))))))))))) (Ty.s-seq 𝓤 H A W 𝓣 E G95 G96 b41 b48 Δ0 (Ty.give s91) at41 (Reshare.t-sl-reshare 𝓤 H A W E (Rf.rtF (Rf.fInt Sy.w64)) 𝓣 G95 3 31 2 14 ty·35 ty·34 (Ro.lease (κs .1 .1 .0) (qs .1 .1 .0)) 0 (λ x. x) (Reads'.as-is 𝓤 H A row·12) (Reads'.room-gone 𝓤 H A ty·34) Pa.refl tt Pa.refl Pa.refl Pa.refl λ b o. tt) (Ty.s-seq 𝓤 H A W 𝓣 E G96 G97 b42 b47 Δ0 (Ty.ask s92) at40 (Relend.t-sl-aggregate 𝓤 H A W E (Rf.rtF (Rf.fInt Sy.w64)) 𝓣 (Relend.asShr (Rf.rtF (Rf.fInt Sy.w64))) G96 31 32 14 ty·34 ty·34 (λ x. x) (Sc.oFld 3 (Li._∷_ (Sy.field 1) Li.[]) (Sy.tyInt Sy.w64) 8 λ v. Shared.lenV (v .0)) (Reads'.as-is 𝓤 H A (Relend.ssptr (Rf.rtF (Rf.fInt Sy.w64)) ty·34 14)) (Reads'.room-gone 𝓤 H A (Sy.tyStruct (Li._∷_ 38 (Li._∷_ 91 (Li._∷_ 93 Li.[]))) (Sy.tcons ty·34 (Sy.tcons (Sy.tyInt Sy.w64) Sy.tnil)))) (Reshare.reads-owedS-len 𝓤 H A W (Rf.rtF (Rf.fInt Sy.w64)) ty·35 2 14 (Ro.lease (κs .1 .1 .0) (qs .1 .1 .0)) 8 Pa.refl, Pa.refl) Pa.refl Pa.refl λ b o k. tt) (Ty.s-seq 𝓤 H A W 𝓣 E G97 G98 b43 b46 Δ0 (Ty.both s93) at39 (Plain.t-call-plain 𝓤 H A W 𝓣 2 ps·3 r·3 (claims· .6) (claims· .7) "output::own_slots" (known .3) E (λ pos β. β) G97 (record { pos = 30; ty = Sy.tyRef Sy.erased Sy.mut (Sy.tyInt Sy.w32); ref = λ x. x }, (record { pos = 32; ty = Sy.tyRef Sy.erased Sy.imm (Sy.tyInt Sy.w64); ref = λ x. x }, tt)) 28 (Li._∷_ 13 (Li._∷_ 14 Li.[])) (Call.sub-id 𝓤 H A W (G97 .slots)) (Reads'.as-is 𝓤 H A (Mut.mslice (Rf.rtF (Rf.fInt Sy.w32)) ty·32 13), Mut.reads-mslice 𝓤 H A W (Rf.rtF (Rf.fInt Sy.w32)) ty·32 13, Pa.refl, (ShrSlice.spares-sslice 𝓤 H A W (Rf.rtF (Rf.fInt Sy.w64)) ty·34 14, Shared.reads-sslice 𝓤 H A W (Rf.rtF (Rf.fInt Sy.w64)) ty·34 14, Pa.refl, tt)) (Reads'.room-gone 𝓤 H A Sy.tyUnit) (tt, (tt, tt)) Pa.refl) (Ty.g-pre 𝓤 H A W 𝓣 E G98 G99 b46 Δ0 (Ty.pass T98 T99 s94) at38 (Sc.g-room 𝓤 H A W E G98 32 (Sy.tyStruct (Li._∷_ 38 (Li._∷_ 91 (Li._∷_ 93 Li.[]))) (Sy.tcons ty·34 (Sy.tcons (Sy.tyInt Sy.w64) Sy.tnil))) (Shared.room-sslice 𝓤 H A W (Rf.rtF (Rf.fInt Sy.w64)) ty·34 14)) (Ty.g-pre 𝓤 H A W 𝓣 E G99 G100 b46 Δ0 (Ty.pass T99 T100 s95) at37 (Sc.g-room 𝓤 H A W E G99 28 Sy.tyUnit (Sc.room-sc 𝓤 H A W Ro.sUnit)) (Ty.g-pre 𝓤 H A W 𝓣 E G100 G101 b46 Δ0 (λ Ψ. Ψ) at36 (Lifetime.g-end 𝓤 H A W E G100 13 Pa.refl) (Ty.g-pre 𝓤 H A W 𝓣 E G101 G102 b46 Δ0 (Ty.both s97) at35 (Relend.g-back-sl 𝓤 H A W E (Rf.rtF (Rf.fInt Sy.w32)) G101 30 2 1 13 ty·33 ty·32 (Ro.lease (κs .1 .0) (qs .1 .0)) (λ x. x) (λ x. x) (Reads'.as-is 𝓤 H A row·19) (Reads'.as-is 𝓤 H A (Relend.mslice-owed (Rf.rtF (Rf.fInt Sy.w32)) ty·33 1 13 (Ro.lease (κs .1 .0) (qs .1 .0)))) Pa.refl Pa.refl) (Ty.g-pre 𝓤 H A W 𝓣 E G102 G102 b46 Δ0 (Ty.give s98) at34 (Know.g-sl-known 𝓤 H A W (Rf.fInt Sy.w32) E G102 2 1 ty·33 (Ro.lease (κs .1 .0) (qs .1 .0)) 0 (λ x. x) record { fits = Dec'.lit< tt } (Reads'.as-is 𝓤 H A row·11) Pa.refl tt) (Ty.g-pre 𝓤 H A W 𝓣 E G102 G104 b46 Δ0 (λ Ψ. Ψ) at33 (Lifetime.g-forget 𝓤 H A W E G102 13 Ro.dead Pa.refl) (Ty.g-pre 𝓤 H A W 𝓣 E G104 G105 b46 Δ0 (λ Ψ. Ψ) at32 (Lifetime.g-end 𝓤 H A W E G104 14 Pa.refl) (Ty.g-pre 𝓤 H A W 𝓣 E G105 G106 b46 Δ0 (Ty.pass T102 T82 s101) at31 (Reshare.g-back-sl-shr 𝓤 H A W E (Rf.rtF (Rf.fInt Sy.w64)) G105 3 2 14 ty·35 (Ro.lease (κs .1 .1 .0) (qs .1 .1 .0)) (λ x. x) (Reads'.as-is 𝓤 H A (Reshare.mslice-owedS (Rf.rtF (Rf.fInt Sy.w64)) ty·35 2 14 (Ro.lease (κs .1 .1 .0) (qs .1 .1 .0)))) Pa.refl Pa.refl) (Ty.g-pre 𝓤 H A W 𝓣 E G106 G83 b46 Δ0 (λ Ψ. Ψ) at30 (Lifetime.g-forget 𝓤 H A W E G106 14 Ro.dead Pa.refl) (Ty.s-seq 𝓤 H A W 𝓣 E G83 G87 b44 b9 Δ0 (Ty.pass T82 T87 s103) at29 (Sc.t-use 𝓤 H A W E 𝓣 G83 (Sc.oInt Sy.w64 0) 0 row·10 (Sy.tyInt Sy.w64) (Ro.valS (Ro.sInt Sy.w64)) (Ro.sInt Sy.w64 .of) tt (Reads'.room-gone 𝓤 H A (Sy.tyInt Sy.w64)) (Sc.holds-sc 𝓤 H A W (Ro.sInt Sy.w64)) Pa.refl (λ u. Pa.refl) λ u. tt) (Ty.g-pre 𝓤 H A W 𝓣 E G87 G88 b9 Δ0 (Ty.pass T87 T88 s104) at28 (Sc.g-room 𝓤 H A W E G87 6 (Sy.tyInt Sy.w64) (Sc.room-sc 𝓤 H A W (Ro.sInt Sy.w64))) (Ty.g-pre 𝓤 H A W 𝓣 E G88 G89 b9 Δ0 (Ty.pass T88 T89 s105) at27 (Sc.g-room 𝓤 H A W E G88 7 (Sy.tyInt Sy.w64) (Sc.room-sc 𝓤 H A W (Ro.sInt Sy.w64))) (Ty.g-pre 𝓤 H A W 𝓣 E G89 G1 b9 Δ0 (Ty.pass T89 T1 s106) at26 (Sc.g-room 𝓤 H A W E G89 8 (Sy.tyInt Sy.w64) (Sc.room-sc 𝓤 H A W (Ro.sInt Sy.w64))) (Ty.t-return 𝓤 H A W 𝓣 E Δ0 tt))))))))))))))))))))))))))))))))))))))))))))))))))))))))))))))))))))))))))))))))))))))))))))))
+          typed = (Ty.g-pre 𝓤 H A W 𝓣 E G0 G0 b78 Δ0 (Ty.give s0) at118 (Know.g-shs-known 𝓤 H A W (Rf.fInt Sy.w8) E G0 1 0 ty·39 (Ro.lease (κs .0) (qs .0)) 0 (λ x. x) record { fits = Dec'.lit< tt } (Reads'.as-is 𝓤 H A row·5) Pa.refl tt) (Ty.g-pre 𝓤 H A W 𝓣 E G0 G0 b78 Δ0 (Ty.give s1) at117 (Know.g-sl-known 𝓤 H A W (Rf.fInt Sy.w32) E G0 2 1 ty·33 (Ro.lease (κs .1 .0) (qs .1 .0)) 0 (λ x. x) record { fits = Dec'.lit< tt } (Reads'.as-is 𝓤 H A row·11) Pa.refl tt) (Ty.g-pre 𝓤 H A W 𝓣 E G0 G0 b78 Δ0 (Ty.give s2) at116 (Know.g-sl-known 𝓤 H A W (Rf.fInt Sy.w64) E G0 3 2 ty·35 (Ro.lease (κs .1 .1 .0) (qs .1 .1 .0)) 0 (λ x. x) record { fits = Dec'.lit< tt } (Reads'.as-is 𝓤 H A row·12) Pa.refl tt) (Ty.g-pre 𝓤 H A W 𝓣 E G0 G5 b78 Δ0 (λ Ψ. Ψ) at115 (Lifetime.g-begin 𝓤 H A W E G0 4 (tt, (tt, (tt, (tt, (tt, (tt, (tt, (tt, (tt, (tt, (tt, (tt, (tt, (tt, (tt, (tt, (tt, (tt, (tt, (tt, (tt, (tt, (tt, (tt, (tt, (tt, (tt, (tt, (tt, (tt, (tt, (tt, (tt, tt)))))))))))))))))))))))))))))))))) (Ty.s-seq 𝓤 H A W 𝓣 E G5 G6 b0 b77 Δ0 (Ty.give s4) at114 (Relend.t-sl-relend 𝓤 H A W E (Rf.rtF (Rf.fInt Sy.w32)) 𝓣 G5 2 9 1 4 ty·33 ty·32 (Ro.lease (κs .1 .0) (qs .1 .0)) 0 (λ x. x) (Reads'.as-is 𝓤 H A row·11) (Reads'.room-gone 𝓤 H A ty·32) Pa.refl tt Pa.refl Pa.refl Pa.refl λ b o. tt) (Ty.s-seq 𝓤 H A W 𝓣 E G6 G7 b1 b76 Δ0 (Ty.ask s5) at113 (Relend.t-sl-aggregate 𝓤 H A W E (Rf.rtF (Rf.fInt Sy.w32)) 𝓣 (Relend.asMut (Rf.rtF (Rf.fInt Sy.w32))) G6 9 10 4 ty·32 ty·32 (λ x. x) (Sc.oFld 2 (Li._∷_ (Sy.field 1) Li.[]) (Sy.tyInt Sy.w64) 8 λ v. Shared.lenV (v .0)) (Reads'.as-is 𝓤 H A (Relend.msptr (Rf.rtF (Rf.fInt Sy.w32)) ty·32 4)) (Reads'.room-gone 𝓤 H A (Sy.tyStruct (Li._∷_ 38 (Li._∷_ 91 (Li._∷_ 93 Li.[]))) (Sy.tcons ty·32 (Sy.tcons (Sy.tyInt Sy.w64) Sy.tnil)))) (Relend.reads-owed-len 𝓤 H A W (Rf.rtF (Rf.fInt Sy.w32)) ty·33 1 4 (Ro.lease (κs .1 .0) (qs .1 .0)) 8 Pa.refl, Pa.refl) Pa.refl Pa.refl λ b o k. tt) (Ty.g-pre 𝓤 H A W 𝓣 E G7 G8 b76 Δ0 (λ Ψ. Ψ) at112 (Lifetime.g-begin 𝓤 H A W E G7 5 (tt, (tt, ((tt, tt), (tt, (tt, (tt, (tt, (tt, (tt, (tt, (tt, (tt, (tt, (tt, (tt, (tt, (tt, (tt, (tt, (tt, (tt, (tt, (tt, (tt, (tt, (tt, (tt, (tt, (tt, (tt, (tt, (tt, (tt, tt)))))))))))))))))))))))))))))))))) (Ty.s-seq 𝓤 H A W 𝓣 E G8 G9 b2 b75 Δ0 (Ty.give s7) at111 (Relend.t-sl-relend 𝓤 H A W E (Rf.rtF (Rf.fInt Sy.w64)) 𝓣 G8 3 11 2 5 ty·35 ty·38 (Ro.lease (κs .1 .1 .0) (qs .1 .1 .0)) 0 (λ x. x) (Reads'.as-is 𝓤 H A row·12) (Reads'.room-gone 𝓤 H A ty·38) Pa.refl tt Pa.refl Pa.refl Pa.refl λ b o. tt) (Ty.s-seq 𝓤 H A W 𝓣 E G9 G10 b3 b74 Δ0 (Ty.ask s8) at110 (Relend.t-sl-aggregate 𝓤 H A W E (Rf.rtF (Rf.fInt Sy.w64)) 𝓣 (Relend.asMut (Rf.rtF (Rf.fInt Sy.w64))) G9 11 12 5 ty·38 ty·38 (λ x. x) (Sc.oFld 3 (Li._∷_ (Sy.field 1) Li.[]) (Sy.tyInt Sy.w64) 8 λ v. Shared.lenV (v .0)) (Reads'.as-is 𝓤 H A (Relend.msptr (Rf.rtF (Rf.fInt Sy.w64)) ty·38 5)) (Reads'.room-gone 𝓤 H A (Sy.tyStruct (Li._∷_ 38 (Li._∷_ 91 (Li._∷_ 93 Li.[]))) (Sy.tcons ty·38 (Sy.tcons (Sy.tyInt Sy.w64) Sy.tnil)))) (Relend.reads-owed-len 𝓤 H A W (Rf.rtF (Rf.fInt Sy.w64)) ty·35 2 5 (Ro.lease (κs .1 .1 .0) (qs .1 .1 .0)) 8 Pa.refl, Pa.refl) Pa.refl Pa.refl λ b o k. tt) (Ty.g-pre 𝓤 H A W 𝓣 E G10 G11 b74 Δ0 (λ Ψ. Ψ) at109 (Lifetime.g-begin 𝓤 H A W E G10 6 (tt, (tt, ((tt, tt), ((tt, tt), (tt, (tt, (tt, (tt, (tt, (tt, (tt, (tt, (tt, (tt, (tt, (tt, (tt, (tt, (tt, (tt, (tt, (tt, (tt, (tt, (tt, (tt, (tt, (tt, (tt, (tt, (tt, (tt, (tt, tt)))))))))))))))))))))))))))))))))) (Ty.s-seq 𝓤 H A W 𝓣 E G11 G12 b4 b73 Δ0 (Ty.give s10) at108 (Relend.t-sl-relend 𝓤 H A W E Gap_.row 𝓣 G11 4 13 3 6 ty·37 ty·36 (Ro.lease (κs .1 .1 .1 .0) (qs .1 .1 .1 .0)) 0 (λ x. x) (Reads'.as-is 𝓤 H A row·13) (Reads'.room-gone 𝓤 H A ty·36) Pa.refl tt Pa.refl Pa.refl Pa.refl λ b o. tt) (Ty.s-seq 𝓤 H A W 𝓣 E G12 G13 b5 b72 Δ0 (Ty.ask s11) at107 (Relend.t-sl-aggregate 𝓤 H A W E Gap_.row 𝓣 (Relend.asMut Gap_.row) G12 13 14 6 ty·36 ty·36 (λ x. x) (Sc.oFld 4 (Li._∷_ (Sy.field 1) Li.[]) (Sy.tyInt Sy.w64) 8 λ v. Shared.lenV (v .0)) (Reads'.as-is 𝓤 H A (Relend.msptr Gap_.row ty·36 6)) (Reads'.room-gone 𝓤 H A (Sy.tyStruct (Li._∷_ 38 (Li._∷_ 91 (Li._∷_ 93 Li.[]))) (Sy.tcons ty·36 (Sy.tcons (Sy.tyInt Sy.w64) Sy.tnil)))) (Relend.reads-owed-len 𝓤 H A W Gap_.row ty·37 3 6 (Ro.lease (κs .1 .1 .1 .0) (qs .1 .1 .1 .0)) 8 Pa.refl, Pa.refl) Pa.refl Pa.refl λ b o k. tt) (Ty.s-seq 𝓤 H A W 𝓣 E G13 G14 b6 b71 Δ0 (Ty.both s12) at106 (Plain.t-call-plain 𝓤 H A W 𝓣 4 ps·0 r·0 (claims· .0) (claims· .1) "requests::ask" (known .0) E (λ pos β. β) G13 (record { pos = 1; ty = Sy.tyRef (Sy.named 0) Sy.imm (Sy.tyInt Sy.w8); ref = λ x. x }, (record { pos = 10; ty = Sy.tyRef Sy.erased Sy.mut (Sy.tyInt Sy.w32); ref = λ x. x }, (record { pos = 12; ty = Sy.tyRef Sy.erased Sy.mut (Sy.tyInt Sy.w64); ref = λ x. x }, (record { pos = 14; ty = Sy.tyRef Sy.erased Sy.mut Gap_.behind; ref = λ x. x }, (record { pos = 5; st = Li.[]; d = 0; at = λ x. x }, (Num.vFld 5 (Li._∷_ (Sy.field 11) Li.[]) 88 λ x. JobCounts.struct .as-values x .1 .1 .1 .1 .1 .1 .1 .1 .1 .1 .1 .0, tt)))))) 6 (Li._∷_ 0 (Li._∷_ 4 (Li._∷_ 5 (Li._∷_ 6 Li.[])))) (Call.sub-id 𝓤 H A W (G13 .slots)) (ShrSlice.spares-sslice 𝓤 H A W (Rf.rtF (Rf.fInt Sy.w8)) ty·39 0, Shared.reads-sslice 𝓤 H A W (Rf.rtF (Rf.fInt Sy.w8)) ty·39 0, Pa.refl, (Reads'.as-is 𝓤 H A row·16, Mut.reads-mslice 𝓤 H A W (Rf.rtF (Rf.fInt Sy.w32)) ty·32 4, Pa.refl, (Reads'.as-is 𝓤 H A row·23, Mut.reads-mslice 𝓤 H A W (Rf.rtF (Rf.fInt Sy.w64)) ty·38 5, Pa.refl, (Reads'.as-is 𝓤 H A (Mut.mslice Gap_.row ty·36 6), Mut.reads-mslice 𝓤 H A W Gap_.row ty·36 6, Pa.refl, ((Yields.yields-copy 𝓤 H A W (λ ρ. Unit) (Declared.row JobCounts.the-type) Pa.refl (Copies.cStruct JobCounts.the-type Laws.the-laws Laws.the-copy .copy 𝓤 H A W) row·14 (λ x. x) (λ x. x) (λ ρ told. Local.mem-whole 𝓤 H A W (Declared.row JobCounts.the-type) ρ) λ ρ told. Local.whole-mem 𝓤 H A W (Declared.row JobCounts.the-type) ρ, Pa.refl), ((Reads.reads-field 𝓤 H A W JobCounts.the-type Laws.the-laws 11 (Sy.tyInt Sy.w64) 88 Pa.refl, Pa.refl), tt)))))) (Reads'.room-gone 𝓤 H A (Sy.tyInt Sy.w64)) (tt, (tt, (tt, (tt, tt)))) Pa.refl) (Ty.g-pre 𝓤 H A W 𝓣 E G14 G15 b71 Δ0 (λ Ψ. Ψ) at105 (Lifetime.g-end 𝓤 H A W E G14 4 Pa.refl) (Ty.g-pre 𝓤 H A W 𝓣 E G15 G16 b71 Δ0 (Ty.both s14) at104 (Relend.g-back-sl 𝓤 H A W E (Rf.rtF (Rf.fInt Sy.w32)) G15 10 2 1 4 ty·33 ty·32 (Ro.lease (κs .1 .0) (qs .1 .0)) (λ x. x) (λ x. x) (Reads'.as-is 𝓤 H A row·19) (Reads'.as-is 𝓤 H A (Relend.mslice-owed (Rf.rtF (Rf.fInt Sy.w32)) ty·33 1 4 (Ro.lease (κs .1 .0) (qs .1 .0)))) Pa.refl Pa.refl) (Ty.g-pre 𝓤 H A W 𝓣 E G16 G16 b71 Δ0 (Ty.give s15) at103 (Know.g-sl-known 𝓤 H A W (Rf.fInt Sy.w32) E G16 2 1 ty·33 (Ro.lease (κs .1 .0) (qs .1 .0)) 0 (λ x. x) record { fits = Dec'.lit< tt } (Reads'.as-is 𝓤 H A row·11) Pa.refl tt) (Ty.g-pre 𝓤 H A W 𝓣 E G16 G18 b71 Δ0 (λ Ψ. Ψ) at102 (Lifetime.g-forget 𝓤 H A W E G16 4 Ro.dead Pa.refl) (Ty.g-pre 𝓤 H A W 𝓣 E G18 G19 b71 Δ0 (λ Ψ. Ψ) at101 (Lifetime.g-end 𝓤 H A W E G18 5 Pa.refl) (Ty.g-pre 𝓤 H A W 𝓣 E G19 G20 b71 Δ0 (Ty.both s18) at100 (Relend.g-back-sl 𝓤 H A W E (Rf.rtF (Rf.fInt Sy.w64)) G19 12 3 2 5 ty·35 ty·38 (Ro.lease (κs .1 .1 .0) (qs .1 .1 .0)) (λ x. x) (λ x. x) (Reads'.as-is 𝓤 H A row·31) (Reads'.as-is 𝓤 H A (Relend.mslice-owed (Rf.rtF (Rf.fInt Sy.w64)) ty·35 2 5 (Ro.lease (κs .1 .1 .0) (qs .1 .1 .0)))) Pa.refl Pa.refl) (Ty.g-pre 𝓤 H A W 𝓣 E G20 G20 b71 Δ0 (Ty.give s19) at99 (Know.g-sl-known 𝓤 H A W (Rf.fInt Sy.w64) E G20 3 2 ty·35 (Ro.lease (κs .1 .1 .0) (qs .1 .1 .0)) 0 (λ x. x) record { fits = Dec'.lit< tt } (Reads'.as-is 𝓤 H A row·12) Pa.refl tt) (Ty.g-pre 𝓤 H A W 𝓣 E G20 G22 b71 Δ0 (λ Ψ. Ψ) at98 (Lifetime.g-forget 𝓤 H A W E G20 5 Ro.dead Pa.refl) (Ty.g-pre 𝓤 H A W 𝓣 E G22 G23 b71 Δ0 (λ Ψ. Ψ) at97 (Lifetime.g-end 𝓤 H A W E G22 6 Pa.refl) (Ty.g-pre 𝓤 H A W 𝓣 E G23 G24 b71 Δ0 (Ty.both s22) at96 (Relend.g-back-sl 𝓤 H A W E Gap_.row G23 14 4 3 6 ty·37 ty·36 (Ro.lease (κs .1 .1 .1 .0) (qs .1 .1 .1 .0)) (λ x. x) (λ x. x) (Reads'.as-is 𝓤 H A row·18) (Reads'.as-is 𝓤 H A (Relend.mslice-owed Gap_.row ty·37 3 6 (Ro.lease (κs .1 .1 .1 .0) (qs .1 .1 .1 .0)))) Pa.refl Pa.refl) (Ty.g-pre 𝓤 H A W 𝓣 E G24 G25 b71 Δ0 (λ Ψ. Ψ) at95 (Lifetime.g-forget 𝓤 H A W E G24 6 Ro.dead Pa.refl) (Ty.s-seq 𝓤 H A W 𝓣 E G25 G26 b7 b70 Δ0 (Ty.ask s24) at94 (Sc.t-op2 𝓤 H A W E 𝓣 G25 Sy.ne (Sc.oAt 6 (Sy.tyInt Sy.w64) (Ro.valS (Ro.sInt Sy.w64))) (Sc.oInt Sy.w64 0) 15 (Rows.sc-here Ro.sBool) Sy.tyBool (Ro.valS Ro.sBool) (Ro.sBool .of) (Sc.reads-sc 𝓤 H A W (Ro.sInt Sy.w64), Pa.refl) tt (Reads'.room-gone 𝓤 H A Sy.tyBool) (Sc.holds-sc 𝓤 H A W Ro.sBool) Pa.refl (λ u. Pa.refl) λ u. tt) (Ty.t-seq 𝓤 H A W 𝓣 E G26 G25 b12 b69 Δ0 at7 at93 (Sc.t-cond 𝓤 H A W E 𝓣 G26 15 (λ x. x) b10 b11 Δ1 at4 at6 (Sc.reads-sc 𝓤 H A W Ro.sBool) Pa.refl (Ty.g-pre 𝓤 H A W 𝓣 E G26 G28 b10 Δ1 (Ty.pass T26 T28 s25) at3 (Sc.g-room 𝓤 H A W E G26 5 Laws.mir (Local.room-whole 𝓤 H A W (Declared.row JobCounts.the-type) Laws.mir Pa.refl)) (Ty.g-pre 𝓤 H A W 𝓣 E G28 G29 b10 Δ1 (Ty.pass T28 T29 s26) at2 (Sc.g-room 𝓤 H A W E G28 15 Sy.tyBool (Sc.room-sc 𝓤 H A W Ro.sBool)) (Ty.s-seq 𝓤 H A W 𝓣 E G29 G30 b8 b9 Δ1 (Ty.pass T29 T30 s27) at1 (Sc.t-use 𝓤 H A W E 𝓣 G29 (Sc.oAt 6 (Sy.tyInt Sy.w64) (Ro.valS (Ro.sInt Sy.w64))) 0 row·10 (Sy.tyInt Sy.w64) (Ro.valS (Ro.sInt Sy.w64)) (Ro.sInt Sy.w64 .of) (Sc.reads-sc 𝓤 H A W (Ro.sInt Sy.w64), Pa.refl) (Reads'.room-gone 𝓤 H A (Sy.tyInt Sy.w64)) (Sc.holds-sc 𝓤 H A W (Ro.sInt Sy.w64)) Pa.refl (λ u. Pa.refl) λ u. tt) (Ty.g-pre 𝓤 H A W 𝓣 E G30 G1 b9 Δ1 (Ty.pass T30 T1 s28) at0 (Sc.g-room 𝓤 H A W E G30 6 (Sy.tyInt Sy.w64) (Sc.room-sc 𝓤 H A W (Ro.sInt Sy.w64))) (Ty.t-return 𝓤 H A W 𝓣 E Δ1 tt))))) (Ty.g-pre 𝓤 H A W 𝓣 E G26 G25 b11 Δ1 (Ty.pass T26 T24 s29) at5 (Sc.g-room 𝓤 H A W E G26 15 Sy.tyBool (Sc.room-sc 𝓤 H A W Ro.sBool)) (Ty.t-skip 𝓤 H A W 𝓣 E Δ1 tt))) (Ty.g-pre 𝓤 H A W 𝓣 E G25 G33 b69 Δ0 (λ Ψ. Ψ) at92 (Lifetime.g-begin 𝓤 H A W E G25 7 (tt, (tt, (tt, (tt, (tt, (tt, (tt, (tt, (tt, (tt, (tt, (tt, (tt, (tt, (tt, (tt, (tt, (tt, (tt, (tt, (tt, (tt, (tt, (tt, (tt, (tt, (tt, (tt, (tt, (tt, (tt, (tt, (tt, tt)))))))))))))))))))))))))))))))))) (Ty.s-seq 𝓤 H A W 𝓣 E G33 G34 b13 b68 Δ0 (Ty.give s31) at91 (Relend.t-sl-relend 𝓤 H A W E (Rf.rtF (Rf.fInt Sy.w32)) 𝓣 G33 2 16 1 7 ty·33 ty·32 (Ro.lease (κs .1 .0) (qs .1 .0)) 0 (λ x. x) (Reads'.as-is 𝓤 H A row·11) (Reads'.room-gone 𝓤 H A ty·32) Pa.refl tt Pa.refl Pa.refl Pa.refl λ b o. tt) (Ty.s-seq 𝓤 H A W 𝓣 E G34 G35 b14 b67 Δ0 (Ty.ask s32) at90 (Relend.t-sl-aggregate 𝓤 H A W E (Rf.rtF (Rf.fInt Sy.w32)) 𝓣 (Relend.asMut (Rf.rtF (Rf.fInt Sy.w32))) G34 16 17 7 ty·32 ty·32 (λ x. x) (Sc.oFld 2 (Li._∷_ (Sy.field 1) Li.[]) (Sy.tyInt Sy.w64) 8 λ v. Shared.lenV (v .0)) (Reads'.as-is 𝓤 H A (Relend.msptr (Rf.rtF (Rf.fInt Sy.w32)) ty·32 7)) (Reads'.room-gone 𝓤 H A (Sy.tyStruct (Li._∷_ 38 (Li._∷_ 91 (Li._∷_ 93 Li.[]))) (Sy.tcons ty·32 (Sy.tcons (Sy.tyInt Sy.w64) Sy.tnil)))) (Relend.reads-owed-len 𝓤 H A W (Rf.rtF (Rf.fInt Sy.w32)) ty·33 1 7 (Ro.lease (κs .1 .0) (qs .1 .0)) 8 Pa.refl, Pa.refl) Pa.refl Pa.refl λ b o k. tt) (Ty.g-pre 𝓤 H A W 𝓣 E G35 G36 b67 Δ0 (λ Ψ. Ψ) at89 (Lifetime.g-begin 𝓤 H A W E G35 8 (tt, (tt, ((tt, tt), (tt, (tt, (tt, (tt, (tt, (tt, (tt, (tt, (tt, (tt, (tt, (tt, (tt, (tt, (tt, (tt, (tt, (tt, (tt, (tt, (tt, (tt, (tt, (tt, (tt, (tt, (tt, (tt, (tt, (tt, tt)))))))))))))))))))))))))))))))))) (Ty.s-seq 𝓤 H A W 𝓣 E G36 G37 b15 b66 Δ0 (Ty.give s34) at88 (Reshare.t-sl-reshare 𝓤 H A W E (Rf.rtF (Rf.fInt Sy.w64)) 𝓣 G36 3 18 2 8 ty·35 ty·34 (Ro.lease (κs .1 .1 .0) (qs .1 .1 .0)) 0 (λ x. x) (Reads'.as-is 𝓤 H A row·12) (Reads'.room-gone 𝓤 H A ty·34) Pa.refl tt Pa.refl Pa.refl Pa.refl λ b o. tt) (Ty.s-seq 𝓤 H A W 𝓣 E G37 G38 b16 b65 Δ0 (Ty.ask s35) at87 (Relend.t-sl-aggregate 𝓤 H A W E (Rf.rtF (Rf.fInt Sy.w64)) 𝓣 (Relend.asShr (Rf.rtF (Rf.fInt Sy.w64))) G37 18 19 8 ty·34 ty·34 (λ x. x) (Sc.oFld 3 (Li._∷_ (Sy.field 1) Li.[]) (Sy.tyInt Sy.w64) 8 λ v. Shared.lenV (v .0)) (Reads'.as-is 𝓤 H A (Relend.ssptr (Rf.rtF (Rf.fInt Sy.w64)) ty·34 8)) (Reads'.room-gone 𝓤 H A (Sy.tyStruct (Li._∷_ 38 (Li._∷_ 91 (Li._∷_ 93 Li.[]))) (Sy.tcons ty·34 (Sy.tcons (Sy.tyInt Sy.w64) Sy.tnil)))) (Reshare.reads-owedS-len 𝓤 H A W (Rf.rtF (Rf.fInt Sy.w64)) ty·35 2 8 (Ro.lease (κs .1 .1 .0) (qs .1 .1 .0)) 8 Pa.refl, Pa.refl) Pa.refl Pa.refl λ b o k. tt) (Ty.g-pre 𝓤 H A W 𝓣 E G38 G39 b65 Δ0 (λ Ψ. Ψ) at86 (Lifetime.g-begin 𝓤 H A W E G38 9 (tt, (tt, ((tt, tt), ((tt, tt), (tt, (tt, (tt, (tt, (tt, (tt, (tt, (tt, (tt, (tt, (tt, (tt, (tt, (tt, (tt, (tt, (tt, (tt, (tt, (tt, (tt, (tt, (tt, (tt, (tt, (tt, (tt, (tt, (tt, tt)))))))))))))))))))))))))))))))))) (Ty.s-seq 𝓤 H A W 𝓣 E G39 G40 b17 b64 Δ0 (Ty.give s37) at85 (Relend.t-sl-relend 𝓤 H A W E Gap_.row 𝓣 G39 4 20 3 9 ty·37 ty·36 (Ro.lease (κs .1 .1 .1 .0) (qs .1 .1 .1 .0)) 0 (λ x. x) (Reads'.as-is 𝓤 H A row·13) (Reads'.room-gone 𝓤 H A ty·36) Pa.refl tt Pa.refl Pa.refl Pa.refl λ b o. tt) (Ty.s-seq 𝓤 H A W 𝓣 E G40 G41 b18 b63 Δ0 (Ty.ask s38) at84 (Relend.t-sl-aggregate 𝓤 H A W E Gap_.row 𝓣 (Relend.asMut Gap_.row) G40 20 21 9 ty·36 ty·36 (λ x. x) (Sc.oFld 4 (Li._∷_ (Sy.field 1) Li.[]) (Sy.tyInt Sy.w64) 8 λ v. Shared.lenV (v .0)) (Reads'.as-is 𝓤 H A (Relend.msptr Gap_.row ty·36 9)) (Reads'.room-gone 𝓤 H A (Sy.tyStruct (Li._∷_ 38 (Li._∷_ 91 (Li._∷_ 93 Li.[]))) (Sy.tcons ty·36 (Sy.tcons (Sy.tyInt Sy.w64) Sy.tnil)))) (Relend.reads-owed-len 𝓤 H A W Gap_.row ty·37 3 9 (Ro.lease (κs .1 .1 .1 .0) (qs .1 .1 .1 .0)) 8 Pa.refl, Pa.refl) Pa.refl Pa.refl λ b o k. tt) (Ty.s-seq 𝓤 H A W 𝓣 E G41 G42 b19 b62 Δ0 (Ty.both s39) at83 (Plain.t-call-plain 𝓤 H A W 𝓣 4 ps·1 r·1 (claims· .2) (claims· .3) "building::build_all" (known .1) E (λ pos β. β) G41 (record { pos = 1; ty = Sy.tyRef (Sy.named 0) Sy.imm (Sy.tyInt Sy.w8); ref = λ x. x }, (record { pos = 17; ty = Sy.tyRef Sy.erased Sy.mut (Sy.tyInt Sy.w32); ref = λ x. x }, (record { pos = 19; ty = Sy.tyRef Sy.erased Sy.imm (Sy.tyInt Sy.w64); ref = λ x. x }, (record { pos = 21; ty = Sy.tyRef Sy.erased Sy.mut Gap_.behind; ref = λ x. x }, (Num.vFld 5 (Li._∷_ (Sy.field 9) Li.[]) 72 λ x. JobCounts.struct .as-values x .1 .1 .1 .1 .1 .1 .1 .1 .1 .0, tt))))) 7 (Li._∷_ 0 (Li._∷_ 7 (Li._∷_ 8 (Li._∷_ 9 Li.[])))) (Call.sub-id 𝓤 H A W (G41 .slots)) (ShrSlice.spares-sslice 𝓤 H A W (Rf.rtF (Rf.fInt Sy.w8)) ty·39 0, Shared.reads-sslice 𝓤 H A W (Rf.rtF (Rf.fInt Sy.w8)) ty·39 0, Pa.refl, (Reads'.as-is 𝓤 H A row·30, Mut.reads-mslice 𝓤 H A W (Rf.rtF (Rf.fInt Sy.w32)) ty·32 7, Pa.refl, (ShrSlice.spares-sslice 𝓤 H A W (Rf.rtF (Rf.fInt Sy.w64)) ty·34 8, Shared.reads-sslice 𝓤 H A W (Rf.rtF (Rf.fInt Sy.w64)) ty·34 8, Pa.refl, (Reads'.as-is 𝓤 H A (Mut.mslice Gap_.row ty·36 9), Mut.reads-mslice 𝓤 H A W Gap_.row ty·36 9, Pa.refl, ((Reads.reads-field 𝓤 H A W JobCounts.the-type Laws.the-laws 9 (Sy.tyInt Sy.w64) 72 Pa.refl, Pa.refl), tt))))) (Reads'.room-gone 𝓤 H A (Sy.tyInt Sy.w64)) (tt, (tt, (tt, (tt, tt)))) Pa.refl) (Ty.g-pre 𝓤 H A W 𝓣 E G42 G43 b62 Δ0 (Ty.pass T42 T43 s40) at82 (Sc.g-room 𝓤 H A W E G42 19 (Sy.tyStruct (Li._∷_ 38 (Li._∷_ 91 (Li._∷_ 93 Li.[]))) (Sy.tcons ty·34 (Sy.tcons (Sy.tyInt Sy.w64) Sy.tnil))) (Shared.room-sslice 𝓤 H A W (Rf.rtF (Rf.fInt Sy.w64)) ty·34 8)) (Ty.g-pre 𝓤 H A W 𝓣 E G43 G44 b62 Δ0 (λ Ψ. Ψ) at81 (Lifetime.g-end 𝓤 H A W E G43 7 Pa.refl) (Ty.g-pre 𝓤 H A W 𝓣 E G44 G45 b62 Δ0 (Ty.both s42) at80 (Relend.g-back-sl 𝓤 H A W E (Rf.rtF (Rf.fInt Sy.w32)) G44 17 2 1 7 ty·33 ty·32 (Ro.lease (κs .1 .0) (qs .1 .0)) (λ x. x) (λ x. x) (Reads'.as-is 𝓤 H A row·19) (Reads'.as-is 𝓤 H A (Relend.mslice-owed (Rf.rtF (Rf.fInt Sy.w32)) ty·33 1 7 (Ro.lease (κs .1 .0) (qs .1 .0)))) Pa.refl Pa.refl) (Ty.g-pre 𝓤 H A W 𝓣 E G45 G45 b62 Δ0 (Ty.give s43) at79 (Know.g-sl-known 𝓤 H A W (Rf.fInt Sy.w32) E G45 2 1 ty·33 (Ro.lease (κs .1 .0) (qs .1 .0)) 0 (λ x. x) record { fits = Dec'.lit< tt } (Reads'.as-is 𝓤 H A row·11) Pa.refl tt) (Ty.g-pre 𝓤 H A W 𝓣 E G45 G47 b62 Δ0 (λ Ψ. Ψ) at78 (Lifetime.g-forget 𝓤 H A W E G45 7 Ro.dead Pa.refl) (Ty.g-pre 𝓤 H A W 𝓣 E G47 G48 b62 Δ0 (λ Ψ. Ψ) at77 (Lifetime.g-end 𝓤 H A W E G47 8 Pa.refl) (Ty.g-pre 𝓤 H A W 𝓣 E G48 G49 b62 Δ0 (Ty.pass T45 T49 s46) at76 (Reshare.g-back-sl-shr 𝓤 H A W E (Rf.rtF (Rf.fInt Sy.w64)) G48 3 2 8 ty·35 (Ro.lease (κs .1 .1 .0) (qs .1 .1 .0)) (λ x. x) (Reads'.as-is 𝓤 H A (Reshare.mslice-owedS (Rf.rtF (Rf.fInt Sy.w64)) ty·35 2 8 (Ro.lease (κs .1 .1 .0) (qs .1 .1 .0)))) Pa.refl Pa.refl) (Ty.g-pre 𝓤 H A W 𝓣 E G49 G50 b62 Δ0 (λ Ψ. Ψ) at75 (Lifetime.g-forget 𝓤 H A W E G49 8 Ro.dead Pa.refl) (Ty.g-pre 𝓤 H A W 𝓣 E G50 G51 b62 Δ0 (λ Ψ. Ψ) at74 (Lifetime.g-end 𝓤 H A W E G50 9 Pa.refl) (Ty.g-pre 𝓤 H A W 𝓣 E G51 G52 b62 Δ0 (Ty.both s49) at73 (Relend.g-back-sl 𝓤 H A W E Gap_.row G51 21 4 3 9 ty·37 ty·36 (Ro.lease (κs .1 .1 .1 .0) (qs .1 .1 .1 .0)) (λ x. x) (λ x. x) (Reads'.as-is 𝓤 H A row·18) (Reads'.as-is 𝓤 H A (Relend.mslice-owed Gap_.row ty·37 3 9 (Ro.lease (κs .1 .1 .1 .0) (qs .1 .1 .1 .0)))) Pa.refl Pa.refl) (Ty.g-pre 𝓤 H A W 𝓣 E G52 G53 b62 Δ0 (λ Ψ. Ψ) at72 (Lifetime.g-forget 𝓤 H A W E G52 9 Ro.dead Pa.refl) (Ty.s-seq 𝓤 H A W 𝓣 E G53 G54 b20 b61 Δ0 (Ty.ask s51) at71 (Sc.t-op2 𝓤 H A W E 𝓣 G53 Sy.ne (Sc.oAt 7 (Sy.tyInt Sy.w64) (Ro.valS (Ro.sInt Sy.w64))) (Sc.oInt Sy.w64 0) 15 (Rows.sc-here Ro.sBool) Sy.tyBool (Ro.valS Ro.sBool) (Ro.sBool .of) (Sc.reads-sc 𝓤 H A W (Ro.sInt Sy.w64), Pa.refl) tt (Reads'.room-gone 𝓤 H A Sy.tyBool) (Sc.holds-sc 𝓤 H A W Ro.sBool) Pa.refl (λ u. Pa.refl) λ u. tt) (Ty.t-seq 𝓤 H A W 𝓣 E G54 G53 b25 b60 Δ0 at16 at70 (Sc.t-cond 𝓤 H A W E 𝓣 G54 15 (λ x. x) b23 b11 Δ2 at13 at15 (Sc.reads-sc 𝓤 H A W Ro.sBool) Pa.refl (Ty.g-pre 𝓤 H A W 𝓣 E G54 G56 b23 Δ2 (Ty.pass T54 T56 s52) at12 (Sc.g-room 𝓤 H A W E G54 5 Laws.mir (Local.room-whole 𝓤 H A W (Declared.row JobCounts.the-type) Laws.mir Pa.refl)) (Ty.g-pre 𝓤 H A W 𝓣 E G56 G57 b23 Δ2 (Ty.pass T56 T57 s53) at11 (Sc.g-room 𝓤 H A W E G56 15 Sy.tyBool (Sc.room-sc 𝓤 H A W Ro.sBool)) (Ty.s-seq 𝓤 H A W 𝓣 E G57 G58 b21 b9 Δ2 (Ty.pass T57 T58 s54) at10 (Sc.t-use 𝓤 H A W E 𝓣 G57 (Sc.oAt 7 (Sy.tyInt Sy.w64) (Ro.valS (Ro.sInt Sy.w64))) 0 row·10 (Sy.tyInt Sy.w64) (Ro.valS (Ro.sInt Sy.w64)) (Ro.sInt Sy.w64 .of) (Sc.reads-sc 𝓤 H A W (Ro.sInt Sy.w64), Pa.refl) (Reads'.room-gone 𝓤 H A (Sy.tyInt Sy.w64)) (Sc.holds-sc 𝓤 H A W (Ro.sInt Sy.w64)) Pa.refl (λ u. Pa.refl) λ u. tt) (Ty.g-pre 𝓤 H A W 𝓣 E G58 G59 b9 Δ2 (Ty.pass T58 T59 s55) at9 (Sc.g-room 𝓤 H A W E G58 6 (Sy.tyInt Sy.w64) (Sc.room-sc 𝓤 H A W (Ro.sInt Sy.w64))) (Ty.g-pre 𝓤 H A W 𝓣 E G59 G1 b9 Δ2 (Ty.pass T59 T1 s56) at8 (Sc.g-room 𝓤 H A W E G59 7 (Sy.tyInt Sy.w64) (Sc.room-sc 𝓤 H A W (Ro.sInt Sy.w64))) (Ty.t-return 𝓤 H A W 𝓣 E Δ2 tt)))))) (Ty.g-pre 𝓤 H A W 𝓣 E G54 G53 b11 Δ2 (Ty.pass T54 T52 s57) at14 (Sc.g-room 𝓤 H A W E G54 15 Sy.tyBool (Sc.room-sc 𝓤 H A W Ro.sBool)) (Ty.t-skip 𝓤 H A W 𝓣 E Δ2 tt))) (Ty.g-pre 𝓤 H A W 𝓣 E G53 G62 b60 Δ0 (λ Ψ. Ψ) at69 (Lifetime.g-begin 𝓤 H A W E G53 10 (tt, (tt, (tt, (tt, (tt, (tt, (tt, (tt, (tt, (tt, (tt, (tt, (tt, (tt, (tt, (tt, (tt, (tt, (tt, (tt, (tt, (tt, (tt, (tt, (tt, (tt, (tt, (tt, (tt, (tt, (tt, (tt, (tt, tt)))))))))))))))))))))))))))))))))) (Ty.s-seq 𝓤 H A W 𝓣 E G62 G63 b26 b59 Δ0 (Ty.give s59) at68 (Relend.t-sl-relend 𝓤 H A W E (Rf.rtF (Rf.fInt Sy.w32)) 𝓣 G62 2 22 1 10 ty·33 ty·32 (Ro.lease (κs .1 .0) (qs .1 .0)) 0 (λ x. x) (Reads'.as-is 𝓤 H A row·11) (Reads'.room-gone 𝓤 H A ty·32) Pa.refl tt Pa.refl Pa.refl Pa.refl λ b o. tt) (Ty.s-seq 𝓤 H A W 𝓣 E G63 G64 b27 b58 Δ0 (Ty.ask s60) at67 (Relend.t-sl-aggregate 𝓤 H A W E (Rf.rtF (Rf.fInt Sy.w32)) 𝓣 (Relend.asMut (Rf.rtF (Rf.fInt Sy.w32))) G63 22 23 10 ty·32 ty·32 (λ x. x) (Sc.oFld 2 (Li._∷_ (Sy.field 1) Li.[]) (Sy.tyInt Sy.w64) 8 λ v. Shared.lenV (v .0)) (Reads'.as-is 𝓤 H A (Relend.msptr (Rf.rtF (Rf.fInt Sy.w32)) ty·32 10)) (Reads'.room-gone 𝓤 H A (Sy.tyStruct (Li._∷_ 38 (Li._∷_ 91 (Li._∷_ 93 Li.[]))) (Sy.tcons ty·32 (Sy.tcons (Sy.tyInt Sy.w64) Sy.tnil)))) (Relend.reads-owed-len 𝓤 H A W (Rf.rtF (Rf.fInt Sy.w32)) ty·33 1 10 (Ro.lease (κs .1 .0) (qs .1 .0)) 8 Pa.refl, Pa.refl) Pa.refl Pa.refl λ b o k. tt) (Ty.g-pre 𝓤 H A W 𝓣 E G64 G65 b58 Δ0 (λ Ψ. Ψ) at66 (Lifetime.g-begin 𝓤 H A W E G64 11 (tt, (tt, ((tt, tt), (tt, (tt, (tt, (tt, (tt, (tt, (tt, (tt, (tt, (tt, (tt, (tt, (tt, (tt, (tt, (tt, (tt, (tt, (tt, (tt, (tt, (tt, (tt, (tt, (tt, (tt, (tt, (tt, (tt, (tt, tt)))))))))))))))))))))))))))))))))) (Ty.s-seq 𝓤 H A W 𝓣 E G65 G66 b28 b57 Δ0 (Ty.give s62) at65 (Reshare.t-sl-reshare 𝓤 H A W E (Rf.rtF (Rf.fInt Sy.w64)) 𝓣 G65 3 24 2 11 ty·35 ty·34 (Ro.lease (κs .1 .1 .0) (qs .1 .1 .0)) 0 (λ x. x) (Reads'.as-is 𝓤 H A row·12) (Reads'.room-gone 𝓤 H A ty·34) Pa.refl tt Pa.refl Pa.refl Pa.refl λ b o. tt) (Ty.s-seq 𝓤 H A W 𝓣 E G66 G67 b29 b56 Δ0 (Ty.ask s63) at64 (Relend.t-sl-aggregate 𝓤 H A W E (Rf.rtF (Rf.fInt Sy.w64)) 𝓣 (Relend.asShr (Rf.rtF (Rf.fInt Sy.w64))) G66 24 25 11 ty·34 ty·34 (λ x. x) (Sc.oFld 3 (Li._∷_ (Sy.field 1) Li.[]) (Sy.tyInt Sy.w64) 8 λ v. Shared.lenV (v .0)) (Reads'.as-is 𝓤 H A (Relend.ssptr (Rf.rtF (Rf.fInt Sy.w64)) ty·34 11)) (Reads'.room-gone 𝓤 H A (Sy.tyStruct (Li._∷_ 38 (Li._∷_ 91 (Li._∷_ 93 Li.[]))) (Sy.tcons ty·34 (Sy.tcons (Sy.tyInt Sy.w64) Sy.tnil)))) (Reshare.reads-owedS-len 𝓤 H A W (Rf.rtF (Rf.fInt Sy.w64)) ty·35 2 11 (Ro.lease (κs .1 .1 .0) (qs .1 .1 .0)) 8 Pa.refl, Pa.refl) Pa.refl Pa.refl λ b o k. tt) (Ty.g-pre 𝓤 H A W 𝓣 E G67 G68 b56 Δ0 (λ Ψ. Ψ) at63 (Lifetime.g-begin 𝓤 H A W E G67 12 (tt, (tt, ((tt, tt), ((tt, tt), (tt, (tt, (tt, (tt, (tt, (tt, (tt, (tt, (tt, (tt, (tt, (tt, (tt, (tt, (tt, (tt, (tt, (tt, (tt, (tt, (tt, (tt, (tt, (tt, (tt, (tt, (tt, (tt, (tt, tt)))))))))))))))))))))))))))))))))) (Ty.s-seq 𝓤 H A W 𝓣 E G68 G69 b30 b55 Δ0 (Ty.give s65) at62 (Relend.t-sl-relend 𝓤 H A W E Gap_.row 𝓣 G68 4 26 3 12 ty·37 ty·36 (Ro.lease (κs .1 .1 .1 .0) (qs .1 .1 .1 .0)) 0 (λ x. x) (Reads'.as-is 𝓤 H A row·13) (Reads'.room-gone 𝓤 H A ty·36) Pa.refl tt Pa.refl Pa.refl Pa.refl λ b o. tt) (Ty.s-seq 𝓤 H A W 𝓣 E G69 G70 b31 b54 Δ0 (Ty.ask s66) at61 (Relend.t-sl-aggregate 𝓤 H A W E Gap_.row 𝓣 (Relend.asMut Gap_.row) G69 26 27 12 ty·36 ty·36 (λ x. x) (Sc.oFld 4 (Li._∷_ (Sy.field 1) Li.[]) (Sy.tyInt Sy.w64) 8 λ v. Shared.lenV (v .0)) (Reads'.as-is 𝓤 H A (Relend.msptr Gap_.row ty·36 12)) (Reads'.room-gone 𝓤 H A (Sy.tyStruct (Li._∷_ 38 (Li._∷_ 91 (Li._∷_ 93 Li.[]))) (Sy.tcons ty·36 (Sy.tcons (Sy.tyInt Sy.w64) Sy.tnil)))) (Relend.reads-owed-len 𝓤 H A W Gap_.row ty·37 3 12 (Ro.lease (κs .1 .1 .1 .0) (qs .1 .1 .1 .0)) 8 Pa.refl, Pa.refl) Pa.refl Pa.refl λ b o k. tt) (Ty.s-seq 𝓤 H A W 𝓣 E G70 G71 b32 b53 Δ0 (Ty.both s67) at60 (Plain.t-call-plain 𝓤 H A W 𝓣 4 ps·2 r·2 (claims· .4) (claims· .5) "ending::end_pool" (known .2) E (λ pos β. β) G70 (record { pos = 1; ty = Sy.tyRef (Sy.named 0) Sy.imm (Sy.tyInt Sy.w8); ref = λ x. x }, (record { pos = 23; ty = Sy.tyRef Sy.erased Sy.mut (Sy.tyInt Sy.w32); ref = λ x. x }, (record { pos = 25; ty = Sy.tyRef Sy.erased Sy.imm (Sy.tyInt Sy.w64); ref = λ x. x }, (record { pos = 27; ty = Sy.tyRef Sy.erased Sy.mut Gap_.behind; ref = λ x. x }, (Num.vFld 5 (Li._∷_ (Sy.field 11) Li.[]) 88 λ x. JobCounts.struct .as-values x .1 .1 .1 .1 .1 .1 .1 .1 .1 .1 .1 .0, tt))))) 8 (Li._∷_ 0 (Li._∷_ 10 (Li._∷_ 11 (Li._∷_ 12 Li.[])))) (Call.sub-id 𝓤 H A W (G70 .slots)) (ShrSlice.spares-sslice 𝓤 H A W (Rf.rtF (Rf.fInt Sy.w8)) ty·39 0, Shared.reads-sslice 𝓤 H A W (Rf.rtF (Rf.fInt Sy.w8)) ty·39 0, Pa.refl, (Reads'.as-is 𝓤 H A row·29, Mut.reads-mslice 𝓤 H A W (Rf.rtF (Rf.fInt Sy.w32)) ty·32 10, Pa.refl, (ShrSlice.spares-sslice 𝓤 H A W (Rf.rtF (Rf.fInt Sy.w64)) ty·34 11, Shared.reads-sslice 𝓤 H A W (Rf.rtF (Rf.fInt Sy.w64)) ty·34 11, Pa.refl, (Reads'.as-is 𝓤 H A (Mut.mslice Gap_.row ty·36 12), Mut.reads-mslice 𝓤 H A W Gap_.row ty·36 12, Pa.refl, ((Reads.reads-field 𝓤 H A W JobCounts.the-type Laws.the-laws 11 (Sy.tyInt Sy.w64) 88 Pa.refl, Pa.refl), tt))))) (Reads'.room-gone 𝓤 H A (Sy.tyInt Sy.w64)) (tt, (tt, (tt, (tt, tt)))) Pa.refl) (Ty.g-pre 𝓤 H A W 𝓣 E G71 G72 b53 Δ0 (Ty.pass T71 T72 s68) at59 (Sc.g-room 𝓤 H A W E G71 25 (Sy.tyStruct (Li._∷_ 38 (Li._∷_ 91 (Li._∷_ 93 Li.[]))) (Sy.tcons ty·34 (Sy.tcons (Sy.tyInt Sy.w64) Sy.tnil))) (Shared.room-sslice 𝓤 H A W (Rf.rtF (Rf.fInt Sy.w64)) ty·34 11)) (Ty.g-pre 𝓤 H A W 𝓣 E G72 G73 b53 Δ0 (Ty.pass T72 T73 s69) at58 (Sc.g-room 𝓤 H A W E G72 5 Laws.mir (Local.room-whole 𝓤 H A W (Declared.row JobCounts.the-type) Laws.mir Pa.refl)) (Ty.g-pre 𝓤 H A W 𝓣 E G73 G74 b53 Δ0 (λ Ψ. Ψ) at57 (Lifetime.g-end 𝓤 H A W E G73 10 Pa.refl) (Ty.g-pre 𝓤 H A W 𝓣 E G74 G75 b53 Δ0 (Ty.both s71) at56 (Relend.g-back-sl 𝓤 H A W E (Rf.rtF (Rf.fInt Sy.w32)) G74 23 2 1 10 ty·33 ty·32 (Ro.lease (κs .1 .0) (qs .1 .0)) (λ x. x) (λ x. x) (Reads'.as-is 𝓤 H A row·19) (Reads'.as-is 𝓤 H A (Relend.mslice-owed (Rf.rtF (Rf.fInt Sy.w32)) ty·33 1 10 (Ro.lease (κs .1 .0) (qs .1 .0)))) Pa.refl Pa.refl) (Ty.g-pre 𝓤 H A W 𝓣 E G75 G75 b53 Δ0 (Ty.give s72) at55 (Know.g-sl-known 𝓤 H A W (Rf.fInt Sy.w32) E G75 2 1 ty·33 (Ro.lease (κs .1 .0) (qs .1 .0)) 0 (λ x. x) record { fits = Dec'.lit< tt } (Reads'.as-is 𝓤 H A row·11) Pa.refl tt) (Ty.g-pre 𝓤 H A W 𝓣 E G75 G77 b53 Δ0 (λ Ψ. Ψ) at54 (Lifetime.g-forget 𝓤 H A W E G75 10 Ro.dead Pa.refl) (Ty.g-pre 𝓤 H A W 𝓣 E G77 G78 b53 Δ0 (λ Ψ. Ψ) at53 (Lifetime.g-end 𝓤 H A W E G77 11 Pa.refl) (Ty.g-pre 𝓤 H A W 𝓣 E G78 G79 b53 Δ0 (Ty.pass T75 T79 s75) at52 (Reshare.g-back-sl-shr 𝓤 H A W E (Rf.rtF (Rf.fInt Sy.w64)) G78 3 2 11 ty·35 (Ro.lease (κs .1 .1 .0) (qs .1 .1 .0)) (λ x. x) (Reads'.as-is 𝓤 H A (Reshare.mslice-owedS (Rf.rtF (Rf.fInt Sy.w64)) ty·35 2 11 (Ro.lease (κs .1 .1 .0) (qs .1 .1 .0)))) Pa.refl Pa.refl) (Ty.g-pre 𝓤 H A W 𝓣 E G79 G80 b53 Δ0 (λ Ψ. Ψ) at51 (Lifetime.g-forget 𝓤 H A W E G79 11 Ro.dead Pa.refl) (Ty.g-pre 𝓤 H A W 𝓣 E G80 G81 b53 Δ0 (λ Ψ. Ψ) at50 (Lifetime.g-end 𝓤 H A W E G80 12 Pa.refl) (Ty.g-pre 𝓤 H A W 𝓣 E G81 G82 b53 Δ0 (Ty.both s78) at49 (Relend.g-back-sl 𝓤 H A W E Gap_.row G81 27 4 3 12 ty·37 ty·36 (Ro.lease (κs .1 .1 .1 .0) (qs .1 .1 .1 .0)) (λ x. x) (λ x. x) (Reads'.as-is 𝓤 H A row·18) (Reads'.as-is 𝓤 H A (Relend.mslice-owed Gap_.row ty·37 3 12 (Ro.lease (κs .1 .1 .1 .0) (qs .1 .1 .1 .0)))) Pa.refl Pa.refl) (Ty.g-pre 𝓤 H A W 𝓣 E G82 G83 b53 Δ0 (λ Ψ. Ψ) at48 (Lifetime.g-forget 𝓤 H A W E G82 12 Ro.dead Pa.refl) (Ty.s-seq 𝓤 H A W 𝓣 E G83 G84 b33 b52 Δ0 (Ty.ask s80) at47 (Sc.t-op2 𝓤 H A W E 𝓣 G83 Sy.ne (Sc.oAt 8 (Sy.tyInt Sy.w64) (Ro.valS (Ro.sInt Sy.w64))) (Sc.oInt Sy.w64 0) 15 (Rows.sc-here Ro.sBool) Sy.tyBool (Ro.valS Ro.sBool) (Ro.sBool .of) (Sc.reads-sc 𝓤 H A W (Ro.sInt Sy.w64), Pa.refl) tt (Reads'.room-gone 𝓤 H A Sy.tyBool) (Sc.holds-sc 𝓤 H A W Ro.sBool) Pa.refl (λ u. Pa.refl) λ u. tt) (Ty.t-seq 𝓤 H A W 𝓣 E G84 G83 b38 b51 Δ0 at25 at46 (Sc.t-cond 𝓤 H A W E 𝓣 G84 15 (λ x. x) b36 b11 Δ3 at22 at24 (Sc.reads-sc 𝓤 H A W Ro.sBool) Pa.refl (Ty.g-pre 𝓤 H A W 𝓣 E G84 G83 b36 Δ3 (Ty.pass T84 T82 s81) at21 (Sc.g-room 𝓤 H A W E G84 15 Sy.tyBool (Sc.room-sc 𝓤 H A W Ro.sBool)) (Ty.s-seq 𝓤 H A W 𝓣 E G83 G87 b34 b9 Δ3 (Ty.pass T82 T87 s82) at20 (Sc.t-use 𝓤 H A W E 𝓣 G83 (Sc.oAt 8 (Sy.tyInt Sy.w64) (Ro.valS (Ro.sInt Sy.w64))) 0 row·10 (Sy.tyInt Sy.w64) (Ro.valS (Ro.sInt Sy.w64)) (Ro.sInt Sy.w64 .of) (Sc.reads-sc 𝓤 H A W (Ro.sInt Sy.w64), Pa.refl) (Reads'.room-gone 𝓤 H A (Sy.tyInt Sy.w64)) (Sc.holds-sc 𝓤 H A W (Ro.sInt Sy.w64)) Pa.refl (λ u. Pa.refl) λ u. tt) (Ty.g-pre 𝓤 H A W 𝓣 E G87 G88 b9 Δ3 (Ty.pass T87 T88 s83) at19 (Sc.g-room 𝓤 H A W E G87 6 (Sy.tyInt Sy.w64) (Sc.room-sc 𝓤 H A W (Ro.sInt Sy.w64))) (Ty.g-pre 𝓤 H A W 𝓣 E G88 G89 b9 Δ3 (Ty.pass T88 T89 s84) at18 (Sc.g-room 𝓤 H A W E G88 7 (Sy.tyInt Sy.w64) (Sc.room-sc 𝓤 H A W (Ro.sInt Sy.w64))) (Ty.g-pre 𝓤 H A W 𝓣 E G89 G1 b9 Δ3 (Ty.pass T89 T1 s85) at17 (Sc.g-room 𝓤 H A W E G89 8 (Sy.tyInt Sy.w64) (Sc.room-sc 𝓤 H A W (Ro.sInt Sy.w64))) (Ty.t-return 𝓤 H A W 𝓣 E Δ3 tt)))))) (Ty.g-pre 𝓤 H A W 𝓣 E G84 G83 b11 Δ3 (Ty.pass T84 T82 s86) at23 (Sc.g-room 𝓤 H A W E G84 15 Sy.tyBool (Sc.room-sc 𝓤 H A W Ro.sBool)) (Ty.t-skip 𝓤 H A W 𝓣 E Δ3 tt))) (Ty.g-pre 𝓤 H A W 𝓣 E G83 G92 b51 Δ0 (λ Ψ. Ψ) at45 (Lifetime.g-begin 𝓤 H A W E G83 13 (tt, (tt, (tt, (tt, (tt, (tt, (tt, (tt, (tt, (tt, (tt, (tt, (tt, (tt, (tt, (tt, (tt, (tt, (tt, (tt, (tt, (tt, (tt, (tt, (tt, (tt, (tt, (tt, (tt, (tt, (tt, (tt, (tt, tt)))))))))))))))))))))))))))))))))) (Ty.s-seq 𝓤 H A W 𝓣 E G92 G93 b39 b50 Δ0 (Ty.give s88) at44 (Relend.t-sl-relend 𝓤 H A W E (Rf.rtF (Rf.fInt Sy.w32)) 𝓣 G92 2 29 1 13 ty·33 ty·32 (Ro.lease (κs .1 .0) (qs .1 .0)) 0 (λ x. x) (Reads'.as-is 𝓤 H A row·11) (Reads'.room-gone 𝓤 H A ty·32) Pa.refl tt Pa.refl Pa.refl Pa.refl λ b o. tt) (Ty.s-seq 𝓤 H A W 𝓣 E G93 G94 b40 b49 Δ0 (Ty.ask s89) at43 (Relend.t-sl-aggregate 𝓤 H A W E (Rf.rtF (Rf.fInt Sy.w32)) 𝓣 (Relend.asMut (Rf.rtF (Rf.fInt Sy.w32))) G93 29 30 13 ty·32 ty·32 (λ x. x) (Sc.oFld 2 (Li._∷_ (Sy.field 1) Li.[]) (Sy.tyInt Sy.w64) 8 λ v. Shared.lenV (v .0)) (Reads'.as-is 𝓤 H A (Relend.msptr (Rf.rtF (Rf.fInt Sy.w32)) ty·32 13)) (Reads'.room-gone 𝓤 H A (Sy.tyStruct (Li._∷_ 38 (Li._∷_ 91 (Li._∷_ 93 Li.[]))) (Sy.tcons ty·32 (Sy.tcons (Sy.tyInt Sy.w64) Sy.tnil)))) (Relend.reads-owed-len 𝓤 H A W (Rf.rtF (Rf.fInt Sy.w32)) ty·33 1 13 (Ro.lease (κs .1 .0) (qs .1 .0)) 8 Pa.refl, Pa.refl) Pa.refl Pa.refl λ b o k. tt) (Ty.g-pre 𝓤 H A W 𝓣 E G94 G95 b49 Δ0 (λ Ψ. Ψ) at42 (Lifetime.g-begin 𝓤 H A W E G94 14 (tt, (tt, ((tt, tt), (tt, (tt, (tt, (tt, (tt, (tt, (tt, (tt, (tt, (tt, (tt, (tt, (tt, (tt, (tt, (tt, (tt, (tt, (tt, (tt, (tt, (tt, (tt, (tt, (tt, (tt, (tt, (tt, (tt, (tt, tt)))))))))))))))))))))))))))))))))) (Ty.s-seq 𝓤 H A W 𝓣 E G95 G96 b41 b48 Δ0 (Ty.give s91) at41 (Reshare.t-sl-reshare 𝓤 H A W E (Rf.rtF (Rf.fInt Sy.w64)) 𝓣 G95 3 31 2 14 ty·35 ty·34 (Ro.lease (κs .1 .1 .0) (qs .1 .1 .0)) 0 (λ x. x) (Reads'.as-is 𝓤 H A row·12) (Reads'.room-gone 𝓤 H A ty·34) Pa.refl tt Pa.refl Pa.refl Pa.refl λ b o. tt) (Ty.s-seq 𝓤 H A W 𝓣 E G96 G97 b42 b47 Δ0 (Ty.ask s92) at40 (Relend.t-sl-aggregate 𝓤 H A W E (Rf.rtF (Rf.fInt Sy.w64)) 𝓣 (Relend.asShr (Rf.rtF (Rf.fInt Sy.w64))) G96 31 32 14 ty·34 ty·34 (λ x. x) (Sc.oFld 3 (Li._∷_ (Sy.field 1) Li.[]) (Sy.tyInt Sy.w64) 8 λ v. Shared.lenV (v .0)) (Reads'.as-is 𝓤 H A (Relend.ssptr (Rf.rtF (Rf.fInt Sy.w64)) ty·34 14)) (Reads'.room-gone 𝓤 H A (Sy.tyStruct (Li._∷_ 38 (Li._∷_ 91 (Li._∷_ 93 Li.[]))) (Sy.tcons ty·34 (Sy.tcons (Sy.tyInt Sy.w64) Sy.tnil)))) (Reshare.reads-owedS-len 𝓤 H A W (Rf.rtF (Rf.fInt Sy.w64)) ty·35 2 14 (Ro.lease (κs .1 .1 .0) (qs .1 .1 .0)) 8 Pa.refl, Pa.refl) Pa.refl Pa.refl λ b o k. tt) (Ty.s-seq 𝓤 H A W 𝓣 E G97 G98 b43 b46 Δ0 (Ty.both s93) at39 (Plain.t-call-plain 𝓤 H A W 𝓣 2 ps·3 r·3 (claims· .6) (claims· .7) "output::own_slots" (known .3) E (λ pos β. β) G97 (record { pos = 30; ty = Sy.tyRef Sy.erased Sy.mut (Sy.tyInt Sy.w32); ref = λ x. x }, (record { pos = 32; ty = Sy.tyRef Sy.erased Sy.imm (Sy.tyInt Sy.w64); ref = λ x. x }, tt)) 28 (Li._∷_ 13 (Li._∷_ 14 Li.[])) (Call.sub-id 𝓤 H A W (G97 .slots)) (Reads'.as-is 𝓤 H A (Mut.mslice (Rf.rtF (Rf.fInt Sy.w32)) ty·32 13), Mut.reads-mslice 𝓤 H A W (Rf.rtF (Rf.fInt Sy.w32)) ty·32 13, Pa.refl, (ShrSlice.spares-sslice 𝓤 H A W (Rf.rtF (Rf.fInt Sy.w64)) ty·34 14, Shared.reads-sslice 𝓤 H A W (Rf.rtF (Rf.fInt Sy.w64)) ty·34 14, Pa.refl, tt)) (Reads'.room-gone 𝓤 H A Sy.tyUnit) (tt, (tt, tt)) Pa.refl) (Ty.g-pre 𝓤 H A W 𝓣 E G98 G99 b46 Δ0 (Ty.pass T98 T99 s94) at38 (Sc.g-room 𝓤 H A W E G98 32 (Sy.tyStruct (Li._∷_ 38 (Li._∷_ 91 (Li._∷_ 93 Li.[]))) (Sy.tcons ty·34 (Sy.tcons (Sy.tyInt Sy.w64) Sy.tnil))) (Shared.room-sslice 𝓤 H A W (Rf.rtF (Rf.fInt Sy.w64)) ty·34 14)) (Ty.g-pre 𝓤 H A W 𝓣 E G99 G100 b46 Δ0 (Ty.pass T99 T100 s95) at37 (Sc.g-room 𝓤 H A W E G99 28 Sy.tyUnit (Sc.room-sc 𝓤 H A W Ro.sUnit)) (Ty.g-pre 𝓤 H A W 𝓣 E G100 G101 b46 Δ0 (λ Ψ. Ψ) at36 (Lifetime.g-end 𝓤 H A W E G100 13 Pa.refl) (Ty.g-pre 𝓤 H A W 𝓣 E G101 G102 b46 Δ0 (Ty.both s97) at35 (Relend.g-back-sl 𝓤 H A W E (Rf.rtF (Rf.fInt Sy.w32)) G101 30 2 1 13 ty·33 ty·32 (Ro.lease (κs .1 .0) (qs .1 .0)) (λ x. x) (λ x. x) (Reads'.as-is 𝓤 H A row·19) (Reads'.as-is 𝓤 H A (Relend.mslice-owed (Rf.rtF (Rf.fInt Sy.w32)) ty·33 1 13 (Ro.lease (κs .1 .0) (qs .1 .0)))) Pa.refl Pa.refl) (Ty.g-pre 𝓤 H A W 𝓣 E G102 G102 b46 Δ0 (Ty.give s98) at34 (Know.g-sl-known 𝓤 H A W (Rf.fInt Sy.w32) E G102 2 1 ty·33 (Ro.lease (κs .1 .0) (qs .1 .0)) 0 (λ x. x) record { fits = Dec'.lit< tt } (Reads'.as-is 𝓤 H A row·11) Pa.refl tt) (Ty.g-pre 𝓤 H A W 𝓣 E G102 G104 b46 Δ0 (λ Ψ. Ψ) at33 (Lifetime.g-forget 𝓤 H A W E G102 13 Ro.dead Pa.refl) (Ty.g-pre 𝓤 H A W 𝓣 E G104 G105 b46 Δ0 (λ Ψ. Ψ) at32 (Lifetime.g-end 𝓤 H A W E G104 14 Pa.refl) (Ty.g-pre 𝓤 H A W 𝓣 E G105 G106 b46 Δ0 (Ty.pass T102 T82 s101) at31 (Reshare.g-back-sl-shr 𝓤 H A W E (Rf.rtF (Rf.fInt Sy.w64)) G105 3 2 14 ty·35 (Ro.lease (κs .1 .1 .0) (qs .1 .1 .0)) (λ x. x) (Reads'.as-is 𝓤 H A (Reshare.mslice-owedS (Rf.rtF (Rf.fInt Sy.w64)) ty·35 2 14 (Ro.lease (κs .1 .1 .0) (qs .1 .1 .0)))) Pa.refl Pa.refl) (Ty.g-pre 𝓤 H A W 𝓣 E G106 G83 b46 Δ0 (λ Ψ. Ψ) at30 (Lifetime.g-forget 𝓤 H A W E G106 14 Ro.dead Pa.refl) (Ty.s-seq 𝓤 H A W 𝓣 E G83 G87 b44 b9 Δ0 (Ty.pass T82 T87 s103) at29 (Sc.t-use 𝓤 H A W E 𝓣 G83 (Sc.oInt Sy.w64 0) 0 row·10 (Sy.tyInt Sy.w64) (Ro.valS (Ro.sInt Sy.w64)) (Ro.sInt Sy.w64 .of) tt (Reads'.room-gone 𝓤 H A (Sy.tyInt Sy.w64)) (Sc.holds-sc 𝓤 H A W (Ro.sInt Sy.w64)) Pa.refl (λ u. Pa.refl) λ u. tt) (Ty.g-pre 𝓤 H A W 𝓣 E G87 G88 b9 Δ0 (Ty.pass T87 T88 s104) at28 (Sc.g-room 𝓤 H A W E G87 6 (Sy.tyInt Sy.w64) (Sc.room-sc 𝓤 H A W (Ro.sInt Sy.w64))) (Ty.g-pre 𝓤 H A W 𝓣 E G88 G89 b9 Δ0 (Ty.pass T88 T89 s105) at27 (Sc.g-room 𝓤 H A W E G88 7 (Sy.tyInt Sy.w64) (Sc.room-sc 𝓤 H A W (Ro.sInt Sy.w64))) (Ty.g-pre 𝓤 H A W 𝓣 E G89 G1 b9 Δ0 (Ty.pass T89 T1 s106) at26 (Sc.g-room 𝓤 H A W E G89 8 (Sy.tyInt Sy.w64) (Sc.room-sc 𝓤 H A W (Ro.sInt Sy.w64))) (Ty.t-return 𝓤 H A W 𝓣 E Δ0 tt))))))))))))))))))))))))))))))))))))))))))))))))))))))))))))))))))))))))))))))))))))))))))))))
 
       module _ (κs : Lifetimes.Lfts 4) where
         pub record Args : Type 0 where
@@ -1929,14 +1929,14 @@ module _ (claims· : Claims) where
 
       module _ (before· : After-ask-arg3) where
         abbrev pub After-ask·own : Type 0
-        After-ask·own = Called.Called ps·0 r·0 (claims· .1) T13 (record { pos = 1; ty = Sy.tyRef (Sy.named 0) Sy.imm (Sy.tyInt Sy.w8); ref = λ x. x }, (record { pos = 10; ty = Sy.tyRef Sy.erased Sy.mut (Sy.tyInt Sy.w32); ref = λ x. x }, (record { pos = 12; ty = Sy.tyRef Sy.erased Sy.mut (Sy.tyInt Sy.w64); ref = λ x. x }, (record { pos = 14; ty = Sy.tyRef Sy.erased Sy.mut Gap_.behind; ref = λ x. x }, (record { pos = 5; st = Li.[]; d = 0; at = λ x. x }, (Num.vFld 5 (Li._∷_ (Sy.field 12) Li.[]) 96 λ x. JobCounts.struct .as-values x .1 .1 .1 .1 .1 .1 .1 .1 .1 .1 .1 .1 .0, tt)))))) (m9 (before· .before) (before· .ask-arg3 .given))
+        After-ask·own = Called.Called ps·0 r·0 (claims· .1) T13 (record { pos = 1; ty = Sy.tyRef (Sy.named 0) Sy.imm (Sy.tyInt Sy.w8); ref = λ x. x }, (record { pos = 10; ty = Sy.tyRef Sy.erased Sy.mut (Sy.tyInt Sy.w32); ref = λ x. x }, (record { pos = 12; ty = Sy.tyRef Sy.erased Sy.mut (Sy.tyInt Sy.w64); ref = λ x. x }, (record { pos = 14; ty = Sy.tyRef Sy.erased Sy.mut Gap_.behind; ref = λ x. x }, (record { pos = 5; st = Li.[]; d = 0; at = λ x. x }, (Num.vFld 5 (Li._∷_ (Sy.field 11) Li.[]) 88 λ x. JobCounts.struct .as-values x .1 .1 .1 .1 .1 .1 .1 .1 .1 .1 .1 .0, tt)))))) (m9 (before· .before) (before· .ask-arg3 .given))
 
       pub record After-ask : Type 0 where
         pub before : After-ask-arg3
         pub ask : After-ask·own before
 
       abbrev pub After-ask·gave : (c : After-ask) → s12 .gives (m9 (c .before .before) (c .before .ask-arg3 .given))
-      After-ask·gave = λ c. Called.given ps·0 r·0 (claims· .1) T13 (record { pos = 1; ty = Sy.tyRef (Sy.named 0) Sy.imm (Sy.tyInt Sy.w8); ref = λ x. x }, (record { pos = 10; ty = Sy.tyRef Sy.erased Sy.mut (Sy.tyInt Sy.w32); ref = λ x. x }, (record { pos = 12; ty = Sy.tyRef Sy.erased Sy.mut (Sy.tyInt Sy.w64); ref = λ x. x }, (record { pos = 14; ty = Sy.tyRef Sy.erased Sy.mut Gap_.behind; ref = λ x. x }, (record { pos = 5; st = Li.[]; d = 0; at = λ x. x }, (Num.vFld 5 (Li._∷_ (Sy.field 12) Li.[]) 96 λ x. JobCounts.struct .as-values x .1 .1 .1 .1 .1 .1 .1 .1 .1 .1 .1 .1 .0, tt)))))) (m9 (c .before .before) (c .before .ask-arg3 .given)) (c .ask)
+      After-ask·gave = λ c. Called.given ps·0 r·0 (claims· .1) T13 (record { pos = 1; ty = Sy.tyRef (Sy.named 0) Sy.imm (Sy.tyInt Sy.w8); ref = λ x. x }, (record { pos = 10; ty = Sy.tyRef Sy.erased Sy.mut (Sy.tyInt Sy.w32); ref = λ x. x }, (record { pos = 12; ty = Sy.tyRef Sy.erased Sy.mut (Sy.tyInt Sy.w64); ref = λ x. x }, (record { pos = 14; ty = Sy.tyRef Sy.erased Sy.mut Gap_.behind; ref = λ x. x }, (record { pos = 5; st = Li.[]; d = 0; at = λ x. x }, (Num.vFld 5 (Li._∷_ (Sy.field 11) Li.[]) 88 λ x. JobCounts.struct .as-values x .1 .1 .1 .1 .1 .1 .1 .1 .1 .1 .1 .0, tt)))))) (m9 (c .before .before) (c .before .ask-arg3 .given)) (c .ask)
 
       abbrev pub m11 : (before : After-ask) → (given : s14 .gives (m10 (before .before) (After-ask·gave before))) → Ty.Mo T16
       m11 = λ before given. s14 .next (m10 (before .before) (After-ask·gave before)) given
@@ -2200,14 +2200,14 @@ module _ (claims· : Claims) where
 
       module _ (before· : After-end-pool-arg3) where
         abbrev pub After-end-pool·own : Type 0
-        After-end-pool·own = Called.Called ps·2 r·2 (claims· .5) T70 (record { pos = 1; ty = Sy.tyRef (Sy.named 0) Sy.imm (Sy.tyInt Sy.w8); ref = λ x. x }, (record { pos = 23; ty = Sy.tyRef Sy.erased Sy.mut (Sy.tyInt Sy.w32); ref = λ x. x }, (record { pos = 25; ty = Sy.tyRef Sy.erased Sy.imm (Sy.tyInt Sy.w64); ref = λ x. x }, (record { pos = 27; ty = Sy.tyRef Sy.erased Sy.mut Gap_.behind; ref = λ x. x }, (Num.vFld 5 (Li._∷_ (Sy.field 12) Li.[]) 96 λ x. JobCounts.struct .as-values x .1 .1 .1 .1 .1 .1 .1 .1 .1 .1 .1 .1 .0, tt))))) (m46 (before· .before) (before· .end-pool-arg3 .given))
+        After-end-pool·own = Called.Called ps·2 r·2 (claims· .5) T70 (record { pos = 1; ty = Sy.tyRef (Sy.named 0) Sy.imm (Sy.tyInt Sy.w8); ref = λ x. x }, (record { pos = 23; ty = Sy.tyRef Sy.erased Sy.mut (Sy.tyInt Sy.w32); ref = λ x. x }, (record { pos = 25; ty = Sy.tyRef Sy.erased Sy.imm (Sy.tyInt Sy.w64); ref = λ x. x }, (record { pos = 27; ty = Sy.tyRef Sy.erased Sy.mut Gap_.behind; ref = λ x. x }, (Num.vFld 5 (Li._∷_ (Sy.field 11) Li.[]) 88 λ x. JobCounts.struct .as-values x .1 .1 .1 .1 .1 .1 .1 .1 .1 .1 .1 .0, tt))))) (m46 (before· .before) (before· .end-pool-arg3 .given))
 
       pub record After-end-pool : Type 0 where
         pub before : After-end-pool-arg3
         pub end-pool : After-end-pool·own before
 
       abbrev pub After-end-pool·gave : (c : After-end-pool) → s67 .gives (m46 (c .before .before) (c .before .end-pool-arg3 .given))
-      After-end-pool·gave = λ c. Called.given ps·2 r·2 (claims· .5) T70 (record { pos = 1; ty = Sy.tyRef (Sy.named 0) Sy.imm (Sy.tyInt Sy.w8); ref = λ x. x }, (record { pos = 23; ty = Sy.tyRef Sy.erased Sy.mut (Sy.tyInt Sy.w32); ref = λ x. x }, (record { pos = 25; ty = Sy.tyRef Sy.erased Sy.imm (Sy.tyInt Sy.w64); ref = λ x. x }, (record { pos = 27; ty = Sy.tyRef Sy.erased Sy.mut Gap_.behind; ref = λ x. x }, (Num.vFld 5 (Li._∷_ (Sy.field 12) Li.[]) 96 λ x. JobCounts.struct .as-values x .1 .1 .1 .1 .1 .1 .1 .1 .1 .1 .1 .1 .0, tt))))) (m46 (c .before .before) (c .before .end-pool-arg3 .given)) (c .end-pool)
+      After-end-pool·gave = λ c. Called.given ps·2 r·2 (claims· .5) T70 (record { pos = 1; ty = Sy.tyRef (Sy.named 0) Sy.imm (Sy.tyInt Sy.w8); ref = λ x. x }, (record { pos = 23; ty = Sy.tyRef Sy.erased Sy.mut (Sy.tyInt Sy.w32); ref = λ x. x }, (record { pos = 25; ty = Sy.tyRef Sy.erased Sy.imm (Sy.tyInt Sy.w64); ref = λ x. x }, (record { pos = 27; ty = Sy.tyRef Sy.erased Sy.mut Gap_.behind; ref = λ x. x }, (Num.vFld 5 (Li._∷_ (Sy.field 11) Li.[]) 88 λ x. JobCounts.struct .as-values x .1 .1 .1 .1 .1 .1 .1 .1 .1 .1 .1 .0, tt))))) (m46 (c .before .before) (c .before .end-pool-arg3 .given)) (c .end-pool)
 
       abbrev pub m49 : (before : After-end-pool-arg3) → (given : s67 .gives (m46 (before .before) (before .end-pool-arg3 .given))) → Ty.Mo T73
       m49 = λ before given. s69 (s68 (m47 before given))
@@ -2378,7 +2378,7 @@ module _ (claims· : Claims) where
         lay9 = λ c. (Pa.refl, λ g. λ g'. (Pa.refl, λ g''. (tt, (λ taken. lay10 record { before = record { before = record { before = record { before = record { before = c .before; end-pool = c .end-pool }; w3 = record { given = g } }; slice-known6 = record { given = g' } }; gaps3 = record { given = g'' } }; if3 = record { taken = Tests.eqb-false (Ro.get 8 (T82 .locals) (m53 record { before = record { before = record { before = c .before; end-pool = c .end-pool }; w3 = record { given = g } }; slice-known6 = record { given = g' } } g'')) 0 (Tests.not-true (Dec'.eqb (Ro.get 8 (T82 .locals) (m53 record { before = record { before = record { before = c .before; end-pool = c .end-pool }; w3 = record { given = g } }; slice-known6 = record { given = g' } } g'')) 0) taken) } }, λ left. lay11 record { before = record { before = record { before = record { before = record { before = c .before; end-pool = c .end-pool }; w3 = record { given = g } }; slice-known6 = record { given = g' } }; gaps3 = record { given = g'' } }; if3 = record { left = Tests.eqb-true (Ro.get 8 (T82 .locals) (m53 record { before = record { before = record { before = c .before; end-pool = c .end-pool }; w3 = record { given = g } }; slice-known6 = record { given = g' } } g'')) 0 (Tests.not-false (Dec'.eqb (Ro.get 8 (T82 .locals) (m53 record { before = record { before = record { before = c .before; end-pool = c .end-pool }; w3 = record { given = g } }; slice-known6 = record { given = g' } } g'')) 0) left) } }))))
 
         lay8 : (c : Else2) → at70 (W0 (c .before .before .before .before .before .before .before .before .before .before .before .before .before .before .before .before .before .before .before .before .before .κs) (c .before .before .before .before .before .before .before .before .before .before .before .before .before .before .before .before .before .before .before .before .before .args)) (m40 (c .before))
-        lay8 = λ c. λ g. (Pa.refl, λ g'. (Pa.refl, λ g''. (Pa.refl, (end-pool-requires record { before = record { before = record { before = record { before = c .before; if2 = c .if2 }; end-pool-arg = record { given = g } }; end-pool-arg2 = record { given = g' } }; end-pool-arg3 = record { given = g'' } }, λ g'3. lay9 record { before = record { before = record { before = record { before = record { before = c .before; if2 = c .if2 }; end-pool-arg = record { given = g } }; end-pool-arg2 = record { given = g' } }; end-pool-arg3 = record { given = g'' } }; end-pool = Called.called ps·2 r·2 (claims· .5) T70 (record { pos = 1; ty = Sy.tyRef (Sy.named 0) Sy.imm (Sy.tyInt Sy.w8); ref = λ x. x }, (record { pos = 23; ty = Sy.tyRef Sy.erased Sy.mut (Sy.tyInt Sy.w32); ref = λ x. x }, (record { pos = 25; ty = Sy.tyRef Sy.erased Sy.imm (Sy.tyInt Sy.w64); ref = λ x. x }, (record { pos = 27; ty = Sy.tyRef Sy.erased Sy.mut Gap_.behind; ref = λ x. x }, (Num.vFld 5 (Li._∷_ (Sy.field 12) Li.[]) 96 λ x. JobCounts.struct .as-values x .1 .1 .1 .1 .1 .1 .1 .1 .1 .1 .1 .1 .0, tt))))) (m46 record { before = record { before = record { before = c .before; if2 = c .if2 }; end-pool-arg = record { given = g } }; end-pool-arg2 = record { given = g' } } g'') g'3 }))))
+        lay8 = λ c. λ g. (Pa.refl, λ g'. (Pa.refl, λ g''. (Pa.refl, (end-pool-requires record { before = record { before = record { before = record { before = c .before; if2 = c .if2 }; end-pool-arg = record { given = g } }; end-pool-arg2 = record { given = g' } }; end-pool-arg3 = record { given = g'' } }, λ g'3. lay9 record { before = record { before = record { before = record { before = record { before = c .before; if2 = c .if2 }; end-pool-arg = record { given = g } }; end-pool-arg2 = record { given = g' } }; end-pool-arg3 = record { given = g'' } }; end-pool = Called.called ps·2 r·2 (claims· .5) T70 (record { pos = 1; ty = Sy.tyRef (Sy.named 0) Sy.imm (Sy.tyInt Sy.w8); ref = λ x. x }, (record { pos = 23; ty = Sy.tyRef Sy.erased Sy.mut (Sy.tyInt Sy.w32); ref = λ x. x }, (record { pos = 25; ty = Sy.tyRef Sy.erased Sy.imm (Sy.tyInt Sy.w64); ref = λ x. x }, (record { pos = 27; ty = Sy.tyRef Sy.erased Sy.mut Gap_.behind; ref = λ x. x }, (Num.vFld 5 (Li._∷_ (Sy.field 11) Li.[]) 88 λ x. JobCounts.struct .as-values x .1 .1 .1 .1 .1 .1 .1 .1 .1 .1 .1 .0, tt))))) (m46 record { before = record { before = record { before = c .before; if2 = c .if2 }; end-pool-arg = record { given = g } }; end-pool-arg2 = record { given = g' } } g'') g'3 }))))
 
         lay7 : (c : Else2) → at15 (W2 (c .before .before) (c .before .gaps2 .given)) (m34 (c .before .before) (c .before .gaps2 .given))
         lay7 = λ c. lay8 record { before = c .before; if2 = c .if2 }
@@ -2402,7 +2402,7 @@ module _ (claims· : Claims) where
         lay1 = λ c. (Pa.refl, λ g. λ g'. (Pa.refl, λ g''. λ g'3. (Pa.refl, λ g'4. (tt, (λ taken. lay2 record { before = record { before = record { before = record { before = record { before = record { before = record { before = c .before; ask = c .ask }; w = record { given = g } }; slice-known3 = record { given = g' } }; p = record { given = g'' } }; slice-known4 = record { given = g'3 } }; gaps = record { given = g'4 } }; if1 = record { taken = Tests.eqb-false (Ro.get 6 (T24 .locals) (m15 record { before = record { before = record { before = record { before = record { before = c .before; ask = c .ask }; w = record { given = g } }; slice-known3 = record { given = g' } }; p = record { given = g'' } }; slice-known4 = record { given = g'3 } } g'4)) 0 (Tests.not-true (Dec'.eqb (Ro.get 6 (T24 .locals) (m15 record { before = record { before = record { before = record { before = record { before = c .before; ask = c .ask }; w = record { given = g } }; slice-known3 = record { given = g' } }; p = record { given = g'' } }; slice-known4 = record { given = g'3 } } g'4)) 0) taken) } }, λ left. lay3 record { before = record { before = record { before = record { before = record { before = record { before = record { before = c .before; ask = c .ask }; w = record { given = g } }; slice-known3 = record { given = g' } }; p = record { given = g'' } }; slice-known4 = record { given = g'3 } }; gaps = record { given = g'4 } }; if1 = record { left = Tests.eqb-true (Ro.get 6 (T24 .locals) (m15 record { before = record { before = record { before = record { before = record { before = c .before; ask = c .ask }; w = record { given = g } }; slice-known3 = record { given = g' } }; p = record { given = g'' } }; slice-known4 = record { given = g'3 } } g'4)) 0 (Tests.not-false (Dec'.eqb (Ro.get 6 (T24 .locals) (m15 record { before = record { before = record { before = record { before = record { before = c .before; ask = c .ask }; w = record { given = g } }; slice-known3 = record { given = g' } }; p = record { given = g'' } }; slice-known4 = record { given = g'3 } } g'4)) 0) left) } })))))
 
         pub laid : (c : Start) → at119 (W0 (c .κs) (c .args)) (m0 (c .κs) (c .args))
-        laid = λ c. λ g. λ g'. λ g''. λ g'3. (Pa.refl, λ g'4. (Pa.refl, λ g'5. (Pa.refl, (ask-requires record { before = record { before = record { before = record { before = record { before = record { before = c; shared-slice-known = record { given = g } }; slice-known = record { given = g' } }; slice-known2 = record { given = g'' } }; ask-arg = record { given = g'3 } }; ask-arg2 = record { given = g'4 } }; ask-arg3 = record { given = g'5 } }, λ g'6. lay1 record { before = record { before = record { before = record { before = record { before = record { before = record { before = c; shared-slice-known = record { given = g } }; slice-known = record { given = g' } }; slice-known2 = record { given = g'' } }; ask-arg = record { given = g'3 } }; ask-arg2 = record { given = g'4 } }; ask-arg3 = record { given = g'5 } }; ask = Called.called ps·0 r·0 (claims· .1) T13 (record { pos = 1; ty = Sy.tyRef (Sy.named 0) Sy.imm (Sy.tyInt Sy.w8); ref = λ x. x }, (record { pos = 10; ty = Sy.tyRef Sy.erased Sy.mut (Sy.tyInt Sy.w32); ref = λ x. x }, (record { pos = 12; ty = Sy.tyRef Sy.erased Sy.mut (Sy.tyInt Sy.w64); ref = λ x. x }, (record { pos = 14; ty = Sy.tyRef Sy.erased Sy.mut Gap_.behind; ref = λ x. x }, (record { pos = 5; st = Li.[]; d = 0; at = λ x. x }, (Num.vFld 5 (Li._∷_ (Sy.field 12) Li.[]) 96 λ x. JobCounts.struct .as-values x .1 .1 .1 .1 .1 .1 .1 .1 .1 .1 .1 .1 .0, tt)))))) (m9 record { before = record { before = record { before = record { before = record { before = c; shared-slice-known = record { given = g } }; slice-known = record { given = g' } }; slice-known2 = record { given = g'' } }; ask-arg = record { given = g'3 } }; ask-arg2 = record { given = g'4 } } g'5) g'6 }))))
+        laid = λ c. λ g. λ g'. λ g''. λ g'3. (Pa.refl, λ g'4. (Pa.refl, λ g'5. (Pa.refl, (ask-requires record { before = record { before = record { before = record { before = record { before = record { before = c; shared-slice-known = record { given = g } }; slice-known = record { given = g' } }; slice-known2 = record { given = g'' } }; ask-arg = record { given = g'3 } }; ask-arg2 = record { given = g'4 } }; ask-arg3 = record { given = g'5 } }, λ g'6. lay1 record { before = record { before = record { before = record { before = record { before = record { before = record { before = c; shared-slice-known = record { given = g } }; slice-known = record { given = g' } }; slice-known2 = record { given = g'' } }; ask-arg = record { given = g'3 } }; ask-arg2 = record { given = g'4 } }; ask-arg3 = record { given = g'5 } }; ask = Called.called ps·0 r·0 (claims· .1) T13 (record { pos = 1; ty = Sy.tyRef (Sy.named 0) Sy.imm (Sy.tyInt Sy.w8); ref = λ x. x }, (record { pos = 10; ty = Sy.tyRef Sy.erased Sy.mut (Sy.tyInt Sy.w32); ref = λ x. x }, (record { pos = 12; ty = Sy.tyRef Sy.erased Sy.mut (Sy.tyInt Sy.w64); ref = λ x. x }, (record { pos = 14; ty = Sy.tyRef Sy.erased Sy.mut Gap_.behind; ref = λ x. x }, (record { pos = 5; st = Li.[]; d = 0; at = λ x. x }, (Num.vFld 5 (Li._∷_ (Sy.field 11) Li.[]) 88 λ x. JobCounts.struct .as-values x .1 .1 .1 .1 .1 .1 .1 .1 .1 .1 .1 .0, tt)))))) (m9 record { before = record { before = record { before = record { before = record { before = c; shared-slice-known = record { given = g } }; slice-known = record { given = g' } }; slice-known2 = record { given = g'' } }; ask-arg = record { given = g'3 } }; ask-arg2 = record { given = g'4 } } g'5) g'6 }))))
 
         module _ (κs : Lifetimes.Lfts 4) (qs : Lifetimes.Shares 4) where
           pub asked : (a : Kinds.Dens κs ps) → (good : Kinds.GoodsP κs ps a) → (pre : Pre· κs a) → (bs : Li.List Nat.ℕ) → Φ (Any.wantQ 4 ps r xs m κs qs a (Post· κs a)) (Function.init 4 ps r xs m κs qs a)

@@ -97,7 +97,7 @@ abbrev ty·55 : Sy.Ty
 ty·55 = Sy.tyRef (Sy.named 3) Sy.mut (Sy.tyInt Sy.w16)
 
 abbrev ty·54 : Sy.Ty
-ty·54 = Sy.tyArray (Sy.tyInt Sy.w64) 32
+ty·54 = Sy.tyArray (Sy.tyInt Sy.w64) 33
 
 abbrev ty·53 : Sy.Ty
 ty·53 = Sy.tyStruct (Li._∷_ 38 (Li._∷_ 91 (Li._∷_ 93 Li.[]))) (Sy.tcons ty·63 (Sy.tcons (Sy.tyInt Sy.w64) Sy.tnil))
@@ -178,7 +178,7 @@ abbrev row·21 : Ro.Row
 row·21 = Rows'.any-gone ty·60
 
 abbrev row·22 : Ro.Row
-row·22 = Rows.arr-shr (Rf.rtF (Rf.fInt Sy.w64)) 32 14
+row·22 = Rows.arr-shr (Rf.rtF (Rf.fInt Sy.w64)) 33 14
 
 abbrev row·23 : Ro.Row
 row·23 = Rows'.sc-here (Ro.sInt Sy.w64)
@@ -205,7 +205,7 @@ abbrev row·30 : Ro.Row
 row·30 = Rows'.any-gone (Sy.tyInt Sy.w64)
 
 abbrev row·31 : Ro.Row
-row·31 = Rows.arrF (Rf.rtF (Rf.fInt Sy.w64)) 32 0
+row·31 = Rows.arrF (Rf.rtF (Rf.fInt Sy.w64)) 33 0
 
 abbrev row·32 : Ro.Row
 row·32 = Rows'.sslice (Rf.rtF (Rf.fInt Sy.w32)) ty·52 13
@@ -226,7 +226,7 @@ abbrev row·37 : Ro.Row
 row·37 = Mut.mslice (Rf.rtF (Rf.fInt Sy.w32)) ty·61 8
 
 abbrev row·38 : Ro.Row
-row·38 = Rows.arr-owed (Rf.rtF (Rf.fInt Sy.w64)) 32 9
+row·38 = Rows.arr-owed (Rf.rtF (Rf.fInt Sy.w64)) 33 9
 
 abbrev row·39 : Ro.Row
 row·39 = Mut.msleft (Rf.rtF (Rf.fInt Sy.w64)) ty·65
@@ -253,7 +253,7 @@ abbrev row·46 : Ro.Row
 row·46 = Mut.mslice (Rf.rtF (Rf.fInt Sy.w64)) ty·65 9
 
 abbrev row·47 : Ro.Row
-row·47 = Rows.arr-shr (Rf.rtF (Rf.fInt Sy.w64)) 32 12
+row·47 = Rows.arr-shr (Rf.rtF (Rf.fInt Sy.w64)) 33 12
 
 abbrev row·48 : Ro.Row
 row·48 = Mut.mslice (Rf.rtF (Rf.fInt Sy.w8)) ty·50 17
@@ -295,7 +295,7 @@ abbrev pub hs : Li.List Sy.Home
 hs = Li._∷_ Sy.valueLocal (Li._∷_ Sy.valueLocal (Li._∷_ Sy.valueLocal (Li._∷_ Sy.valueLocal (Li._∷_ Sy.valueLocal (Li._∷_ Sy.valueLocal (Li._∷_ Sy.valueLocal (Li._∷_ Sy.valueLocal (Li._∷_ Sy.valueLocal (Li._∷_ Sy.valueLocal (Li._∷_ Sy.memorySlot (Li._∷_ Sy.valueLocal (Li._∷_ Sy.valueLocal (Li._∷_ Sy.valueLocal (Li._∷_ Sy.valueLocal (Li._∷_ Sy.valueLocal (Li._∷_ Sy.valueLocal (Li._∷_ Sy.valueLocal (Li._∷_ Sy.valueLocal (Li._∷_ Sy.valueLocal (Li._∷_ Sy.valueLocal (Li._∷_ Sy.valueLocal (Li._∷_ Sy.valueLocal (Li._∷_ Sy.valueLocal (Li._∷_ Sy.valueLocal (Li._∷_ Sy.valueLocal (Li._∷_ Sy.valueLocal (Li._∷_ Sy.valueLocal (Li._∷_ Sy.valueLocal (Li._∷_ Sy.valueLocal (Li._∷_ Sy.valueLocal (Li._∷_ Sy.valueLocal (Li._∷_ Sy.valueLocal (Li._∷_ Sy.valueLocal (Li._∷_ Sy.valueLocal (Li._∷_ Sy.valueLocal (Li._∷_ Sy.valueLocal Li.[]))))))))))))))))))))))))))))))))))))
 
 abbrev b0 : Sy.Body
-b0 = Sy.assign (Sy.place 10 Li.[]) (Sy.repeat (Sy.int Sy.w64 0) 32)
+b0 = Sy.assign (Sy.place 10 Li.[]) (Sy.repeat (Sy.int Sy.w64 0) 33)
 
 abbrev b1 : Sy.Body
 b1 = Sy.assign (Sy.place 12 Li.[]) (Sy.addrOf (Sy.place 2 (Li._∷_ (Sy.field 0) (Li._∷_ (Sy.deref (Sy.tyInt Sy.w32)) Li.[]))))
@@ -307,7 +307,7 @@ abbrev b3 : Sy.Body
 b3 = Sy.assign (Sy.place 14 Li.[]) (Sy.addrOf (Sy.place 10 Li.[]))
 
 abbrev b4 : Sy.Body
-b4 = Sy.assign (Sy.place 15 Li.[]) (Sy.aggregate (Li._∷_ (Sy.copy (Sy.place 14 Li.[])) (Li._∷_ (Sy.int Sy.w64 32) Li.[])))
+b4 = Sy.assign (Sy.place 15 Li.[]) (Sy.aggregate (Li._∷_ (Sy.copy (Sy.place 14 Li.[])) (Li._∷_ (Sy.int Sy.w64 33) Li.[])))
 
 abbrev b5 : Sy.Body
 b5 = Sy.assign (Sy.place 16 Li.[]) (Sy.addrOf (Sy.place 3 (Li._∷_ (Sy.field 0) (Li._∷_ (Sy.deref Gap_.ty) Li.[]))))
@@ -331,7 +331,7 @@ abbrev b11 : Sy.Body
 b11 = Sy.assign (Sy.place 21 Li.[]) (Sy.addrOf (Sy.place 10 Li.[]))
 
 abbrev b12 : Sy.Body
-b12 = Sy.assign (Sy.place 22 Li.[]) (Sy.aggregate (Li._∷_ (Sy.copy (Sy.place 21 Li.[])) (Li._∷_ (Sy.int Sy.w64 32) Li.[])))
+b12 = Sy.assign (Sy.place 22 Li.[]) (Sy.aggregate (Li._∷_ (Sy.copy (Sy.place 21 Li.[])) (Li._∷_ (Sy.int Sy.w64 33) Li.[])))
 
 abbrev b13 : Sy.Body
 b13 = Sy.call "cpool::refused" (Li._∷_ (Sy.copy (Sy.place 20 Li.[])) (Li._∷_ (Sy.copy (Sy.place 22 Li.[])) (Li._∷_ (Sy.copy (Sy.place 11 Li.[])) Li.[]))) (Sy.place 0 Li.[])
@@ -370,7 +370,7 @@ abbrev b24 : Sy.Body
 b24 = Sy.assign (Sy.place 25 Li.[]) (Sy.addrOf (Sy.place 10 Li.[]))
 
 abbrev b25 : Sy.Body
-b25 = Sy.assign (Sy.place 26 Li.[]) (Sy.aggregate (Li._∷_ (Sy.copy (Sy.place 25 Li.[])) (Li._∷_ (Sy.int Sy.w64 32) Li.[])))
+b25 = Sy.assign (Sy.place 26 Li.[]) (Sy.aggregate (Li._∷_ (Sy.copy (Sy.place 25 Li.[])) (Li._∷_ (Sy.int Sy.w64 33) Li.[])))
 
 abbrev b26 : Sy.Body
 b26 = Sy.assign (Sy.place 27 Li.[]) (Sy.addrOf (Sy.place 5 (Li._∷_ (Sy.field 0) (Li._∷_ (Sy.deref (Sy.tyInt Sy.w16)) Li.[]))))
@@ -499,7 +499,7 @@ abbrev pub t3 : Li.List Ro.Entry
 t3 = Li._∷_ (0, row·29) (Li._∷_ (1, row·2) (Li._∷_ (2, row·19) (Li._∷_ (3, row·14) (Li._∷_ (4, Rows'.any-gone Laws'.mir) (Li._∷_ (5, row·11) (Li._∷_ (6, row·12) (Li._∷_ (7, row·7) (Li._∷_ (8, row·8) (Li._∷_ (9, row·9) (Li._∷_ (10, row·34) (Li._∷_ (11, row·30) (Li._∷_ (12, row·10) (Li._∷_ (13, row·1) (Li._∷_ (14, row·6) (Li._∷_ (15, row·0) Li.[])))))))))))))))
 
 abbrev pub t4 : Li.List Ro.Entry
-t4 = Ro.setRow 10 (10, Rows'.whole (Array.Array (Rf.rtF (Rf.fInt Sy.w64)) 32)) (Ro.setRow 4 (4, row·40) (Ro.setRow 0 (0, Rows'.any-gone Laws.mir) t3))
+t4 = Ro.setRow 10 (10, Rows'.whole (Array.Array (Rf.rtF (Rf.fInt Sy.w64)) 33)) (Ro.setRow 4 (4, row·40) (Ro.setRow 0 (0, Rows'.any-gone Laws.mir) t3))
 
 abbrev pub t5 : Li.List Ro.Entry
 t5 = Ro.setRow 10 (10, row·31) t4
@@ -872,7 +872,7 @@ module _ (claims· : Claims) where
   s6 = λ bs. Know.k-sl-known (Rf.fInt Sy.w8) T0 9 7 ty·59 Ro.off 0 λ x. x
 
   abbrev s7 : (bs : Li.List Nat.ℕ) → Ty.Mo T0 → Ty.Mo T9
-  s7 = λ bs. Repeat.n-repeat (Rf.rtF (Rf.fInt Sy.w64)) 32 T0 10 λ m. 0
+  s7 = λ bs. Repeat.n-repeat (Rf.rtF (Rf.fInt Sy.w64)) 33 T0 10 λ m. 0
 
   abbrev s8 : (bs : Li.List Nat.ℕ) → Ty.Mo T9 → Ty.Mo T10
   s8 = λ bs. AtSlots.n-as-by T9 10 row·31 λ x. x
@@ -884,10 +884,10 @@ module _ (claims· : Claims) where
   s11 = λ bs. Relend.k-sl-aggregate (Rf.rtF (Rf.fInt Sy.w32)) (Relend.asMut (Rf.rtF (Rf.fInt Sy.w32))) T12 12 13 8 ty·61 ty·61 (λ x. x) (Sc.oFld 2 (Li._∷_ (Sy.field 1) Li.[]) (Sy.tyInt Sy.w64) 8 λ v. Shared.lenV (v .0))
 
   abbrev s13 : (bs : Li.List Nat.ℕ) → Ty.Gives T13 T15
-  s13 = λ bs. Borrow.k-arr-borrow (Rf.rtF (Rf.fInt Sy.w64)) T13 (Ro.hd 0 (Ro.tl (Ro.tl (Ro.tl (Ro.tl (Ro.tl (Ro.tl (Ro.tl (Ro.tl (Ro.tl (Ro.tl bs))))))))))) 10 14 32 9 (Sy.tyRef Sy.erased Sy.mut ty·54) λ x. x
+  s13 = λ bs. Borrow.k-arr-borrow (Rf.rtF (Rf.fInt Sy.w64)) T13 (Ro.hd 0 (Ro.tl (Ro.tl (Ro.tl (Ro.tl (Ro.tl (Ro.tl (Ro.tl (Ro.tl (Ro.tl (Ro.tl bs))))))))))) 10 14 33 9 (Sy.tyRef Sy.erased Sy.mut ty·54) λ x. x
 
   abbrev s14 : (bs : Li.List Nat.ℕ) → Ty.Asks T15 T16
-  s14 = λ bs. Relend.k-sl-aggregate (Rf.rtF (Rf.fInt Sy.w64)) (Relend.asMut (Rf.rtF (Rf.fInt Sy.w64))) T15 14 15 9 (Sy.tyRef Sy.erased Sy.mut ty·54) ty·65 (λ x. x) (Sc.oInt Sy.w64 32)
+  s14 = λ bs. Relend.k-sl-aggregate (Rf.rtF (Rf.fInt Sy.w64)) (Relend.asMut (Rf.rtF (Rf.fInt Sy.w64))) T15 14 15 9 (Sy.tyRef Sy.erased Sy.mut ty·54) ty·65 (λ x. x) (Sc.oInt Sy.w64 33)
 
   abbrev s16 : (bs : Li.List Nat.ℕ) → Ty.Gives T16 T18
   s16 = λ bs. Relend.k-sl-relend Gap_.row T16 3 16 2 10 ty·64 ty·62 Ro.off λ x. x
@@ -908,7 +908,7 @@ module _ (claims· : Claims) where
   s22 = λ bs. Know.k-sl-known (Rf.fInt Sy.w32) T23 2 1 ty·51 Ro.off 0 λ x. x
 
   abbrev s25 : (bs : Li.List Nat.ℕ) → Ty.Both T23 T27
-  s25 = λ bs. Borrow.k-back-arr (Rf.rtF (Rf.fInt Sy.w64)) T23 15 10 9 32 ty·65 (λ x. x) λ x. x
+  s25 = λ bs. Borrow.k-back-arr (Rf.rtF (Rf.fInt Sy.w64)) T23 15 10 9 33 ty·65 (λ x. x) λ x. x
 
   abbrev s28 : (bs : Li.List Nat.ℕ) → Ty.Both T27 T30
   s28 = λ bs. Relend.k-back-sl Gap_.row T27 17 3 2 10 ty·64 ty·62 Ro.off (λ x. x) λ x. x
@@ -926,10 +926,10 @@ module _ (claims· : Claims) where
   s34 = λ bs. Relend.k-sl-aggregate (Rf.rtF (Rf.fInt Sy.w32)) (Relend.asShr (Rf.rtF (Rf.fInt Sy.w32))) T36 19 20 11 ty·52 ty·52 (λ x. x) (Sc.oFld 2 (Li._∷_ (Sy.field 1) Li.[]) (Sy.tyInt Sy.w64) 8 λ v. Shared.lenV (v .0))
 
   abbrev s36 : (bs : Li.List Nat.ℕ) → Ty.Gives T37 T39
-  s36 = λ bs. Share.k-arr-share (Rf.rtF (Rf.fInt Sy.w64)) T37 10 21 32 12 (Sy.tyRef Sy.erased Sy.imm ty·54) λ x. x
+  s36 = λ bs. Share.k-arr-share (Rf.rtF (Rf.fInt Sy.w64)) T37 10 21 33 12 (Sy.tyRef Sy.erased Sy.imm ty·54) λ x. x
 
   abbrev s37 : (bs : Li.List Nat.ℕ) → Ty.Asks T39 T40
-  s37 = λ bs. Relend.k-sl-aggregate (Rf.rtF (Rf.fInt Sy.w64)) (Relend.asShr (Rf.rtF (Rf.fInt Sy.w64))) T39 21 22 12 (Sy.tyRef Sy.erased Sy.imm ty·54) ty·63 (λ x. x) (Sc.oInt Sy.w64 32)
+  s37 = λ bs. Relend.k-sl-aggregate (Rf.rtF (Rf.fInt Sy.w64)) (Relend.asShr (Rf.rtF (Rf.fInt Sy.w64))) T39 21 22 12 (Sy.tyRef Sy.erased Sy.imm ty·54) ty·63 (λ x. x) (Sc.oInt Sy.w64 33)
 
   abbrev s38 : (bs : Li.List Nat.ℕ) → Ty.Both T40 T41
   s38 = λ bs. Call.callB ps·1 r·1 (claims· .2) (claims· .3) T40 (record { pos = 20; ty = Sy.tyRef Sy.erased Sy.imm (Sy.tyInt Sy.w32); ref = λ x. x }, (record { pos = 22; ty = Sy.tyRef Sy.erased Sy.imm (Sy.tyInt Sy.w64); ref = λ x. x }, (Num.vAt 11 λ x. x, tt))) 0 (Li._∷_ 11 (Li._∷_ 12 Li.[])) Laws.mir
@@ -944,7 +944,7 @@ module _ (claims· : Claims) where
   s42 = λ bs. Reshare.n-back-sl-shr (Rf.rtF (Rf.fInt Sy.w32)) T43 2 1 11 ty·51 Ro.off λ x. x
 
   abbrev s45 : (bs : Li.List Nat.ℕ) → Ty.Mo T45 → Ty.Mo T48
-  s45 = λ bs. Share.n-back-arr-shr (Rf.rtF (Rf.fInt Sy.w64)) T45 10 32 12 λ x. x
+  s45 = λ bs. Share.n-back-arr-shr (Rf.rtF (Rf.fInt Sy.w64)) T45 10 33 12 λ x. x
 
   abbrev s47 : (bs : Li.List Nat.ℕ) → Ty.Mo T48 → Ty.Mo T50
   s47 = λ bs. Sc.n-room T48 10 ty·54
@@ -962,10 +962,10 @@ module _ (claims· : Claims) where
   s52 = λ bs. Relend.k-sl-aggregate (Rf.rtF (Rf.fInt Sy.w32)) (Relend.asShr (Rf.rtF (Rf.fInt Sy.w32))) T54 23 24 13 ty·52 ty·52 (λ x. x) (Sc.oFld 2 (Li._∷_ (Sy.field 1) Li.[]) (Sy.tyInt Sy.w64) 8 λ v. Shared.lenV (v .0))
 
   abbrev s54 : (bs : Li.List Nat.ℕ) → Ty.Gives T55 T57
-  s54 = λ bs. Share.k-arr-share (Rf.rtF (Rf.fInt Sy.w64)) T55 10 25 32 14 (Sy.tyRef Sy.erased Sy.imm ty·54) λ x. x
+  s54 = λ bs. Share.k-arr-share (Rf.rtF (Rf.fInt Sy.w64)) T55 10 25 33 14 (Sy.tyRef Sy.erased Sy.imm ty·54) λ x. x
 
   abbrev s55 : (bs : Li.List Nat.ℕ) → Ty.Asks T57 T58
-  s55 = λ bs. Relend.k-sl-aggregate (Rf.rtF (Rf.fInt Sy.w64)) (Relend.asShr (Rf.rtF (Rf.fInt Sy.w64))) T57 25 26 14 (Sy.tyRef Sy.erased Sy.imm ty·54) ty·63 (λ x. x) (Sc.oInt Sy.w64 32)
+  s55 = λ bs. Relend.k-sl-aggregate (Rf.rtF (Rf.fInt Sy.w64)) (Relend.asShr (Rf.rtF (Rf.fInt Sy.w64))) T57 25 26 14 (Sy.tyRef Sy.erased Sy.imm ty·54) ty·63 (λ x. x) (Sc.oInt Sy.w64 33)
 
   abbrev s57 : (bs : Li.List Nat.ℕ) → Ty.Gives T58 T60
   s57 = λ bs. Relend.k-sl-relend (Rf.rtF (Rf.fInt Sy.w16)) T58 5 27 3 15 ty·55 ty·60 Ro.off λ x. x
@@ -1013,7 +1013,7 @@ module _ (claims· : Claims) where
   s76 = λ bs. Reshare.n-back-sl-shr (Rf.rtF (Rf.fInt Sy.w32)) T77 2 1 13 ty·51 Ro.off λ x. x
 
   abbrev s79 : (bs : Li.List Nat.ℕ) → Ty.Mo T79 → Ty.Mo T82
-  s79 = λ bs. Share.n-back-arr-shr (Rf.rtF (Rf.fInt Sy.w64)) T79 10 32 14 λ x. x
+  s79 = λ bs. Share.n-back-arr-shr (Rf.rtF (Rf.fInt Sy.w64)) T79 10 33 14 λ x. x
 
   abbrev s81 : (bs : Li.List Nat.ℕ) → Ty.Mo T82 → Ty.Mo T84
   s81 = λ bs. Sc.n-room T82 10 ty·54
@@ -1808,7 +1808,7 @@ module _ (claims· : Claims) where
           E = Frame.EnvOf 𝓤 H (Li._∷_ (Kinds.tyR r) (Enter.tysP ps xs)) bs
 
           pub typed : Ty.Typed 𝓤 H A 𝓣 E (Function.Γin 8 ps r xs m κs qs) b62 (Function.Δret 8 ps r xs m κs qs) (Φ bs)
-          typed = (Ty.g-pre 𝓤 H A W 𝓣 E G0 G0 b62 Δ0 (Ty.give (s0 bs)) (at105 bs) (Know.g-shs-known 𝓤 H A W (Rf.fInt Sy.w8) E G0 1 0 ty·66 (Ro.lease (κs .0) (qs .0)) 0 (λ x. x) record { fits = Dec'.lit< tt } (Reads.as-is 𝓤 H A row·2) Pa.refl tt) (Ty.g-pre 𝓤 H A W 𝓣 E G0 G0 b62 Δ0 (Ty.give (s1 bs)) (at104 bs) (Know.g-sl-known 𝓤 H A W (Rf.fInt Sy.w32) E G0 2 1 ty·51 (Ro.lease (κs .1 .0) (qs .1 .0)) 0 (λ x. x) record { fits = Dec'.lit< tt } (Reads.as-is 𝓤 H A row·19) Pa.refl tt) (Ty.g-pre 𝓤 H A W 𝓣 E G0 G0 b62 Δ0 (Ty.give (s2 bs)) (at103 bs) (Know.g-sl-known 𝓤 H A W (Rf.fInt Sy.w16) E G0 5 3 ty·55 (Ro.lease (κs .1 .1 .1 .0) (qs .1 .1 .1 .0)) 0 (λ x. x) record { fits = Dec'.lit< tt } (Reads.as-is 𝓤 H A row·11) Pa.refl tt) (Ty.g-pre 𝓤 H A W 𝓣 E G0 G0 b62 Δ0 (Ty.give (s3 bs)) (at102 bs) (Know.g-sl-known 𝓤 H A W (Rf.fInt Sy.w8) E G0 6 4 ty·56 (Ro.lease (κs .1 .1 .1 .1 .0) (qs .1 .1 .1 .1 .0)) 0 (λ x. x) record { fits = Dec'.lit< tt } (Reads.as-is 𝓤 H A row·12) Pa.refl tt) (Ty.g-pre 𝓤 H A W 𝓣 E G0 G0 b62 Δ0 (Ty.give (s4 bs)) (at101 bs) (Know.g-sl-known 𝓤 H A W (Rf.fInt Sy.w8) E G0 7 5 ty·57 (Ro.lease (κs .1 .1 .1 .1 .1 .0) (qs .1 .1 .1 .1 .1 .0)) 0 (λ x. x) record { fits = Dec'.lit< tt } (Reads.as-is 𝓤 H A row·7) Pa.refl tt) (Ty.g-pre 𝓤 H A W 𝓣 E G0 G0 b62 Δ0 (Ty.give (s5 bs)) (at100 bs) (Know.g-sl-known 𝓤 H A W (Rf.fInt Sy.w8) E G0 8 6 ty·58 (Ro.lease (κs .1 .1 .1 .1 .1 .1 .0) (qs .1 .1 .1 .1 .1 .1 .0)) 0 (λ x. x) record { fits = Dec'.lit< tt } (Reads.as-is 𝓤 H A row·8) Pa.refl tt) (Ty.g-pre 𝓤 H A W 𝓣 E G0 G0 b62 Δ0 (Ty.give (s6 bs)) (at99 bs) (Know.g-sl-known 𝓤 H A W (Rf.fInt Sy.w8) E G0 9 7 ty·59 (Ro.lease (κs .1 .1 .1 .1 .1 .1 .1 .0) (qs .1 .1 .1 .1 .1 .1 .1 .0)) 0 (λ x. x) record { fits = Dec'.lit< tt } (Reads.as-is 𝓤 H A row·9) Pa.refl tt) (Ty.s-seq 𝓤 H A W 𝓣 E G0 G9 b0 b61 Δ0 (Ty.pass T0 T9 (s7 bs)) (at98 bs) (Repeat.t-repeat 𝓤 H A W E 𝓣 (Rf.rtF (Rf.fInt Sy.w64)) (Plain'.uint-lawful 𝓤 H A W Sy.w64) (Copies.cRf (Rf.fInt Sy.w64) .copy 𝓤 H A W) (Plain'.uint-makes 𝓤 H A W Sy.w64) 32 G0 10 (Sc.oInt Sy.w64 0) (λ m. 0) (Reads.room-gone 𝓤 H A ty·54) tt Pa.refl λ m wa. (Pa.refl, Dec'.lit< tt)) (Ty.g-pre 𝓤 H A W 𝓣 E G9 G10 b61 Δ0 (Ty.pass T9 T10 (s8 bs)) (at97 bs) (AtSlots.g-as-by 𝓤 H A W E (λ ρ. Unit) G9 10 row·31 (λ x. x) (Own.told-none 𝓤 H A (G9 .slots)) λ ρ told. Repeat.whole-arr 𝓤 H A W (Rf.rtF (Rf.fInt Sy.w64)) 32 tt ρ) (Ty.g-pre 𝓤 H A W 𝓣 E G10 G11 b61 Δ0 (λ Ψ. Ψ) (at96 bs) (Lifetime.g-begin 𝓤 H A W E G10 8 (tt, (tt, (tt, (tt, (tt, (tt, (tt, (tt, (tt, (tt, (tt, (tt, (tt, (tt, (tt, (tt, (tt, (tt, (tt, (tt, (tt, (tt, (tt, (tt, (tt, (tt, (tt, (tt, (tt, (tt, (tt, (tt, (tt, (tt, (tt, (tt, (tt, tt)))))))))))))))))))))))))))))))))))))) (Ty.s-seq 𝓤 H A W 𝓣 E G11 G12 b1 b60 Δ0 (Ty.give (s10 bs)) (at95 bs) (Relend.t-sl-relend 𝓤 H A W E (Rf.rtF (Rf.fInt Sy.w32)) 𝓣 G11 2 12 1 8 ty·51 ty·61 (Ro.lease (κs .1 .0) (qs .1 .0)) 0 (λ x. x) (Reads.as-is 𝓤 H A row·19) (Reads.room-gone 𝓤 H A ty·61) Pa.refl tt Pa.refl Pa.refl Pa.refl λ b o. tt) (Ty.s-seq 𝓤 H A W 𝓣 E G12 G13 b2 b59 Δ0 (Ty.ask (s11 bs)) (at94 bs) (Relend.t-sl-aggregate 𝓤 H A W E (Rf.rtF (Rf.fInt Sy.w32)) 𝓣 (Relend.asMut (Rf.rtF (Rf.fInt Sy.w32))) G12 12 13 8 ty·61 ty·61 (λ x. x) (Sc.oFld 2 (Li._∷_ (Sy.field 1) Li.[]) (Sy.tyInt Sy.w64) 8 λ v. Shared.lenV (v .0)) (Reads.as-is 𝓤 H A (Relend.msptr (Rf.rtF (Rf.fInt Sy.w32)) ty·61 8)) (Reads.room-gone 𝓤 H A (Sy.tyStruct (Li._∷_ 38 (Li._∷_ 91 (Li._∷_ 93 Li.[]))) (Sy.tcons ty·61 (Sy.tcons (Sy.tyInt Sy.w64) Sy.tnil)))) (Relend.reads-owed-len 𝓤 H A W (Rf.rtF (Rf.fInt Sy.w32)) ty·51 1 8 (Ro.lease (κs .1 .0) (qs .1 .0)) 8 Pa.refl, Pa.refl) Pa.refl Pa.refl λ b o k. tt) (Ty.g-pre 𝓤 H A W 𝓣 E G13 G14 b59 Δ0 (λ Ψ. Ψ) (at93 bs) (Lifetime.g-begin 𝓤 H A W E G13 9 (tt, (tt, ((tt, tt), (tt, (tt, (tt, (tt, (tt, (tt, (tt, (tt, (tt, (tt, (tt, (tt, (tt, (tt, (tt, (tt, (tt, (tt, (tt, (tt, (tt, (tt, (tt, (tt, (tt, (tt, (tt, (tt, (tt, (tt, (tt, (tt, (tt, (tt, tt)))))))))))))))))))))))))))))))))))))) (Ty.s-seq 𝓤 H A W 𝓣 E G14 G15 b3 b58 Δ0 (Ty.give (s13 bs)) (at92 bs) (Borrow.t-arr-borrow 𝓤 H A W E 𝓣 (Rf.rtF (Rf.fInt Sy.w64)) G14 10 14 32 9 (Sy.tyRef Sy.erased Sy.mut ty·54) (λ x. x) (Reads.as-is 𝓤 H A row·31) (Reads.room-gone 𝓤 H A (Sy.tyRef Sy.erased Sy.mut ty·54)) Pa.refl (λ b o. tt) (Dec'.lit< tt, Dec'.lit< tt)) (Ty.s-seq 𝓤 H A W 𝓣 E G15 G16 b4 b57 Δ0 (Ty.ask (s14 bs)) (at91 bs) (Relend.t-sl-aggregate 𝓤 H A W E (Rf.rtF (Rf.fInt Sy.w64)) 𝓣 (Relend.asMut (Rf.rtF (Rf.fInt Sy.w64))) G15 14 15 9 (Sy.tyRef Sy.erased Sy.mut ty·54) ty·65 (λ x. x) (Sc.oInt Sy.w64 32) (Reads.as-is 𝓤 H A (Relend.msptr (Rf.rtF (Rf.fInt Sy.w64)) (Sy.tyRef Sy.erased Sy.mut ty·54) 9)) (Reads.room-gone 𝓤 H A (Sy.tyStruct (Li._∷_ 38 (Li._∷_ 91 (Li._∷_ 93 Li.[]))) (Sy.tcons ty·65 (Sy.tcons (Sy.tyInt Sy.w64) Sy.tnil)))) tt Pa.refl Pa.refl λ b o k. tt) (Ty.g-pre 𝓤 H A W 𝓣 E G16 G17 b57 Δ0 (λ Ψ. Ψ) (at90 bs) (Lifetime.g-begin 𝓤 H A W E G16 10 (tt, (tt, ((tt, tt), (tt, (tt, (tt, (tt, (tt, (tt, (tt, (tt, (tt, (tt, (tt, (tt, (tt, (tt, (tt, (tt, (tt, (tt, (tt, (tt, (tt, (tt, (tt, (tt, (tt, (tt, (tt, (tt, (tt, (tt, (tt, (tt, (tt, (tt, tt)))))))))))))))))))))))))))))))))))))) (Ty.s-seq 𝓤 H A W 𝓣 E G17 G18 b5 b56 Δ0 (Ty.give (s16 bs)) (at89 bs) (Relend.t-sl-relend 𝓤 H A W E Gap_.row 𝓣 G17 3 16 2 10 ty·64 ty·62 (Ro.lease (κs .1 .1 .0) (qs .1 .1 .0)) 0 (λ x. x) (Reads.as-is 𝓤 H A row·14) (Reads.room-gone 𝓤 H A ty·62) Pa.refl tt Pa.refl Pa.refl Pa.refl λ b o. tt) (Ty.s-seq 𝓤 H A W 𝓣 E G18 G19 b6 b55 Δ0 (Ty.ask (s17 bs)) (at88 bs) (Relend.t-sl-aggregate 𝓤 H A W E Gap_.row 𝓣 (Relend.asMut Gap_.row) G18 16 17 10 ty·62 ty·62 (λ x. x) (Sc.oFld 3 (Li._∷_ (Sy.field 1) Li.[]) (Sy.tyInt Sy.w64) 8 λ v. Shared.lenV (v .0)) (Reads.as-is 𝓤 H A (Relend.msptr Gap_.row ty·62 10)) (Reads.room-gone 𝓤 H A (Sy.tyStruct (Li._∷_ 38 (Li._∷_ 91 (Li._∷_ 93 Li.[]))) (Sy.tcons ty·62 (Sy.tcons (Sy.tyInt Sy.w64) Sy.tnil)))) (Relend.reads-owed-len 𝓤 H A W Gap_.row ty·64 2 10 (Ro.lease (κs .1 .1 .0) (qs .1 .1 .0)) 8 Pa.refl, Pa.refl) Pa.refl Pa.refl λ b o k. tt) (Ty.s-seq 𝓤 H A W 𝓣 E G19 G20 b7 b54 Δ0 (Ty.both (s18 bs)) (at87 bs) (Plain.t-call-plain 𝓤 H A W 𝓣 4 ps·0 r·0 (claims· .0) (claims· .1) "builder::lay_out" (known .0) E (λ pos β. β) G19 (record { pos = 1; ty = Sy.tyRef (Sy.named 0) Sy.imm (Sy.tyInt Sy.w8); ref = λ x. x }, (record { pos = 13; ty = Sy.tyRef Sy.erased Sy.mut (Sy.tyInt Sy.w32); ref = λ x. x }, (record { pos = 15; ty = Sy.tyRef Sy.erased Sy.mut (Sy.tyInt Sy.w64); ref = λ x. x }, (record { pos = 17; ty = Sy.tyRef Sy.erased Sy.mut Gap_.behind; ref = λ x. x }, (record { pos = 4; st = Li.[]; d = 0; at = λ x. x }, tt))))) 11 (Li._∷_ 0 (Li._∷_ 8 (Li._∷_ 9 (Li._∷_ 10 Li.[])))) (Call.sub-id 𝓤 H A W (G19 .slots)) (ShrSlice.spares-sslice 𝓤 H A W (Rf.rtF (Rf.fInt Sy.w8)) ty·66 0, Shared.reads-sslice 𝓤 H A W (Rf.rtF (Rf.fInt Sy.w8)) ty·66 0, Pa.refl, (Reads.as-is 𝓤 H A row·37, Mut.reads-mslice 𝓤 H A W (Rf.rtF (Rf.fInt Sy.w32)) ty·61 8, Pa.refl, (Reads.as-is 𝓤 H A row·46, Mut.reads-mslice 𝓤 H A W (Rf.rtF (Rf.fInt Sy.w64)) ty·65 9, Pa.refl, (Reads.as-is 𝓤 H A (Mut.mslice Gap_.row ty·62 10), Mut.reads-mslice 𝓤 H A W Gap_.row ty·62 10, Pa.refl, ((Yields.yields-copy 𝓤 H A W (λ ρ. Unit) (Declared'.row JobCounts.the-type) Pa.refl (Copies.cStruct JobCounts.the-type Laws'.the-laws Laws'.the-copy .copy 𝓤 H A W) row·40 (λ x. x) (λ x. x) (λ ρ told. Local.mem-whole 𝓤 H A W (Declared'.row JobCounts.the-type) ρ) λ ρ told. Local.whole-mem 𝓤 H A W (Declared'.row JobCounts.the-type) ρ, Pa.refl), tt))))) (Reads.room-gone 𝓤 H A (Sy.tyInt Sy.w64)) (tt, (tt, (tt, (tt, tt)))) Pa.refl) (Ty.g-pre 𝓤 H A W 𝓣 E G20 G21 b54 Δ0 (Ty.pass T20 T21 (s19 bs)) (at86 bs) (Sc.g-room 𝓤 H A W E G20 4 Laws'.mir (Local.room-whole 𝓤 H A W (Declared'.row JobCounts.the-type) Laws'.mir Pa.refl)) (Ty.g-pre 𝓤 H A W 𝓣 E G21 G22 b54 Δ0 (λ Ψ. Ψ) (at85 bs) (Lifetime.g-end 𝓤 H A W E G21 8 Pa.refl) (Ty.g-pre 𝓤 H A W 𝓣 E G22 G23 b54 Δ0 (Ty.both (s21 bs)) (at84 bs) (Relend.g-back-sl 𝓤 H A W E (Rf.rtF (Rf.fInt Sy.w32)) G22 13 2 1 8 ty·51 ty·61 (Ro.lease (κs .1 .0) (qs .1 .0)) (λ x. x) (λ x. x) (Reads.as-is 𝓤 H A row·42) (Reads.as-is 𝓤 H A (Relend.mslice-owed (Rf.rtF (Rf.fInt Sy.w32)) ty·51 1 8 (Ro.lease (κs .1 .0) (qs .1 .0)))) Pa.refl Pa.refl) (Ty.g-pre 𝓤 H A W 𝓣 E G23 G23 b54 Δ0 (Ty.give (s22 bs)) (at83 bs) (Know.g-sl-known 𝓤 H A W (Rf.fInt Sy.w32) E G23 2 1 ty·51 (Ro.lease (κs .1 .0) (qs .1 .0)) 0 (λ x. x) record { fits = Dec'.lit< tt } (Reads.as-is 𝓤 H A row·19) Pa.refl tt) (Ty.g-pre 𝓤 H A W 𝓣 E G23 G25 b54 Δ0 (λ Ψ. Ψ) (at82 bs) (Lifetime.g-forget 𝓤 H A W E G23 8 Ro.dead Pa.refl) (Ty.g-pre 𝓤 H A W 𝓣 E G25 G26 b54 Δ0 (λ Ψ. Ψ) (at81 bs) (Lifetime.g-end 𝓤 H A W E G25 9 Pa.refl) (Ty.g-pre 𝓤 H A W 𝓣 E G26 G27 b54 Δ0 (Ty.both (s25 bs)) (at80 bs) (Borrow.g-back-arr 𝓤 H A W E (Rf.rtF (Rf.fInt Sy.w64)) G26 15 10 9 32 ty·65 (λ x. x) (λ x. x) (Reads.as-is 𝓤 H A row·39) (Reads.as-is 𝓤 H A row·38) Pa.refl) (Ty.g-pre 𝓤 H A W 𝓣 E G27 G28 b54 Δ0 (λ Ψ. Ψ) (at79 bs) (Lifetime.g-forget 𝓤 H A W E G27 9 Ro.dead Pa.refl) (Ty.g-pre 𝓤 H A W 𝓣 E G28 G29 b54 Δ0 (λ Ψ. Ψ) (at78 bs) (Lifetime.g-end 𝓤 H A W E G28 10 Pa.refl) (Ty.g-pre 𝓤 H A W 𝓣 E G29 G30 b54 Δ0 (Ty.both (s28 bs)) (at77 bs) (Relend.g-back-sl 𝓤 H A W E Gap_.row G29 17 3 2 10 ty·64 ty·62 (Ro.lease (κs .1 .1 .0) (qs .1 .1 .0)) (λ x. x) (λ x. x) (Reads.as-is 𝓤 H A (Mut.msleft Gap_.row ty·62)) (Reads.as-is 𝓤 H A (Relend.mslice-owed Gap_.row ty·64 2 10 (Ro.lease (κs .1 .1 .0) (qs .1 .1 .0)))) Pa.refl Pa.refl) (Ty.g-pre 𝓤 H A W 𝓣 E G30 G31 b54 Δ0 (λ Ψ. Ψ) (at76 bs) (Lifetime.g-forget 𝓤 H A W E G30 10 Ro.dead Pa.refl) (Ty.s-seq 𝓤 H A W 𝓣 E G31 G32 b8 b53 Δ0 (Ty.ask (s30 bs)) (at75 bs) (Sc.t-op2 𝓤 H A W E 𝓣 G31 Sy.ne (Sc.oAt 11 (Sy.tyInt Sy.w64) (Ro.valS (Ro.sInt Sy.w64))) (Sc.oInt Sy.w64 0) 18 (Rows'.sc-here Ro.sBool) Sy.tyBool (Ro.valS Ro.sBool) (Ro.sBool .of) (Sc.reads-sc 𝓤 H A W (Ro.sInt Sy.w64), Pa.refl) tt (Reads.room-gone 𝓤 H A Sy.tyBool) (Sc.holds-sc 𝓤 H A W Ro.sBool) Pa.refl (λ u. Pa.refl) λ u. tt) (Ty.t-seq 𝓤 H A W 𝓣 E G32 G31 b21 b52 Δ0 (at21 bs) (at74 bs) (Sc.t-cond 𝓤 H A W E 𝓣 G32 18 (λ x. x) b19 b20 Δ1 (at18 bs) (at20 bs) (Sc.reads-sc 𝓤 H A W Ro.sBool) Pa.refl (Ty.g-pre 𝓤 H A W 𝓣 E G32 G31 b19 Δ1 (Ty.pass T32 T30 (s31 bs)) (at17 bs) (Sc.g-room 𝓤 H A W E G32 18 Sy.tyBool (Sc.room-sc 𝓤 H A W Ro.sBool)) (Ty.g-pre 𝓤 H A W 𝓣 E G31 G35 b19 Δ1 (λ Ψ. Ψ) (at16 bs) (Lifetime.g-begin 𝓤 H A W E G31 11 (tt, (tt, (tt, (tt, (tt, (tt, (tt, (tt, (tt, (tt, (tt, (tt, (tt, (tt, (tt, (tt, (tt, (tt, (tt, (tt, (tt, (tt, (tt, (tt, (tt, (tt, (tt, (tt, (tt, (tt, (tt, (tt, (tt, (tt, (tt, (tt, (tt, tt)))))))))))))))))))))))))))))))))))))) (Ty.s-seq 𝓤 H A W 𝓣 E G35 G36 b9 b18 Δ1 (Ty.give (s33 bs)) (at15 bs) (Reshare.t-sl-reshare 𝓤 H A W E (Rf.rtF (Rf.fInt Sy.w32)) 𝓣 G35 2 19 1 11 ty·51 ty·52 (Ro.lease (κs .1 .0) (qs .1 .0)) 0 (λ x. x) (Reads.as-is 𝓤 H A row·19) (Reads.room-gone 𝓤 H A ty·52) Pa.refl tt Pa.refl Pa.refl Pa.refl λ b o. tt) (Ty.s-seq 𝓤 H A W 𝓣 E G36 G37 b10 b17 Δ1 (Ty.ask (s34 bs)) (at14 bs) (Relend.t-sl-aggregate 𝓤 H A W E (Rf.rtF (Rf.fInt Sy.w32)) 𝓣 (Relend.asShr (Rf.rtF (Rf.fInt Sy.w32))) G36 19 20 11 ty·52 ty·52 (λ x. x) (Sc.oFld 2 (Li._∷_ (Sy.field 1) Li.[]) (Sy.tyInt Sy.w64) 8 λ v. Shared.lenV (v .0)) (Reads.as-is 𝓤 H A (Relend.ssptr (Rf.rtF (Rf.fInt Sy.w32)) ty·52 11)) (Reads.room-gone 𝓤 H A (Sy.tyStruct (Li._∷_ 38 (Li._∷_ 91 (Li._∷_ 93 Li.[]))) (Sy.tcons ty·52 (Sy.tcons (Sy.tyInt Sy.w64) Sy.tnil)))) (Reshare.reads-owedS-len 𝓤 H A W (Rf.rtF (Rf.fInt Sy.w32)) ty·51 1 11 (Ro.lease (κs .1 .0) (qs .1 .0)) 8 Pa.refl, Pa.refl) Pa.refl Pa.refl λ b o k. tt) (Ty.g-pre 𝓤 H A W 𝓣 E G37 G38 b17 Δ1 (λ Ψ. Ψ) (at13 bs) (Lifetime.g-begin 𝓤 H A W E G37 12 (tt, (tt, ((tt, tt), (tt, (tt, (tt, (tt, (tt, (tt, (tt, (tt, (tt, (tt, (tt, (tt, (tt, (tt, (tt, (tt, (tt, (tt, (tt, (tt, (tt, (tt, (tt, (tt, (tt, (tt, (tt, (tt, (tt, (tt, (tt, (tt, (tt, (tt, tt)))))))))))))))))))))))))))))))))))))) (Ty.s-seq 𝓤 H A W 𝓣 E G38 G39 b11 b16 Δ1 (Ty.give (s36 bs)) (at12 bs) (Share.t-arr-share 𝓤 H A W E 𝓣 (Rf.rtF (Rf.fInt Sy.w64)) G38 10 21 32 12 (Sy.tyRef Sy.erased Sy.imm ty·54) (λ x. x) (Reads.as-is 𝓤 H A row·31) (Reads.room-gone 𝓤 H A (Sy.tyRef Sy.erased Sy.imm ty·54)) Pa.refl (λ b o. tt) (Dec'.lit< tt, Dec'.lit< tt)) (Ty.s-seq 𝓤 H A W 𝓣 E G39 G40 b12 b15 Δ1 (Ty.ask (s37 bs)) (at11 bs) (Relend.t-sl-aggregate 𝓤 H A W E (Rf.rtF (Rf.fInt Sy.w64)) 𝓣 (Relend.asShr (Rf.rtF (Rf.fInt Sy.w64))) G39 21 22 12 (Sy.tyRef Sy.erased Sy.imm ty·54) ty·63 (λ x. x) (Sc.oInt Sy.w64 32) (Reads.as-is 𝓤 H A (Relend.ssptr (Rf.rtF (Rf.fInt Sy.w64)) (Sy.tyRef Sy.erased Sy.imm ty·54) 12)) (Reads.room-gone 𝓤 H A ty·53) tt Pa.refl Pa.refl λ b o k. tt) (Ty.s-seq 𝓤 H A W 𝓣 E G40 G41 b13 b14 Δ1 (Ty.both (s38 bs)) (at10 bs) (Plain.t-call-plain 𝓤 H A W 𝓣 2 ps·1 r·1 (claims· .2) (claims· .3) "cpool::refused" (known .1) E (λ pos β. β) G40 (record { pos = 20; ty = Sy.tyRef Sy.erased Sy.imm (Sy.tyInt Sy.w32); ref = λ x. x }, (record { pos = 22; ty = Sy.tyRef Sy.erased Sy.imm (Sy.tyInt Sy.w64); ref = λ x. x }, (Num.vAt 11 λ x. x, tt))) 0 (Li._∷_ 11 (Li._∷_ 12 Li.[])) (Call.sub-id 𝓤 H A W (G40 .slots)) (ShrSlice.spares-sslice 𝓤 H A W (Rf.rtF (Rf.fInt Sy.w32)) ty·52 11, Shared.reads-sslice 𝓤 H A W (Rf.rtF (Rf.fInt Sy.w32)) ty·52 11, Pa.refl, (ShrSlice.spares-sslice 𝓤 H A W (Rf.rtF (Rf.fInt Sy.w64)) ty·63 12, Shared.reads-sslice 𝓤 H A W (Rf.rtF (Rf.fInt Sy.w64)) ty·63 12, Pa.refl, ((Sc.reads-sc 𝓤 H A W (Ro.sInt Sy.w64), Pa.refl), tt))) (Reads.room-gone 𝓤 H A Laws.mir) (tt, (tt, tt)) Pa.refl) (Ty.g-pre 𝓤 H A W 𝓣 E G41 G42 b14 Δ1 (Ty.pass T41 T42 (s39 bs)) (at9 bs) (Sc.g-room 𝓤 H A W E G41 20 (Sy.tyStruct (Li._∷_ 38 (Li._∷_ 91 (Li._∷_ 93 Li.[]))) (Sy.tcons ty·52 (Sy.tcons (Sy.tyInt Sy.w64) Sy.tnil))) (Shared.room-sslice 𝓤 H A W (Rf.rtF (Rf.fInt Sy.w32)) ty·52 11)) (Ty.g-pre 𝓤 H A W 𝓣 E G42 G43 b14 Δ1 (Ty.pass T42 T43 (s40 bs)) (at8 bs) (Sc.g-room 𝓤 H A W E G42 22 ty·53 (Shared.room-sslice 𝓤 H A W (Rf.rtF (Rf.fInt Sy.w64)) ty·63 12)) (Ty.g-pre 𝓤 H A W 𝓣 E G43 G44 b14 Δ1 (λ Ψ. Ψ) (at7 bs) (Lifetime.g-end 𝓤 H A W E G43 11 Pa.refl) (Ty.g-pre 𝓤 H A W 𝓣 E G44 G45 b14 Δ1 (Ty.pass T43 T45 (s42 bs)) (at6 bs) (Reshare.g-back-sl-shr 𝓤 H A W E (Rf.rtF (Rf.fInt Sy.w32)) G44 2 1 11 ty·51 (Ro.lease (κs .1 .0) (qs .1 .0)) (λ x. x) (Reads.as-is 𝓤 H A (Reshare.mslice-owedS (Rf.rtF (Rf.fInt Sy.w32)) ty·51 1 11 (Ro.lease (κs .1 .0) (qs .1 .0)))) Pa.refl Pa.refl) (Ty.g-pre 𝓤 H A W 𝓣 E G45 G46 b14 Δ1 (λ Ψ. Ψ) (at5 bs) (Lifetime.g-forget 𝓤 H A W E G45 11 Ro.dead Pa.refl) (Ty.g-pre 𝓤 H A W 𝓣 E G46 G47 b14 Δ1 (λ Ψ. Ψ) (at4 bs) (Lifetime.g-end 𝓤 H A W E G46 12 Pa.refl) (Ty.g-pre 𝓤 H A W 𝓣 E G47 G48 b14 Δ1 (Ty.pass T45 T48 (s45 bs)) (at3 bs) (Share.g-back-arr-shr 𝓤 H A W E (Rf.rtF (Rf.fInt Sy.w64)) G47 10 32 12 (λ x. x) (Reads.as-is 𝓤 H A row·47) Pa.refl) (Ty.g-pre 𝓤 H A W 𝓣 E G48 G49 b14 Δ1 (λ Ψ. Ψ) (at2 bs) (Lifetime.g-forget 𝓤 H A W E G48 12 Ro.dead Pa.refl) (Ty.g-pre 𝓤 H A W 𝓣 E G49 G50 b14 Δ1 (Ty.pass T48 T50 (s47 bs)) (at1 bs) (Sc.g-room 𝓤 H A W E G49 10 ty·54 (Init.room-arr 𝓤 H A W (Rf.rtF (Rf.fInt Sy.w64)) 32 0 32 Pa.refl)) (Ty.g-pre 𝓤 H A W 𝓣 E G50 G1 b14 Δ1 (Ty.pass T50 T1 (s48 bs)) (at0 bs) (Sc.g-room 𝓤 H A W E G50 11 (Sy.tyInt Sy.w64) (Sc.room-sc 𝓤 H A W (Ro.sInt Sy.w64))) (Ty.t-return 𝓤 H A W 𝓣 E Δ1 tt))))))))))))))))))) (Ty.g-pre 𝓤 H A W 𝓣 E G32 G31 b20 Δ1 (Ty.pass T32 T30 (s49 bs)) (at19 bs) (Sc.g-room 𝓤 H A W E G32 18 Sy.tyBool (Sc.room-sc 𝓤 H A W Ro.sBool)) (Ty.t-skip 𝓤 H A W 𝓣 E Δ1 tt))) (Ty.g-pre 𝓤 H A W 𝓣 E G31 G53 b52 Δ0 (λ Ψ. Ψ) (at73 bs) (Lifetime.g-begin 𝓤 H A W E G31 13 (tt, (tt, (tt, (tt, (tt, (tt, (tt, (tt, (tt, (tt, (tt, (tt, (tt, (tt, (tt, (tt, (tt, (tt, (tt, (tt, (tt, (tt, (tt, (tt, (tt, (tt, (tt, (tt, (tt, (tt, (tt, (tt, (tt, (tt, (tt, (tt, (tt, tt)))))))))))))))))))))))))))))))))))))) (Ty.s-seq 𝓤 H A W 𝓣 E G53 G54 b22 b51 Δ0 (Ty.give (s51 bs)) (at72 bs) (Reshare.t-sl-reshare 𝓤 H A W E (Rf.rtF (Rf.fInt Sy.w32)) 𝓣 G53 2 23 1 13 ty·51 ty·52 (Ro.lease (κs .1 .0) (qs .1 .0)) 0 (λ x. x) (Reads.as-is 𝓤 H A row·19) (Reads.room-gone 𝓤 H A ty·52) Pa.refl tt Pa.refl Pa.refl Pa.refl λ b o. tt) (Ty.s-seq 𝓤 H A W 𝓣 E G54 G55 b23 b50 Δ0 (Ty.ask (s52 bs)) (at71 bs) (Relend.t-sl-aggregate 𝓤 H A W E (Rf.rtF (Rf.fInt Sy.w32)) 𝓣 (Relend.asShr (Rf.rtF (Rf.fInt Sy.w32))) G54 23 24 13 ty·52 ty·52 (λ x. x) (Sc.oFld 2 (Li._∷_ (Sy.field 1) Li.[]) (Sy.tyInt Sy.w64) 8 λ v. Shared.lenV (v .0)) (Reads.as-is 𝓤 H A (Relend.ssptr (Rf.rtF (Rf.fInt Sy.w32)) ty·52 13)) (Reads.room-gone 𝓤 H A (Sy.tyStruct (Li._∷_ 38 (Li._∷_ 91 (Li._∷_ 93 Li.[]))) (Sy.tcons ty·52 (Sy.tcons (Sy.tyInt Sy.w64) Sy.tnil)))) (Reshare.reads-owedS-len 𝓤 H A W (Rf.rtF (Rf.fInt Sy.w32)) ty·51 1 13 (Ro.lease (κs .1 .0) (qs .1 .0)) 8 Pa.refl, Pa.refl) Pa.refl Pa.refl λ b o k. tt) (Ty.g-pre 𝓤 H A W 𝓣 E G55 G56 b50 Δ0 (λ Ψ. Ψ) (at70 bs) (Lifetime.g-begin 𝓤 H A W E G55 14 (tt, (tt, ((tt, tt), (tt, (tt, (tt, (tt, (tt, (tt, (tt, (tt, (tt, (tt, (tt, (tt, (tt, (tt, (tt, (tt, (tt, (tt, (tt, (tt, (tt, (tt, (tt, (tt, (tt, (tt, (tt, (tt, (tt, (tt, (tt, (tt, (tt, (tt, tt)))))))))))))))))))))))))))))))))))))) (Ty.s-seq 𝓤 H A W 𝓣 E G56 G57 b24 b49 Δ0 (Ty.give (s54 bs)) (at69 bs) (Share.t-arr-share 𝓤 H A W E 𝓣 (Rf.rtF (Rf.fInt Sy.w64)) G56 10 25 32 14 (Sy.tyRef Sy.erased Sy.imm ty·54) (λ x. x) (Reads.as-is 𝓤 H A row·31) (Reads.room-gone 𝓤 H A (Sy.tyRef Sy.erased Sy.imm ty·54)) Pa.refl (λ b o. tt) (Dec'.lit< tt, Dec'.lit< tt)) (Ty.s-seq 𝓤 H A W 𝓣 E G57 G58 b25 b48 Δ0 (Ty.ask (s55 bs)) (at68 bs) (Relend.t-sl-aggregate 𝓤 H A W E (Rf.rtF (Rf.fInt Sy.w64)) 𝓣 (Relend.asShr (Rf.rtF (Rf.fInt Sy.w64))) G57 25 26 14 (Sy.tyRef Sy.erased Sy.imm ty·54) ty·63 (λ x. x) (Sc.oInt Sy.w64 32) (Reads.as-is 𝓤 H A (Relend.ssptr (Rf.rtF (Rf.fInt Sy.w64)) (Sy.tyRef Sy.erased Sy.imm ty·54) 14)) (Reads.room-gone 𝓤 H A ty·53) tt Pa.refl Pa.refl λ b o k. tt) (Ty.g-pre 𝓤 H A W 𝓣 E G58 G59 b48 Δ0 (λ Ψ. Ψ) (at67 bs) (Lifetime.g-begin 𝓤 H A W E G58 15 (tt, (tt, ((tt, tt), (tt, (tt, (tt, (tt, (tt, (tt, (tt, (tt, (tt, (tt, (tt, (tt, (tt, (tt, (tt, (tt, (tt, (tt, (tt, (tt, (tt, (tt, (tt, (tt, (tt, (tt, (tt, (tt, (tt, (tt, (tt, (tt, (tt, (tt, tt)))))))))))))))))))))))))))))))))))))) (Ty.s-seq 𝓤 H A W 𝓣 E G59 G60 b26 b47 Δ0 (Ty.give (s57 bs)) (at66 bs) (Relend.t-sl-relend 𝓤 H A W E (Rf.rtF (Rf.fInt Sy.w16)) 𝓣 G59 5 27 3 15 ty·55 ty·60 (Ro.lease (κs .1 .1 .1 .0) (qs .1 .1 .1 .0)) 0 (λ x. x) (Reads.as-is 𝓤 H A row·11) (Reads.room-gone 𝓤 H A ty·60) Pa.refl tt Pa.refl Pa.refl Pa.refl λ b o. tt) (Ty.s-seq 𝓤 H A W 𝓣 E G60 G61 b27 b46 Δ0 (Ty.ask (s58 bs)) (at65 bs) (Relend.t-sl-aggregate 𝓤 H A W E (Rf.rtF (Rf.fInt Sy.w16)) 𝓣 (Relend.asMut (Rf.rtF (Rf.fInt Sy.w16))) G60 27 28 15 ty·60 ty·60 (λ x. x) (Sc.oFld 5 (Li._∷_ (Sy.field 1) Li.[]) (Sy.tyInt Sy.w64) 8 λ v. Shared.lenV (v .0)) (Reads.as-is 𝓤 H A (Relend.msptr (Rf.rtF (Rf.fInt Sy.w16)) ty·60 15)) (Reads.room-gone 𝓤 H A (Sy.tyStruct (Li._∷_ 38 (Li._∷_ 91 (Li._∷_ 93 Li.[]))) (Sy.tcons ty·60 (Sy.tcons (Sy.tyInt Sy.w64) Sy.tnil)))) (Relend.reads-owed-len 𝓤 H A W (Rf.rtF (Rf.fInt Sy.w16)) ty·55 3 15 (Ro.lease (κs .1 .1 .1 .0) (qs .1 .1 .1 .0)) 8 Pa.refl, Pa.refl) Pa.refl Pa.refl λ b o k. tt) (Ty.g-pre 𝓤 H A W 𝓣 E G61 G62 b46 Δ0 (λ Ψ. Ψ) (at64 bs) (Lifetime.g-begin 𝓤 H A W E G61 16 (tt, (tt, ((tt, tt), (tt, (tt, ((tt, tt), (tt, (tt, (tt, (tt, (tt, (tt, (tt, (tt, (tt, (tt, (tt, (tt, (tt, (tt, (tt, (tt, (tt, (tt, (tt, (tt, (tt, (tt, (tt, (tt, (tt, (tt, (tt, (tt, (tt, (tt, (tt, tt)))))))))))))))))))))))))))))))))))))) (Ty.s-seq 𝓤 H A W 𝓣 E G62 G63 b28 b45 Δ0 (Ty.give (s60 bs)) (at63 bs) (Relend.t-sl-relend 𝓤 H A W E (Rf.rtF (Rf.fInt Sy.w8)) 𝓣 G62 6 29 4 16 ty·56 ty·50 (Ro.lease (κs .1 .1 .1 .1 .0) (qs .1 .1 .1 .1 .0)) 0 (λ x. x) (Reads.as-is 𝓤 H A row·12) (Reads.room-gone 𝓤 H A ty·50) Pa.refl tt Pa.refl Pa.refl Pa.refl λ b o. tt) (Ty.s-seq 𝓤 H A W 𝓣 E G63 G64 b29 b44 Δ0 (Ty.ask (s61 bs)) (at62 bs) (Relend.t-sl-aggregate 𝓤 H A W E (Rf.rtF (Rf.fInt Sy.w8)) 𝓣 (Relend.asMut (Rf.rtF (Rf.fInt Sy.w8))) G63 29 30 16 ty·50 ty·50 (λ x. x) (Sc.oFld 6 (Li._∷_ (Sy.field 1) Li.[]) (Sy.tyInt Sy.w64) 8 λ v. Shared.lenV (v .0)) (Reads.as-is 𝓤 H A (Relend.msptr (Rf.rtF (Rf.fInt Sy.w8)) ty·50 16)) (Reads.room-gone 𝓤 H A (Sy.tyStruct (Li._∷_ 38 (Li._∷_ 91 (Li._∷_ 93 Li.[]))) (Sy.tcons ty·50 (Sy.tcons (Sy.tyInt Sy.w64) Sy.tnil)))) (Relend.reads-owed-len 𝓤 H A W (Rf.rtF (Rf.fInt Sy.w8)) ty·56 4 16 (Ro.lease (κs .1 .1 .1 .1 .0) (qs .1 .1 .1 .1 .0)) 8 Pa.refl, Pa.refl) Pa.refl Pa.refl λ b o k. tt) (Ty.g-pre 𝓤 H A W 𝓣 E G64 G65 b44 Δ0 (λ Ψ. Ψ) (at61 bs) (Lifetime.g-begin 𝓤 H A W E G64 17 (tt, (tt, ((tt, tt), (tt, (tt, ((tt, tt), ((tt, tt), (tt, (tt, (tt, (tt, (tt, (tt, (tt, (tt, (tt, (tt, (tt, (tt, (tt, (tt, (tt, (tt, (tt, (tt, (tt, (tt, (tt, (tt, (tt, (tt, (tt, (tt, (tt, (tt, (tt, (tt, tt)))))))))))))))))))))))))))))))))))))) (Ty.s-seq 𝓤 H A W 𝓣 E G65 G66 b30 b43 Δ0 (Ty.give (s63 bs)) (at60 bs) (Relend.t-sl-relend 𝓤 H A W E (Rf.rtF (Rf.fInt Sy.w8)) 𝓣 G65 7 31 5 17 ty·57 ty·50 (Ro.lease (κs .1 .1 .1 .1 .1 .0) (qs .1 .1 .1 .1 .1 .0)) 0 (λ x. x) (Reads.as-is 𝓤 H A row·7) (Reads.room-gone 𝓤 H A ty·50) Pa.refl tt Pa.refl Pa.refl Pa.refl λ b o. tt) (Ty.s-seq 𝓤 H A W 𝓣 E G66 G67 b31 b42 Δ0 (Ty.ask (s64 bs)) (at59 bs) (Relend.t-sl-aggregate 𝓤 H A W E (Rf.rtF (Rf.fInt Sy.w8)) 𝓣 (Relend.asMut (Rf.rtF (Rf.fInt Sy.w8))) G66 31 32 17 ty·50 ty·50 (λ x. x) (Sc.oFld 7 (Li._∷_ (Sy.field 1) Li.[]) (Sy.tyInt Sy.w64) 8 λ v. Shared.lenV (v .0)) (Reads.as-is 𝓤 H A (Relend.msptr (Rf.rtF (Rf.fInt Sy.w8)) ty·50 17)) (Reads.room-gone 𝓤 H A (Sy.tyStruct (Li._∷_ 38 (Li._∷_ 91 (Li._∷_ 93 Li.[]))) (Sy.tcons ty·50 (Sy.tcons (Sy.tyInt Sy.w64) Sy.tnil)))) (Relend.reads-owed-len 𝓤 H A W (Rf.rtF (Rf.fInt Sy.w8)) ty·57 5 17 (Ro.lease (κs .1 .1 .1 .1 .1 .0) (qs .1 .1 .1 .1 .1 .0)) 8 Pa.refl, Pa.refl) Pa.refl Pa.refl λ b o k. tt) (Ty.g-pre 𝓤 H A W 𝓣 E G67 G68 b42 Δ0 (λ Ψ. Ψ) (at58 bs) (Lifetime.g-begin 𝓤 H A W E G67 18 (tt, (tt, ((tt, tt), (tt, (tt, ((tt, tt), ((tt, tt), ((tt, tt), (tt, (tt, (tt, (tt, (tt, (tt, (tt, (tt, (tt, (tt, (tt, (tt, (tt, (tt, (tt, (tt, (tt, (tt, (tt, (tt, (tt, (tt, (tt, (tt, (tt, (tt, (tt, (tt, (tt, tt)))))))))))))))))))))))))))))))))))))) (Ty.s-seq 𝓤 H A W 𝓣 E G68 G69 b32 b41 Δ0 (Ty.give (s66 bs)) (at57 bs) (Relend.t-sl-relend 𝓤 H A W E (Rf.rtF (Rf.fInt Sy.w8)) 𝓣 G68 8 33 6 18 ty·58 ty·50 (Ro.lease (κs .1 .1 .1 .1 .1 .1 .0) (qs .1 .1 .1 .1 .1 .1 .0)) 0 (λ x. x) (Reads.as-is 𝓤 H A row·8) (Reads.room-gone 𝓤 H A ty·50) Pa.refl tt Pa.refl Pa.refl Pa.refl λ b o. tt) (Ty.s-seq 𝓤 H A W 𝓣 E G69 G70 b33 b40 Δ0 (Ty.ask (s67 bs)) (at56 bs) (Relend.t-sl-aggregate 𝓤 H A W E (Rf.rtF (Rf.fInt Sy.w8)) 𝓣 (Relend.asMut (Rf.rtF (Rf.fInt Sy.w8))) G69 33 34 18 ty·50 ty·50 (λ x. x) (Sc.oFld 8 (Li._∷_ (Sy.field 1) Li.[]) (Sy.tyInt Sy.w64) 8 λ v. Shared.lenV (v .0)) (Reads.as-is 𝓤 H A (Relend.msptr (Rf.rtF (Rf.fInt Sy.w8)) ty·50 18)) (Reads.room-gone 𝓤 H A (Sy.tyStruct (Li._∷_ 38 (Li._∷_ 91 (Li._∷_ 93 Li.[]))) (Sy.tcons ty·50 (Sy.tcons (Sy.tyInt Sy.w64) Sy.tnil)))) (Relend.reads-owed-len 𝓤 H A W (Rf.rtF (Rf.fInt Sy.w8)) ty·58 6 18 (Ro.lease (κs .1 .1 .1 .1 .1 .1 .0) (qs .1 .1 .1 .1 .1 .1 .0)) 8 Pa.refl, Pa.refl) Pa.refl Pa.refl λ b o k. tt) (Ty.g-pre 𝓤 H A W 𝓣 E G70 G71 b40 Δ0 (λ Ψ. Ψ) (at55 bs) (Lifetime.g-begin 𝓤 H A W E G70 19 (tt, (tt, ((tt, tt), (tt, (tt, ((tt, tt), ((tt, tt), ((tt, tt), ((tt, tt), (tt, (tt, (tt, (tt, (tt, (tt, (tt, (tt, (tt, (tt, (tt, (tt, (tt, (tt, (tt, (tt, (tt, (tt, (tt, (tt, (tt, (tt, (tt, (tt, (tt, (tt, (tt, (tt, tt)))))))))))))))))))))))))))))))))))))) (Ty.s-seq 𝓤 H A W 𝓣 E G71 G72 b34 b39 Δ0 (Ty.give (s69 bs)) (at54 bs) (Relend.t-sl-relend 𝓤 H A W E (Rf.rtF (Rf.fInt Sy.w8)) 𝓣 G71 9 35 7 19 ty·59 ty·50 (Ro.lease (κs .1 .1 .1 .1 .1 .1 .1 .0) (qs .1 .1 .1 .1 .1 .1 .1 .0)) 0 (λ x. x) (Reads.as-is 𝓤 H A row·9) (Reads.room-gone 𝓤 H A ty·50) Pa.refl tt Pa.refl Pa.refl Pa.refl λ b o. tt) (Ty.s-seq 𝓤 H A W 𝓣 E G72 G73 b35 b38 Δ0 (Ty.ask (s70 bs)) (at53 bs) (Relend.t-sl-aggregate 𝓤 H A W E (Rf.rtF (Rf.fInt Sy.w8)) 𝓣 (Relend.asMut (Rf.rtF (Rf.fInt Sy.w8))) G72 35 36 19 ty·50 ty·50 (λ x. x) (Sc.oFld 9 (Li._∷_ (Sy.field 1) Li.[]) (Sy.tyInt Sy.w64) 8 λ v. Shared.lenV (v .0)) (Reads.as-is 𝓤 H A (Relend.msptr (Rf.rtF (Rf.fInt Sy.w8)) ty·50 19)) (Reads.room-gone 𝓤 H A (Sy.tyStruct (Li._∷_ 38 (Li._∷_ 91 (Li._∷_ 93 Li.[]))) (Sy.tcons ty·50 (Sy.tcons (Sy.tyInt Sy.w64) Sy.tnil)))) (Relend.reads-owed-len 𝓤 H A W (Rf.rtF (Rf.fInt Sy.w8)) ty·59 7 19 (Ro.lease (κs .1 .1 .1 .1 .1 .1 .1 .0) (qs .1 .1 .1 .1 .1 .1 .1 .0)) 8 Pa.refl, Pa.refl) Pa.refl Pa.refl λ b o k. tt) (Ty.s-seq 𝓤 H A W 𝓣 E G73 G74 b36 b14 Δ0 (Ty.both (s71 bs)) (at52 bs) (Plain.t-call-plain 𝓤 H A W 𝓣 8 ps·2 r·2 (claims· .4) (claims· .5) "cpool::give_out" (known .2) E (λ pos β. β) G73 (record { pos = 1; ty = Sy.tyRef (Sy.named 0) Sy.imm (Sy.tyInt Sy.w8); ref = λ x. x }, (record { pos = 24; ty = Sy.tyRef Sy.erased Sy.imm (Sy.tyInt Sy.w32); ref = λ x. x }, (record { pos = 26; ty = Sy.tyRef Sy.erased Sy.imm (Sy.tyInt Sy.w64); ref = λ x. x }, (record { pos = 28; ty = Sy.tyRef Sy.erased Sy.mut (Sy.tyInt Sy.w16); ref = λ x. x }, (record { pos = 30; ty = Sy.tyRef Sy.erased Sy.mut (Sy.tyInt Sy.w8); ref = λ x. x }, (record { pos = 32; ty = Sy.tyRef Sy.erased Sy.mut (Sy.tyInt Sy.w8); ref = λ x. x }, (record { pos = 34; ty = Sy.tyRef Sy.erased Sy.mut (Sy.tyInt Sy.w8); ref = λ x. x }, (record { pos = 36; ty = Sy.tyRef Sy.erased Sy.mut (Sy.tyInt Sy.w8); ref = λ x. x }, tt)))))))) 0 (Li._∷_ 0 (Li._∷_ 13 (Li._∷_ 14 (Li._∷_ 15 (Li._∷_ 16 (Li._∷_ 17 (Li._∷_ 18 (Li._∷_ 19 Li.[])))))))) (Call.sub-id 𝓤 H A W (G73 .slots)) (ShrSlice.spares-sslice 𝓤 H A W (Rf.rtF (Rf.fInt Sy.w8)) ty·66 0, Shared.reads-sslice 𝓤 H A W (Rf.rtF (Rf.fInt Sy.w8)) ty·66 0, Pa.refl, (ShrSlice.spares-sslice 𝓤 H A W (Rf.rtF (Rf.fInt Sy.w32)) ty·52 13, Shared.reads-sslice 𝓤 H A W (Rf.rtF (Rf.fInt Sy.w32)) ty·52 13, Pa.refl, (ShrSlice.spares-sslice 𝓤 H A W (Rf.rtF (Rf.fInt Sy.w64)) ty·63 14, Shared.reads-sslice 𝓤 H A W (Rf.rtF (Rf.fInt Sy.w64)) ty·63 14, Pa.refl, (Reads.as-is 𝓤 H A row·45, Mut.reads-mslice 𝓤 H A W (Rf.rtF (Rf.fInt Sy.w16)) ty·60 15, Pa.refl, (Reads.as-is 𝓤 H A (Mut.mslice (Rf.rtF (Rf.fInt Sy.w8)) ty·50 16), Mut.reads-mslice 𝓤 H A W (Rf.rtF (Rf.fInt Sy.w8)) ty·50 16, Pa.refl, (Reads.as-is 𝓤 H A row·48, Mut.reads-mslice 𝓤 H A W (Rf.rtF (Rf.fInt Sy.w8)) ty·50 17, Pa.refl, (Reads.as-is 𝓤 H A (Mut.mslice (Rf.rtF (Rf.fInt Sy.w8)) ty·50 18), Mut.reads-mslice 𝓤 H A W (Rf.rtF (Rf.fInt Sy.w8)) ty·50 18, Pa.refl, (Reads.as-is 𝓤 H A (Mut.mslice (Rf.rtF (Rf.fInt Sy.w8)) ty·50 19), Mut.reads-mslice 𝓤 H A W (Rf.rtF (Rf.fInt Sy.w8)) ty·50 19, Pa.refl, tt)))))))) (Reads.room-gone 𝓤 H A Laws.mir) (tt, (tt, (tt, (tt, (tt, (tt, (tt, (tt, tt)))))))) Pa.refl) (Ty.g-pre 𝓤 H A W 𝓣 E G74 G75 b14 Δ0 (Ty.pass T74 T75 (s72 bs)) (at51 bs) (Sc.g-room 𝓤 H A W E G74 24 (Sy.tyStruct (Li._∷_ 38 (Li._∷_ 91 (Li._∷_ 93 Li.[]))) (Sy.tcons ty·52 (Sy.tcons (Sy.tyInt Sy.w64) Sy.tnil))) (Shared.room-sslice 𝓤 H A W (Rf.rtF (Rf.fInt Sy.w32)) ty·52 13)) (Ty.g-pre 𝓤 H A W 𝓣 E G75 G76 b14 Δ0 (Ty.pass T75 T76 (s73 bs)) (at50 bs) (Sc.g-room 𝓤 H A W E G75 26 ty·53 (Shared.room-sslice 𝓤 H A W (Rf.rtF (Rf.fInt Sy.w64)) ty·63 14)) (Ty.g-pre 𝓤 H A W 𝓣 E G76 G77 b14 Δ0 (Ty.pass T76 T77 (s74 bs)) (at49 bs) (Sc.g-room 𝓤 H A W E G76 11 (Sy.tyInt Sy.w64) (Sc.room-sc 𝓤 H A W (Ro.sInt Sy.w64))) (Ty.g-pre 𝓤 H A W 𝓣 E G77 G78 b14 Δ0 (λ Ψ. Ψ) (at48 bs) (Lifetime.g-end 𝓤 H A W E G77 13 Pa.refl) (Ty.g-pre 𝓤 H A W 𝓣 E G78 G79 b14 Δ0 (Ty.pass T77 T79 (s76 bs)) (at47 bs) (Reshare.g-back-sl-shr 𝓤 H A W E (Rf.rtF (Rf.fInt Sy.w32)) G78 2 1 13 ty·51 (Ro.lease (κs .1 .0) (qs .1 .0)) (λ x. x) (Reads.as-is 𝓤 H A (Reshare.mslice-owedS (Rf.rtF (Rf.fInt Sy.w32)) ty·51 1 13 (Ro.lease (κs .1 .0) (qs .1 .0)))) Pa.refl Pa.refl) (Ty.g-pre 𝓤 H A W 𝓣 E G79 G80 b14 Δ0 (λ Ψ. Ψ) (at46 bs) (Lifetime.g-forget 𝓤 H A W E G79 13 Ro.dead Pa.refl) (Ty.g-pre 𝓤 H A W 𝓣 E G80 G81 b14 Δ0 (λ Ψ. Ψ) (at45 bs) (Lifetime.g-end 𝓤 H A W E G80 14 Pa.refl) (Ty.g-pre 𝓤 H A W 𝓣 E G81 G82 b14 Δ0 (Ty.pass T79 T82 (s79 bs)) (at44 bs) (Share.g-back-arr-shr 𝓤 H A W E (Rf.rtF (Rf.fInt Sy.w64)) G81 10 32 14 (λ x. x) (Reads.as-is 𝓤 H A row·22) Pa.refl) (Ty.g-pre 𝓤 H A W 𝓣 E G82 G83 b14 Δ0 (λ Ψ. Ψ) (at43 bs) (Lifetime.g-forget 𝓤 H A W E G82 14 Ro.dead Pa.refl) (Ty.g-pre 𝓤 H A W 𝓣 E G83 G84 b14 Δ0 (Ty.pass T82 T84 (s81 bs)) (at42 bs) (Sc.g-room 𝓤 H A W E G83 10 ty·54 (Init.room-arr 𝓤 H A W (Rf.rtF (Rf.fInt Sy.w64)) 32 0 32 Pa.refl)) (Ty.g-pre 𝓤 H A W 𝓣 E G84 G85 b14 Δ0 (λ Ψ. Ψ) (at41 bs) (Lifetime.g-end 𝓤 H A W E G84 15 Pa.refl) (Ty.g-pre 𝓤 H A W 𝓣 E G85 G86 b14 Δ0 (Ty.both (s83 bs)) (at40 bs) (Relend.g-back-sl 𝓤 H A W E (Rf.rtF (Rf.fInt Sy.w16)) G85 28 5 3 15 ty·55 ty·60 (Ro.lease (κs .1 .1 .1 .0) (qs .1 .1 .1 .0)) (λ x. x) (λ x. x) (Reads.as-is 𝓤 H A (Mut.msleft (Rf.rtF (Rf.fInt Sy.w16)) ty·60)) (Reads.as-is 𝓤 H A (Relend.mslice-owed (Rf.rtF (Rf.fInt Sy.w16)) ty·55 3 15 (Ro.lease (κs .1 .1 .1 .0) (qs .1 .1 .1 .0)))) Pa.refl Pa.refl) (Ty.g-pre 𝓤 H A W 𝓣 E G86 G86 b14 Δ0 (Ty.give (s84 bs)) (at39 bs) (Know.g-sl-known 𝓤 H A W (Rf.fInt Sy.w16) E G86 5 3 ty·55 (Ro.lease (κs .1 .1 .1 .0) (qs .1 .1 .1 .0)) 0 (λ x. x) record { fits = Dec'.lit< tt } (Reads.as-is 𝓤 H A row·11) Pa.refl tt) (Ty.g-pre 𝓤 H A W 𝓣 E G86 G88 b14 Δ0 (λ Ψ. Ψ) (at38 bs) (Lifetime.g-forget 𝓤 H A W E G86 15 Ro.dead Pa.refl) (Ty.g-pre 𝓤 H A W 𝓣 E G88 G89 b14 Δ0 (λ Ψ. Ψ) (at37 bs) (Lifetime.g-end 𝓤 H A W E G88 16 Pa.refl) (Ty.g-pre 𝓤 H A W 𝓣 E G89 G90 b14 Δ0 (Ty.both (s87 bs)) (at36 bs) (Relend.g-back-sl 𝓤 H A W E (Rf.rtF (Rf.fInt Sy.w8)) G89 30 6 4 16 ty·56 ty·50 (Ro.lease (κs .1 .1 .1 .1 .0) (qs .1 .1 .1 .1 .0)) (λ x. x) (λ x. x) (Reads.as-is 𝓤 H A row·24) (Reads.as-is 𝓤 H A (Relend.mslice-owed (Rf.rtF (Rf.fInt Sy.w8)) ty·56 4 16 (Ro.lease (κs .1 .1 .1 .1 .0) (qs .1 .1 .1 .1 .0)))) Pa.refl Pa.refl) (Ty.g-pre 𝓤 H A W 𝓣 E G90 G90 b14 Δ0 (Ty.give (s88 bs)) (at35 bs) (Know.g-sl-known 𝓤 H A W (Rf.fInt Sy.w8) E G90 6 4 ty·56 (Ro.lease (κs .1 .1 .1 .1 .0) (qs .1 .1 .1 .1 .0)) 0 (λ x. x) record { fits = Dec'.lit< tt } (Reads.as-is 𝓤 H A row·12) Pa.refl tt) (Ty.g-pre 𝓤 H A W 𝓣 E G90 G92 b14 Δ0 (λ Ψ. Ψ) (at34 bs) (Lifetime.g-forget 𝓤 H A W E G90 16 Ro.dead Pa.refl) (Ty.g-pre 𝓤 H A W 𝓣 E G92 G93 b14 Δ0 (λ Ψ. Ψ) (at33 bs) (Lifetime.g-end 𝓤 H A W E G92 17 Pa.refl) (Ty.g-pre 𝓤 H A W 𝓣 E G93 G94 b14 Δ0 (Ty.both (s91 bs)) (at32 bs) (Relend.g-back-sl 𝓤 H A W E (Rf.rtF (Rf.fInt Sy.w8)) G93 32 7 5 17 ty·57 ty·50 (Ro.lease (κs .1 .1 .1 .1 .1 .0) (qs .1 .1 .1 .1 .1 .0)) (λ x. x) (λ x. x) (Reads.as-is 𝓤 H A row·24) (Reads.as-is 𝓤 H A (Relend.mslice-owed (Rf.rtF (Rf.fInt Sy.w8)) ty·57 5 17 (Ro.lease (κs .1 .1 .1 .1 .1 .0) (qs .1 .1 .1 .1 .1 .0)))) Pa.refl Pa.refl) (Ty.g-pre 𝓤 H A W 𝓣 E G94 G94 b14 Δ0 (Ty.give (s92 bs)) (at31 bs) (Know.g-sl-known 𝓤 H A W (Rf.fInt Sy.w8) E G94 7 5 ty·57 (Ro.lease (κs .1 .1 .1 .1 .1 .0) (qs .1 .1 .1 .1 .1 .0)) 0 (λ x. x) record { fits = Dec'.lit< tt } (Reads.as-is 𝓤 H A row·7) Pa.refl tt) (Ty.g-pre 𝓤 H A W 𝓣 E G94 G96 b14 Δ0 (λ Ψ. Ψ) (at30 bs) (Lifetime.g-forget 𝓤 H A W E G94 17 Ro.dead Pa.refl) (Ty.g-pre 𝓤 H A W 𝓣 E G96 G97 b14 Δ0 (λ Ψ. Ψ) (at29 bs) (Lifetime.g-end 𝓤 H A W E G96 18 Pa.refl) (Ty.g-pre 𝓤 H A W 𝓣 E G97 G98 b14 Δ0 (Ty.both (s95 bs)) (at28 bs) (Relend.g-back-sl 𝓤 H A W E (Rf.rtF (Rf.fInt Sy.w8)) G97 34 8 6 18 ty·58 ty·50 (Ro.lease (κs .1 .1 .1 .1 .1 .1 .0) (qs .1 .1 .1 .1 .1 .1 .0)) (λ x. x) (λ x. x) (Reads.as-is 𝓤 H A row·24) (Reads.as-is 𝓤 H A (Relend.mslice-owed (Rf.rtF (Rf.fInt Sy.w8)) ty·58 6 18 (Ro.lease (κs .1 .1 .1 .1 .1 .1 .0) (qs .1 .1 .1 .1 .1 .1 .0)))) Pa.refl Pa.refl) (Ty.g-pre 𝓤 H A W 𝓣 E G98 G98 b14 Δ0 (Ty.give (s96 bs)) (at27 bs) (Know.g-sl-known 𝓤 H A W (Rf.fInt Sy.w8) E G98 8 6 ty·58 (Ro.lease (κs .1 .1 .1 .1 .1 .1 .0) (qs .1 .1 .1 .1 .1 .1 .0)) 0 (λ x. x) record { fits = Dec'.lit< tt } (Reads.as-is 𝓤 H A row·8) Pa.refl tt) (Ty.g-pre 𝓤 H A W 𝓣 E G98 G100 b14 Δ0 (λ Ψ. Ψ) (at26 bs) (Lifetime.g-forget 𝓤 H A W E G98 18 Ro.dead Pa.refl) (Ty.g-pre 𝓤 H A W 𝓣 E G100 G101 b14 Δ0 (λ Ψ. Ψ) (at25 bs) (Lifetime.g-end 𝓤 H A W E G100 19 Pa.refl) (Ty.g-pre 𝓤 H A W 𝓣 E G101 G102 b14 Δ0 (Ty.both (s99 bs)) (at24 bs) (Relend.g-back-sl 𝓤 H A W E (Rf.rtF (Rf.fInt Sy.w8)) G101 36 9 7 19 ty·59 ty·50 (Ro.lease (κs .1 .1 .1 .1 .1 .1 .1 .0) (qs .1 .1 .1 .1 .1 .1 .1 .0)) (λ x. x) (λ x. x) (Reads.as-is 𝓤 H A row·24) (Reads.as-is 𝓤 H A (Relend.mslice-owed (Rf.rtF (Rf.fInt Sy.w8)) ty·59 7 19 (Ro.lease (κs .1 .1 .1 .1 .1 .1 .1 .0) (qs .1 .1 .1 .1 .1 .1 .1 .0)))) Pa.refl Pa.refl) (Ty.g-pre 𝓤 H A W 𝓣 E G102 G102 b14 Δ0 (Ty.give (s100 bs)) (at23 bs) (Know.g-sl-known 𝓤 H A W (Rf.fInt Sy.w8) E G102 9 7 ty·59 (Ro.lease (κs .1 .1 .1 .1 .1 .1 .1 .0) (qs .1 .1 .1 .1 .1 .1 .1 .0)) 0 (λ x. x) record { fits = Dec'.lit< tt } (Reads.as-is 𝓤 H A row·9) Pa.refl tt) (Ty.g-pre 𝓤 H A W 𝓣 E G102 G1 b14 Δ0 (λ Ψ. Ψ) (at22 bs) (Lifetime.g-forget 𝓤 H A W E G102 19 Ro.dead Pa.refl) (Ty.t-return 𝓤 H A W 𝓣 E Δ0 tt)))))))))))))))))))))))))))))))))))))))))))))))))))))))))))))))))))))))))))))))))))))
+          typed = (Ty.g-pre 𝓤 H A W 𝓣 E G0 G0 b62 Δ0 (Ty.give (s0 bs)) (at105 bs) (Know.g-shs-known 𝓤 H A W (Rf.fInt Sy.w8) E G0 1 0 ty·66 (Ro.lease (κs .0) (qs .0)) 0 (λ x. x) record { fits = Dec'.lit< tt } (Reads.as-is 𝓤 H A row·2) Pa.refl tt) (Ty.g-pre 𝓤 H A W 𝓣 E G0 G0 b62 Δ0 (Ty.give (s1 bs)) (at104 bs) (Know.g-sl-known 𝓤 H A W (Rf.fInt Sy.w32) E G0 2 1 ty·51 (Ro.lease (κs .1 .0) (qs .1 .0)) 0 (λ x. x) record { fits = Dec'.lit< tt } (Reads.as-is 𝓤 H A row·19) Pa.refl tt) (Ty.g-pre 𝓤 H A W 𝓣 E G0 G0 b62 Δ0 (Ty.give (s2 bs)) (at103 bs) (Know.g-sl-known 𝓤 H A W (Rf.fInt Sy.w16) E G0 5 3 ty·55 (Ro.lease (κs .1 .1 .1 .0) (qs .1 .1 .1 .0)) 0 (λ x. x) record { fits = Dec'.lit< tt } (Reads.as-is 𝓤 H A row·11) Pa.refl tt) (Ty.g-pre 𝓤 H A W 𝓣 E G0 G0 b62 Δ0 (Ty.give (s3 bs)) (at102 bs) (Know.g-sl-known 𝓤 H A W (Rf.fInt Sy.w8) E G0 6 4 ty·56 (Ro.lease (κs .1 .1 .1 .1 .0) (qs .1 .1 .1 .1 .0)) 0 (λ x. x) record { fits = Dec'.lit< tt } (Reads.as-is 𝓤 H A row·12) Pa.refl tt) (Ty.g-pre 𝓤 H A W 𝓣 E G0 G0 b62 Δ0 (Ty.give (s4 bs)) (at101 bs) (Know.g-sl-known 𝓤 H A W (Rf.fInt Sy.w8) E G0 7 5 ty·57 (Ro.lease (κs .1 .1 .1 .1 .1 .0) (qs .1 .1 .1 .1 .1 .0)) 0 (λ x. x) record { fits = Dec'.lit< tt } (Reads.as-is 𝓤 H A row·7) Pa.refl tt) (Ty.g-pre 𝓤 H A W 𝓣 E G0 G0 b62 Δ0 (Ty.give (s5 bs)) (at100 bs) (Know.g-sl-known 𝓤 H A W (Rf.fInt Sy.w8) E G0 8 6 ty·58 (Ro.lease (κs .1 .1 .1 .1 .1 .1 .0) (qs .1 .1 .1 .1 .1 .1 .0)) 0 (λ x. x) record { fits = Dec'.lit< tt } (Reads.as-is 𝓤 H A row·8) Pa.refl tt) (Ty.g-pre 𝓤 H A W 𝓣 E G0 G0 b62 Δ0 (Ty.give (s6 bs)) (at99 bs) (Know.g-sl-known 𝓤 H A W (Rf.fInt Sy.w8) E G0 9 7 ty·59 (Ro.lease (κs .1 .1 .1 .1 .1 .1 .1 .0) (qs .1 .1 .1 .1 .1 .1 .1 .0)) 0 (λ x. x) record { fits = Dec'.lit< tt } (Reads.as-is 𝓤 H A row·9) Pa.refl tt) (Ty.s-seq 𝓤 H A W 𝓣 E G0 G9 b0 b61 Δ0 (Ty.pass T0 T9 (s7 bs)) (at98 bs) (Repeat.t-repeat 𝓤 H A W E 𝓣 (Rf.rtF (Rf.fInt Sy.w64)) (Plain'.uint-lawful 𝓤 H A W Sy.w64) (Copies.cRf (Rf.fInt Sy.w64) .copy 𝓤 H A W) (Plain'.uint-makes 𝓤 H A W Sy.w64) 33 G0 10 (Sc.oInt Sy.w64 0) (λ m. 0) (Reads.room-gone 𝓤 H A ty·54) tt Pa.refl λ m wa. (Pa.refl, Dec'.lit< tt)) (Ty.g-pre 𝓤 H A W 𝓣 E G9 G10 b61 Δ0 (Ty.pass T9 T10 (s8 bs)) (at97 bs) (AtSlots.g-as-by 𝓤 H A W E (λ ρ. Unit) G9 10 row·31 (λ x. x) (Own.told-none 𝓤 H A (G9 .slots)) λ ρ told. Repeat.whole-arr 𝓤 H A W (Rf.rtF (Rf.fInt Sy.w64)) 33 tt ρ) (Ty.g-pre 𝓤 H A W 𝓣 E G10 G11 b61 Δ0 (λ Ψ. Ψ) (at96 bs) (Lifetime.g-begin 𝓤 H A W E G10 8 (tt, (tt, (tt, (tt, (tt, (tt, (tt, (tt, (tt, (tt, (tt, (tt, (tt, (tt, (tt, (tt, (tt, (tt, (tt, (tt, (tt, (tt, (tt, (tt, (tt, (tt, (tt, (tt, (tt, (tt, (tt, (tt, (tt, (tt, (tt, (tt, (tt, tt)))))))))))))))))))))))))))))))))))))) (Ty.s-seq 𝓤 H A W 𝓣 E G11 G12 b1 b60 Δ0 (Ty.give (s10 bs)) (at95 bs) (Relend.t-sl-relend 𝓤 H A W E (Rf.rtF (Rf.fInt Sy.w32)) 𝓣 G11 2 12 1 8 ty·51 ty·61 (Ro.lease (κs .1 .0) (qs .1 .0)) 0 (λ x. x) (Reads.as-is 𝓤 H A row·19) (Reads.room-gone 𝓤 H A ty·61) Pa.refl tt Pa.refl Pa.refl Pa.refl λ b o. tt) (Ty.s-seq 𝓤 H A W 𝓣 E G12 G13 b2 b59 Δ0 (Ty.ask (s11 bs)) (at94 bs) (Relend.t-sl-aggregate 𝓤 H A W E (Rf.rtF (Rf.fInt Sy.w32)) 𝓣 (Relend.asMut (Rf.rtF (Rf.fInt Sy.w32))) G12 12 13 8 ty·61 ty·61 (λ x. x) (Sc.oFld 2 (Li._∷_ (Sy.field 1) Li.[]) (Sy.tyInt Sy.w64) 8 λ v. Shared.lenV (v .0)) (Reads.as-is 𝓤 H A (Relend.msptr (Rf.rtF (Rf.fInt Sy.w32)) ty·61 8)) (Reads.room-gone 𝓤 H A (Sy.tyStruct (Li._∷_ 38 (Li._∷_ 91 (Li._∷_ 93 Li.[]))) (Sy.tcons ty·61 (Sy.tcons (Sy.tyInt Sy.w64) Sy.tnil)))) (Relend.reads-owed-len 𝓤 H A W (Rf.rtF (Rf.fInt Sy.w32)) ty·51 1 8 (Ro.lease (κs .1 .0) (qs .1 .0)) 8 Pa.refl, Pa.refl) Pa.refl Pa.refl λ b o k. tt) (Ty.g-pre 𝓤 H A W 𝓣 E G13 G14 b59 Δ0 (λ Ψ. Ψ) (at93 bs) (Lifetime.g-begin 𝓤 H A W E G13 9 (tt, (tt, ((tt, tt), (tt, (tt, (tt, (tt, (tt, (tt, (tt, (tt, (tt, (tt, (tt, (tt, (tt, (tt, (tt, (tt, (tt, (tt, (tt, (tt, (tt, (tt, (tt, (tt, (tt, (tt, (tt, (tt, (tt, (tt, (tt, (tt, (tt, (tt, tt)))))))))))))))))))))))))))))))))))))) (Ty.s-seq 𝓤 H A W 𝓣 E G14 G15 b3 b58 Δ0 (Ty.give (s13 bs)) (at92 bs) (Borrow.t-arr-borrow 𝓤 H A W E 𝓣 (Rf.rtF (Rf.fInt Sy.w64)) G14 10 14 33 9 (Sy.tyRef Sy.erased Sy.mut ty·54) (λ x. x) (Reads.as-is 𝓤 H A row·31) (Reads.room-gone 𝓤 H A (Sy.tyRef Sy.erased Sy.mut ty·54)) Pa.refl (λ b o. tt) (Dec'.lit< tt, Dec'.lit< tt)) (Ty.s-seq 𝓤 H A W 𝓣 E G15 G16 b4 b57 Δ0 (Ty.ask (s14 bs)) (at91 bs) (Relend.t-sl-aggregate 𝓤 H A W E (Rf.rtF (Rf.fInt Sy.w64)) 𝓣 (Relend.asMut (Rf.rtF (Rf.fInt Sy.w64))) G15 14 15 9 (Sy.tyRef Sy.erased Sy.mut ty·54) ty·65 (λ x. x) (Sc.oInt Sy.w64 33) (Reads.as-is 𝓤 H A (Relend.msptr (Rf.rtF (Rf.fInt Sy.w64)) (Sy.tyRef Sy.erased Sy.mut ty·54) 9)) (Reads.room-gone 𝓤 H A (Sy.tyStruct (Li._∷_ 38 (Li._∷_ 91 (Li._∷_ 93 Li.[]))) (Sy.tcons ty·65 (Sy.tcons (Sy.tyInt Sy.w64) Sy.tnil)))) tt Pa.refl Pa.refl λ b o k. tt) (Ty.g-pre 𝓤 H A W 𝓣 E G16 G17 b57 Δ0 (λ Ψ. Ψ) (at90 bs) (Lifetime.g-begin 𝓤 H A W E G16 10 (tt, (tt, ((tt, tt), (tt, (tt, (tt, (tt, (tt, (tt, (tt, (tt, (tt, (tt, (tt, (tt, (tt, (tt, (tt, (tt, (tt, (tt, (tt, (tt, (tt, (tt, (tt, (tt, (tt, (tt, (tt, (tt, (tt, (tt, (tt, (tt, (tt, (tt, tt)))))))))))))))))))))))))))))))))))))) (Ty.s-seq 𝓤 H A W 𝓣 E G17 G18 b5 b56 Δ0 (Ty.give (s16 bs)) (at89 bs) (Relend.t-sl-relend 𝓤 H A W E Gap_.row 𝓣 G17 3 16 2 10 ty·64 ty·62 (Ro.lease (κs .1 .1 .0) (qs .1 .1 .0)) 0 (λ x. x) (Reads.as-is 𝓤 H A row·14) (Reads.room-gone 𝓤 H A ty·62) Pa.refl tt Pa.refl Pa.refl Pa.refl λ b o. tt) (Ty.s-seq 𝓤 H A W 𝓣 E G18 G19 b6 b55 Δ0 (Ty.ask (s17 bs)) (at88 bs) (Relend.t-sl-aggregate 𝓤 H A W E Gap_.row 𝓣 (Relend.asMut Gap_.row) G18 16 17 10 ty·62 ty·62 (λ x. x) (Sc.oFld 3 (Li._∷_ (Sy.field 1) Li.[]) (Sy.tyInt Sy.w64) 8 λ v. Shared.lenV (v .0)) (Reads.as-is 𝓤 H A (Relend.msptr Gap_.row ty·62 10)) (Reads.room-gone 𝓤 H A (Sy.tyStruct (Li._∷_ 38 (Li._∷_ 91 (Li._∷_ 93 Li.[]))) (Sy.tcons ty·62 (Sy.tcons (Sy.tyInt Sy.w64) Sy.tnil)))) (Relend.reads-owed-len 𝓤 H A W Gap_.row ty·64 2 10 (Ro.lease (κs .1 .1 .0) (qs .1 .1 .0)) 8 Pa.refl, Pa.refl) Pa.refl Pa.refl λ b o k. tt) (Ty.s-seq 𝓤 H A W 𝓣 E G19 G20 b7 b54 Δ0 (Ty.both (s18 bs)) (at87 bs) (Plain.t-call-plain 𝓤 H A W 𝓣 4 ps·0 r·0 (claims· .0) (claims· .1) "builder::lay_out" (known .0) E (λ pos β. β) G19 (record { pos = 1; ty = Sy.tyRef (Sy.named 0) Sy.imm (Sy.tyInt Sy.w8); ref = λ x. x }, (record { pos = 13; ty = Sy.tyRef Sy.erased Sy.mut (Sy.tyInt Sy.w32); ref = λ x. x }, (record { pos = 15; ty = Sy.tyRef Sy.erased Sy.mut (Sy.tyInt Sy.w64); ref = λ x. x }, (record { pos = 17; ty = Sy.tyRef Sy.erased Sy.mut Gap_.behind; ref = λ x. x }, (record { pos = 4; st = Li.[]; d = 0; at = λ x. x }, tt))))) 11 (Li._∷_ 0 (Li._∷_ 8 (Li._∷_ 9 (Li._∷_ 10 Li.[])))) (Call.sub-id 𝓤 H A W (G19 .slots)) (ShrSlice.spares-sslice 𝓤 H A W (Rf.rtF (Rf.fInt Sy.w8)) ty·66 0, Shared.reads-sslice 𝓤 H A W (Rf.rtF (Rf.fInt Sy.w8)) ty·66 0, Pa.refl, (Reads.as-is 𝓤 H A row·37, Mut.reads-mslice 𝓤 H A W (Rf.rtF (Rf.fInt Sy.w32)) ty·61 8, Pa.refl, (Reads.as-is 𝓤 H A row·46, Mut.reads-mslice 𝓤 H A W (Rf.rtF (Rf.fInt Sy.w64)) ty·65 9, Pa.refl, (Reads.as-is 𝓤 H A (Mut.mslice Gap_.row ty·62 10), Mut.reads-mslice 𝓤 H A W Gap_.row ty·62 10, Pa.refl, ((Yields.yields-copy 𝓤 H A W (λ ρ. Unit) (Declared'.row JobCounts.the-type) Pa.refl (Copies.cStruct JobCounts.the-type Laws'.the-laws Laws'.the-copy .copy 𝓤 H A W) row·40 (λ x. x) (λ x. x) (λ ρ told. Local.mem-whole 𝓤 H A W (Declared'.row JobCounts.the-type) ρ) λ ρ told. Local.whole-mem 𝓤 H A W (Declared'.row JobCounts.the-type) ρ, Pa.refl), tt))))) (Reads.room-gone 𝓤 H A (Sy.tyInt Sy.w64)) (tt, (tt, (tt, (tt, tt)))) Pa.refl) (Ty.g-pre 𝓤 H A W 𝓣 E G20 G21 b54 Δ0 (Ty.pass T20 T21 (s19 bs)) (at86 bs) (Sc.g-room 𝓤 H A W E G20 4 Laws'.mir (Local.room-whole 𝓤 H A W (Declared'.row JobCounts.the-type) Laws'.mir Pa.refl)) (Ty.g-pre 𝓤 H A W 𝓣 E G21 G22 b54 Δ0 (λ Ψ. Ψ) (at85 bs) (Lifetime.g-end 𝓤 H A W E G21 8 Pa.refl) (Ty.g-pre 𝓤 H A W 𝓣 E G22 G23 b54 Δ0 (Ty.both (s21 bs)) (at84 bs) (Relend.g-back-sl 𝓤 H A W E (Rf.rtF (Rf.fInt Sy.w32)) G22 13 2 1 8 ty·51 ty·61 (Ro.lease (κs .1 .0) (qs .1 .0)) (λ x. x) (λ x. x) (Reads.as-is 𝓤 H A row·42) (Reads.as-is 𝓤 H A (Relend.mslice-owed (Rf.rtF (Rf.fInt Sy.w32)) ty·51 1 8 (Ro.lease (κs .1 .0) (qs .1 .0)))) Pa.refl Pa.refl) (Ty.g-pre 𝓤 H A W 𝓣 E G23 G23 b54 Δ0 (Ty.give (s22 bs)) (at83 bs) (Know.g-sl-known 𝓤 H A W (Rf.fInt Sy.w32) E G23 2 1 ty·51 (Ro.lease (κs .1 .0) (qs .1 .0)) 0 (λ x. x) record { fits = Dec'.lit< tt } (Reads.as-is 𝓤 H A row·19) Pa.refl tt) (Ty.g-pre 𝓤 H A W 𝓣 E G23 G25 b54 Δ0 (λ Ψ. Ψ) (at82 bs) (Lifetime.g-forget 𝓤 H A W E G23 8 Ro.dead Pa.refl) (Ty.g-pre 𝓤 H A W 𝓣 E G25 G26 b54 Δ0 (λ Ψ. Ψ) (at81 bs) (Lifetime.g-end 𝓤 H A W E G25 9 Pa.refl) (Ty.g-pre 𝓤 H A W 𝓣 E G26 G27 b54 Δ0 (Ty.both (s25 bs)) (at80 bs) (Borrow.g-back-arr 𝓤 H A W E (Rf.rtF (Rf.fInt Sy.w64)) G26 15 10 9 33 ty·65 (λ x. x) (λ x. x) (Reads.as-is 𝓤 H A row·39) (Reads.as-is 𝓤 H A row·38) Pa.refl) (Ty.g-pre 𝓤 H A W 𝓣 E G27 G28 b54 Δ0 (λ Ψ. Ψ) (at79 bs) (Lifetime.g-forget 𝓤 H A W E G27 9 Ro.dead Pa.refl) (Ty.g-pre 𝓤 H A W 𝓣 E G28 G29 b54 Δ0 (λ Ψ. Ψ) (at78 bs) (Lifetime.g-end 𝓤 H A W E G28 10 Pa.refl) (Ty.g-pre 𝓤 H A W 𝓣 E G29 G30 b54 Δ0 (Ty.both (s28 bs)) (at77 bs) (Relend.g-back-sl 𝓤 H A W E Gap_.row G29 17 3 2 10 ty·64 ty·62 (Ro.lease (κs .1 .1 .0) (qs .1 .1 .0)) (λ x. x) (λ x. x) (Reads.as-is 𝓤 H A (Mut.msleft Gap_.row ty·62)) (Reads.as-is 𝓤 H A (Relend.mslice-owed Gap_.row ty·64 2 10 (Ro.lease (κs .1 .1 .0) (qs .1 .1 .0)))) Pa.refl Pa.refl) (Ty.g-pre 𝓤 H A W 𝓣 E G30 G31 b54 Δ0 (λ Ψ. Ψ) (at76 bs) (Lifetime.g-forget 𝓤 H A W E G30 10 Ro.dead Pa.refl) (Ty.s-seq 𝓤 H A W 𝓣 E G31 G32 b8 b53 Δ0 (Ty.ask (s30 bs)) (at75 bs) (Sc.t-op2 𝓤 H A W E 𝓣 G31 Sy.ne (Sc.oAt 11 (Sy.tyInt Sy.w64) (Ro.valS (Ro.sInt Sy.w64))) (Sc.oInt Sy.w64 0) 18 (Rows'.sc-here Ro.sBool) Sy.tyBool (Ro.valS Ro.sBool) (Ro.sBool .of) (Sc.reads-sc 𝓤 H A W (Ro.sInt Sy.w64), Pa.refl) tt (Reads.room-gone 𝓤 H A Sy.tyBool) (Sc.holds-sc 𝓤 H A W Ro.sBool) Pa.refl (λ u. Pa.refl) λ u. tt) (Ty.t-seq 𝓤 H A W 𝓣 E G32 G31 b21 b52 Δ0 (at21 bs) (at74 bs) (Sc.t-cond 𝓤 H A W E 𝓣 G32 18 (λ x. x) b19 b20 Δ1 (at18 bs) (at20 bs) (Sc.reads-sc 𝓤 H A W Ro.sBool) Pa.refl (Ty.g-pre 𝓤 H A W 𝓣 E G32 G31 b19 Δ1 (Ty.pass T32 T30 (s31 bs)) (at17 bs) (Sc.g-room 𝓤 H A W E G32 18 Sy.tyBool (Sc.room-sc 𝓤 H A W Ro.sBool)) (Ty.g-pre 𝓤 H A W 𝓣 E G31 G35 b19 Δ1 (λ Ψ. Ψ) (at16 bs) (Lifetime.g-begin 𝓤 H A W E G31 11 (tt, (tt, (tt, (tt, (tt, (tt, (tt, (tt, (tt, (tt, (tt, (tt, (tt, (tt, (tt, (tt, (tt, (tt, (tt, (tt, (tt, (tt, (tt, (tt, (tt, (tt, (tt, (tt, (tt, (tt, (tt, (tt, (tt, (tt, (tt, (tt, (tt, tt)))))))))))))))))))))))))))))))))))))) (Ty.s-seq 𝓤 H A W 𝓣 E G35 G36 b9 b18 Δ1 (Ty.give (s33 bs)) (at15 bs) (Reshare.t-sl-reshare 𝓤 H A W E (Rf.rtF (Rf.fInt Sy.w32)) 𝓣 G35 2 19 1 11 ty·51 ty·52 (Ro.lease (κs .1 .0) (qs .1 .0)) 0 (λ x. x) (Reads.as-is 𝓤 H A row·19) (Reads.room-gone 𝓤 H A ty·52) Pa.refl tt Pa.refl Pa.refl Pa.refl λ b o. tt) (Ty.s-seq 𝓤 H A W 𝓣 E G36 G37 b10 b17 Δ1 (Ty.ask (s34 bs)) (at14 bs) (Relend.t-sl-aggregate 𝓤 H A W E (Rf.rtF (Rf.fInt Sy.w32)) 𝓣 (Relend.asShr (Rf.rtF (Rf.fInt Sy.w32))) G36 19 20 11 ty·52 ty·52 (λ x. x) (Sc.oFld 2 (Li._∷_ (Sy.field 1) Li.[]) (Sy.tyInt Sy.w64) 8 λ v. Shared.lenV (v .0)) (Reads.as-is 𝓤 H A (Relend.ssptr (Rf.rtF (Rf.fInt Sy.w32)) ty·52 11)) (Reads.room-gone 𝓤 H A (Sy.tyStruct (Li._∷_ 38 (Li._∷_ 91 (Li._∷_ 93 Li.[]))) (Sy.tcons ty·52 (Sy.tcons (Sy.tyInt Sy.w64) Sy.tnil)))) (Reshare.reads-owedS-len 𝓤 H A W (Rf.rtF (Rf.fInt Sy.w32)) ty·51 1 11 (Ro.lease (κs .1 .0) (qs .1 .0)) 8 Pa.refl, Pa.refl) Pa.refl Pa.refl λ b o k. tt) (Ty.g-pre 𝓤 H A W 𝓣 E G37 G38 b17 Δ1 (λ Ψ. Ψ) (at13 bs) (Lifetime.g-begin 𝓤 H A W E G37 12 (tt, (tt, ((tt, tt), (tt, (tt, (tt, (tt, (tt, (tt, (tt, (tt, (tt, (tt, (tt, (tt, (tt, (tt, (tt, (tt, (tt, (tt, (tt, (tt, (tt, (tt, (tt, (tt, (tt, (tt, (tt, (tt, (tt, (tt, (tt, (tt, (tt, (tt, tt)))))))))))))))))))))))))))))))))))))) (Ty.s-seq 𝓤 H A W 𝓣 E G38 G39 b11 b16 Δ1 (Ty.give (s36 bs)) (at12 bs) (Share.t-arr-share 𝓤 H A W E 𝓣 (Rf.rtF (Rf.fInt Sy.w64)) G38 10 21 33 12 (Sy.tyRef Sy.erased Sy.imm ty·54) (λ x. x) (Reads.as-is 𝓤 H A row·31) (Reads.room-gone 𝓤 H A (Sy.tyRef Sy.erased Sy.imm ty·54)) Pa.refl (λ b o. tt) (Dec'.lit< tt, Dec'.lit< tt)) (Ty.s-seq 𝓤 H A W 𝓣 E G39 G40 b12 b15 Δ1 (Ty.ask (s37 bs)) (at11 bs) (Relend.t-sl-aggregate 𝓤 H A W E (Rf.rtF (Rf.fInt Sy.w64)) 𝓣 (Relend.asShr (Rf.rtF (Rf.fInt Sy.w64))) G39 21 22 12 (Sy.tyRef Sy.erased Sy.imm ty·54) ty·63 (λ x. x) (Sc.oInt Sy.w64 33) (Reads.as-is 𝓤 H A (Relend.ssptr (Rf.rtF (Rf.fInt Sy.w64)) (Sy.tyRef Sy.erased Sy.imm ty·54) 12)) (Reads.room-gone 𝓤 H A ty·53) tt Pa.refl Pa.refl λ b o k. tt) (Ty.s-seq 𝓤 H A W 𝓣 E G40 G41 b13 b14 Δ1 (Ty.both (s38 bs)) (at10 bs) (Plain.t-call-plain 𝓤 H A W 𝓣 2 ps·1 r·1 (claims· .2) (claims· .3) "cpool::refused" (known .1) E (λ pos β. β) G40 (record { pos = 20; ty = Sy.tyRef Sy.erased Sy.imm (Sy.tyInt Sy.w32); ref = λ x. x }, (record { pos = 22; ty = Sy.tyRef Sy.erased Sy.imm (Sy.tyInt Sy.w64); ref = λ x. x }, (Num.vAt 11 λ x. x, tt))) 0 (Li._∷_ 11 (Li._∷_ 12 Li.[])) (Call.sub-id 𝓤 H A W (G40 .slots)) (ShrSlice.spares-sslice 𝓤 H A W (Rf.rtF (Rf.fInt Sy.w32)) ty·52 11, Shared.reads-sslice 𝓤 H A W (Rf.rtF (Rf.fInt Sy.w32)) ty·52 11, Pa.refl, (ShrSlice.spares-sslice 𝓤 H A W (Rf.rtF (Rf.fInt Sy.w64)) ty·63 12, Shared.reads-sslice 𝓤 H A W (Rf.rtF (Rf.fInt Sy.w64)) ty·63 12, Pa.refl, ((Sc.reads-sc 𝓤 H A W (Ro.sInt Sy.w64), Pa.refl), tt))) (Reads.room-gone 𝓤 H A Laws.mir) (tt, (tt, tt)) Pa.refl) (Ty.g-pre 𝓤 H A W 𝓣 E G41 G42 b14 Δ1 (Ty.pass T41 T42 (s39 bs)) (at9 bs) (Sc.g-room 𝓤 H A W E G41 20 (Sy.tyStruct (Li._∷_ 38 (Li._∷_ 91 (Li._∷_ 93 Li.[]))) (Sy.tcons ty·52 (Sy.tcons (Sy.tyInt Sy.w64) Sy.tnil))) (Shared.room-sslice 𝓤 H A W (Rf.rtF (Rf.fInt Sy.w32)) ty·52 11)) (Ty.g-pre 𝓤 H A W 𝓣 E G42 G43 b14 Δ1 (Ty.pass T42 T43 (s40 bs)) (at8 bs) (Sc.g-room 𝓤 H A W E G42 22 ty·53 (Shared.room-sslice 𝓤 H A W (Rf.rtF (Rf.fInt Sy.w64)) ty·63 12)) (Ty.g-pre 𝓤 H A W 𝓣 E G43 G44 b14 Δ1 (λ Ψ. Ψ) (at7 bs) (Lifetime.g-end 𝓤 H A W E G43 11 Pa.refl) (Ty.g-pre 𝓤 H A W 𝓣 E G44 G45 b14 Δ1 (Ty.pass T43 T45 (s42 bs)) (at6 bs) (Reshare.g-back-sl-shr 𝓤 H A W E (Rf.rtF (Rf.fInt Sy.w32)) G44 2 1 11 ty·51 (Ro.lease (κs .1 .0) (qs .1 .0)) (λ x. x) (Reads.as-is 𝓤 H A (Reshare.mslice-owedS (Rf.rtF (Rf.fInt Sy.w32)) ty·51 1 11 (Ro.lease (κs .1 .0) (qs .1 .0)))) Pa.refl Pa.refl) (Ty.g-pre 𝓤 H A W 𝓣 E G45 G46 b14 Δ1 (λ Ψ. Ψ) (at5 bs) (Lifetime.g-forget 𝓤 H A W E G45 11 Ro.dead Pa.refl) (Ty.g-pre 𝓤 H A W 𝓣 E G46 G47 b14 Δ1 (λ Ψ. Ψ) (at4 bs) (Lifetime.g-end 𝓤 H A W E G46 12 Pa.refl) (Ty.g-pre 𝓤 H A W 𝓣 E G47 G48 b14 Δ1 (Ty.pass T45 T48 (s45 bs)) (at3 bs) (Share.g-back-arr-shr 𝓤 H A W E (Rf.rtF (Rf.fInt Sy.w64)) G47 10 33 12 (λ x. x) (Reads.as-is 𝓤 H A row·47) Pa.refl) (Ty.g-pre 𝓤 H A W 𝓣 E G48 G49 b14 Δ1 (λ Ψ. Ψ) (at2 bs) (Lifetime.g-forget 𝓤 H A W E G48 12 Ro.dead Pa.refl) (Ty.g-pre 𝓤 H A W 𝓣 E G49 G50 b14 Δ1 (Ty.pass T48 T50 (s47 bs)) (at1 bs) (Sc.g-room 𝓤 H A W E G49 10 ty·54 (Init.room-arr 𝓤 H A W (Rf.rtF (Rf.fInt Sy.w64)) 33 0 33 Pa.refl)) (Ty.g-pre 𝓤 H A W 𝓣 E G50 G1 b14 Δ1 (Ty.pass T50 T1 (s48 bs)) (at0 bs) (Sc.g-room 𝓤 H A W E G50 11 (Sy.tyInt Sy.w64) (Sc.room-sc 𝓤 H A W (Ro.sInt Sy.w64))) (Ty.t-return 𝓤 H A W 𝓣 E Δ1 tt))))))))))))))))))) (Ty.g-pre 𝓤 H A W 𝓣 E G32 G31 b20 Δ1 (Ty.pass T32 T30 (s49 bs)) (at19 bs) (Sc.g-room 𝓤 H A W E G32 18 Sy.tyBool (Sc.room-sc 𝓤 H A W Ro.sBool)) (Ty.t-skip 𝓤 H A W 𝓣 E Δ1 tt))) (Ty.g-pre 𝓤 H A W 𝓣 E G31 G53 b52 Δ0 (λ Ψ. Ψ) (at73 bs) (Lifetime.g-begin 𝓤 H A W E G31 13 (tt, (tt, (tt, (tt, (tt, (tt, (tt, (tt, (tt, (tt, (tt, (tt, (tt, (tt, (tt, (tt, (tt, (tt, (tt, (tt, (tt, (tt, (tt, (tt, (tt, (tt, (tt, (tt, (tt, (tt, (tt, (tt, (tt, (tt, (tt, (tt, (tt, tt)))))))))))))))))))))))))))))))))))))) (Ty.s-seq 𝓤 H A W 𝓣 E G53 G54 b22 b51 Δ0 (Ty.give (s51 bs)) (at72 bs) (Reshare.t-sl-reshare 𝓤 H A W E (Rf.rtF (Rf.fInt Sy.w32)) 𝓣 G53 2 23 1 13 ty·51 ty·52 (Ro.lease (κs .1 .0) (qs .1 .0)) 0 (λ x. x) (Reads.as-is 𝓤 H A row·19) (Reads.room-gone 𝓤 H A ty·52) Pa.refl tt Pa.refl Pa.refl Pa.refl λ b o. tt) (Ty.s-seq 𝓤 H A W 𝓣 E G54 G55 b23 b50 Δ0 (Ty.ask (s52 bs)) (at71 bs) (Relend.t-sl-aggregate 𝓤 H A W E (Rf.rtF (Rf.fInt Sy.w32)) 𝓣 (Relend.asShr (Rf.rtF (Rf.fInt Sy.w32))) G54 23 24 13 ty·52 ty·52 (λ x. x) (Sc.oFld 2 (Li._∷_ (Sy.field 1) Li.[]) (Sy.tyInt Sy.w64) 8 λ v. Shared.lenV (v .0)) (Reads.as-is 𝓤 H A (Relend.ssptr (Rf.rtF (Rf.fInt Sy.w32)) ty·52 13)) (Reads.room-gone 𝓤 H A (Sy.tyStruct (Li._∷_ 38 (Li._∷_ 91 (Li._∷_ 93 Li.[]))) (Sy.tcons ty·52 (Sy.tcons (Sy.tyInt Sy.w64) Sy.tnil)))) (Reshare.reads-owedS-len 𝓤 H A W (Rf.rtF (Rf.fInt Sy.w32)) ty·51 1 13 (Ro.lease (κs .1 .0) (qs .1 .0)) 8 Pa.refl, Pa.refl) Pa.refl Pa.refl λ b o k. tt) (Ty.g-pre 𝓤 H A W 𝓣 E G55 G56 b50 Δ0 (λ Ψ. Ψ) (at70 bs) (Lifetime.g-begin 𝓤 H A W E G55 14 (tt, (tt, ((tt, tt), (tt, (tt, (tt, (tt, (tt, (tt, (tt, (tt, (tt, (tt, (tt, (tt, (tt, (tt, (tt, (tt, (tt, (tt, (tt, (tt, (tt, (tt, (tt, (tt, (tt, (tt, (tt, (tt, (tt, (tt, (tt, (tt, (tt, (tt, tt)))))))))))))))))))))))))))))))))))))) (Ty.s-seq 𝓤 H A W 𝓣 E G56 G57 b24 b49 Δ0 (Ty.give (s54 bs)) (at69 bs) (Share.t-arr-share 𝓤 H A W E 𝓣 (Rf.rtF (Rf.fInt Sy.w64)) G56 10 25 33 14 (Sy.tyRef Sy.erased Sy.imm ty·54) (λ x. x) (Reads.as-is 𝓤 H A row·31) (Reads.room-gone 𝓤 H A (Sy.tyRef Sy.erased Sy.imm ty·54)) Pa.refl (λ b o. tt) (Dec'.lit< tt, Dec'.lit< tt)) (Ty.s-seq 𝓤 H A W 𝓣 E G57 G58 b25 b48 Δ0 (Ty.ask (s55 bs)) (at68 bs) (Relend.t-sl-aggregate 𝓤 H A W E (Rf.rtF (Rf.fInt Sy.w64)) 𝓣 (Relend.asShr (Rf.rtF (Rf.fInt Sy.w64))) G57 25 26 14 (Sy.tyRef Sy.erased Sy.imm ty·54) ty·63 (λ x. x) (Sc.oInt Sy.w64 33) (Reads.as-is 𝓤 H A (Relend.ssptr (Rf.rtF (Rf.fInt Sy.w64)) (Sy.tyRef Sy.erased Sy.imm ty·54) 14)) (Reads.room-gone 𝓤 H A ty·53) tt Pa.refl Pa.refl λ b o k. tt) (Ty.g-pre 𝓤 H A W 𝓣 E G58 G59 b48 Δ0 (λ Ψ. Ψ) (at67 bs) (Lifetime.g-begin 𝓤 H A W E G58 15 (tt, (tt, ((tt, tt), (tt, (tt, (tt, (tt, (tt, (tt, (tt, (tt, (tt, (tt, (tt, (tt, (tt, (tt, (tt, (tt, (tt, (tt, (tt, (tt, (tt, (tt, (tt, (tt, (tt, (tt, (tt, (tt, (tt, (tt, (tt, (tt, (tt, (tt, tt)))))))))))))))))))))))))))))))))))))) (Ty.s-seq 𝓤 H A W 𝓣 E G59 G60 b26 b47 Δ0 (Ty.give (s57 bs)) (at66 bs) (Relend.t-sl-relend 𝓤 H A W E (Rf.rtF (Rf.fInt Sy.w16)) 𝓣 G59 5 27 3 15 ty·55 ty·60 (Ro.lease (κs .1 .1 .1 .0) (qs .1 .1 .1 .0)) 0 (λ x. x) (Reads.as-is 𝓤 H A row·11) (Reads.room-gone 𝓤 H A ty·60) Pa.refl tt Pa.refl Pa.refl Pa.refl λ b o. tt) (Ty.s-seq 𝓤 H A W 𝓣 E G60 G61 b27 b46 Δ0 (Ty.ask (s58 bs)) (at65 bs) (Relend.t-sl-aggregate 𝓤 H A W E (Rf.rtF (Rf.fInt Sy.w16)) 𝓣 (Relend.asMut (Rf.rtF (Rf.fInt Sy.w16))) G60 27 28 15 ty·60 ty·60 (λ x. x) (Sc.oFld 5 (Li._∷_ (Sy.field 1) Li.[]) (Sy.tyInt Sy.w64) 8 λ v. Shared.lenV (v .0)) (Reads.as-is 𝓤 H A (Relend.msptr (Rf.rtF (Rf.fInt Sy.w16)) ty·60 15)) (Reads.room-gone 𝓤 H A (Sy.tyStruct (Li._∷_ 38 (Li._∷_ 91 (Li._∷_ 93 Li.[]))) (Sy.tcons ty·60 (Sy.tcons (Sy.tyInt Sy.w64) Sy.tnil)))) (Relend.reads-owed-len 𝓤 H A W (Rf.rtF (Rf.fInt Sy.w16)) ty·55 3 15 (Ro.lease (κs .1 .1 .1 .0) (qs .1 .1 .1 .0)) 8 Pa.refl, Pa.refl) Pa.refl Pa.refl λ b o k. tt) (Ty.g-pre 𝓤 H A W 𝓣 E G61 G62 b46 Δ0 (λ Ψ. Ψ) (at64 bs) (Lifetime.g-begin 𝓤 H A W E G61 16 (tt, (tt, ((tt, tt), (tt, (tt, ((tt, tt), (tt, (tt, (tt, (tt, (tt, (tt, (tt, (tt, (tt, (tt, (tt, (tt, (tt, (tt, (tt, (tt, (tt, (tt, (tt, (tt, (tt, (tt, (tt, (tt, (tt, (tt, (tt, (tt, (tt, (tt, (tt, tt)))))))))))))))))))))))))))))))))))))) (Ty.s-seq 𝓤 H A W 𝓣 E G62 G63 b28 b45 Δ0 (Ty.give (s60 bs)) (at63 bs) (Relend.t-sl-relend 𝓤 H A W E (Rf.rtF (Rf.fInt Sy.w8)) 𝓣 G62 6 29 4 16 ty·56 ty·50 (Ro.lease (κs .1 .1 .1 .1 .0) (qs .1 .1 .1 .1 .0)) 0 (λ x. x) (Reads.as-is 𝓤 H A row·12) (Reads.room-gone 𝓤 H A ty·50) Pa.refl tt Pa.refl Pa.refl Pa.refl λ b o. tt) (Ty.s-seq 𝓤 H A W 𝓣 E G63 G64 b29 b44 Δ0 (Ty.ask (s61 bs)) (at62 bs) (Relend.t-sl-aggregate 𝓤 H A W E (Rf.rtF (Rf.fInt Sy.w8)) 𝓣 (Relend.asMut (Rf.rtF (Rf.fInt Sy.w8))) G63 29 30 16 ty·50 ty·50 (λ x. x) (Sc.oFld 6 (Li._∷_ (Sy.field 1) Li.[]) (Sy.tyInt Sy.w64) 8 λ v. Shared.lenV (v .0)) (Reads.as-is 𝓤 H A (Relend.msptr (Rf.rtF (Rf.fInt Sy.w8)) ty·50 16)) (Reads.room-gone 𝓤 H A (Sy.tyStruct (Li._∷_ 38 (Li._∷_ 91 (Li._∷_ 93 Li.[]))) (Sy.tcons ty·50 (Sy.tcons (Sy.tyInt Sy.w64) Sy.tnil)))) (Relend.reads-owed-len 𝓤 H A W (Rf.rtF (Rf.fInt Sy.w8)) ty·56 4 16 (Ro.lease (κs .1 .1 .1 .1 .0) (qs .1 .1 .1 .1 .0)) 8 Pa.refl, Pa.refl) Pa.refl Pa.refl λ b o k. tt) (Ty.g-pre 𝓤 H A W 𝓣 E G64 G65 b44 Δ0 (λ Ψ. Ψ) (at61 bs) (Lifetime.g-begin 𝓤 H A W E G64 17 (tt, (tt, ((tt, tt), (tt, (tt, ((tt, tt), ((tt, tt), (tt, (tt, (tt, (tt, (tt, (tt, (tt, (tt, (tt, (tt, (tt, (tt, (tt, (tt, (tt, (tt, (tt, (tt, (tt, (tt, (tt, (tt, (tt, (tt, (tt, (tt, (tt, (tt, (tt, (tt, tt)))))))))))))))))))))))))))))))))))))) (Ty.s-seq 𝓤 H A W 𝓣 E G65 G66 b30 b43 Δ0 (Ty.give (s63 bs)) (at60 bs) (Relend.t-sl-relend 𝓤 H A W E (Rf.rtF (Rf.fInt Sy.w8)) 𝓣 G65 7 31 5 17 ty·57 ty·50 (Ro.lease (κs .1 .1 .1 .1 .1 .0) (qs .1 .1 .1 .1 .1 .0)) 0 (λ x. x) (Reads.as-is 𝓤 H A row·7) (Reads.room-gone 𝓤 H A ty·50) Pa.refl tt Pa.refl Pa.refl Pa.refl λ b o. tt) (Ty.s-seq 𝓤 H A W 𝓣 E G66 G67 b31 b42 Δ0 (Ty.ask (s64 bs)) (at59 bs) (Relend.t-sl-aggregate 𝓤 H A W E (Rf.rtF (Rf.fInt Sy.w8)) 𝓣 (Relend.asMut (Rf.rtF (Rf.fInt Sy.w8))) G66 31 32 17 ty·50 ty·50 (λ x. x) (Sc.oFld 7 (Li._∷_ (Sy.field 1) Li.[]) (Sy.tyInt Sy.w64) 8 λ v. Shared.lenV (v .0)) (Reads.as-is 𝓤 H A (Relend.msptr (Rf.rtF (Rf.fInt Sy.w8)) ty·50 17)) (Reads.room-gone 𝓤 H A (Sy.tyStruct (Li._∷_ 38 (Li._∷_ 91 (Li._∷_ 93 Li.[]))) (Sy.tcons ty·50 (Sy.tcons (Sy.tyInt Sy.w64) Sy.tnil)))) (Relend.reads-owed-len 𝓤 H A W (Rf.rtF (Rf.fInt Sy.w8)) ty·57 5 17 (Ro.lease (κs .1 .1 .1 .1 .1 .0) (qs .1 .1 .1 .1 .1 .0)) 8 Pa.refl, Pa.refl) Pa.refl Pa.refl λ b o k. tt) (Ty.g-pre 𝓤 H A W 𝓣 E G67 G68 b42 Δ0 (λ Ψ. Ψ) (at58 bs) (Lifetime.g-begin 𝓤 H A W E G67 18 (tt, (tt, ((tt, tt), (tt, (tt, ((tt, tt), ((tt, tt), ((tt, tt), (tt, (tt, (tt, (tt, (tt, (tt, (tt, (tt, (tt, (tt, (tt, (tt, (tt, (tt, (tt, (tt, (tt, (tt, (tt, (tt, (tt, (tt, (tt, (tt, (tt, (tt, (tt, (tt, (tt, tt)))))))))))))))))))))))))))))))))))))) (Ty.s-seq 𝓤 H A W 𝓣 E G68 G69 b32 b41 Δ0 (Ty.give (s66 bs)) (at57 bs) (Relend.t-sl-relend 𝓤 H A W E (Rf.rtF (Rf.fInt Sy.w8)) 𝓣 G68 8 33 6 18 ty·58 ty·50 (Ro.lease (κs .1 .1 .1 .1 .1 .1 .0) (qs .1 .1 .1 .1 .1 .1 .0)) 0 (λ x. x) (Reads.as-is 𝓤 H A row·8) (Reads.room-gone 𝓤 H A ty·50) Pa.refl tt Pa.refl Pa.refl Pa.refl λ b o. tt) (Ty.s-seq 𝓤 H A W 𝓣 E G69 G70 b33 b40 Δ0 (Ty.ask (s67 bs)) (at56 bs) (Relend.t-sl-aggregate 𝓤 H A W E (Rf.rtF (Rf.fInt Sy.w8)) 𝓣 (Relend.asMut (Rf.rtF (Rf.fInt Sy.w8))) G69 33 34 18 ty·50 ty·50 (λ x. x) (Sc.oFld 8 (Li._∷_ (Sy.field 1) Li.[]) (Sy.tyInt Sy.w64) 8 λ v. Shared.lenV (v .0)) (Reads.as-is 𝓤 H A (Relend.msptr (Rf.rtF (Rf.fInt Sy.w8)) ty·50 18)) (Reads.room-gone 𝓤 H A (Sy.tyStruct (Li._∷_ 38 (Li._∷_ 91 (Li._∷_ 93 Li.[]))) (Sy.tcons ty·50 (Sy.tcons (Sy.tyInt Sy.w64) Sy.tnil)))) (Relend.reads-owed-len 𝓤 H A W (Rf.rtF (Rf.fInt Sy.w8)) ty·58 6 18 (Ro.lease (κs .1 .1 .1 .1 .1 .1 .0) (qs .1 .1 .1 .1 .1 .1 .0)) 8 Pa.refl, Pa.refl) Pa.refl Pa.refl λ b o k. tt) (Ty.g-pre 𝓤 H A W 𝓣 E G70 G71 b40 Δ0 (λ Ψ. Ψ) (at55 bs) (Lifetime.g-begin 𝓤 H A W E G70 19 (tt, (tt, ((tt, tt), (tt, (tt, ((tt, tt), ((tt, tt), ((tt, tt), ((tt, tt), (tt, (tt, (tt, (tt, (tt, (tt, (tt, (tt, (tt, (tt, (tt, (tt, (tt, (tt, (tt, (tt, (tt, (tt, (tt, (tt, (tt, (tt, (tt, (tt, (tt, (tt, (tt, (tt, tt)))))))))))))))))))))))))))))))))))))) (Ty.s-seq 𝓤 H A W 𝓣 E G71 G72 b34 b39 Δ0 (Ty.give (s69 bs)) (at54 bs) (Relend.t-sl-relend 𝓤 H A W E (Rf.rtF (Rf.fInt Sy.w8)) 𝓣 G71 9 35 7 19 ty·59 ty·50 (Ro.lease (κs .1 .1 .1 .1 .1 .1 .1 .0) (qs .1 .1 .1 .1 .1 .1 .1 .0)) 0 (λ x. x) (Reads.as-is 𝓤 H A row·9) (Reads.room-gone 𝓤 H A ty·50) Pa.refl tt Pa.refl Pa.refl Pa.refl λ b o. tt) (Ty.s-seq 𝓤 H A W 𝓣 E G72 G73 b35 b38 Δ0 (Ty.ask (s70 bs)) (at53 bs) (Relend.t-sl-aggregate 𝓤 H A W E (Rf.rtF (Rf.fInt Sy.w8)) 𝓣 (Relend.asMut (Rf.rtF (Rf.fInt Sy.w8))) G72 35 36 19 ty·50 ty·50 (λ x. x) (Sc.oFld 9 (Li._∷_ (Sy.field 1) Li.[]) (Sy.tyInt Sy.w64) 8 λ v. Shared.lenV (v .0)) (Reads.as-is 𝓤 H A (Relend.msptr (Rf.rtF (Rf.fInt Sy.w8)) ty·50 19)) (Reads.room-gone 𝓤 H A (Sy.tyStruct (Li._∷_ 38 (Li._∷_ 91 (Li._∷_ 93 Li.[]))) (Sy.tcons ty·50 (Sy.tcons (Sy.tyInt Sy.w64) Sy.tnil)))) (Relend.reads-owed-len 𝓤 H A W (Rf.rtF (Rf.fInt Sy.w8)) ty·59 7 19 (Ro.lease (κs .1 .1 .1 .1 .1 .1 .1 .0) (qs .1 .1 .1 .1 .1 .1 .1 .0)) 8 Pa.refl, Pa.refl) Pa.refl Pa.refl λ b o k. tt) (Ty.s-seq 𝓤 H A W 𝓣 E G73 G74 b36 b14 Δ0 (Ty.both (s71 bs)) (at52 bs) (Plain.t-call-plain 𝓤 H A W 𝓣 8 ps·2 r·2 (claims· .4) (claims· .5) "cpool::give_out" (known .2) E (λ pos β. β) G73 (record { pos = 1; ty = Sy.tyRef (Sy.named 0) Sy.imm (Sy.tyInt Sy.w8); ref = λ x. x }, (record { pos = 24; ty = Sy.tyRef Sy.erased Sy.imm (Sy.tyInt Sy.w32); ref = λ x. x }, (record { pos = 26; ty = Sy.tyRef Sy.erased Sy.imm (Sy.tyInt Sy.w64); ref = λ x. x }, (record { pos = 28; ty = Sy.tyRef Sy.erased Sy.mut (Sy.tyInt Sy.w16); ref = λ x. x }, (record { pos = 30; ty = Sy.tyRef Sy.erased Sy.mut (Sy.tyInt Sy.w8); ref = λ x. x }, (record { pos = 32; ty = Sy.tyRef Sy.erased Sy.mut (Sy.tyInt Sy.w8); ref = λ x. x }, (record { pos = 34; ty = Sy.tyRef Sy.erased Sy.mut (Sy.tyInt Sy.w8); ref = λ x. x }, (record { pos = 36; ty = Sy.tyRef Sy.erased Sy.mut (Sy.tyInt Sy.w8); ref = λ x. x }, tt)))))))) 0 (Li._∷_ 0 (Li._∷_ 13 (Li._∷_ 14 (Li._∷_ 15 (Li._∷_ 16 (Li._∷_ 17 (Li._∷_ 18 (Li._∷_ 19 Li.[])))))))) (Call.sub-id 𝓤 H A W (G73 .slots)) (ShrSlice.spares-sslice 𝓤 H A W (Rf.rtF (Rf.fInt Sy.w8)) ty·66 0, Shared.reads-sslice 𝓤 H A W (Rf.rtF (Rf.fInt Sy.w8)) ty·66 0, Pa.refl, (ShrSlice.spares-sslice 𝓤 H A W (Rf.rtF (Rf.fInt Sy.w32)) ty·52 13, Shared.reads-sslice 𝓤 H A W (Rf.rtF (Rf.fInt Sy.w32)) ty·52 13, Pa.refl, (ShrSlice.spares-sslice 𝓤 H A W (Rf.rtF (Rf.fInt Sy.w64)) ty·63 14, Shared.reads-sslice 𝓤 H A W (Rf.rtF (Rf.fInt Sy.w64)) ty·63 14, Pa.refl, (Reads.as-is 𝓤 H A row·45, Mut.reads-mslice 𝓤 H A W (Rf.rtF (Rf.fInt Sy.w16)) ty·60 15, Pa.refl, (Reads.as-is 𝓤 H A (Mut.mslice (Rf.rtF (Rf.fInt Sy.w8)) ty·50 16), Mut.reads-mslice 𝓤 H A W (Rf.rtF (Rf.fInt Sy.w8)) ty·50 16, Pa.refl, (Reads.as-is 𝓤 H A row·48, Mut.reads-mslice 𝓤 H A W (Rf.rtF (Rf.fInt Sy.w8)) ty·50 17, Pa.refl, (Reads.as-is 𝓤 H A (Mut.mslice (Rf.rtF (Rf.fInt Sy.w8)) ty·50 18), Mut.reads-mslice 𝓤 H A W (Rf.rtF (Rf.fInt Sy.w8)) ty·50 18, Pa.refl, (Reads.as-is 𝓤 H A (Mut.mslice (Rf.rtF (Rf.fInt Sy.w8)) ty·50 19), Mut.reads-mslice 𝓤 H A W (Rf.rtF (Rf.fInt Sy.w8)) ty·50 19, Pa.refl, tt)))))))) (Reads.room-gone 𝓤 H A Laws.mir) (tt, (tt, (tt, (tt, (tt, (tt, (tt, (tt, tt)))))))) Pa.refl) (Ty.g-pre 𝓤 H A W 𝓣 E G74 G75 b14 Δ0 (Ty.pass T74 T75 (s72 bs)) (at51 bs) (Sc.g-room 𝓤 H A W E G74 24 (Sy.tyStruct (Li._∷_ 38 (Li._∷_ 91 (Li._∷_ 93 Li.[]))) (Sy.tcons ty·52 (Sy.tcons (Sy.tyInt Sy.w64) Sy.tnil))) (Shared.room-sslice 𝓤 H A W (Rf.rtF (Rf.fInt Sy.w32)) ty·52 13)) (Ty.g-pre 𝓤 H A W 𝓣 E G75 G76 b14 Δ0 (Ty.pass T75 T76 (s73 bs)) (at50 bs) (Sc.g-room 𝓤 H A W E G75 26 ty·53 (Shared.room-sslice 𝓤 H A W (Rf.rtF (Rf.fInt Sy.w64)) ty·63 14)) (Ty.g-pre 𝓤 H A W 𝓣 E G76 G77 b14 Δ0 (Ty.pass T76 T77 (s74 bs)) (at49 bs) (Sc.g-room 𝓤 H A W E G76 11 (Sy.tyInt Sy.w64) (Sc.room-sc 𝓤 H A W (Ro.sInt Sy.w64))) (Ty.g-pre 𝓤 H A W 𝓣 E G77 G78 b14 Δ0 (λ Ψ. Ψ) (at48 bs) (Lifetime.g-end 𝓤 H A W E G77 13 Pa.refl) (Ty.g-pre 𝓤 H A W 𝓣 E G78 G79 b14 Δ0 (Ty.pass T77 T79 (s76 bs)) (at47 bs) (Reshare.g-back-sl-shr 𝓤 H A W E (Rf.rtF (Rf.fInt Sy.w32)) G78 2 1 13 ty·51 (Ro.lease (κs .1 .0) (qs .1 .0)) (λ x. x) (Reads.as-is 𝓤 H A (Reshare.mslice-owedS (Rf.rtF (Rf.fInt Sy.w32)) ty·51 1 13 (Ro.lease (κs .1 .0) (qs .1 .0)))) Pa.refl Pa.refl) (Ty.g-pre 𝓤 H A W 𝓣 E G79 G80 b14 Δ0 (λ Ψ. Ψ) (at46 bs) (Lifetime.g-forget 𝓤 H A W E G79 13 Ro.dead Pa.refl) (Ty.g-pre 𝓤 H A W 𝓣 E G80 G81 b14 Δ0 (λ Ψ. Ψ) (at45 bs) (Lifetime.g-end 𝓤 H A W E G80 14 Pa.refl) (Ty.g-pre 𝓤 H A W 𝓣 E G81 G82 b14 Δ0 (Ty.pass T79 T82 (s79 bs)) (at44 bs) (Share.g-back-arr-shr 𝓤 H A W E (Rf.rtF (Rf.fInt Sy.w64)) G81 10 33 14 (λ x. x) (Reads.as-is 𝓤 H A row·22) Pa.refl) (Ty.g-pre 𝓤 H A W 𝓣 E G82 G83 b14 Δ0 (λ Ψ. Ψ) (at43 bs) (Lifetime.g-forget 𝓤 H A W E G82 14 Ro.dead Pa.refl) (Ty.g-pre 𝓤 H A W 𝓣 E G83 G84 b14 Δ0 (Ty.pass T82 T84 (s81 bs)) (at42 bs) (Sc.g-room 𝓤 H A W E G83 10 ty·54 (Init.room-arr 𝓤 H A W (Rf.rtF (Rf.fInt Sy.w64)) 33 0 33 Pa.refl)) (Ty.g-pre 𝓤 H A W 𝓣 E G84 G85 b14 Δ0 (λ Ψ. Ψ) (at41 bs) (Lifetime.g-end 𝓤 H A W E G84 15 Pa.refl) (Ty.g-pre 𝓤 H A W 𝓣 E G85 G86 b14 Δ0 (Ty.both (s83 bs)) (at40 bs) (Relend.g-back-sl 𝓤 H A W E (Rf.rtF (Rf.fInt Sy.w16)) G85 28 5 3 15 ty·55 ty·60 (Ro.lease (κs .1 .1 .1 .0) (qs .1 .1 .1 .0)) (λ x. x) (λ x. x) (Reads.as-is 𝓤 H A (Mut.msleft (Rf.rtF (Rf.fInt Sy.w16)) ty·60)) (Reads.as-is 𝓤 H A (Relend.mslice-owed (Rf.rtF (Rf.fInt Sy.w16)) ty·55 3 15 (Ro.lease (κs .1 .1 .1 .0) (qs .1 .1 .1 .0)))) Pa.refl Pa.refl) (Ty.g-pre 𝓤 H A W 𝓣 E G86 G86 b14 Δ0 (Ty.give (s84 bs)) (at39 bs) (Know.g-sl-known 𝓤 H A W (Rf.fInt Sy.w16) E G86 5 3 ty·55 (Ro.lease (κs .1 .1 .1 .0) (qs .1 .1 .1 .0)) 0 (λ x. x) record { fits = Dec'.lit< tt } (Reads.as-is 𝓤 H A row·11) Pa.refl tt) (Ty.g-pre 𝓤 H A W 𝓣 E G86 G88 b14 Δ0 (λ Ψ. Ψ) (at38 bs) (Lifetime.g-forget 𝓤 H A W E G86 15 Ro.dead Pa.refl) (Ty.g-pre 𝓤 H A W 𝓣 E G88 G89 b14 Δ0 (λ Ψ. Ψ) (at37 bs) (Lifetime.g-end 𝓤 H A W E G88 16 Pa.refl) (Ty.g-pre 𝓤 H A W 𝓣 E G89 G90 b14 Δ0 (Ty.both (s87 bs)) (at36 bs) (Relend.g-back-sl 𝓤 H A W E (Rf.rtF (Rf.fInt Sy.w8)) G89 30 6 4 16 ty·56 ty·50 (Ro.lease (κs .1 .1 .1 .1 .0) (qs .1 .1 .1 .1 .0)) (λ x. x) (λ x. x) (Reads.as-is 𝓤 H A row·24) (Reads.as-is 𝓤 H A (Relend.mslice-owed (Rf.rtF (Rf.fInt Sy.w8)) ty·56 4 16 (Ro.lease (κs .1 .1 .1 .1 .0) (qs .1 .1 .1 .1 .0)))) Pa.refl Pa.refl) (Ty.g-pre 𝓤 H A W 𝓣 E G90 G90 b14 Δ0 (Ty.give (s88 bs)) (at35 bs) (Know.g-sl-known 𝓤 H A W (Rf.fInt Sy.w8) E G90 6 4 ty·56 (Ro.lease (κs .1 .1 .1 .1 .0) (qs .1 .1 .1 .1 .0)) 0 (λ x. x) record { fits = Dec'.lit< tt } (Reads.as-is 𝓤 H A row·12) Pa.refl tt) (Ty.g-pre 𝓤 H A W 𝓣 E G90 G92 b14 Δ0 (λ Ψ. Ψ) (at34 bs) (Lifetime.g-forget 𝓤 H A W E G90 16 Ro.dead Pa.refl) (Ty.g-pre 𝓤 H A W 𝓣 E G92 G93 b14 Δ0 (λ Ψ. Ψ) (at33 bs) (Lifetime.g-end 𝓤 H A W E G92 17 Pa.refl) (Ty.g-pre 𝓤 H A W 𝓣 E G93 G94 b14 Δ0 (Ty.both (s91 bs)) (at32 bs) (Relend.g-back-sl 𝓤 H A W E (Rf.rtF (Rf.fInt Sy.w8)) G93 32 7 5 17 ty·57 ty·50 (Ro.lease (κs .1 .1 .1 .1 .1 .0) (qs .1 .1 .1 .1 .1 .0)) (λ x. x) (λ x. x) (Reads.as-is 𝓤 H A row·24) (Reads.as-is 𝓤 H A (Relend.mslice-owed (Rf.rtF (Rf.fInt Sy.w8)) ty·57 5 17 (Ro.lease (κs .1 .1 .1 .1 .1 .0) (qs .1 .1 .1 .1 .1 .0)))) Pa.refl Pa.refl) (Ty.g-pre 𝓤 H A W 𝓣 E G94 G94 b14 Δ0 (Ty.give (s92 bs)) (at31 bs) (Know.g-sl-known 𝓤 H A W (Rf.fInt Sy.w8) E G94 7 5 ty·57 (Ro.lease (κs .1 .1 .1 .1 .1 .0) (qs .1 .1 .1 .1 .1 .0)) 0 (λ x. x) record { fits = Dec'.lit< tt } (Reads.as-is 𝓤 H A row·7) Pa.refl tt) (Ty.g-pre 𝓤 H A W 𝓣 E G94 G96 b14 Δ0 (λ Ψ. Ψ) (at30 bs) (Lifetime.g-forget 𝓤 H A W E G94 17 Ro.dead Pa.refl) (Ty.g-pre 𝓤 H A W 𝓣 E G96 G97 b14 Δ0 (λ Ψ. Ψ) (at29 bs) (Lifetime.g-end 𝓤 H A W E G96 18 Pa.refl) (Ty.g-pre 𝓤 H A W 𝓣 E G97 G98 b14 Δ0 (Ty.both (s95 bs)) (at28 bs) (Relend.g-back-sl 𝓤 H A W E (Rf.rtF (Rf.fInt Sy.w8)) G97 34 8 6 18 ty·58 ty·50 (Ro.lease (κs .1 .1 .1 .1 .1 .1 .0) (qs .1 .1 .1 .1 .1 .1 .0)) (λ x. x) (λ x. x) (Reads.as-is 𝓤 H A row·24) (Reads.as-is 𝓤 H A (Relend.mslice-owed (Rf.rtF (Rf.fInt Sy.w8)) ty·58 6 18 (Ro.lease (κs .1 .1 .1 .1 .1 .1 .0) (qs .1 .1 .1 .1 .1 .1 .0)))) Pa.refl Pa.refl) (Ty.g-pre 𝓤 H A W 𝓣 E G98 G98 b14 Δ0 (Ty.give (s96 bs)) (at27 bs) (Know.g-sl-known 𝓤 H A W (Rf.fInt Sy.w8) E G98 8 6 ty·58 (Ro.lease (κs .1 .1 .1 .1 .1 .1 .0) (qs .1 .1 .1 .1 .1 .1 .0)) 0 (λ x. x) record { fits = Dec'.lit< tt } (Reads.as-is 𝓤 H A row·8) Pa.refl tt) (Ty.g-pre 𝓤 H A W 𝓣 E G98 G100 b14 Δ0 (λ Ψ. Ψ) (at26 bs) (Lifetime.g-forget 𝓤 H A W E G98 18 Ro.dead Pa.refl) (Ty.g-pre 𝓤 H A W 𝓣 E G100 G101 b14 Δ0 (λ Ψ. Ψ) (at25 bs) (Lifetime.g-end 𝓤 H A W E G100 19 Pa.refl) (Ty.g-pre 𝓤 H A W 𝓣 E G101 G102 b14 Δ0 (Ty.both (s99 bs)) (at24 bs) (Relend.g-back-sl 𝓤 H A W E (Rf.rtF (Rf.fInt Sy.w8)) G101 36 9 7 19 ty·59 ty·50 (Ro.lease (κs .1 .1 .1 .1 .1 .1 .1 .0) (qs .1 .1 .1 .1 .1 .1 .1 .0)) (λ x. x) (λ x. x) (Reads.as-is 𝓤 H A row·24) (Reads.as-is 𝓤 H A (Relend.mslice-owed (Rf.rtF (Rf.fInt Sy.w8)) ty·59 7 19 (Ro.lease (κs .1 .1 .1 .1 .1 .1 .1 .0) (qs .1 .1 .1 .1 .1 .1 .1 .0)))) Pa.refl Pa.refl) (Ty.g-pre 𝓤 H A W 𝓣 E G102 G102 b14 Δ0 (Ty.give (s100 bs)) (at23 bs) (Know.g-sl-known 𝓤 H A W (Rf.fInt Sy.w8) E G102 9 7 ty·59 (Ro.lease (κs .1 .1 .1 .1 .1 .1 .1 .0) (qs .1 .1 .1 .1 .1 .1 .1 .0)) 0 (λ x. x) record { fits = Dec'.lit< tt } (Reads.as-is 𝓤 H A row·9) Pa.refl tt) (Ty.g-pre 𝓤 H A W 𝓣 E G102 G1 b14 Δ0 (λ Ψ. Ψ) (at22 bs) (Lifetime.g-forget 𝓤 H A W E G102 19 Ro.dead Pa.refl) (Ty.t-return 𝓤 H A W 𝓣 E Δ0 tt)))))))))))))))))))))))))))))))))))))))))))))))))))))))))))))))))))))))))))))))))))))
 
       module _ (κs : Lifetimes.Lfts 8) where
         pub record Args : Type 0 where
@@ -1938,7 +1938,7 @@ module _ (claims· : Claims) where
         pub p : After-p·own before
 
       abbrev pub Need-slice-aggregate-lay-out : Type 0
-      Need-slice-aggregate-lay-out = (c : After-p) → Relend.CountIs T15 14 15 (λ x. x) (λ u. 32) (m12 (c .before) (c .p .given))
+      Need-slice-aggregate-lay-out = (c : After-p) → Relend.CountIs T15 14 15 (λ x. x) (λ u. 33) (m12 (c .before) (c .p .given))
 
       abbrev pub m13 : (before : After-lay-out-arg) → (given : s13 (before .before .before .before .before .before .before .before .before .blocks) .gives (m11 (before .before) (before .lay-out-arg .given))) → Ty.Mo T16
       m13 = λ before given. s14 (before .before .before .before .before .before .before .before .before .blocks) .next (m12 before given)
@@ -2058,7 +2058,7 @@ module _ (claims· : Claims) where
         pub p3 : After-p3·own before
 
       abbrev pub Need-slice-aggregate-refused : Type 0
-      Need-slice-aggregate-refused = (c : After-p3) → Relend.CountIs T39 21 22 (λ x. x) (λ u. 32) (m26 (c .before) (c .p3 .given))
+      Need-slice-aggregate-refused = (c : After-p3) → Relend.CountIs T39 21 22 (λ x. x) (λ u. 33) (m26 (c .before) (c .p3 .given))
 
       abbrev pub m27 : (before : After-refused-arg) → (given : s36 (before .before .before .before .before .before .before .before .before .before .before .before .before .before .before .before .before .before .blocks) .gives (m25 (before .before) (before .refused-arg .given))) → Ty.Mo T40
       m27 = λ before given. s37 (before .before .before .before .before .before .before .before .before .before .before .before .before .before .before .before .before .before .blocks) .next (m26 before given)
@@ -2126,7 +2126,7 @@ module _ (claims· : Claims) where
         pub p4 : After-p4·own before
 
       abbrev pub Need-slice-aggregate-give-out : Type 0
-      Need-slice-aggregate-give-out = (c : After-p4) → Relend.CountIs T57 25 26 (λ x. x) (λ u. 32) (m38 (c .before) (c .p4 .given))
+      Need-slice-aggregate-give-out = (c : After-p4) → Relend.CountIs T57 25 26 (λ x. x) (λ u. 33) (m38 (c .before) (c .p4 .given))
 
       abbrev pub m39 : (before : After-give-out-arg) → (given : s54 (before .before .before .before .before .before .before .before .before .before .before .before .before .before .before .before .before .before .blocks) .gives (m37 (before .before) (before .give-out-arg .given))) → Ty.Mo T58
       m39 = λ before given. s55 (before .before .before .before .before .before .before .before .before .before .before .before .before .before .before .before .before .before .blocks) .next (m38 before given)
@@ -2345,7 +2345,7 @@ module _ (claims· : Claims) where
         lay6 = λ c. (Pa.refl, λ g. λ g'. (Pa.refl, λ g''. λ g'3. (Pa.refl, λ g'4. λ g'5. (Pa.refl, λ g'6. λ g'7. (Pa.refl, λ g'8. λ g'9. ((Pa.refl, (MutSlice.fix-len (Ro.get 2 (T1 .locals) (m66 record { before = record { before = record { before = record { before = record { before = record { before = record { before = record { before = record { before = record { before = c .before; give-out = c .give-out }; answers = record { given = g } }; slice-known8 = record { given = g' } }; marks = record { given = g'' } }; slice-known9 = record { given = g'3 } }; pool = record { given = g'4 } }; slice-known10 = record { given = g'5 } }; bootstraps = record { given = g'6 } }; slice-known11 = record { given = g'7 } }; class-name = record { given = g'8 } } g'9) .ptr) (Ro.get 2 (T1 .locals) (m66 record { before = record { before = record { before = record { before = record { before = record { before = record { before = record { before = record { before = record { before = c .before; give-out = c .give-out }; answers = record { given = g } }; slice-known8 = record { given = g' } }; marks = record { given = g'' } }; slice-known9 = record { given = g'3 } }; pool = record { given = g'4 } }; slice-known10 = record { given = g'5 } }; bootstraps = record { given = g'6 } }; slice-known11 = record { given = g'7 } }; class-name = record { given = g'8 } } g'9) .name) (Ro.get 2 (T1 .locals) (m66 record { before = record { before = record { before = record { before = record { before = record { before = record { before = record { before = record { before = record { before = c .before; give-out = c .give-out }; answers = record { given = g } }; slice-known8 = record { given = g' } }; marks = record { given = g'' } }; slice-known9 = record { given = g'3 } }; pool = record { given = g'4 } }; slice-known10 = record { given = g'5 } }; bootstraps = record { given = g'6 } }; slice-known11 = record { given = g'7 } }; class-name = record { given = g'8 } } g'9) .now) (dens (c .before .before .before .before .before .before .before .before .before .before .before .before .before .before .before .before .before .before .before .before .before .before .before .before .κs) (c .before .before .before .before .before .before .before .before .before .before .before .before .before .before .before .before .before .before .before .before .before .before .before .before .args) .1 .0 .now) (same-length-3 record { before = record { before = record { before = record { before = record { before = record { before = record { before = record { before = record { before = record { before = record { before = c .before; give-out = c .give-out }; answers = record { given = g } }; slice-known8 = record { given = g' } }; marks = record { given = g'' } }; slice-known9 = record { given = g'3 } }; pool = record { given = g'4 } }; slice-known10 = record { given = g'5 } }; bootstraps = record { given = g'6 } }; slice-known11 = record { given = g'7 } }; class-name = record { given = g'8 } }; slice-known12 = record { given = g'9 } }), (MutSlice.fix-len (Ro.get 3 (T1 .locals) (m66 record { before = record { before = record { before = record { before = record { before = record { before = record { before = record { before = record { before = record { before = c .before; give-out = c .give-out }; answers = record { given = g } }; slice-known8 = record { given = g' } }; marks = record { given = g'' } }; slice-known9 = record { given = g'3 } }; pool = record { given = g'4 } }; slice-known10 = record { given = g'5 } }; bootstraps = record { given = g'6 } }; slice-known11 = record { given = g'7 } }; class-name = record { given = g'8 } } g'9) .ptr) (Ro.get 3 (T1 .locals) (m66 record { before = record { before = record { before = record { before = record { before = record { before = record { before = record { before = record { before = record { before = c .before; give-out = c .give-out }; answers = record { given = g } }; slice-known8 = record { given = g' } }; marks = record { given = g'' } }; slice-known9 = record { given = g'3 } }; pool = record { given = g'4 } }; slice-known10 = record { given = g'5 } }; bootstraps = record { given = g'6 } }; slice-known11 = record { given = g'7 } }; class-name = record { given = g'8 } } g'9) .name) (Ro.get 3 (T1 .locals) (m66 record { before = record { before = record { before = record { before = record { before = record { before = record { before = record { before = record { before = record { before = c .before; give-out = c .give-out }; answers = record { given = g } }; slice-known8 = record { given = g' } }; marks = record { given = g'' } }; slice-known9 = record { given = g'3 } }; pool = record { given = g'4 } }; slice-known10 = record { given = g'5 } }; bootstraps = record { given = g'6 } }; slice-known11 = record { given = g'7 } }; class-name = record { given = g'8 } } g'9) .now) (dens (c .before .before .before .before .before .before .before .before .before .before .before .before .before .before .before .before .before .before .before .before .before .before .before .before .κs) (c .before .before .before .before .before .before .before .before .before .before .before .before .before .before .before .before .before .before .before .before .before .before .before .before .args) .1 .1 .0 .now) (same-length-4 record { before = record { before = record { before = record { before = record { before = record { before = record { before = record { before = record { before = record { before = record { before = c .before; give-out = c .give-out }; answers = record { given = g } }; slice-known8 = record { given = g' } }; marks = record { given = g'' } }; slice-known9 = record { given = g'3 } }; pool = record { given = g'4 } }; slice-known10 = record { given = g'5 } }; bootstraps = record { given = g'6 } }; slice-known11 = record { given = g'7 } }; class-name = record { given = g'8 } }; slice-known12 = record { given = g'9 } }), (tt, (MutSlice.fix-len (Ro.get 5 (T1 .locals) (m66 record { before = record { before = record { before = record { before = record { before = record { before = record { before = record { before = record { before = record { before = c .before; give-out = c .give-out }; answers = record { given = g } }; slice-known8 = record { given = g' } }; marks = record { given = g'' } }; slice-known9 = record { given = g'3 } }; pool = record { given = g'4 } }; slice-known10 = record { given = g'5 } }; bootstraps = record { given = g'6 } }; slice-known11 = record { given = g'7 } }; class-name = record { given = g'8 } } g'9) .ptr) (Ro.get 5 (T1 .locals) (m66 record { before = record { before = record { before = record { before = record { before = record { before = record { before = record { before = record { before = record { before = c .before; give-out = c .give-out }; answers = record { given = g } }; slice-known8 = record { given = g' } }; marks = record { given = g'' } }; slice-known9 = record { given = g'3 } }; pool = record { given = g'4 } }; slice-known10 = record { given = g'5 } }; bootstraps = record { given = g'6 } }; slice-known11 = record { given = g'7 } }; class-name = record { given = g'8 } } g'9) .name) (Ro.get 5 (T1 .locals) (m66 record { before = record { before = record { before = record { before = record { before = record { before = record { before = record { before = record { before = record { before = c .before; give-out = c .give-out }; answers = record { given = g } }; slice-known8 = record { given = g' } }; marks = record { given = g'' } }; slice-known9 = record { given = g'3 } }; pool = record { given = g'4 } }; slice-known10 = record { given = g'5 } }; bootstraps = record { given = g'6 } }; slice-known11 = record { given = g'7 } }; class-name = record { given = g'8 } } g'9) .now) (dens (c .before .before .before .before .before .before .before .before .before .before .before .before .before .before .before .before .before .before .before .before .before .before .before .before .κs) (c .before .before .before .before .before .before .before .before .before .before .before .before .before .before .before .before .before .before .before .before .before .before .before .before .args) .1 .1 .1 .1 .0 .now) (same-length-5 record { before = record { before = record { before = record { before = record { before = record { before = record { before = record { before = record { before = record { before = record { before = c .before; give-out = c .give-out }; answers = record { given = g } }; slice-known8 = record { given = g' } }; marks = record { given = g'' } }; slice-known9 = record { given = g'3 } }; pool = record { given = g'4 } }; slice-known10 = record { given = g'5 } }; bootstraps = record { given = g'6 } }; slice-known11 = record { given = g'7 } }; class-name = record { given = g'8 } }; slice-known12 = record { given = g'9 } }), (MutSlice.fix-len (Ro.get 6 (T1 .locals) (m66 record { before = record { before = record { before = record { before = record { before = record { before = record { before = record { before = record { before = record { before = c .before; give-out = c .give-out }; answers = record { given = g } }; slice-known8 = record { given = g' } }; marks = record { given = g'' } }; slice-known9 = record { given = g'3 } }; pool = record { given = g'4 } }; slice-known10 = record { given = g'5 } }; bootstraps = record { given = g'6 } }; slice-known11 = record { given = g'7 } }; class-name = record { given = g'8 } } g'9) .ptr) (Ro.get 6 (T1 .locals) (m66 record { before = record { before = record { before = record { before = record { before = record { before = record { before = record { before = record { before = record { before = c .before; give-out = c .give-out }; answers = record { given = g } }; slice-known8 = record { given = g' } }; marks = record { given = g'' } }; slice-known9 = record { given = g'3 } }; pool = record { given = g'4 } }; slice-known10 = record { given = g'5 } }; bootstraps = record { given = g'6 } }; slice-known11 = record { given = g'7 } }; class-name = record { given = g'8 } } g'9) .name) (Ro.get 6 (T1 .locals) (m66 record { before = record { before = record { before = record { before = record { before = record { before = record { before = record { before = record { before = record { before = c .before; give-out = c .give-out }; answers = record { given = g } }; slice-known8 = record { given = g' } }; marks = record { given = g'' } }; slice-known9 = record { given = g'3 } }; pool = record { given = g'4 } }; slice-known10 = record { given = g'5 } }; bootstraps = record { given = g'6 } }; slice-known11 = record { given = g'7 } }; class-name = record { given = g'8 } } g'9) .now) (dens (c .before .before .before .before .before .before .before .before .before .before .before .before .before .before .before .before .before .before .before .before .before .before .before .before .κs) (c .before .before .before .before .before .before .before .before .before .before .before .before .before .before .before .before .before .before .before .before .before .before .before .before .args) .1 .1 .1 .1 .1 .0 .now) (same-length-6 record { before = record { before = record { before = record { before = record { before = record { before = record { before = record { before = record { before = record { before = record { before = c .before; give-out = c .give-out }; answers = record { given = g } }; slice-known8 = record { given = g' } }; marks = record { given = g'' } }; slice-known9 = record { given = g'3 } }; pool = record { given = g'4 } }; slice-known10 = record { given = g'5 } }; bootstraps = record { given = g'6 } }; slice-known11 = record { given = g'7 } }; class-name = record { given = g'8 } }; slice-known12 = record { given = g'9 } }), (MutSlice.fix-len (Ro.get 7 (T1 .locals) (m66 record { before = record { before = record { before = record { before = record { before = record { before = record { before = record { before = record { before = record { before = c .before; give-out = c .give-out }; answers = record { given = g } }; slice-known8 = record { given = g' } }; marks = record { given = g'' } }; slice-known9 = record { given = g'3 } }; pool = record { given = g'4 } }; slice-known10 = record { given = g'5 } }; bootstraps = record { given = g'6 } }; slice-known11 = record { given = g'7 } }; class-name = record { given = g'8 } } g'9) .ptr) (Ro.get 7 (T1 .locals) (m66 record { before = record { before = record { before = record { before = record { before = record { before = record { before = record { before = record { before = record { before = c .before; give-out = c .give-out }; answers = record { given = g } }; slice-known8 = record { given = g' } }; marks = record { given = g'' } }; slice-known9 = record { given = g'3 } }; pool = record { given = g'4 } }; slice-known10 = record { given = g'5 } }; bootstraps = record { given = g'6 } }; slice-known11 = record { given = g'7 } }; class-name = record { given = g'8 } } g'9) .name) (Ro.get 7 (T1 .locals) (m66 record { before = record { before = record { before = record { before = record { before = record { before = record { before = record { before = record { before = record { before = c .before; give-out = c .give-out }; answers = record { given = g } }; slice-known8 = record { given = g' } }; marks = record { given = g'' } }; slice-known9 = record { given = g'3 } }; pool = record { given = g'4 } }; slice-known10 = record { given = g'5 } }; bootstraps = record { given = g'6 } }; slice-known11 = record { given = g'7 } }; class-name = record { given = g'8 } } g'9) .now) (dens (c .before .before .before .before .before .before .before .before .before .before .before .before .before .before .before .before .before .before .before .before .before .before .before .before .κs) (c .before .before .before .before .before .before .before .before .before .before .before .before .before .before .before .before .before .before .before .before .before .before .before .before .args) .1 .1 .1 .1 .1 .1 .0 .now) (same-length-7 record { before = record { before = record { before = record { before = record { before = record { before = record { before = record { before = record { before = record { before = record { before = c .before; give-out = c .give-out }; answers = record { given = g } }; slice-known8 = record { given = g' } }; marks = record { given = g'' } }; slice-known9 = record { given = g'3 } }; pool = record { given = g'4 } }; slice-known10 = record { given = g'5 } }; bootstraps = record { given = g'6 } }; slice-known11 = record { given = g'7 } }; class-name = record { given = g'8 } }; slice-known12 = record { given = g'9 } }), (MutSlice.fix-len (Ro.get 8 (T1 .locals) (m66 record { before = record { before = record { before = record { before = record { before = record { before = record { before = record { before = record { before = record { before = c .before; give-out = c .give-out }; answers = record { given = g } }; slice-known8 = record { given = g' } }; marks = record { given = g'' } }; slice-known9 = record { given = g'3 } }; pool = record { given = g'4 } }; slice-known10 = record { given = g'5 } }; bootstraps = record { given = g'6 } }; slice-known11 = record { given = g'7 } }; class-name = record { given = g'8 } } g'9) .ptr) (Ro.get 8 (T1 .locals) (m66 record { before = record { before = record { before = record { before = record { before = record { before = record { before = record { before = record { before = record { before = c .before; give-out = c .give-out }; answers = record { given = g } }; slice-known8 = record { given = g' } }; marks = record { given = g'' } }; slice-known9 = record { given = g'3 } }; pool = record { given = g'4 } }; slice-known10 = record { given = g'5 } }; bootstraps = record { given = g'6 } }; slice-known11 = record { given = g'7 } }; class-name = record { given = g'8 } } g'9) .name) (Ro.get 8 (T1 .locals) (m66 record { before = record { before = record { before = record { before = record { before = record { before = record { before = record { before = record { before = record { before = c .before; give-out = c .give-out }; answers = record { given = g } }; slice-known8 = record { given = g' } }; marks = record { given = g'' } }; slice-known9 = record { given = g'3 } }; pool = record { given = g'4 } }; slice-known10 = record { given = g'5 } }; bootstraps = record { given = g'6 } }; slice-known11 = record { given = g'7 } }; class-name = record { given = g'8 } } g'9) .now) (dens (c .before .before .before .before .before .before .before .before .before .before .before .before .before .before .before .before .before .before .before .before .before .before .before .before .κs) (c .before .before .before .before .before .before .before .before .before .before .before .before .before .before .before .before .before .before .before .before .before .before .before .before .args) .1 .1 .1 .1 .1 .1 .1 .0 .now) (same-length-8 record { before = record { before = record { before = record { before = record { before = record { before = record { before = record { before = record { before = record { before = record { before = c .before; give-out = c .give-out }; answers = record { given = g } }; slice-known8 = record { given = g' } }; marks = record { given = g'' } }; slice-known9 = record { given = g'3 } }; pool = record { given = g'4 } }; slice-known10 = record { given = g'5 } }; bootstraps = record { given = g'6 } }; slice-known11 = record { given = g'7 } }; class-name = record { given = g'8 } }; slice-known12 = record { given = g'9 } }), (MutSlice.fix-len (Ro.get 9 (T1 .locals) (m66 record { before = record { before = record { before = record { before = record { before = record { before = record { before = record { before = record { before = record { before = c .before; give-out = c .give-out }; answers = record { given = g } }; slice-known8 = record { given = g' } }; marks = record { given = g'' } }; slice-known9 = record { given = g'3 } }; pool = record { given = g'4 } }; slice-known10 = record { given = g'5 } }; bootstraps = record { given = g'6 } }; slice-known11 = record { given = g'7 } }; class-name = record { given = g'8 } } g'9) .ptr) (Ro.get 9 (T1 .locals) (m66 record { before = record { before = record { before = record { before = record { before = record { before = record { before = record { before = record { before = record { before = c .before; give-out = c .give-out }; answers = record { given = g } }; slice-known8 = record { given = g' } }; marks = record { given = g'' } }; slice-known9 = record { given = g'3 } }; pool = record { given = g'4 } }; slice-known10 = record { given = g'5 } }; bootstraps = record { given = g'6 } }; slice-known11 = record { given = g'7 } }; class-name = record { given = g'8 } } g'9) .name) (Ro.get 9 (T1 .locals) (m66 record { before = record { before = record { before = record { before = record { before = record { before = record { before = record { before = record { before = record { before = c .before; give-out = c .give-out }; answers = record { given = g } }; slice-known8 = record { given = g' } }; marks = record { given = g'' } }; slice-known9 = record { given = g'3 } }; pool = record { given = g'4 } }; slice-known10 = record { given = g'5 } }; bootstraps = record { given = g'6 } }; slice-known11 = record { given = g'7 } }; class-name = record { given = g'8 } } g'9) .now) (dens (c .before .before .before .before .before .before .before .before .before .before .before .before .before .before .before .before .before .before .before .before .before .before .before .before .κs) (c .before .before .before .before .before .before .before .before .before .before .before .before .before .before .before .before .before .before .before .before .before .before .before .before .args) .1 .1 .1 .1 .1 .1 .1 .1 .0 .now) (same-length-9 record { before = record { before = record { before = record { before = record { before = record { before = record { before = record { before = record { before = record { before = record { before = c .before; give-out = c .give-out }; answers = record { given = g } }; slice-known8 = record { given = g' } }; marks = record { given = g'' } }; slice-known9 = record { given = g'3 } }; pool = record { given = g'4 } }; slice-known10 = record { given = g'5 } }; bootstraps = record { given = g'6 } }; slice-known11 = record { given = g'7 } }; class-name = record { given = g'8 } }; slice-known12 = record { given = g'9 } }), tt))))))))), returns-2 record { before = record { before = record { before = record { before = record { before = record { before = record { before = record { before = record { before = record { before = record { before = c .before; give-out = c .give-out }; answers = record { given = g } }; slice-known8 = record { given = g' } }; marks = record { given = g'' } }; slice-known9 = record { given = g'3 } }; pool = record { given = g'4 } }; slice-known10 = record { given = g'5 } }; bootstraps = record { given = g'6 } }; slice-known11 = record { given = g'7 } }; class-name = record { given = g'8 } }; slice-known12 = record { given = g'9 } }))))))
 
         lay5 : (c : Else1) → at74 (c .before .before .before .before .before .before .before .before .before .before .before .before .before .before .before .before .blocks) (W0 (c .before .before .before .before .before .before .before .before .before .before .before .before .before .before .before .before .κs) (c .before .before .before .before .before .before .before .before .before .before .before .before .before .before .before .before .args) (c .before .before .before .before .before .before .before .before .before .before .before .before .before .before .before .before .blocks)) (m35 (c .before))
-        lay5 = λ c. λ g. (Pa.refl, λ g'. (Relend.count-is T57 25 26 (λ x. x) (λ u. 32) (m38 record { before = record { before = c .before; if1 = c .if1 }; give-out-arg = record { given = g } } g') (slice-aggregate-give-out record { before = record { before = record { before = c .before; if1 = c .if1 }; give-out-arg = record { given = g } }; p4 = record { given = g' } }), λ g''. (Pa.refl, λ g'3. (Pa.refl, λ g'4. (Pa.refl, λ g'5. (Pa.refl, λ g'6. (Pa.refl, (give-out-requires record { before = record { before = record { before = record { before = record { before = record { before = record { before = record { before = c .before; if1 = c .if1 }; give-out-arg = record { given = g } }; p4 = record { given = g' } }; give-out-arg2 = record { given = g'' } }; give-out-arg3 = record { given = g'3 } }; give-out-arg4 = record { given = g'4 } }; give-out-arg5 = record { given = g'5 } }; give-out-arg6 = record { given = g'6 } }, λ g'7. lay6 record { before = record { before = record { before = record { before = record { before = record { before = record { before = record { before = record { before = c .before; if1 = c .if1 }; give-out-arg = record { given = g } }; p4 = record { given = g' } }; give-out-arg2 = record { given = g'' } }; give-out-arg3 = record { given = g'3 } }; give-out-arg4 = record { given = g'4 } }; give-out-arg5 = record { given = g'5 } }; give-out-arg6 = record { given = g'6 } }; give-out = Called.called ps·2 r·2 (claims· .5) T73 (record { pos = 1; ty = Sy.tyRef (Sy.named 0) Sy.imm (Sy.tyInt Sy.w8); ref = λ x. x }, (record { pos = 24; ty = Sy.tyRef Sy.erased Sy.imm (Sy.tyInt Sy.w32); ref = λ x. x }, (record { pos = 26; ty = Sy.tyRef Sy.erased Sy.imm (Sy.tyInt Sy.w64); ref = λ x. x }, (record { pos = 28; ty = Sy.tyRef Sy.erased Sy.mut (Sy.tyInt Sy.w16); ref = λ x. x }, (record { pos = 30; ty = Sy.tyRef Sy.erased Sy.mut (Sy.tyInt Sy.w8); ref = λ x. x }, (record { pos = 32; ty = Sy.tyRef Sy.erased Sy.mut (Sy.tyInt Sy.w8); ref = λ x. x }, (record { pos = 34; ty = Sy.tyRef Sy.erased Sy.mut (Sy.tyInt Sy.w8); ref = λ x. x }, (record { pos = 36; ty = Sy.tyRef Sy.erased Sy.mut (Sy.tyInt Sy.w8); ref = λ x. x }, tt)))))))) (m49 record { before = record { before = record { before = record { before = record { before = record { before = record { before = c .before; if1 = c .if1 }; give-out-arg = record { given = g } }; p4 = record { given = g' } }; give-out-arg2 = record { given = g'' } }; give-out-arg3 = record { given = g'3 } }; give-out-arg4 = record { given = g'4 } }; give-out-arg5 = record { given = g'5 } } g'6) g'7 }))))))))
+        lay5 = λ c. λ g. (Pa.refl, λ g'. (Relend.count-is T57 25 26 (λ x. x) (λ u. 33) (m38 record { before = record { before = c .before; if1 = c .if1 }; give-out-arg = record { given = g } } g') (slice-aggregate-give-out record { before = record { before = record { before = c .before; if1 = c .if1 }; give-out-arg = record { given = g } }; p4 = record { given = g' } }), λ g''. (Pa.refl, λ g'3. (Pa.refl, λ g'4. (Pa.refl, λ g'5. (Pa.refl, λ g'6. (Pa.refl, (give-out-requires record { before = record { before = record { before = record { before = record { before = record { before = record { before = record { before = c .before; if1 = c .if1 }; give-out-arg = record { given = g } }; p4 = record { given = g' } }; give-out-arg2 = record { given = g'' } }; give-out-arg3 = record { given = g'3 } }; give-out-arg4 = record { given = g'4 } }; give-out-arg5 = record { given = g'5 } }; give-out-arg6 = record { given = g'6 } }, λ g'7. lay6 record { before = record { before = record { before = record { before = record { before = record { before = record { before = record { before = record { before = c .before; if1 = c .if1 }; give-out-arg = record { given = g } }; p4 = record { given = g' } }; give-out-arg2 = record { given = g'' } }; give-out-arg3 = record { given = g'3 } }; give-out-arg4 = record { given = g'4 } }; give-out-arg5 = record { given = g'5 } }; give-out-arg6 = record { given = g'6 } }; give-out = Called.called ps·2 r·2 (claims· .5) T73 (record { pos = 1; ty = Sy.tyRef (Sy.named 0) Sy.imm (Sy.tyInt Sy.w8); ref = λ x. x }, (record { pos = 24; ty = Sy.tyRef Sy.erased Sy.imm (Sy.tyInt Sy.w32); ref = λ x. x }, (record { pos = 26; ty = Sy.tyRef Sy.erased Sy.imm (Sy.tyInt Sy.w64); ref = λ x. x }, (record { pos = 28; ty = Sy.tyRef Sy.erased Sy.mut (Sy.tyInt Sy.w16); ref = λ x. x }, (record { pos = 30; ty = Sy.tyRef Sy.erased Sy.mut (Sy.tyInt Sy.w8); ref = λ x. x }, (record { pos = 32; ty = Sy.tyRef Sy.erased Sy.mut (Sy.tyInt Sy.w8); ref = λ x. x }, (record { pos = 34; ty = Sy.tyRef Sy.erased Sy.mut (Sy.tyInt Sy.w8); ref = λ x. x }, (record { pos = 36; ty = Sy.tyRef Sy.erased Sy.mut (Sy.tyInt Sy.w8); ref = λ x. x }, tt)))))))) (m49 record { before = record { before = record { before = record { before = record { before = record { before = record { before = c .before; if1 = c .if1 }; give-out-arg = record { given = g } }; p4 = record { given = g' } }; give-out-arg2 = record { given = g'' } }; give-out-arg3 = record { given = g'3 } }; give-out-arg4 = record { given = g'4 } }; give-out-arg5 = record { given = g'5 } } g'6) g'7 }))))))))
 
         lay4 : (c : Else1) → at20 (c .before .before .before .before .before .before .before .before .before .before .before .before .before .before .before .before .blocks) (W1 (c .before .before) (c .before .gaps .given)) (m22 (c .before .before) (c .before .gaps .given))
         lay4 = λ c. lay5 record { before = c .before; if1 = c .if1 }
@@ -2354,13 +2354,13 @@ module _ (claims· : Claims) where
         lay3 = λ c. ((Pa.refl, (MutSlice.fix-len (Ro.get 2 (T1 .locals) (m34 (c .before) (After-refused·gave c)) .ptr) (Ro.get 2 (T1 .locals) (m34 (c .before) (After-refused·gave c)) .name) (Ro.get 2 (T1 .locals) (m34 (c .before) (After-refused·gave c)) .now) (dens (c .before .before .before .before .before .before .before .before .before .before .before .before .before .before .before .before .before .before .before .κs) (c .before .before .before .before .before .before .before .before .before .before .before .before .before .before .before .before .before .before .before .args) .1 .0 .now) (same-length record { before = c .before; refused = c .refused }), (MutSlice.fix-len (Ro.get 3 (T1 .locals) (m34 (c .before) (After-refused·gave c)) .ptr) (Ro.get 3 (T1 .locals) (m34 (c .before) (After-refused·gave c)) .name) (Ro.get 3 (T1 .locals) (m34 (c .before) (After-refused·gave c)) .now) (dens (c .before .before .before .before .before .before .before .before .before .before .before .before .before .before .before .before .before .before .before .κs) (c .before .before .before .before .before .before .before .before .before .before .before .before .before .before .before .before .before .before .before .args) .1 .1 .0 .now) (same-length-2 record { before = c .before; refused = c .refused }), (tt, (Pa.refl, (Pa.refl, (Pa.refl, (Pa.refl, (Pa.refl, tt))))))))), returns record { before = c .before; refused = c .refused })
 
         lay2 : (c : Then1) → at18 (c .before .before .before .before .before .before .before .before .before .before .before .before .before .before .before .before .blocks) (W1 (c .before .before) (c .before .gaps .given)) (m22 (c .before .before) (c .before .gaps .given))
-        lay2 = λ c. λ g. (Pa.refl, λ g'. (Relend.count-is T39 21 22 (λ x. x) (λ u. 32) (m26 record { before = record { before = c .before; if1 = c .if1 }; refused-arg = record { given = g } } g') (slice-aggregate-refused record { before = record { before = record { before = c .before; if1 = c .if1 }; refused-arg = record { given = g } }; p3 = record { given = g' } }), (refused-requires record { before = record { before = record { before = c .before; if1 = c .if1 }; refused-arg = record { given = g } }; p3 = record { given = g' } }, λ g''. lay3 record { before = record { before = record { before = record { before = c .before; if1 = c .if1 }; refused-arg = record { given = g } }; p3 = record { given = g' } }; refused = Called.called ps·1 r·1 (claims· .3) T40 (record { pos = 20; ty = Sy.tyRef Sy.erased Sy.imm (Sy.tyInt Sy.w32); ref = λ x. x }, (record { pos = 22; ty = Sy.tyRef Sy.erased Sy.imm (Sy.tyInt Sy.w64); ref = λ x. x }, (Num.vAt 11 λ x. x, tt))) (m27 record { before = record { before = c .before; if1 = c .if1 }; refused-arg = record { given = g } } g') g'' })))
+        lay2 = λ c. λ g. (Pa.refl, λ g'. (Relend.count-is T39 21 22 (λ x. x) (λ u. 33) (m26 record { before = record { before = c .before; if1 = c .if1 }; refused-arg = record { given = g } } g') (slice-aggregate-refused record { before = record { before = record { before = c .before; if1 = c .if1 }; refused-arg = record { given = g } }; p3 = record { given = g' } }), (refused-requires record { before = record { before = record { before = c .before; if1 = c .if1 }; refused-arg = record { given = g } }; p3 = record { given = g' } }, λ g''. lay3 record { before = record { before = record { before = record { before = c .before; if1 = c .if1 }; refused-arg = record { given = g } }; p3 = record { given = g' } }; refused = Called.called ps·1 r·1 (claims· .3) T40 (record { pos = 20; ty = Sy.tyRef Sy.erased Sy.imm (Sy.tyInt Sy.w32); ref = λ x. x }, (record { pos = 22; ty = Sy.tyRef Sy.erased Sy.imm (Sy.tyInt Sy.w64); ref = λ x. x }, (Num.vAt 11 λ x. x, tt))) (m27 record { before = record { before = c .before; if1 = c .if1 }; refused-arg = record { given = g } } g') g'' })))
 
         lay1 : (c : After-lay-out) → at87 (c .before .before .before .before .before .before .before .before .before .before .before .blocks) (W0 (c .before .before .before .before .before .before .before .before .before .before .before .κs) (c .before .before .before .before .before .before .before .before .before .before .before .args) (c .before .before .before .before .before .before .before .before .before .before .before .blocks)) (m16 (c .before) (After-lay-out·gave c))
         lay1 = λ c. (Pa.refl, λ g. λ g'. (Pa.refl, λ g''. (Pa.refl, λ g'3. (tt, (λ taken. lay2 record { before = record { before = record { before = record { before = record { before = record { before = c .before; lay-out = c .lay-out }; w = record { given = g } }; slice-known7 = record { given = g' } }; p2 = record { given = g'' } }; gaps = record { given = g'3 } }; if1 = record { taken = Tests.eqb-false (Ro.get 11 (T30 .locals) (m21 record { before = record { before = record { before = record { before = c .before; lay-out = c .lay-out }; w = record { given = g } }; slice-known7 = record { given = g' } }; p2 = record { given = g'' } } g'3)) 0 (Tests.not-true (Dec'.eqb (Ro.get 11 (T30 .locals) (m21 record { before = record { before = record { before = record { before = c .before; lay-out = c .lay-out }; w = record { given = g } }; slice-known7 = record { given = g' } }; p2 = record { given = g'' } } g'3)) 0) taken) } }, λ left. lay4 record { before = record { before = record { before = record { before = record { before = record { before = c .before; lay-out = c .lay-out }; w = record { given = g } }; slice-known7 = record { given = g' } }; p2 = record { given = g'' } }; gaps = record { given = g'3 } }; if1 = record { left = Tests.eqb-true (Ro.get 11 (T30 .locals) (m21 record { before = record { before = record { before = record { before = c .before; lay-out = c .lay-out }; w = record { given = g } }; slice-known7 = record { given = g' } }; p2 = record { given = g'' } } g'3)) 0 (Tests.not-false (Dec'.eqb (Ro.get 11 (T30 .locals) (m21 record { before = record { before = record { before = record { before = c .before; lay-out = c .lay-out }; w = record { given = g } }; slice-known7 = record { given = g' } }; p2 = record { given = g'' } } g'3)) 0) left) } })))))
 
         pub laid : (c : Start) → at106 (c .blocks) (W0 (c .κs) (c .args) (c .blocks)) (m0 (c .κs) (c .args) (c .blocks))
-        laid = λ c. λ g. λ g'. λ g''. λ g'3. λ g'4. λ g'5. λ g'6. λ g'7. (Pa.refl, λ g'8. (Relend.count-is T15 14 15 (λ x. x) (λ u. 32) (m12 record { before = record { before = record { before = record { before = record { before = record { before = record { before = record { before = c; shared-slice-known = record { given = g } }; slice-known = record { given = g' } }; slice-known2 = record { given = g'' } }; slice-known3 = record { given = g'3 } }; slice-known4 = record { given = g'4 } }; slice-known5 = record { given = g'5 } }; slice-known6 = record { given = g'6 } }; lay-out-arg = record { given = g'7 } } g'8) (slice-aggregate-lay-out record { before = record { before = record { before = record { before = record { before = record { before = record { before = record { before = record { before = c; shared-slice-known = record { given = g } }; slice-known = record { given = g' } }; slice-known2 = record { given = g'' } }; slice-known3 = record { given = g'3 } }; slice-known4 = record { given = g'4 } }; slice-known5 = record { given = g'5 } }; slice-known6 = record { given = g'6 } }; lay-out-arg = record { given = g'7 } }; p = record { given = g'8 } }), λ g'9. (Pa.refl, (lay-out-requires record { before = record { before = record { before = record { before = record { before = record { before = record { before = record { before = record { before = record { before = c; shared-slice-known = record { given = g } }; slice-known = record { given = g' } }; slice-known2 = record { given = g'' } }; slice-known3 = record { given = g'3 } }; slice-known4 = record { given = g'4 } }; slice-known5 = record { given = g'5 } }; slice-known6 = record { given = g'6 } }; lay-out-arg = record { given = g'7 } }; p = record { given = g'8 } }; lay-out-arg2 = record { given = g'9 } }, λ g'10. lay1 record { before = record { before = record { before = record { before = record { before = record { before = record { before = record { before = record { before = record { before = record { before = c; shared-slice-known = record { given = g } }; slice-known = record { given = g' } }; slice-known2 = record { given = g'' } }; slice-known3 = record { given = g'3 } }; slice-known4 = record { given = g'4 } }; slice-known5 = record { given = g'5 } }; slice-known6 = record { given = g'6 } }; lay-out-arg = record { given = g'7 } }; p = record { given = g'8 } }; lay-out-arg2 = record { given = g'9 } }; lay-out = Called.called ps·0 r·0 (claims· .1) T19 (record { pos = 1; ty = Sy.tyRef (Sy.named 0) Sy.imm (Sy.tyInt Sy.w8); ref = λ x. x }, (record { pos = 13; ty = Sy.tyRef Sy.erased Sy.mut (Sy.tyInt Sy.w32); ref = λ x. x }, (record { pos = 15; ty = Sy.tyRef Sy.erased Sy.mut (Sy.tyInt Sy.w64); ref = λ x. x }, (record { pos = 17; ty = Sy.tyRef Sy.erased Sy.mut Gap_.behind; ref = λ x. x }, (record { pos = 4; st = Li.[]; d = 0; at = λ x. x }, tt))))) (m15 record { before = record { before = record { before = record { before = record { before = record { before = record { before = record { before = record { before = c; shared-slice-known = record { given = g } }; slice-known = record { given = g' } }; slice-known2 = record { given = g'' } }; slice-known3 = record { given = g'3 } }; slice-known4 = record { given = g'4 } }; slice-known5 = record { given = g'5 } }; slice-known6 = record { given = g'6 } }; lay-out-arg = record { given = g'7 } }; p = record { given = g'8 } } g'9) g'10 }))))
+        laid = λ c. λ g. λ g'. λ g''. λ g'3. λ g'4. λ g'5. λ g'6. λ g'7. (Pa.refl, λ g'8. (Relend.count-is T15 14 15 (λ x. x) (λ u. 33) (m12 record { before = record { before = record { before = record { before = record { before = record { before = record { before = record { before = c; shared-slice-known = record { given = g } }; slice-known = record { given = g' } }; slice-known2 = record { given = g'' } }; slice-known3 = record { given = g'3 } }; slice-known4 = record { given = g'4 } }; slice-known5 = record { given = g'5 } }; slice-known6 = record { given = g'6 } }; lay-out-arg = record { given = g'7 } } g'8) (slice-aggregate-lay-out record { before = record { before = record { before = record { before = record { before = record { before = record { before = record { before = record { before = c; shared-slice-known = record { given = g } }; slice-known = record { given = g' } }; slice-known2 = record { given = g'' } }; slice-known3 = record { given = g'3 } }; slice-known4 = record { given = g'4 } }; slice-known5 = record { given = g'5 } }; slice-known6 = record { given = g'6 } }; lay-out-arg = record { given = g'7 } }; p = record { given = g'8 } }), λ g'9. (Pa.refl, (lay-out-requires record { before = record { before = record { before = record { before = record { before = record { before = record { before = record { before = record { before = record { before = c; shared-slice-known = record { given = g } }; slice-known = record { given = g' } }; slice-known2 = record { given = g'' } }; slice-known3 = record { given = g'3 } }; slice-known4 = record { given = g'4 } }; slice-known5 = record { given = g'5 } }; slice-known6 = record { given = g'6 } }; lay-out-arg = record { given = g'7 } }; p = record { given = g'8 } }; lay-out-arg2 = record { given = g'9 } }, λ g'10. lay1 record { before = record { before = record { before = record { before = record { before = record { before = record { before = record { before = record { before = record { before = record { before = c; shared-slice-known = record { given = g } }; slice-known = record { given = g' } }; slice-known2 = record { given = g'' } }; slice-known3 = record { given = g'3 } }; slice-known4 = record { given = g'4 } }; slice-known5 = record { given = g'5 } }; slice-known6 = record { given = g'6 } }; lay-out-arg = record { given = g'7 } }; p = record { given = g'8 } }; lay-out-arg2 = record { given = g'9 } }; lay-out = Called.called ps·0 r·0 (claims· .1) T19 (record { pos = 1; ty = Sy.tyRef (Sy.named 0) Sy.imm (Sy.tyInt Sy.w8); ref = λ x. x }, (record { pos = 13; ty = Sy.tyRef Sy.erased Sy.mut (Sy.tyInt Sy.w32); ref = λ x. x }, (record { pos = 15; ty = Sy.tyRef Sy.erased Sy.mut (Sy.tyInt Sy.w64); ref = λ x. x }, (record { pos = 17; ty = Sy.tyRef Sy.erased Sy.mut Gap_.behind; ref = λ x. x }, (record { pos = 4; st = Li.[]; d = 0; at = λ x. x }, tt))))) (m15 record { before = record { before = record { before = record { before = record { before = record { before = record { before = record { before = record { before = c; shared-slice-known = record { given = g } }; slice-known = record { given = g' } }; slice-known2 = record { given = g'' } }; slice-known3 = record { given = g'3 } }; slice-known4 = record { given = g'4 } }; slice-known5 = record { given = g'5 } }; slice-known6 = record { given = g'6 } }; lay-out-arg = record { given = g'7 } }; p = record { given = g'8 } } g'9) g'10 }))))
 
         module _ (κs : Lifetimes.Lfts 8) (qs : Lifetimes.Shares 8) where
           pub asked : (a : Kinds.Dens κs ps) → (good : Kinds.GoodsP κs ps a) → (pre : Pre· κs a) → (bs : Li.List Nat.ℕ) → Φ bs (Any.wantQ 8 ps r xs m κs qs a (Post· κs a)) (Function.init 8 ps r xs m κs qs a)
