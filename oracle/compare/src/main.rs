@@ -22,7 +22,7 @@ use tally::{HEAD, Tally, row};
 
 const USAGE: &str = "usage: compare [--threads N] [heavy | heavy_settings | short | KIND SEED COUNT]
        KIND is small, damaged, pairs, orders, ldcfull, settings, settings_damaged, settings_pairs, lowest, lowest_full, lowest_pairs,
-       worked, worked_damaged or worked_pairs";
+       worked, worked_damaged, worked_pairs or worked_orders";
 
 /// So many jobs are taken by a thread at once.
 const BATCH: usize = 16;
@@ -240,7 +240,7 @@ mod tests {
     /// Jobs with record 46, refused 22 and 23 too.
     #[test]
     fn jobs_with_expressions_end_as_in_model_and_module() {
-        for kind in ["worked", "worked_damaged", "worked_pairs"] {
+        for kind in ["worked", "worked_damaged", "worked_pairs", "worked_orders"] {
             none_different(kind, "2000");
         }
     }

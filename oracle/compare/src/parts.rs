@@ -13,8 +13,8 @@ pub struct Part {
     pub drawn: Option<(u64, usize)>,
 }
 
-/// What is compared when no part is named: fourteen million generated jobs, and all of the fixed ones.
-const WHOLE: [(&str, u64, usize); 12] = [
+/// What is compared when no part is named: fifteen million generated jobs, and all of the fixed ones.
+const WHOLE: [(&str, u64, usize); 13] = [
     ("small", 8101, 2_000_000),
     ("pairs", 8102, 500_000),
     ("orders", 8103, 500_000),
@@ -27,6 +27,7 @@ const WHOLE: [(&str, u64, usize); 12] = [
     ("worked", 8111, 600_000),
     ("worked_damaged", 8112, 300_000),
     ("worked_pairs", 8113, 100_000),
+    ("worked_orders", 8114, 1_000_000),
 ];
 const FIXED: [&str; 3] = ["heavy", "heavy_settings", "short"];
 

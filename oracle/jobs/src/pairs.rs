@@ -7,6 +7,7 @@ use crate::random::Random;
 use crate::record::{Record, Reference};
 use crate::settings::settings_job;
 use crate::small::small_job;
+use crate::worked::worked_job;
 use std::collections::{BTreeMap, BTreeSet};
 
 pub type Pair = (Vec<Record>, Vec<Record>);
@@ -124,8 +125,17 @@ fn some_number(length: usize, random: &mut Random) -> Vec<u8> {
 
 /// A small job twice, in the second its names and raw definitions in another order.
 pub fn order_pair(random: &mut Random) -> Pair {
+    in_two_orders(small_job, random)
+}
+
+/// The same of jobs with every kind of record.
+pub fn worked_order_pair(random: &mut Random) -> Pair {
+    in_two_orders(worked_job, random)
+}
+
+fn in_two_orders(job: fn(&mut Random) -> Vec<Record>, random: &mut Random) -> Pair {
     loop {
-        let first = small_job(random);
+        let first = job(random);
         if first.iter().filter(|r| is_movable(r)).count() >= 2 {
             let second = reordered(&first, random);
             return (first, second);
@@ -168,17 +178,21 @@ fn reordered(records: &[Record], random: &mut Random) -> Vec<Record> {
     moved
 }
 
-/// How many entries have to stand before a movable record: those up to the one that it cites.
+/// How many of the records that stay have to stand before a movable one: those up to the entry that it cites, and a 49.
 fn entries_needed(record: &Record, entries: &[Record]) -> usize {
+    let first = usize::from(matches!(entries.first(), Some(Record::HighestSlot(_))));
     let (of_bootstraps, number) = match record {
         Record::NameConstant(_, Reference::Entry(number)) => (false, *number),
         Record::NameBootstrap(_, Reference::Entry(number)) => (true, *number),
         Record::RawConstant { entry, .. } => (false, *entry),
         Record::RawBootstrap { entry, .. } => (true, *entry),
-        _ => return 0,
+        _ => return first,
     };
-    let same_kind =
-        |(_, r): &(usize, &Record)| matches!(r, Record::Bootstrap { .. }) == of_bootstraps;
+    let same_kind = |(_, r): &(usize, &Record)| match r {
+        Record::Bootstrap { .. } => of_bootstraps,
+        Record::Constant(_) | Record::Expression(_) => !of_bootstraps,
+        _ => false,
+    };
     let cited = entries
         .iter()
         .enumerate()

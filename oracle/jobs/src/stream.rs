@@ -25,6 +25,7 @@ pub fn seeded(kind: &str) -> Option<Step> {
         "worked_damaged" => |random| vec![worked::damaged_worked_job(random)],
         "worked_pairs" => |random| both(worked::worked_pair(random)),
         "orders" => |random| both(pairs::order_pair(random)),
+        "worked_orders" => |random| both(pairs::worked_order_pair(random)),
         _ => return None,
     })
 }

@@ -6,7 +6,7 @@ use jobs::random::Random;
 use jobs::record::encode;
 use jobs::stream::{heavy_jobs, seeded};
 
-const RECORDED: [(&str, u64); 16] = [
+const RECORDED: [(&str, u64); 17] = [
     ("small", 0x9264_b943_53df_e0fd),
     ("ldcfull", 0xa876_3ac8_7897_08b0),
     ("damaged", 0xb7ab_379a_cd71_7249),
@@ -21,6 +21,7 @@ const RECORDED: [(&str, u64); 16] = [
     ("worked", 0x0312_3293_2c60_a7c6),
     ("worked_damaged", 0xdee4_0fca_f236_80d7),
     ("worked_pairs", 0x2bac_d0fd_1574_1339),
+    ("worked_orders", 0xa382_3823_1f54_5376),
     ("heavy", 0xd164_eeca_68df_0fce),
     ("large", 0xb587_779e_3f02_253b),
 ];
@@ -65,6 +66,7 @@ fn jobs_are_those_recorded() {
         of_kind("worked"),
         of_kind("worked_damaged"),
         of_kind("worked_pairs"),
+        of_kind("worked_orders"),
         ("heavy", hash(heavy_jobs())),
         (
             "large",

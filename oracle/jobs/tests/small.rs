@@ -3,7 +3,7 @@
 mod common;
 
 use common::well_formed;
-use jobs::pairs::{literal_pair, order_pair};
+use jobs::pairs::{literal_pair, order_pair, worked_order_pair};
 use jobs::random::Random;
 use jobs::record::{Constant, Record, encode};
 use jobs::small::{LDC_FULL_LIMIT, SMALL_LIMIT, ldc_full_job, small_job};
@@ -100,16 +100,32 @@ fn orders_move_names_and_raw_definitions_alone() {
         let (first, second) = order_pair(&mut random);
         // That entries stand ahead of what cites them is part of being well formed.
         assert!(well_formed(&first) && well_formed(&second));
-        let split = |records: &[Record]| -> (Vec<Record>, Vec<Record>) {
-            records.iter().cloned().partition(is_41_to_44)
-        };
-        let ((mut moved, kept), (mut moved_too, kept_too)) = (split(&first), split(&second));
-        assert_eq!(kept, kept_too);
-        let by_bytes = |record: &Record| encode(std::slice::from_ref(record));
-        moved.sort_by_key(by_bytes);
-        moved_too.sort_by_key(by_bytes);
-        assert_eq!(moved, moved_too);
+        assert_moved(&first, &second);
         different += usize::from(first != second);
     }
     assert!(different > COUNT * 3 / 4);
+}
+
+#[test]
+fn orders_of_every_kind_of_record_move_these_alone() {
+    let mut random = Random::new(15);
+    let mut different = 0;
+    for _ in 0..COUNT {
+        let (first, second) = worked_order_pair(&mut random);
+        assert_moved(&first, &second);
+        different += usize::from(first != second);
+    }
+    assert!(different > COUNT * 3 / 4);
+}
+
+fn assert_moved(first: &[Record], second: &[Record]) {
+    let split = |records: &[Record]| -> (Vec<Record>, Vec<Record>) {
+        records.iter().cloned().partition(is_41_to_44)
+    };
+    let ((mut moved, kept), (mut moved_too, kept_too)) = (split(first), split(second));
+    assert_eq!(kept, kept_too);
+    let by_bytes = |record: &Record| encode(std::slice::from_ref(record));
+    moved.sort_by_key(by_bytes);
+    moved_too.sort_by_key(by_bytes);
+    assert_eq!(moved, moved_too);
 }

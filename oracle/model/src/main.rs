@@ -12,7 +12,7 @@ use std::process::ExitCode;
 
 const USAGE: &str = "usage: model [in_turn] | model hold heavy [NAME..] | model hold KIND SEED COUNT
        KIND is small, damaged, pairs, orders, ldcfull, settings, settings_damaged, settings_pairs, lowest, lowest_full, lowest_pairs,
-       worked, worked_damaged or worked_pairs";
+       worked, worked_damaged, worked_pairs or worked_orders";
 
 fn main() -> ExitCode {
     let arguments: Vec<String> = std::env::args().skip(1).collect();

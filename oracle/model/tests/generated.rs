@@ -105,3 +105,21 @@ fn shape(outcome: &Outcome) -> String {
         refused => refused.to_string(),
     }
 }
+
+/// Definitions in another order (document 02, No. 11): both are built, with one outcome, or neither is.
+#[test]
+fn names_and_raw_definitions_stand_in_any_order() {
+    for kind in ["orders", "worked_orders"] {
+        let jobs: Vec<Vec<u8>> = endless(kind, 11).unwrap().take(4_000).collect();
+        let mut built = 0;
+        for pair in jobs.chunks(2) {
+            let (first, second) = (run(&pair[0]), run(&pair[1]));
+            match first {
+                Outcome::Built(_) => assert_eq!(first, second, "{pair:02x?}"),
+                Outcome::Refused(_) => assert!(matches!(second, Outcome::Refused(_))),
+            }
+            built += usize::from(matches!(first, Outcome::Built(_)));
+        }
+        assert!(built > 500, "{built}");
+    }
+}

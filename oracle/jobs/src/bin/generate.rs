@@ -9,7 +9,7 @@ use std::process::ExitCode;
 
 const USAGE: &str = "usage: generate KIND SEED COUNT
        KIND is small, ldcfull, damaged, pairs, orders, settings, settings_damaged, settings_pairs, lowest, lowest_full, lowest_pairs,
-       worked, worked_damaged or worked_pairs
+       worked, worked_damaged, worked_pairs or worked_orders
        generate heavy [--names]
        generate large KIND N, N from 16 to 60000";
 
