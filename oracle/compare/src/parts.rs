@@ -98,13 +98,13 @@ mod tests {
     use std::collections::BTreeSet;
 
     #[test]
-    fn the_whole_is_fourteen_million_and_the_fixed_jobs() {
+    fn the_whole_is_fifteen_million_and_the_fixed_jobs() {
         let drawn: usize = whole()
             .iter()
             .filter_map(|part| part.drawn)
             .map(|d| d.1)
             .sum();
-        assert_eq!(drawn, 14_000_000);
+        assert_eq!(drawn, 15_000_000);
         assert!(whole().iter().all(|part| part.jobs().is_some()));
     }
 
