@@ -5,28 +5,28 @@ use Prim.Native.Nat.{ℕ}
 use lib.ListN.{length}
 use Rattle.definition.specs.Basics.{Result, good, bad, Refusal}
 use Rattle.definition.specs.Run.{overwrite}
-use Rattle.definition.specs.Blocks.{blocksAfter}
-use Rattle.blocks.specs.Answers.{length_of, numbersOf, Told}
+use Rattle.definition.specs.Blocks.{blocks_after}
+use Rattle.blocks.specs.Answers.{length_of, numbers_of, Told}
 use Rattle.blocks.specs.declared.Numbers.{Numbers}
 
 module _ (result : Result Refusal (List ℕ)) (before : List ℕ) where
-  pub ends-bad : (r : Refusal) → result ≡ bad r → (bad r ≡ length_of result) × (before ≡ blocksAfter result before)
-  unfolding length_of blocksAfter
+  pub ends-bad : (r : Refusal) → result ≡ bad r → (bad r ≡ length_of result) × (before ≡ blocks_after result before)
+  unfolding length_of blocks_after
   ends-bad r e = (rw e, rw e)
 
   pub ends-good :
       (new after : List ℕ) (n : ℕ) → result ≡ good new → length new ≡ n → after ≡ overwrite new before →
-      (good n ≡ length_of result) × (after ≡ blocksAfter result before)
-  unfolding length_of blocksAfter
+      (good n ≡ length_of result) × (after ≡ blocks_after result before)
+  unfolding length_of blocks_after
   ends-good new after n e size written = (rw (e, size), rw e written)
 
 -- the forms for Rust and C
 pub told :
     (result : Result Refusal (List ℕ)) (before after : List ℕ) (answer : Result Refusal ℕ) (numbers : Numbers) →
-    (answer ≡ length_of result) × (after ≡ blocksAfter result before) → numbers ≡ numbersOf answer →
+    (answer ≡ length_of result) × (after ≡ blocks_after result before) → numbers ≡ numbers_of answer →
     Told result numbers.0 numbers.1 numbers.2 before after
 told result before after answer numbers ended e =
-    let all : numbers ≡ numbersOf (length_of result) = e ∙ ap numbersOf ended.0 in
+    let all : numbers ≡ numbers_of (length_of result) = e ∙ ap numbers_of ended.0 in
     record {
       code_is = ap (λ n. n.0) all;
       place_is = ap (λ n. n.1) all;

@@ -11,7 +11,7 @@ use lib.ListN.{length, get_or, take, drop, length-drop, drop_of_length-le}
 use lib.Seq.{take-take, take-add, drop_at, drop-drop, drop-cons, get_or-take, get_or-drop, length-take-le}
 use Rattle.definition.specs.Basics.{same, every}
 use Rattle.definition.specs.Bytes.{be2, be4}
-use Rattle.definition.specs.Blocks.{weighted, block_at, usedIn, rightUse, padding, allZero, rightBlock}
+use Rattle.definition.specs.Blocks.{weighted, block_at, used_in, right_use, padding, all_zero, right_block}
 use Rattle.facts.proofs.Lists.{same_coded, both_true}
 use Rattle.writer.specs.Numbers.{number2, number4}
 use Rattle.writer.proofs.Laws.{be4-halves, be2-number, be4-number}
@@ -33,29 +33,29 @@ module _ (file : List ℕ) (k : ℕ) (bytes : (i : ℕ) → get_or file i 0 < 25
   rest : List ℕ
   rest = drop (512 * k) file
 
-  inside-rest : 512 ≤ length rest
+  inside_rest : 512 ≤ length rest
   unfolding rest
-  inside-rest = rw (length-drop (512 * k) file) (omega arith)
+  inside_rest = rw (length-drop (512 * k) file) (omega arith)
 
   -- the last four bytes of the block
-  check-bytes : drop 508 (block_at file k) ≡ be4 (number4 file (512 * k + 508))
+  check_bytes : drop 508 (block_at file k) ≡ be4 (number4 file (512 * k + 508))
   unfolding block_at rest
-  check-bytes =
+  check_bytes =
       ap (drop 508) (take-add 508 4 rest)
-      ∙ drop_at (take 508 rest) (take 4 (drop 508 rest)) 508 (length-take-le 508 rest (omega (arith, inside-rest)))
+      ∙ drop_at (take 508 rest) (take 4 (drop 508 rest)) 508 (length-take-le 508 rest (omega (arith, inside_rest)))
       ∙ ap (take 4) (drop-drop 508 (512 * k) file)
       ∙ be4-number file bytes (512 * k + 508) (omega arith)
 
-  number-bytes : take 2 (block_at file k) ≡ be2 (number2 file (512 * k))
+  number_bytes_lem : take 2 (block_at file k) ≡ be2 (number2 file (512 * k))
   unfolding block_at rest
-  number-bytes = take-take 2 512 rest (omega arith) ∙ be2-number file bytes (512 * k) (omega arith)
+  number_bytes_lem = take-take 2 512 rest (omega arith) ∙ be2-number file bytes (512 * k) (omega arith)
 
-  check-is :
+  check_is :
       (check sum : ℕ) → sum < 4294967296 → check ≡ number4 file (512 * k + 508) →
       sum ≡ weighted 0 (take (512 * k + 508 - 512 * k) (drop (512 * k) file)) →
       same (drop 508 (block_at file k)) (be4 (weighted 0 (take 508 (block_at file k)))) ≡ eqb check sum
   unfolding block_at rest
-  check-is check sum small ec es =
+  check_is check sum small ec es =
       let b₀ : get_or file (512 * k + 508) 0 < 256 = bytes (512 * k + 508) in
       let b₁ : get_or file (512 * k + 508 + 1) 0 < 256 = bytes (512 * k + 508 + 1) in
       let b₂ : get_or file (512 * k + 508 + 2) 0 < 256 = bytes (512 * k + 508 + 2) in
@@ -63,7 +63,7 @@ module _ (file : List ℕ) (k : ℕ) (bytes : (i : ℕ) → get_or file i 0 < 25
       let size : 512 * k + 508 - 512 * k ≡ 508 = omega arith in
       let summed : sum ≡ weighted 0 (take 508 (block_at file k)) =
       es ∙ ap (λ n. weighted 0 (take n rest)) size ∙ ap (weighted 0) (sym (take-take 508 512 rest (omega arith))) in
-      (λ i. same (check-bytes i) (be4 (sym summed i)))
+      (λ i. same (check_bytes i) (be4 (sym summed i)))
       ∙ ap (λ n. same (be4 n) (be4 sum)) (sym ec)
       ∙ same_coded be4 (λ l. number4 l 0) check sum (back4 check (omega arith)) (back4 sum small)
 
@@ -71,7 +71,7 @@ module _ (file : List ℕ) (k : ℕ) (bytes : (i : ℕ) → get_or file i 0 < 25
   number_is number small en =
       let first : get_or file (512 * k) 0 < 256 = bytes (512 * k) in
       let second : get_or file (512 * k + 1) 0 < 256 = bytes (512 * k + 1) in
-      ap (λ l. same l (be2 k)) number-bytes
+      ap (λ l. same l (be2 k)) number_bytes_lem
       ∙ ap (λ n. same (be2 n) (be2 k)) (sym en)
       ∙ same_coded be2 (λ l. number2 l 0) number k (back2 number (omega arith)) (back2 k (omega arith))
 
@@ -80,98 +80,98 @@ module _ (file : List ℕ) (k : ℕ) (bytes : (i : ℕ) → get_or file i 0 < 25
       (es : sum ≡ weighted 0 (take (512 * k + 508 - 512 * k) (drop (512 * k) file))) where
     tests :
         (number : ℕ) → number ≡ number2 file (512 * k) →
-        rightBlock n file k
-        ≡ (eqb check sum && (eqb number k && (rightUse (eqb n 1) (eqb (suc k) n) (usedIn (block_at file k)) && allZero (padding (block_at file k)))))
-    unfolding rightBlock
+        right_block n file k
+        ≡ (eqb check sum && (eqb number k && (right_use (eqb n 1) (eqb (suc k) n) (used_in (block_at file k)) && all_zero (padding (block_at file k)))))
+    unfolding right_block
     tests number en =
         let b = block_at file k in
-        λ i. check-is check sum fits ec es i && (number_is number small en i && (rightUse (eqb n 1) (eqb (suc k) n) (usedIn b) && allZero (padding b)))
+        λ i. check_is check sum fits ec es i && (number_is number small en i && (right_use (eqb n 1) (eqb (suc k) n) (used_in b) && all_zero (padding b)))
 
-    pub wrong-check : (check ≡ sum → ⊥) → false ≡ rightBlock n file k
-    wrong-check wrong = rw (tests (number2 file (512 * k)) refl, ne_eqb check sum wrong)
+    pub wrong_check : (check ≡ sum → ⊥) → false ≡ right_block n file k
+    wrong_check wrong = rw (tests (number2 file (512 * k)) refl, ne_eqb check sum wrong)
 
-    pub wrong-number : (number : ℕ) → number ≡ number2 file (512 * k) → check ≡ sum → (number ≡ k → ⊥) → false ≡ rightBlock n file k
-    wrong-number number en right wrong = rw (tests number en, eq-eqb check sum right, ne_eqb number k wrong)
+    pub wrong_number : (number : ℕ) → number ≡ number2 file (512 * k) → check ≡ sum → (number ≡ k → ⊥) → false ≡ right_block n file k
+    wrong_number number en right wrong = rw (tests number en, eq-eqb check sum right, ne_eqb number k wrong)
 
     -- check and number are right: use and padding decide
     module _ (number : ℕ) (en : number ≡ number2 file (512 * k)) (right : check ≡ sum) (right' : number ≡ k)
-        (used : ℕ) (eu : used ≡ usedIn (block_at file k)) where
-      pub wrong-use : rightUse (eqb n 1) (eqb (suc k) n) used ≡ false → false ≡ rightBlock n file k
-      wrong-use wrong = rw (tests number en, eq-eqb check sum right, eq-eqb number k right', ← eu, wrong)
+        (used : ℕ) (eu : used ≡ used_in (block_at file k)) where
+      pub wrong_use : right_use (eqb n 1) (eqb (suc k) n) used ≡ false → false ≡ right_block n file k
+      wrong_use wrong = rw (tests number en, eq-eqb check sum right, eq-eqb number k right', ← eu, wrong)
 
-      pub as-padding : rightUse (eqb n 1) (eqb (suc k) n) used ≡ true → allZero (padding (block_at file k)) ≡ rightBlock n file k
-      as-padding uses = rw (tests number en, eq-eqb check sum right, eq-eqb number k right', ← eu, uses)
+      pub as_padding : right_use (eqb n 1) (eqb (suc k) n) used ≡ true → all_zero (padding (block_at file k)) ≡ right_block n file k
+      as_padding uses = rw (tests number en, eq-eqb check sum right, eq-eqb number k right', ← eu, uses)
 
 -- the use that is read from a block
-pub block-at : (file : List ℕ) (k i : ℕ) → i < 512 → get_or (block_at file k) i 0 ≡ get_or file (512 * k + i) 0
+pub block_at_lem : (file : List ℕ) (k i : ℕ) → i < 512 → get_or (block_at file k) i 0 ≡ get_or file (512 * k + i) 0
 unfolding block_at
-block-at file k i small = get_or-take 512 (drop (512 * k) file) i 0 small ∙ get_or-drop (512 * k) file i 0
+block_at_lem file k i small = get_or-take 512 (drop (512 * k) file) i 0 small ∙ get_or-drop (512 * k) file i 0
 
-pub used-is : (file : List ℕ) (k : ℕ) → number2 file (512 * k + 2) ≡ usedIn (block_at file k)
-unfolding usedIn
-used-is file k =
+pub used_is : (file : List ℕ) (k : ℕ) → number2 file (512 * k + 2) ≡ used_in (block_at file k)
+unfolding used_in
+used_is file k =
     let place : 512 * k + 2 + 1 ≡ 512 * k + 3 = omega arith in
-    let high = block-at file k 2 (omega arith) in
-    let low = block-at file k 3 (omega arith) in
+    let high = block_at_lem file k 2 (omega arith) in
+    let low = block_at_lem file k 3 (omega arith) in
     λ i. 256 * sym high i + (ap (λ j. get_or file j 0) place ∙ sym low) i
 
 -- the use of a block that isn't the last, and of the last
 module _ (n k used : ℕ) where
-  pub use-full : k + 1 < n → eqb used 504 ≡ rightUse (eqb n 1) (eqb (suc k) n) used
-  unfolding rightUse
-  use-full more = rw (ne_eqb (suc k) n (λ e. omega arith))
+  pub use_full : k + 1 < n → eqb used 504 ≡ right_use (eqb n 1) (eqb (suc k) n) used
+  unfolding right_use
+  use_full more = rw (ne_eqb (suc k) n (λ e. omega arith))
 
   -- a right use is one of the block's 504 bytes
-  pub use-fits : rightUse (eqb n 1) (eqb (suc k) n) used ≡ true → used ≤ 504
-  unfolding rightUse
-  use-fits right = go (eqb (suc k) n) right
+  pub use_fits : right_use (eqb n 1) (eqb (suc k) n) used ≡ true → used ≤ 504
+  unfolding right_use
+  use_fits right = go (eqb (suc k) n) right
     where
-      go : (last : Bool) → rightUse (eqb n 1) last used ≡ true → used ≤ 504
+      go : (last : Bool) → right_use (eqb n 1) last used ≡ true → used ≤ 504
       go false e = omega (arith, eqb-true used 504 e)
       go true e = omega (arith, leb-true used 504 (both_true (leb used 504) (eqb n 1 || leb 1 used) e).0)
 
-  use-last : k < n → n ≤ k + 1 → rightUse (eqb n 1) (eqb (suc k) n) used ≡ (leb used 504 && (eqb n 1 || leb 1 used))
-  unfolding rightUse
-  use-last inside last = rw (eq-eqb (suc k) n (omega arith))
+  use_last : k < n → n ≤ k + 1 → right_use (eqb n 1) (eqb (suc k) n) used ≡ (leb used 504 && (eqb n 1 || leb 1 used))
+  unfolding right_use
+  use_last inside last = rw (eq-eqb (suc k) n (omega arith))
 
-  pub use-over : k < n → n ≤ k + 1 → 504 < used → false ≡ rightUse (eqb n 1) (eqb (suc k) n) used
-  use-over inside last over = rw (use-last inside last, lt-leb used 504 over)
+  pub use_over : k < n → n ≤ k + 1 → 504 < used → false ≡ right_use (eqb n 1) (eqb (suc k) n) used
+  use_over inside last over = rw (use_last inside last, lt-leb used 504 over)
 
-  pub use-only : k < n → n ≤ k + 1 → used ≤ 504 → n ≡ 1 → true ≡ rightUse (eqb n 1) (eqb (suc k) n) used
-  use-only inside last fits only = rw (use-last inside last, le-leb used 504 fits, eq-eqb n 1 only)
+  pub use_only : k < n → n ≤ k + 1 → used ≤ 504 → n ≡ 1 → true ≡ right_use (eqb n 1) (eqb (suc k) n) used
+  use_only inside last fits only = rw (use_last inside last, le-leb used 504 fits, eq-eqb n 1 only)
 
-  pub use-some : k < n → n ≤ k + 1 → used ≤ 504 → (n ≡ 1 → ⊥) → ltb 0 used ≡ rightUse (eqb n 1) (eqb (suc k) n) used
-  use-some inside last fits more = rw (use-last inside last, le-leb used 504 fits, ne_eqb n 1 more)
+  pub use_some : k < n → n ≤ k + 1 → used ≤ 504 → (n ≡ 1 → ⊥) → ltb 0 used ≡ right_use (eqb n 1) (eqb (suc k) n) used
+  use_some inside last fits more = rw (use_last inside last, le-leb used 504 fits, ne_eqb n 1 more)
 
 -- the loop over bytes: they are all zero exactly if what is left from i on is
 module _ (bytes : List ℕ) where
   abbrev pub Rest : ℕ → Type 0
-  Rest i = allZero bytes ≡ allZero (drop i bytes)
+  Rest i = all_zero bytes ≡ all_zero (drop i bytes)
 
-  rest-cons : (i : ℕ) → i < length bytes → allZero (drop i bytes) ≡ (eqb (get_or bytes i 0) 0 && allZero (drop (i + 1) bytes))
-  unfolding allZero every
-  rest-cons i low = rw (drop-cons bytes i 0 low, add-one i)
+  rest_cons : (i : ℕ) → i < length bytes → all_zero (drop i bytes) ≡ (eqb (get_or bytes i 0) 0 && all_zero (drop (i + 1) bytes))
+  unfolding all_zero every
+  rest_cons i low = rw (drop-cons bytes i 0 low, add-one i)
 
   module _ (i : ℕ) (rest : Rest i) where
     pub rest_more : i < length bytes → get_or bytes i 0 ≡ 0 → Rest (i + 1)
-    rest_more low zero = rest ∙ rw (rest-cons i low, eq-eqb (get_or bytes i 0) 0 zero)
+    rest_more low zero = rest ∙ rw (rest_cons i low, eq-eqb (get_or bytes i 0) 0 zero)
 
-    pub rest-not : i < length bytes → (get_or bytes i 0 ≡ 0 → ⊥) → false ≡ allZero bytes
-    rest-not low other = sym (rest ∙ rw (rest-cons i low, ne_eqb (get_or bytes i 0) 0 other))
+    pub rest_not : i < length bytes → (get_or bytes i 0 ≡ 0 → ⊥) → false ≡ all_zero bytes
+    rest_not low other = sym (rest ∙ rw (rest_cons i low, ne_eqb (get_or bytes i 0) 0 other))
 
-    pub rest-none : length bytes ≤ i → true ≡ allZero bytes
-    unfolding allZero every
-    rest-none past = sym (rest ∙ rw (drop_of_length-le bytes past))
+    pub rest_none : length bytes ≤ i → true ≡ all_zero bytes
+    unfolding all_zero every
+    rest_none past = sym (rest ∙ rw (drop_of_length-le bytes past))
 
 drop_of_take : (m n : ℕ) (l : List ℕ) → m ≤ length l → drop m (take (m + n) l) ≡ take n (drop m l)
 drop_of_take m n l inside = ap (drop m) (take-add m n l) ∙ drop_at (take m l) (take n (drop m l)) m (length-take-le m l inside)
 
 -- the bytes of a block's content from `used` on, in the file
-content-is :
+content_is :
     (file : List ℕ) (k used : ℕ) → 512 * k + 512 ≤ length file → used ≤ 504 →
     take (512 * k + 4 + 504 - (512 * k + 4 + used)) (drop (512 * k + 4 + used) file) ≡ drop used (take 504 (drop 4 (block_at file k)))
 unfolding block_at
-content-is file k used inside fits =
+content_is file k used inside fits =
     let rest = drop (512 * k) file in
     let long : 512 ≤ length rest = rw (length-drop (512 * k) file) (omega arith) in
     let size : 512 * k + 4 + 504 - (512 * k + 4 + used) ≡ 504 - used = omega arith in
@@ -188,7 +188,7 @@ content-is file k used inside fits =
 
 -- the padding of a block, in the file
 pub padding-is :
-    (file : List ℕ) (k used : ℕ) → 512 * k + 512 ≤ length file → used ≡ usedIn (block_at file k) → used ≤ 504 →
+    (file : List ℕ) (k used : ℕ) → 512 * k + 512 ≤ length file → used ≡ used_in (block_at file k) → used ≤ 504 →
     take (512 * k + 4 + 504 - (512 * k + 4 + used)) (drop (512 * k + 4 + used) file) ≡ padding (block_at file k)
 unfolding padding
-padding-is file k used inside e fits = content-is file k used inside fits ∙ ap (λ n. drop n (take 504 (drop 4 (block_at file k)))) e
+padding-is file k used inside e fits = content_is file k used inside fits ∙ ap (λ n. drop n (take 504 (drop 4 (block_at file k)))) e

@@ -7,9 +7,9 @@ use lib.ListN.{length, take, drop, replicate, length-append, length-take, length
 use lib.Seq.{paste, take-length}
 use Rattle.definition.specs.Bytes.{be2, be4}
 use Rattle.definition.specs.Run.{overwrite}
-use Rattle.definition.specs.Blocks.{weighted, block, writtenBlock}
+use Rattle.definition.specs.Blocks.{weighted, block, written_block}
 use Rattle.facts.proofs.Chunks.{joined, length-joined}
-use Rattle.facts.proofs.Copies.{take_short, paste-front, paste-there, part-more}
+use Rattle.facts.proofs.Copies.{take_short, paste-front, paste-there, part_more}
 use Rattle.writer.proofs.Laws.{paste-paste}
 
 -- a copy of a whole list a to a place, and of b behind it
@@ -26,8 +26,8 @@ module _ (job : List ℕ) (k : ℕ) where
 
   block-fields :
       (used sum : ℕ) → used ≡ length (take 504 (drop (504 * k) job)) → sum ≡ weighted 0 (front used) →
-      front used ++ be4 sum ≡ writtenBlock job k
-  unfolding writtenBlock block front
+      front used ++ be4 sum ≡ written_block job k
+  unfolding written_block block front
   block-fields used sum eu es =
       let part = take 504 (drop (504 * k) job) in
       let zeros : List ℕ = replicate (504 - length part) 0 in
@@ -50,7 +50,7 @@ pub block_written :
     o₄ ≡ paste o₃ (512 * k + 4 + used) (replicate (504 - used) 0) (504 - used) →
     sum ≡ weighted 0 (take (512 * k + 508 - 512 * k) (drop (512 * k) o₄)) →
     o₅ ≡ paste o₄ (512 * k + 508) (be4 sum) 4 →
-    o₅ ≡ paste out (512 * k) (writtenBlock job k) 512
+    o₅ ≡ paste out (512 * k) (written_block job k) 512
 unfolding front be2 be4
 block_written job out o₁ o₂ o₃ o₄ o₅ k used sum room eu e₁ e₂ e₃ e₄ es e₅ =
     let base = 512 * k in
@@ -79,7 +79,7 @@ block_written job out o₁ o₂ o₃ o₄ o₅ k used sum room eu e₁ e₂ e₃
     let size : length (front job k used ++ be4 sum) ≡ 512 = length-append (front job k used) (be4 sum) ∙ ap (λ n. n + 4) lf in
     p₅ ∙ ap (paste out base (front job k used ++ be4 sum)) size ∙ ap (λ l. paste out base l 512) (block-fields job k used sum lp summed)
 
-pub length-written : (job : List ℕ) (k : ℕ) → length (writtenBlock job k) ≡ 512
+pub length-written : (job : List ℕ) (k : ℕ) → length (written_block job k) ≡ 512
 unfolding be4
 length-written job k =
     let part = take 504 (drop (504 * k) job) in
@@ -90,13 +90,13 @@ length-written job k =
     ∙ length-append (front job k used) (be4 sum)
     ∙ ap (λ n. n + 4) (length_front job k used refl small)
 
-pub length-file : (job : List ℕ) (n : ℕ) → length (joined (writtenBlock job) n) ≡ 512 * n
-length-file job n = length-joined 512 (writtenBlock job) 0 n (λ j _ _. length-written job j)
+pub length-file : (job : List ℕ) (n : ℕ) → length (joined (written_block job) n) ≡ 512 * n
+length-file job n = length-joined 512 (written_block job) 0 n (λ j _ _. length-written job j)
 
 -- a turn of the loop over the blocks
 pub blocks_more :
     (job d : List ℕ) (k : ℕ) →
-    paste (overwrite (joined (writtenBlock job) k) d) (512 * k) (writtenBlock job k) 512 ≡
-    overwrite (joined (writtenBlock job) (k + 1)) d
+    paste (overwrite (joined (written_block job) k) d) (512 * k) (written_block job k) 512 ≡
+    overwrite (joined (written_block job) (k + 1)) d
 blocks_more job d k =
-    part-more (writtenBlock job) k d (512 * k) 512 (length-file job k) (length-written job k)
+    part_more (written_block job) k d (512 * k) 512 (length-file job k) (length-written job k)

@@ -3,9 +3,9 @@ ghost use Rattle.std.specs.Prelude.{◌≡◌, false, suc, ◌+◌, ◌*◌, ◌
 ghost use Rattle.std.proofs.Math.Seq.{paste};
 ghost use Rattle.definition.specs.Basics.{concat, from};
 ghost use Rattle.definition.specs.Run.{overwrite};
-ghost use Rattle.definition.specs.Blocks.{weighted, blocksFor, writtenBlock, writeBlocks};
-ghost use Rattle.definition.specs.Blocks.{rightUse, padding, allZero, rightBlock, block_at, usedIn, readBlocks, blocksAfter};
-ghost use Rattle.blocks.specs.Answers.{readAnswer, writtenAnswer, length_of, numbersOf, Told};
+ghost use Rattle.definition.specs.Blocks.{weighted, blocks_for, written_block, write_blocks};
+ghost use Rattle.definition.specs.Blocks.{right_use, padding, all_zero, right_block, block_at, used_in, read_blocks, blocks_after};
+ghost use Rattle.blocks.specs.Answers.{read_answer, written_answer, length_of, numbers_of, Told};
 ghost use Rattle.blocks.specs.File.{data_of, RightBelow};
 
 // A block: number and use, two bytes each, 504 bytes of a job, and a check over the 508 bytes before it.
@@ -76,7 +76,7 @@ fn in_block(left: usize) -> usize
 // Writes block k of a job, which begins in it.
 fn put_block(job: &[u8], out: &mut [u8], k: usize)
     requires { (k < 2081) × (504 * k ≤ length job.now) × (512 * k + 512 ≤ length out.old) }
-    ensures { out.new ≡ paste out.old (512 * k) (writtenBlock job.now k) 512 }
+    ensures { out.new ≡ paste out.old (512 * k) (written_block job.now k) 512 }
 {
     let base = BLOCK * k;
     let from = CONTENT * k;
@@ -92,7 +92,7 @@ fn put_block(job: &[u8], out: &mut [u8], k: usize)
 
 fn put_blocks(job: &[u8], out: &mut [u8], n: usize)
     requires { (n ≤ 2081) × (504 * n ≤ length job.now + 504) × (512 * n ≤ length out.old) }
-    ensures { out.new ≡ overwrite (concat (from (writtenBlock job.now) 0 n)) out.old }
+    ensures { out.new ≡ overwrite (concat (from (written_block job.now) 0 n)) out.old }
 {
     let mut k = 0;
     while k < n {
@@ -102,7 +102,7 @@ fn put_blocks(job: &[u8], out: &mut [u8], n: usize)
 }
 
 fn blocks_for(size: usize) -> usize
-    ensures { result ≡ blocksFor size }
+    ensures { result ≡ blocks_for size }
 {
     if size == 0 {
         1
@@ -112,8 +112,8 @@ fn blocks_for(size: usize) -> usize
 }
 
 pub fn write_blocks(job: &[u8], out: &mut [u8]) -> BlocksWritten
-    ensures result_value { writtenAnswer result ≡ length_of (writeBlocks (length out.old) job.now) }
-    ensures out_after { out.new ≡ blocksAfter (writeBlocks (length out.old) job.now) out.old }
+    ensures result_value { written_answer result ≡ length_of (write_blocks (length out.old) job.now) }
+    ensures out_after { out.new ≡ blocks_after (write_blocks (length out.old) job.now) out.old }
 {
     let n = blocks_for(job.len());
     let file_size = BLOCK * n;
@@ -130,7 +130,7 @@ pub fn write_blocks(job: &[u8], out: &mut [u8]) -> BlocksWritten
 // Whether block k of n may use this many bytes: all but the last use 504, and only an empty job's one block uses none.
 fn right_use(last: usize, k: usize, used: usize) -> bool
     requires { k ≤ last }
-    ensures { result ≡ rightUse (eqb (suc last) 1) (eqb (suc k) (suc last)) used }
+    ensures { result ≡ right_use (eqb (suc last) 1) (eqb (suc k) (suc last)) used }
 {
     if k < last {
         return used == CONTENT;
@@ -146,13 +146,13 @@ fn right_use(last: usize, k: usize, used: usize) -> bool
 
 fn used_in(file: &[u8], k: usize) -> usize
     requires { 512 * k + 512 ≤ length file.now }
-    ensures { result ≡ usedIn (block_at file.now k) }
+    ensures { result ≡ used_in (block_at file.now k) }
 {
     writer::get_u16(file, BLOCK * k + 2) as usize
 }
 
 fn all_zero(bytes: &[u8]) -> bool
-    ensures { result ≡ allZero bytes.now }
+    ensures { result ≡ all_zero bytes.now }
 {
     let mut i = 0;
     while i < bytes.len() {
@@ -166,8 +166,8 @@ fn all_zero(bytes: &[u8]) -> bool
 
 // Whether the bytes of block k behind the used ones are zero. Its use was tested before: no block has more than 504.
 fn zero_padding(file: &[u8], k: usize) -> bool
-    requires { (512 * k + 512 ≤ length file.now) × (usedIn (block_at file.now k) ≤ 504) }
-    ensures { result ≡ allZero (padding (block_at file.now k)) }
+    requires { (512 * k + 512 ≤ length file.now) × (used_in (block_at file.now k) ≤ 504) }
+    ensures { result ≡ all_zero (padding (block_at file.now k)) }
 {
     let content = BLOCK * k + HEAD;
     let used = used_in(file, k);
@@ -177,7 +177,7 @@ fn zero_padding(file: &[u8], k: usize) -> bool
 // Whether block k is right: its check, its number, its use, and then its padding.
 fn right_block(file: &[u8], last: usize, k: usize) -> bool
     requires { (k ≤ last) × (last < 2081) × (512 * last + 512 ≤ length file.now) }
-    ensures { result ≡ rightBlock (suc last) file.now k }
+    ensures { result ≡ right_block (suc last) file.now k }
 {
     let base = BLOCK * k;
     let end = base + CHECKED;
@@ -197,7 +197,7 @@ fn right_block(file: &[u8], last: usize, k: usize) -> bool
 // The first block that isn't right, or n.
 fn first_wrong(file: &[u8], n: usize) -> usize
     requires { (0 < n) × (n ≤ 2081) × (512 * n ≤ length file.now) }
-    ensures { (result ≤ n) × RightBelow n file.now result × (result < n → rightBlock n file.now result ≡ false) }
+    ensures { (result ≤ n) × RightBelow n file.now result × (result < n → right_block n file.now result ≡ false) }
 {
     let last = n - 1;
     let mut k = 0;
@@ -233,8 +233,8 @@ fn take_blocks(file: &[u8], out: &mut [u8], n: usize)
 }
 
 pub fn read_blocks(file: &[u8], out: &mut [u8]) -> BlocksRead
-    ensures result_value { readAnswer result ≡ length_of (readBlocks (length out.old) file.now) }
-    ensures out_after { out.new ≡ blocksAfter (readBlocks (length out.old) file.now) out.old }
+    ensures result_value { read_answer result ≡ length_of (read_blocks (length out.old) file.now) }
+    ensures out_after { out.new ≡ blocks_after (read_blocks (length out.old) file.now) out.old }
 {
     if file.len() == 0 {
         return BlocksRead::NotBlocks;
@@ -266,7 +266,7 @@ pub fn read_blocks(file: &[u8], out: &mut [u8]) -> BlocksRead
 struct Numbers(u32, usize, usize);
 
 fn read_numbers(answer: BlocksRead) -> Numbers
-    ensures { result ≡ numbersOf (readAnswer answer) }
+    ensures { result ≡ numbers_of (read_answer answer) }
 {
     match answer {
         BlocksRead::Read(n) => Numbers(0, 0, n),
@@ -278,7 +278,7 @@ fn read_numbers(answer: BlocksRead) -> Numbers
 }
 
 fn written_numbers(answer: BlocksWritten) -> Numbers
-    ensures { result ≡ numbersOf (writtenAnswer answer) }
+    ensures { result ≡ numbers_of (written_answer answer) }
 {
     match answer {
         BlocksWritten::Written(n) => Numbers(0, 0, n),
@@ -295,7 +295,7 @@ pub extern "C" fn blocks_read(
     place: &mut usize,
     size: &mut usize,
 ) -> u32
-    ensures { Told (readBlocks (length out.old) file.now)
+    ensures { Told (read_blocks (length out.old) file.now)
         result place.new size.new out.old out.new }
 {
     let n = read_numbers(read_blocks(file, out));
@@ -312,7 +312,7 @@ pub extern "C" fn blocks_write(
     place: &mut usize,
     size: &mut usize,
 ) -> u32
-    ensures { Told (writeBlocks (length out.old) job.now)
+    ensures { Told (write_blocks (length out.old) job.now)
         result place.new size.new out.old out.new }
 {
     let n = written_numbers(write_blocks(job, out));

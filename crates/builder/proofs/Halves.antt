@@ -8,12 +8,12 @@ use Rattle.definition.specs.Basics.{good, unless, insert}
 use Rattle.definition.specs.Settings.{version, texts, highest}
 use Rattle.definition.specs.Shapes.{constant, bootstrap, is_wide, Entry}
 use Rattle.definition.specs.Job.{Definition, define, named, placed, setting}
-use Rattle.definition.specs.Definitions.{Held, starts, half, Defined, nameTarget, is_none, tag_at, hold, placeConstant, placeBootstrap, withSetting, defineOne, defineAll, nothingDefined}
+use Rattle.definition.specs.Definitions.{Held, starts, half, Defined, name_target, is_none, tag_at, hold, place_constant, place_bootstrap, with_setting, define_one, define_all, nothing_defined}
 use Rattle.facts.specs.Lists.{Among}
 use Rattle.facts.proofs.Lists.{clash, among-nil}
 use Rattle.facts.proofs.Tables.{insert-new, insert-old, insert-among}
-use Rattle.facts.proofs.Results.{good-inj, good-then}
-use Rattle.laws.proofs.definitions.RawSlotsRise.{placed-constant, defined-all}
+use Rattle.facts.proofs.Results.{good_inj, good_then}
+use Rattle.laws.proofs.Definitions.RawSlotsRise.{placed-constant, defined_all}
 
 -- every second half has its wide start before it
 abbrev pub Halves : (ℕ → Bool) → List (ℕ × Held) → Type 0
@@ -21,8 +21,8 @@ Halves wide held = (n : ℕ) → Among (n, half) held → (j : ℕ) × (e : ℕ)
 
 module _ (wide : ℕ → Bool) where
   -- a row more that is no second half
-  halves-more : (n e : ℕ) (held : List (ℕ × Held)) → Halves wide held → Halves wide (insert n (starts e) held)
-  halves-more n e held h k a = ways (insert-among n (starts e) held k half a)
+  halves_more : (n e : ℕ) (held : List (ℕ × Held)) → Halves wide held → Halves wide (insert n (starts e) held)
+  halves_more n e held h k a = ways (insert-among n (starts e) held k half a)
     where
       ways :
           ((n ≡ k) × (starts e ≡ half)) ⊎ Among (k, half) held →
@@ -32,7 +32,7 @@ module _ (wide : ℕ → Bool) where
 
   hold-halves : (b : Bool) (n e : ℕ) (held : List (ℕ × Held)) → wide e ≡ b → Halves wide held → Halves wide (hold b n e held)
   unfolding hold
-  hold-halves false n e held w h k a = halves-more n e held h k a
+  hold-halves false n e held w h k a = halves_more n e held h k a
   hold-halves true n e held w h k a = ways (insert-among n (starts e) (insert (suc n) half held) k half a)
     where
       There : Type 0
@@ -52,23 +52,23 @@ module _ {R : Type 0} (top : ℕ) (constants : List (Entry ℕ R)) where
   abbrev wide : ℕ → Bool
   wide e = is_wide (tag_at constants e)
 
-  one-halves : (x : Definition ℕ) (d d' : Defined) → Halves wide d.held → defineOne top constants x d ≡ good d' → Halves wide d'.held
-  unfolding defineOne withSetting
-  one-halves (define x) d d' h q = subst (λ (y : Defined). Halves wide y.held) (good-inj q) h
+  one-halves : (x : Definition ℕ) (d d' : Defined) → Halves wide d.held → define_one top constants x d ≡ good d' → Halves wide d'.held
+  unfolding define_one with_setting
+  one-halves (define x) d d' h q = subst (λ (y : Defined). Halves wide y.held) (good_inj q) h
   one-halves (named kind s r) d d' h q =
-      good-then (unless (is_none (nameTarget kind s d.names)) 11) _ d' q λ _ _ g. subst (λ (y : Defined). Halves wide y.held) (good-inj g) h
+      good_then (unless (is_none (name_target kind s d.names)) 11) _ d' q λ _ _ g. subst (λ (y : Defined). Halves wide y.held) (good_inj g) h
   one-halves (placed constant n e) d d' h q =
-      good-then (placeConstant top (wide e) n e d.held) _ d' q λ held p g.
-      subst (λ (y : Defined). Halves wide y.held) (good-inj g)
+      good_then (place_constant top (wide e) n e d.held) _ d' q λ held p g.
+      subst (λ (y : Defined). Halves wide y.held) (good_inj g)
       (subst (Halves wide) (placed-constant top (wide e) n e d.held held p).now (hold-halves wide (wide e) n e d.held refl h))
   one-halves (placed bootstrap n e) d d' h q =
-      good-then (placeBootstrap n e d.indexes) _ d' q λ indexes p g. subst (λ (y : Defined). Halves wide y.held) (good-inj g) h
-  one-halves (setting (version v)) d d' h q = subst (λ (y : Defined). Halves wide y.held) (good-inj q) h
-  one-halves (setting texts) d d' h q = subst (λ (y : Defined). Halves wide y.held) (good-inj q) h
-  one-halves (setting (highest n)) d d' h q = subst (λ (y : Defined). Halves wide y.held) (good-inj q) h
+      good_then (place_bootstrap n e d.indexes) _ d' q λ indexes p g. subst (λ (y : Defined). Halves wide y.held) (good_inj g) h
+  one-halves (setting (version v)) d d' h q = subst (λ (y : Defined). Halves wide y.held) (good_inj q) h
+  one-halves (setting texts) d d' h q = subst (λ (y : Defined). Halves wide y.held) (good_inj q) h
+  one-halves (setting (highest n)) d d' h q = subst (λ (y : Defined). Halves wide y.held) (good_inj q) h
 
-  pub defined-halves : (ds : List (Definition ℕ)) (d : Defined) → defineAll top constants 0 ds nothingDefined ≡ good d → Halves wide d.held
-  unfolding nothingDefined
-  defined-halves ds d e =
-      defined-all top constants (λ _ d. Halves wide d.held) (λ _ x d d' h q. one-halves x d d' h q) 0 [] ds nothingDefined d
+  pub defined_halves : (ds : List (Definition ℕ)) (d : Defined) → define_all top constants 0 ds nothing_defined ≡ good d → Halves wide d.held
+  unfolding nothing_defined
+  defined_halves ds d e =
+      defined_all top constants (λ _ d. Halves wide d.held) (λ _ x d d' h q. one-halves x d d' h q) 0 [] ds nothing_defined d
       (λ n a. among-nil (n, half) a) e

@@ -10,11 +10,11 @@ use Rattle.definition.specs.Basics.{good, lookup}
 use Rattle.definition.specs.Job.{Job}
 use Rattle.definition.specs.Form.{form}
 use Rattle.definition.specs.Numbering.{top_of, numbered}
-use Rattle.definition.specs.Building.{attributeText}
+use Rattle.definition.specs.Building.{attribute_text}
 use Rattle.definition.specs.Layout.{Layout, layout_of, layout}
 use Rattle.laws.specs.Statements.{IsBytes}
-use Rattle.laws.proofs.building.LayoutStages.{Stages}
-use Rattle.laws.proofs.reading.BuiltPoolReadBack as built
+use Rattle.laws.proofs.Building.LayoutStages.{Stages}
+use Rattle.laws.proofs.Reading.BuiltPoolReadBack as built
 
 module _
     (bytes : List ℕ) (job : Job (List ℕ)) (l : Layout) (are : IsBytes bytes) (formed : form bytes ≡ good job)
@@ -23,12 +23,12 @@ module _
   staged = built.stg bytes job l are formed laid
 
   -- a slot that holds something is one
-  owned-low : (wanted : Bool) → ((wanted ≡ false) × (staged.named.0 ≡ 0)) ⊎ ((wanted ≡ true) × (lookup staged.named.0 staged.named.1.owned ≡ some attributeText)) → staged.named.0 ≤ top_of job
-  owned-low wanted (inl h) = omega arith
-  owned-low wanted (inr h) =
-      let (k, a, _) = built.owner-tag bytes job l are formed laid staged.named.0 attributeText h.1 in
+  owned_low : (wanted : Bool) → ((wanted ≡ false) × (staged.named.0 ≡ 0)) ⊎ ((wanted ≡ true) × (lookup staged.named.0 staged.named.1.owned ≡ some attribute_text)) → staged.named.0 ≤ top_of job
+  owned_low wanted (inl h) = omega arith
+  owned_low wanted (inr h) =
+      let (k, a, _) = built.owner_tag bytes job l are formed laid staged.named.0 attribute_text h.1 in
       (built.starts-at bytes job l are formed laid staged.named.0 k a).1
 
-  pub name-low : l.name ≤ top_of job
+  pub name_low_lem : l.name ≤ top_of job
   unfolding layout_of
-  name-low = subst (λ n. n ≤ top_of job) (ap (λ (x : Layout). x.name) staged.isLaid) (owned-low _ (built.end bytes job l are formed laid).name)
+  name_low_lem = subst (λ n. n ≤ top_of job) (ap (λ (x : Layout). x.name) staged.is_laid) (owned_low _ (built.end bytes job l are formed laid).name)

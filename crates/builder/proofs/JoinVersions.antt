@@ -5,20 +5,20 @@ use Prim.Native.Nat.{ℕ}
 use Rattle.definition.specs.Definitions.{Defined}
 use Rattle.definition.specs.Building.{Pool}
 use Rattle.definition.specs.Layout.{Ready}
-use Rattle.laws.proofs.building.VersionsKept.{ended-version, answers-version}
+use Rattle.laws.proofs.Building.VersionsKept.{ended_version, answers_version}
 use Rattle.slots.specs.Gaps.{GapTable}
 use Rattle.store.specs.Store.{Store}
-use Rattle.store.specs.JobIn.{countsIn}
+use Rattle.store.specs.JobIn.{counts_in}
 use Rattle.store.specs.Regions.{ANSWERS}
-use Rattle.definitions.proofs.Versions.{version-counted}
-use Rattle.pool.specs.Replying.{readyIn}
+use Rattle.definitions.proofs.Versions.{version_counted}
+use Rattle.pool.specs.Replying.{ready_in}
 use Rattle.requests.specs.Asked.{Asked}
 use Rattle.builder.proofs.Stages.{asked_is}
 
 pub held-version :
     (p : List ℕ) (top : ℕ) (s : List ℕ) (t : Store) (g : GapTable) (d : Defined) (ready : Ready) (pool : Pool) → Asked p top s t g d ready pool →
-    pool.version ≡ (countsIn s).version
+    pool.version ≡ (counts_in s).version
 held-version p top s t g d ready pool a =
-    answers-version _ _ _ _ ready (t ANSWERS, readyIn s t pool) (asked_is top s d ready (t ANSWERS) (readyIn s t pool) a.isAsked a.isDefined a.isReady)
-    ∙ ended-version top _ _ d ready a.isReady
-    ∙ version-counted top s d a.isDefined
+    answers_version _ _ _ _ ready (t ANSWERS, ready_in s t pool) (asked_is top s d ready (t ANSWERS) (ready_in s t pool) a.is_asked a.is_defined a.is_ready)
+    ∙ ended_version top _ _ d ready a.is_ready
+    ∙ version_counted top s d a.is_defined

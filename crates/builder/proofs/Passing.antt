@@ -6,28 +6,28 @@ use native.Mathlib.Omega.{arith}
 use borrow.Author.Tests.{eq-eqb, ne_eqb}
 use Rattle.facts.proofs.Lists.{equal, order}
 use Rattle.rows.specs.Rowed.{Reached}
-use Rattle.output.specs.Rows.{reachedAt, passed}
+use Rattle.output.specs.Rows.{reached_at, passed}
 
-reached-yes : (at next : ℕ) → at ≡ next → reachedAt at next ≡ 1
-unfolding reachedAt
-reached-yes at next h = rw (eq-eqb at next h, reachedAt)
+reached_yes : (at next : ℕ) → at ≡ next → reached_at at next ≡ 1
+unfolding reached_at
+reached_yes at next h = rw (eq-eqb at next h, reached_at)
 
-reached-not : (at next : ℕ) → (at ≡ next → ⊥) → reachedAt at next ≡ 0
-unfolding reachedAt
-reached-not at next h = rw (ne_eqb at next h, reachedAt)
+reached_not : (at next : ℕ) → (at ≡ next → ⊥) → reached_at at next ≡ 0
+unfolding reached_at
+reached_not at next h = rw (ne_eqb at next h, reached_at)
 
 -- f are n rising numbers, and `next` is past every index behind them
 module _
     (f next : ℕ → ℕ) (n : ℕ) (is : (i : ℕ) → i < n → next i ≡ f i) (past : (i : ℕ) → n ≤ i → next i ≡ 65536)
     (rise : (i j : ℕ) → i < j → j < n → f i < f j) where
-  on : (i c : ℕ) → i < 65536 → Reached f n i c → Reached f n (suc i) (c + reachedAt i (next c))
+  on : (i c : ℕ) → i < 65536 → Reached f n i c → Reached f n (suc i) (c + reached_at i (next c))
   on i c low r =
       ⊎_elim
       (λ (z : i ≡ next c).
       let less : c < n =
       ⊎_elim (λ (l : c < n). l) (λ (l : n ≤ c). absurd (omega (arith, past c l))) (order c n) in
       let here : f c ≡ i = sym (is c less) ∙ sym z in
-      subst (λ x. Reached f n (suc i) (c + x)) (sym (reached-yes i (next c) z))
+      subst (λ x. Reached f n (suc i) (c + x)) (sym (reached_yes i (next c) z))
       (record {
         low = omega (arith, less);
         below =
@@ -40,7 +40,7 @@ module _
       }))
       (λ (z : i ≡ next c → ⊥).
       let same : c + 0 ≡ c = omega arith in
-      subst (λ x. Reached f n (suc i) (c + x)) (sym (reached-not i (next c) z))
+      subst (λ x. Reached f n (suc i) (c + x)) (sym (reached_not i (next c) z))
       (subst (Reached f n (suc i)) (sym same)
       (record {
         low = r.low;

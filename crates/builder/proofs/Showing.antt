@@ -10,38 +10,38 @@ use lib.ListN.{get_or}
 use borrow.Author.Tests.{eqb-true}
 use Rattle.definition.specs.Basics.{good, lookup, from, concat}
 use Rattle.definition.specs.Bytes.{be2}
-use Rattle.definition.specs.Shapes.{Entry, is_wide, withLiteral}
+use Rattle.definition.specs.Shapes.{Entry, is_wide, with_literal}
 use Rattle.definition.specs.Numbering.{top_of, Literal, literals, numbered}
 use Rattle.definition.specs.Definitions.{Defined}
 use Rattle.definition.specs.Resolving.{Resolved}
-use Rattle.definition.specs.Slots.{Slots, countFrom}
-use Rattle.definition.specs.Building.{Origin, raw, new, old, mark_of, Made, contentOf, behind, nothing, emptyText, holds}
+use Rattle.definition.specs.Slots.{Slots, count_from}
+use Rattle.definition.specs.Building.{Origin, raw, new, old, mark_of, Made, content_of, behind, nothing, empty_text, holds}
 use Rattle.definition.specs.Layout.{Ready, Layout, layout_of, layout}
-use Rattle.definition.specs.Run.{render, shown, slotBytes}
+use Rattle.definition.specs.Run.{render, shown, slot_bytes}
 use Rattle.facts.proofs.Lists.{clash}
 use Rattle.facts.proofs.Each.{Each}
 use Rattle.laws.specs.Statements.{IsBytes}
-use Rattle.laws.proofs.form.EntryShapes.{Short}
-use Rattle.laws.proofs.reading.PoolReadBack.{Fits}
-use Rattle.laws.proofs.reading.PoolContents.{spelled, content-holds, content-behind}
-use Rattle.slots.specs.Gaps.{GapTable, slotsAt}
+use Rattle.laws.proofs.Form.EntryShapes.{Short}
+use Rattle.laws.proofs.Reading.PoolReadBack.{Fits}
+use Rattle.laws.proofs.Reading.PoolContents.{spelled, content_holds, content_behind}
+use Rattle.slots.specs.Gaps.{GapTable, slots_at_lem}
 use Rattle.store.specs.Store.{Store, over, Kept}
-use Rattle.store.specs.JobIn.{jobIn, definitionsIn}
+use Rattle.store.specs.JobIn.{job_in, definitions_in}
 use Rattle.store.specs.Regions.{COUNTS, OWNER-HEADS, OWNER-LINKS, ANSWERS, ORIGINS, PLACE, VISITS, NAME-SLOT, Work}
 use Rattle.rows.specs.Rowed.{table_of}
-use Rattle.output.specs.Contents.{OwnersMade, poolCount, poolIn}
-use Rattle.output.specs.Rows.{rowCountIn, rowsIn, constantsFor}
-use Rattle.output.specs.Names.{shownAt, classSlotIn, classIn}
-use Rattle.output.proofs.Owned.{rows-kept, class-kept}
-use Rattle.output.proofs.Rendering.{pool-rendered, rows-rendered, name-rendered}
+use Rattle.output.specs.Contents.{OwnersMade, pool_count, pool_in}
+use Rattle.output.specs.Rows.{row_count_in, rows_in, constants_for}
+use Rattle.output.specs.Names.{shown_at, class_slot_in, class_in}
+use Rattle.output.proofs.Owned.{rows_kept, class_kept}
+use Rattle.output.proofs.Rendering.{pool_rendered, rows_rendered, name_rendered}
 use Rattle.builder.specs.Rendered.{Rendered}
 use Rattle.builder.proofs.Final.{Final}
-use Rattle.builder.proofs.Laid.{layoutIn, laid_out}
-use Rattle.builder.proofs.Known.{owners-fit}
+use Rattle.builder.proofs.Laid.{layout_in, laid_out}
+use Rattle.builder.proofs.Known.{owners_fit}
 use Rattle.builder.proofs.SlotWords.{shown-same}
-use Rattle.builder.proofs.RowWords.{rows-counted, row_same}
-use Rattle.builder.proofs.RowsFinished.{rows-ready}
-use Rattle.builder.proofs.Finishing.{count-here, finished-here, class-here, class_low}
+use Rattle.builder.proofs.RowWords.{rows_counted, row_same}
+use Rattle.builder.proofs.RowsFinished.{rows_ready_lem}
+use Rattle.builder.proofs.Finishing.{count_here, finished-here, class_here, class_low}
 
 -- the first of numbers of two bytes
 first_short : (l : List ℕ) → Each Short l → get_or l 0 0 < 65536
@@ -49,12 +49,12 @@ first_short [] h = omega arith
 first_short (x ∷ l) h = h.0
 
 -- a content that is an entry is the slot's own
-content-own : (owned : List (ℕ × Entry ℕ ℕ)) (n : ℕ) (e : Entry ℕ ℕ) → contentOf owned n ≡ holds e → lookup n owned ≡ some e
-unfolding contentOf behind
-content-own owned zero e q = clash (cc)
-content-own owned (suc n) e q = ways (lookup (suc n) owned) refl
+content_own : (owned : List (ℕ × Entry ℕ ℕ)) (n : ℕ) (e : Entry ℕ ℕ) → content_of owned n ≡ holds e → lookup n owned ≡ some e
+unfolding content_of behind
+content_own owned zero e q = clash (cc)
+content_own owned (suc n) e q = ways (lookup (suc n) owned) refl
   where
-    narrow : (b : Bool) → elim b [ true ↦ nothing | false ↦ emptyText ] ≡ holds e → ◌≡◌ {A = ℕ} 0 1
+    narrow : (b : Bool) → elim b [ true ↦ nothing | false ↦ empty_text ] ≡ holds e → ◌≡◌ {A = ℕ} 0 1
     narrow true r = cc
     narrow false r = cc
 
@@ -63,8 +63,8 @@ content-own owned (suc n) e q = ways (lookup (suc n) owned) refl
     behind-not (some x) r = narrow (is_wide x.tag) r
 
     ways : (o : Option (Entry ℕ ℕ)) → lookup (suc n) owned ≡ o → o ≡ some e
-    ways none r = clash (behind-not (lookup n owned) (sym (content-behind owned n r) ∙ q))
-    ways (some x) r = let same : holds x ≡ holds e = sym (content-holds owned n x r) ∙ q in cc
+    ways none r = clash (behind-not (lookup n owned) (sym (content_behind owned n r) ∙ q))
+    ways (some x) r = let same : holds x ≡ holds e = sym (content_holds owned n x r) ∙ q in cc
 
 -- words that differ in the chains of slots alone: what is read of other regions is the same
 module _ (t u : Store) (k : Kept (OWNER-HEADS ∷ OWNER-LINKS ∷ []) t u) where
@@ -85,87 +85,87 @@ module _ (t u : Store) (k : Kept (OWNER-HEADS ∷ OWNER-LINKS ∷ []) t u) where
   same-words = λ i j. region j i
 
 module _ (s p : List ℕ) (t u : Store) (k : Kept (OWNER-HEADS ∷ OWNER-LINKS ∷ []) t u) where
-  count_kept : rowCountIn u ≡ rowCountIn t
-  count_kept = ap (λ (w : Store). rowCountIn w) (same-words t u k)
+  count_kept : row_count_in u ≡ row_count_in t
+  count_kept = ap (λ (w : Store). row_count_in w) (same-words t u k)
 
-  rows_as : rowsIn (constantsFor p) u ≡ rowsIn (constantsFor p) t
-  rows_as = ap (λ (w : Store). rowsIn (constantsFor p) w) (same-words t u k)
+  rows_as : rows_in (constants_for p) u ≡ rows_in (constants_for p) t
+  rows_as = ap (λ (w : Store). rows_in (constants_for p) w) (same-words t u k)
 
-  pool-as : poolIn s u ≡ poolIn s t
-  pool-as = ap (λ (w : Store). poolIn s w) (same-words t u k)
+  pool_as : pool_in s u ≡ pool_in s t
+  pool_as = ap (λ (w : Store). pool_in s w) (same-words t u k)
 
-  class-as : classIn s u ≡ classIn s t
-  class-as = ap (λ (w : Store). classIn s w) (same-words t u k)
+  class_as : class_in s u ≡ class_in s t
+  class_as = ap (λ (w : Store). class_in s w) (same-words t u k)
 
 module _
     (s p : List ℕ) (v : Store) (h : GapTable) (d : Defined) (ready asked : Ready) (m after : Made)
     (are : IsBytes s) (work : Work s p) (f : Final s p v h d ready asked m after) where
   abbrev all : List Literal
-  all = literals (jobIn s)
+  all = literals (job_in s)
 
-  shows : (n : ℕ) → n < 65536 → shownAt s v n ≡ shown all (contentOf after.owned n)
+  shows : (n : ℕ) → n < 65536 → shown_at s v n ≡ shown all (content_of after.owned n)
   shows = shown-same s p v h d ready asked m after are work f
 
-  counted : poolCount v ≡ countFrom (top_of (jobIn s)) after.pool.slots.gaps
-  unfolding slotsAt
-  counted = f.count ∙ ap (λ (x : Slots). countFrom (top_of (jobIn s)) x.gaps) f.named.slots
+  counted : pool_count v ≡ count_from (top_of (job_in s)) after.pool.slots.gaps
+  unfolding slots_at_lem
+  counted = f.count ∙ ap (λ (x : Slots). count_from (top_of (job_in s)) x.gaps) f.named.slots
 
-  pool-is : poolIn s v ≡ (render all (layoutIn s v asked m after)).pool
+  pool_is : pool_in s v ≡ (render all (layout_in s v asked m after)).pool
   unfolding render layout_of
-  pool-is =
-      pool-rendered s v all (contentOf after.owned) (λ i low high. shows i (omega (arith, high, count-here s p v h d ready asked m after are work f)))
-      ∙ ap (λ n. be2 n ++ concat (map (λ c. slotBytes (shown all c)) (from (contentOf after.owned) 1 (n - 1)))) counted
+  pool_is =
+      pool_rendered s v all (content_of after.owned) (λ i low high. shows i (omega (arith, high, count_here s p v h d ready asked m after are work f)))
+      ∙ ap (λ n. be2 n ++ concat (map (λ c. slot_bytes (shown all c)) (from (content_of after.owned) 1 (n - 1)))) counted
 
-  rows_are : rowsIn (constantsFor p) v ≡ (render all (layoutIn s v asked m after)).bootstraps
+  rows_are : rows_in (constants_for p) v ≡ (render all (layout_in s v asked m after)).bootstraps
   unfolding render layout_of
   rows_are =
-      rows-rendered (constantsFor p) v (table_of m.rows) (sym (rows-counted s p v h d ready asked m after are work f))
+      rows_rendered (constants_for p) v (table_of m.rows) (sym (rows_counted s p v h d ready asked m after are work f))
       (row_same s p v h d ready asked m after are work f)
 
-  class-is : classIn s v ≡ (render all (layoutIn s v asked m after)).class
-  unfolding render layout_of withLiteral
-  class-is =
-      name-rendered s v all after.owned shows (class_low s p v h d ready asked m after are work f)
-      (λ e q. kids-short e (owners-fit s p v h d ready asked m after are work f (classSlotIn s v) e (content-own after.owned (classSlotIn s v) e q)))
+  class_is : class_in s v ≡ (render all (layout_in s v asked m after)).class
+  unfolding render layout_of with_literal
+  class_is =
+      name_rendered s v all after.owned shows (class_low s p v h d ready asked m after are work f)
+      (λ e q. kids_short e (owners_fit s p v h d ready asked m after are work f (class_slot_in s v) e (content_own after.owned (class_slot_in s v) e q)))
     where
-      kids-short : (e : Entry ℕ ℕ) → Fits (spelled all e) → get_or e.kids 0 0 < 65536
-      kids-short e fits = first_short e.kids fits.isFor.shortKids
+      kids_short : (e : Entry ℕ ℕ) → Fits (spelled all e) → get_or e.kids 0 0 < 65536
+      kids_short e fits = first_short e.kids fits.is_for.short_kids
 
 -- marks are bytes
-mark-small : (o : Origin) → mark_of o < 256
+mark_small : (o : Origin) → mark_of o < 256
 unfolding mark_of
-mark-small raw = omega arith
-mark-small new = omega arith
-mark-small old = omega arith
+mark_small raw = omega arith
+mark_small new = omega arith
+mark_small old = omega arith
 
-marks-small : (so : List Origin) (i : ℕ) → get_or (map mark_of so) i 0 < 256
-marks-small [] i = omega arith
-marks-small (o ∷ so) zero = mark-small o
-marks-small (o ∷ so) (suc i) = marks-small so i
+marks_small : (so : List Origin) (i : ℕ) → get_or (map mark_of so) i 0 < 256
+marks_small [] i = omega arith
+marks_small (o ∷ so) zero = mark_small o
+marks_small (o ∷ so) (suc i) = marks_small so i
 
 -- THE WORDS SHOW what the definition renders
 pub rendered :
     (s p : List ℕ) (v u : Store) (h : GapTable) (d : Defined) (ready asked : Ready) (m after : Made) →
     IsBytes s → Work s p → Final s p v h d ready asked m after → OwnersMade p v u →
-    (l : Layout) × (layout (top_of (jobIn s)) (numbered (jobIn s)) ≡ good l) × Rendered s p u (render (literals (jobIn s)) l)
-unfolding render layout_of definitionsIn
+    (l : Layout) × (layout (top_of (job_in s)) (numbered (job_in s)) ≡ good l) × Rendered s p u (render (literals (job_in s)) l)
+unfolding render layout_of definitions_in
 rendered s p v u h d ready asked m after are work f made =
     let k = made.kept in (
-      layoutIn s v asked m after,
+      layout_in s v asked m after,
       laid_out s p v h d ready asked m after f,
       record {
         finished = finished-here s p v h d ready asked m after are work f u made;
-        rowsReady = rows-kept s p v u k (rows-ready s p v h d ready asked m after are work f);
-        class_at = class-kept s p v u k (class-here s p v h d ready asked m after are work f);
+        rows_ready = rows_kept s p v u k (rows_ready_lem s p v h d ready asked m after are work f);
+        class_at = class_kept s p v u k (class_here s p v h d ready asked m after are work f);
         small = rw (k ANSWERS refl) f.small;
-        smallMarks = λ i l. rw (k ORIGINS refl, ← f.marks) (marks-small asked.origins i);
+        small_marks = λ i l. rw (k ORIGINS refl, ← f.marks) (marks_small asked.origins i);
         answers = k ANSWERS refl;
         marks = k ORIGINS refl ∙ sym f.marks;
-        pool = pool-as s p v u k ∙ pool-is s p v h d ready asked m after are work f;
-        bootstrapCount = count_kept s p v u k ∙ rows-counted s p v h d ready asked m after are work f;
+        pool = pool_as s p v u k ∙ pool_is s p v h d ready asked m after are work f;
+        bootstrap_count = count_kept s p v u k ∙ rows_counted s p v h d ready asked m after are work f;
         bootstraps = rows_as s p v u k ∙ rows_are s p v h d ready asked m after are work f;
         name = ap (λ (l : List ℕ). get_or l NAME-SLOT 0) (k COUNTS refl);
-        class = class-as s p v u k ∙ class-is s p v h d ready asked m after are work f;
+        class = class_as s p v u k ∙ class_is s p v h d ready asked m after are work f;
         visits = ap (λ (l : List ℕ). get_or l VISITS 0) (k COUNTS refl) ∙ ap (λ (r : Resolved). r.visits) (sym f.resolved);
         place = ap (λ (l : List ℕ). get_or l PLACE 0) (k COUNTS refl) ∙ f.place;
       },

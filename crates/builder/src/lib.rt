@@ -1,7 +1,7 @@
 // The builder: the records of a job in turn, to words that the outputs are read from.
 ghost use Rattle.std.specs.Prelude.{◌≡◌, ◌+◌, ◌*◌, ◌/◌, ◌≤◌, length};
 ghost use Rattle.store.specs.Store.{store};
-ghost use Rattle.store.specs.JobIn.{WellFormed, countsIn};
+ghost use Rattle.store.specs.JobIn.{WellFormed, counts_in};
 ghost use Rattle.builder.specs.Rendered.{LaidOut};
 
 use job::JobCounts;
@@ -9,7 +9,7 @@ use slots::Gap;
 
 // The records in turn, 0, or a refusal's number, met at the record that the counter PLACE tells: `layout`.
 pub fn lay_out(job: &[u8], w: &mut [u32], p: &mut [usize], gaps: &mut [Gap], c: JobCounts) -> usize
-    requires { WellFormed job.now × (c ≡ countsIn job.now) × (length p.old ≡ 33) × (6 * length job.now + 1024 ≤ length w.old) × (length job.now / 5 + 2 ≤ length gaps.old) }
+    requires { WellFormed job.now × (c ≡ counts_in job.now) × (length p.old ≡ 33) × (6 * length job.now + 1024 ≤ length w.old) × (length job.now / 5 + 2 ≤ length gaps.old) }
     ensures { LaidOut p.new (length w.new) job.now (store p.new w.new) result }
 {
     let code = requests::ask(job, w, p, gaps, c, c.highest);

@@ -9,20 +9,20 @@ use lib.ListN.{length, get_or, drop}
 use lib.Seq.{drop-cons, drop-length}
 use Rattle.definition.specs.Basics.{Result, good, bad, ◌>>=◌, Refusal}
 use Rattle.definition.specs.Resolving.{Node}
-use Rattle.definition.specs.Building.{Pool, Rows, kidsOf, childNumber, childNumbers}
+use Rattle.definition.specs.Building.{Pool, Rows, kids_of, child_number, child_numbers}
 use Rattle.facts.proofs.Lists.{order}
 use Rattle.slots.specs.Gaps.{GapTable}
 use Rattle.store.specs.Store.{Store, size}
 use Rattle.store.specs.Regions.{FIRSTS, SIZES, CHILDREN, NODES, Work}
 use Rattle.store.specs.Words.{ENTRY}
-use Rattle.interner.specs.Nodes.{nodeCount, nodesIn}
+use Rattle.interner.specs.Nodes.{node_count, nodes_in}
 use Rattle.rows.specs.Rowed.{RowedIn}
 use Rattle.pool.specs.Pooled.{PooledIn}
-use Rattle.pool.proofs.Nodal.{node-kids-fit}
+use Rattle.pool.proofs.Nodal.{node_kids_fit}
 use Rattle.building.specs.Numbers.{ChildDone}
 use Rattle.building.specs.Working.{Working, Stacked, Grows, Numbered, Finished}
-use Rattle.building.proofs.Lasting.{made-same, nodes-same, told-since, there-now, grows-not, grows_then, stacked-not, stacked_then, done-stays}
-use Rattle.building.proofs.Kids.{kids-many, kid_at}
+use Rattle.building.proofs.Lasting.{made_same, nodes_same, told-since, there_now, grows_not, grows_then, stacked_not, stacked_then, done_stays}
+use Rattle.building.proofs.Kids.{kids_many, kid_at}
 
 -- THE LOOP: what the rest of the children gives, behind the numbers of those passed, is the whole
 
@@ -34,34 +34,34 @@ abbrev ahead : List ℕ → Numbers → Numbers
 ahead l r = r >>= λ x. good (l ++ x.0, x.1, x.2)
 
 pub record Numbering (s p : List ℕ) (k : ℕ) (t u : Store) (g h : GapTable) (i : ℕ) : Type 0 where
-  pub passed : i ≤ length (kidsOf (nodesIn s t) k)
+  pub passed : i ≤ length (kids_of (nodes_in s t) k)
   pub rest :
       (pool : Pool) (rows : Rows) → PooledIn pool t g → RowedIn p rows t →
       (l : List ℕ)
       × (pool' : Pool)
       × (rows' : Rows)
-      × (childNumbers (nodesIn s t) (kidsOf (nodesIn s t) k) pool rows
-      ≡ ahead l (childNumbers (nodesIn s t) (drop i (kidsOf (nodesIn s t) k)) pool' rows'))
+      × (child_numbers (nodes_in s t) (kids_of (nodes_in s t) k) pool rows
+      ≡ ahead l (child_numbers (nodes_in s t) (drop i (kids_of (nodes_in s t) k)) pool' rows'))
       × PooledIn pool' u h
       × RowedIn p rows' u
-  pub done : (j : ℕ) → j < i → ChildDone p u (get_or (kidsOf (nodesIn s t) k) j 0)
+  pub done : (j : ℕ) → j < i → ChildDone p u (get_or (kids_of (nodes_in s t) k) j 0)
   pub again : Working s p u h
   pub stacked : Stacked t u
   pub grows : Grows t u g h
 
-good-again : (r : Numbers) → r ≡ ahead [] r
-good-again (good a) = refl
-good-again (bad e) = refl
+good_again : (r : Numbers) → r ≡ ahead [] r
+good_again (good a) = refl
+good_again (bad e) = refl
 
-pub numbering-begin : (s p : List ℕ) (k : ℕ) (t : Store) (g : GapTable) → Working s p t g → Numbering s p k t t g g 0
-numbering-begin s p k t g w =
+pub numbering_begin : (s p : List ℕ) (k : ℕ) (t : Store) (g : GapTable) → Working s p t g → Numbering s p k t t g g 0
+numbering_begin s p k t g w =
     record {
       passed = omega arith;
-      rest = λ pool rows q m. ([], pool, rows, good-again (childNumbers (nodesIn s t) (kidsOf (nodesIn s t) k) pool rows), q, m);
+      rest = λ pool rows q m. ([], pool, rows, good_again (child_numbers (nodes_in s t) (kids_of (nodes_in s t) k) pool rows), q, m);
       done = λ j l. absurd (omega arith);
       again = w;
-      stacked = stacked-not t;
-      grows = grows-not t g;
+      stacked = stacked_not t;
+      grows = grows_not t g;
     }
 
 regroup : (r : Numbers) (n : ℕ) (l : List ℕ) → ahead l (r >>= λ x. good (n ∷ x.0, x.1, x.2)) ≡ ahead (l ++ (n ∷ [])) r
@@ -70,18 +70,18 @@ regroup (bad e) n l = refl
 
 module _ (s p : List ℕ) (k : ℕ) (t u : Store) (g h : GapTable) (i : ℕ) (l : Numbering s p k t u g h i) where
   abbrev nodes : List Node
-  nodes = nodesIn s t
+  nodes = nodes_in s t
 
   abbrev kids : List ℕ
-  kids = kidsOf (nodesIn s t) k
+  kids = kids_of (nodes_in s t) k
 
-  nodes-are : nodesIn s u ≡ nodes
-  nodes-are = nodes-same s p t u l.grows.kept l.grows.counters
+  nodes_are : nodes_in s u ≡ nodes
+  nodes_are = nodes_same s p t u l.grows.kept l.grows.counters
 
   -- no child is left
-  pub numbering-end : length kids ≤ i → Finished s p k t u g h 0
-  unfolding childNumbers
-  numbering-end e =
+  pub numbering_end : length kids ≤ i → Finished s p k t u g h 0
+  unfolding child_numbers
+  numbering_end e =
       let all : length kids ≡ i = omega (arith, l.passed) in
       let z : drop i kids ≡ [] = rw (← all) (drop-length kids) in
       record {
@@ -90,13 +90,13 @@ module _ (s p : List ℕ) (k : ℕ) (t u : Store) (g h : GapTable) (i : ℕ) (l 
               met =
                   λ pool rows q m f.
                   let (numbers, pool', rows', is, q', m') = l.rest pool rows q m in
-                  (numbers, pool', rows', is ∙ rw (z, childNumbers, append-nil), q', m');
+                  (numbers, pool', rows', is ∙ rw (z, child_numbers, append-nil), q', m');
               refused = λ pool rows q m f. absurd (omega arith);
               again = λ f. l.again;
               stacked = λ f. l.stacked;
               grows = λ f. l.grows;
             };
-        done = λ f. rw nodes-are (λ j less. l.done j (omega arith));
+        done = λ f. rw nodes_are (λ j less. l.done j (omega arith));
       }
 
   module _
@@ -105,9 +105,9 @@ module _ (s p : List ℕ) (k : ℕ) (t u : Store) (g h : GapTable) (i : ℕ) (l 
     next = drop-cons kids i 0 more ∙ rw is
 
     -- its number is refused
-    pub numbering-refused : (r ≡ 0 → ⊥) → Finished s p k t v g o r
-    unfolding childNumbers
-    numbering-refused f =
+    pub numbering_refused : (r ≡ 0 → ⊥) → Finished s p k t v g o r
+    unfolding child_numbers
+    numbering_refused f =
         record {
           step =
               record {
@@ -116,7 +116,7 @@ module _ (s p : List ℕ) (k : ℕ) (t u : Store) (g h : GapTable) (i : ℕ) (l 
                     λ pool rows q m z.
                     let (numbers, pool', rows', e, q', m') = l.rest pool rows q m in
                     told-since s p t u l.grows.kept l.grows.counters _ _ v r
-                    (λ told a. let b : childNumber nodes child pool' rows' ≡ bad told = rw nodes-are at a in e ∙ rw (next, childNumbers, b))
+                    (λ told a. let b : child_number nodes child pool' rows' ≡ bad told = rw nodes_are at a in e ∙ rw (next, child_numbers, b))
                     (x.step.refused pool' rows' q' m' z);
                 again = λ z. absurd (f z);
                 stacked = λ z. absurd (f z);
@@ -126,9 +126,9 @@ module _ (s p : List ℕ) (k : ℕ) (t u : Store) (g h : GapTable) (i : ℕ) (l 
         }
 
     -- it has one
-    pub numbering-next : r ≡ 0 → Numbering s p k t v g o (i + 1)
-    unfolding childNumbers
-    numbering-next z =
+    pub numbering_next : r ≡ 0 → Numbering s p k t v g o (i + 1)
+    unfolding child_numbers
+    numbering_next z =
         rw (add-one i)
         (record {
           passed = omega arith;
@@ -136,18 +136,18 @@ module _ (s p : List ℕ) (k : ℕ) (t u : Store) (g h : GapTable) (i : ℕ) (l 
               λ pool rows q m.
               let (numbers, pool', rows', e, q', m') = l.rest pool rows q m in
               let (n, pool'', rows'', f, q'', m'') = x.step.met pool' rows' q' m' z in
-              let b : childNumber nodes child pool' rows' ≡ good (n, pool'', rows'') = rw nodes-are at f in (
+              let b : child_number nodes child pool' rows' ≡ good (n, pool'', rows'') = rw nodes_are at f in (
                 numbers ++ (n ∷ []),
                 pool'',
                 rows'',
-                e ∙ rw (next, childNumbers, b) (regroup (childNumbers nodes (drop (suc i) kids) pool'' rows'') n numbers),
+                e ∙ rw (next, child_numbers, b) (regroup (child_numbers nodes (drop (suc i) kids) pool'' rows'') n numbers),
                 q'',
                 m'',
               );
           done =
               λ j b.
               ⊎_elim
-              (λ (low : j < i). done-stays s p u v h o (x.step.grows z) (get_or kids j 0) (l.done j low))
+              (λ (low : j < i). done_stays s p u v h o (x.step.grows z) (get_or kids j 0) (l.done j low))
               (λ (high : i ≤ j). let e : j ≡ i = omega arith in rw (e, ← is) (x.done z))
               (order j i);
           again = x.step.again z;
@@ -159,16 +159,16 @@ module _ (s p : List ℕ) (k : ℕ) (t u : Store) (g h : GapTable) (i : ℕ) (l 
 
 module _
     (s p : List ℕ) (t : Store) (g : GapTable) (work : Work s p) (w : Working s p t g) (long : length (t NODES) ≡ size p NODES)
-    (k : ℕ) (low : k < nodeCount t) (first n : ℕ) (f : first ≡ get_or (t FIRSTS) (get_or (t NODES) k 0) 0) (m : n ≡ get_or (t SIZES) (get_or (t NODES) k 0) 0) where
-  pub fields-many : length (kidsOf (nodesIn s t) k) ≡ n
-  fields-many = kids-many s p t work w.standing long k low ∙ sym m
+    (k : ℕ) (low : k < node_count t) (first n : ℕ) (f : first ≡ get_or (t FIRSTS) (get_or (t NODES) k 0) 0) (m : n ≡ get_or (t SIZES) (get_or (t NODES) k 0) 0) where
+  pub fields_many : length (kids_of (nodes_in s t) k) ≡ n
+  fields_many = kids_many s p t work w.standing long k low ∙ sym m
 
-  pub fields-room : first + n ≤ size p CHILDREN
-  fields-room = node-kids-fit s p t (there-now s p t work w.standing) k low first n f m
+  pub fields_room : first + n ≤ size p CHILDREN
+  fields_room = node_kids_fit s p t (there_now s p t work w.standing) k low first n f m
 
   module _ (u : Store) (h : GapTable) (i : ℕ) (l : Numbering s p k t u g h i) (more : i < n) (child : ℕ) (is : child ≡ get_or (u CHILDREN) (first + i) 0) where
-    pub field_is : child ≡ get_or (kidsOf (nodesIn s t) k) i 0
+    pub field_is : child ≡ get_or (kids_of (nodes_in s t) k) i 0
     field_is = is ∙ rw (l.grows.kept CHILDREN refl, f) (sym (kid_at s p t work w.standing long k low i (omega (arith, m))))
 
-    pub field-there : child < ENTRY + nodeCount u
-    field-there = rw (field_is, made-same s p t u l.grows.kept l.grows.counters) (w.standing.kids k low i (omega (arith, fields-many)))
+    pub field_there : child < ENTRY + node_count u
+    field_there = rw (field_is, made_same s p t u l.grows.kept l.grows.counters) (w.standing.kids k low i (omega (arith, fields_many)))

@@ -13,39 +13,39 @@ use Rattle.store.specs.Store.{Store, size, Kept}
 use Rattle.store.specs.Regions.{COUNTS, MARKS, GIVEN, INDEXES, NODE-HEADS, NODE-LINKS, ROW-HEADS, ROW-LINKS, RECORDS, OFFSETS, FIRSTS, SIZES, CHILDREN, RAW-KEYS, RAW-ENTRIES, ORDER, NODES, PENDING, INLINE, VALUES, PLACE, NODE-COUNT, GAP-COUNT, ODD, WIDE, PLAIN, PENDING-COUNT, RAW-COUNT, HELD-COUNT, ROW-COUNT, WRITTEN-COUNT, INLINE-COUNT, Work}
 use Rattle.store.specs.Words.{ENTRY}
 use Rattle.store.proofs.Keeping.{kept_then, kept_more}
-use Rattle.interner.specs.Nodes.{nodeAt, nodeCount, nodesIn, recordIn}
-use Rattle.rows.specs.Rowed.{constantsOf, rawRows, rawIndex, rawNode, entryRow, row_in, RowedIn, IsBootstrapIn, Indexed, SameBut, written, HasNumber}
-use Rattle.rows.proofs.Asking.{rows-given, row_stays}
+use Rattle.interner.specs.Nodes.{node_at_lem, node_count, nodes_in, record_in}
+use Rattle.rows.specs.Rowed.{constants_of, raw_rows, raw_index, raw_node, entry_row, row_in, RowedIn, IsBootstrapIn, Indexed, SameBut, written, HasNumber}
+use Rattle.rows.proofs.Asking.{rows_given, row_stays}
 use Rattle.rows.proofs.Staying.{same_more}
 use Rattle.pool.specs.Pooled.{moving, LiveIn, NodesThere, Goes, Told}
-use Rattle.pool.proofs.Words.{child-kept, has_kept}
-use Rattle.pool.proofs.Nodal.{record-asks}
-use Rattle.pool.proofs.Giving.{gaps-live-same}
+use Rattle.pool.proofs.Words.{child_kept, has_kept}
+use Rattle.pool.proofs.Nodal.{record_asks}
+use Rattle.pool.proofs.Giving.{gaps_live_same}
 use Rattle.building.specs.Numbers.{ChildDone, KidsDone}
-use Rattle.building.specs.Built.{builtCounters, builtRegions}
+use Rattle.building.specs.Built.{built_counters, built_regions}
 use Rattle.building.specs.Working.{EntrySlotted, NodeSlotted, Standing, Working, Stacked, Grows}
 
 -- WHAT NEVER CHANGES
 
-module _ (s p : List ℕ) (t u : Store) (kept : Kept builtRegions t u) (same : SameBut builtCounters (t COUNTS) (u COUNTS)) where
-  pub made-same : nodeCount u ≡ nodeCount t
-  made-same = same NODE-COUNT refl
+module _ (s p : List ℕ) (t u : Store) (kept : Kept built_regions t u) (same : SameBut built_counters (t COUNTS) (u COUNTS)) where
+  pub made_same : node_count u ≡ node_count t
+  made_same = same NODE-COUNT refl
 
-  pub raws-same : rawRows u ≡ rawRows t
-  raws-same = rw (same RAW-COUNT refl, same HELD-COUNT refl)
+  pub raws_same : raw_rows u ≡ raw_rows t
+  raws_same = rw (same RAW-COUNT refl, same HELD-COUNT refl)
 
-  pub raw-node-same : (i : ℕ) → rawNode u i ≡ rawNode t i
-  raw-node-same i = rw (kept MARKS refl, kept RAW-ENTRIES refl, kept ORDER refl, same HELD-COUNT refl)
+  pub raw_node-same : (i : ℕ) → raw_node u i ≡ raw_node t i
+  raw_node-same i = rw (kept MARKS refl, kept RAW-ENTRIES refl, kept ORDER refl, same HELD-COUNT refl)
 
-  pub raw-index-same : (i : ℕ) → rawIndex u i ≡ rawIndex t i
-  raw-index-same i = rw (kept RAW-KEYS refl, kept ORDER refl, same HELD-COUNT refl)
+  pub raw_index-same : (i : ℕ) → raw_index u i ≡ raw_index t i
+  raw_index-same i = rw (kept RAW-KEYS refl, kept ORDER refl, same HELD-COUNT refl)
 
-  pub nodes-same : nodesIn s u ≡ nodesIn s t
-  nodes-same =
+  pub nodes_same : nodes_in s u ≡ nodes_in s t
+  nodes_same =
       λ i.
-      map (λ (e : ℕ). nodeAt s (kept FIRSTS refl i) (kept SIZES refl i) (kept CHILDREN refl i) e) (take (made-same i) (kept NODES refl i))
+      map (λ (e : ℕ). node_at_lem s (kept FIRSTS refl i) (kept SIZES refl i) (kept CHILDREN refl i) e) (take (made_same i) (kept NODES refl i))
 
-  pub record_same : (k : ℕ) → recordIn u k ≡ recordIn t k
+  pub record_same : (k : ℕ) → record_in u k ≡ record_in t k
   record_same k = rw (kept RECORDS refl, kept NODES refl)
 
   -- what is refused from u on is told at the record that the node had
@@ -55,58 +55,58 @@ module _ (s p : List ℕ) (t u : Store) (kept : Kept builtRegions t u) (same : S
   told-since x y v r on told =
       record {
         node = told.node;
-        made = rw (← made-same) told.made;
+        made = rw (← made_same) told.made;
         refused = on _ told.refused;
         place = told.place ∙ record_same told.node;
       }
 
-  pub standing-stays : Standing s p t → Standing s p u
-  standing-stays h =
+  pub standing_stays : Standing s p t → Standing s p u
+  standing_stays h =
       record {
         entered = rw (kept OFFSETS refl, kept FIRSTS refl, kept SIZES refl, kept VALUES refl) h.entered;
         nodes =
-            rw (kept FIRSTS refl, kept SIZES refl, kept CHILDREN refl, kept NODES refl, kept NODE-HEADS refl, kept NODE-LINKS refl, made-same) h.nodes;
-        kids = rw (nodes-same, made-same) h.kids;
+            rw (kept FIRSTS refl, kept SIZES refl, kept CHILDREN refl, kept NODES refl, kept NODE-HEADS refl, kept NODE-LINKS refl, made_same) h.nodes;
+        kids = rw (nodes_same, made_same) h.kids;
         raws =
-            rw (kept MARKS refl, kept RAW-KEYS refl, kept RAW-ENTRIES refl, kept ORDER refl, same HELD-COUNT refl, same RAW-COUNT refl, made-same)
+            rw (kept MARKS refl, kept RAW-KEYS refl, kept RAW-ENTRIES refl, kept ORDER refl, same HELD-COUNT refl, same RAW-COUNT refl, made_same)
             h.raws;
       }
 
   -- what `refuse_at` asks of u
   pub tells :
-      Work s p → Standing s p t → (k : ℕ) → k < nodeCount t →
+      Work s p → Standing s p t → (k : ℕ) → k < node_count t →
       (PLACE < size p COUNTS) × (k < size p NODES) × (get_or (u NODES) k 0 < size p RECORDS)
-  tells work h k low = let still = standing-stays h in record-asks s p u (work, still.entered, still.nodes) k (rw made-same low)
+  tells work h k low = let still = standing_stays h in record_asks s p u (work, still.entered, still.nodes) k (rw made_same low)
 
   module _ (keeps : (k : ℕ) → 0 < get_or (t GIVEN) k 0 → get_or (u GIVEN) k 0 ≡ get_or (t GIVEN) k 0) where
-    pub entry-stays : (e : ℕ) → EntrySlotted t e → EntrySlotted u e
-    entry-stays e h =
+    pub entry_stays : (e : ℕ) → EntrySlotted t e → EntrySlotted u e
+    entry_stays e h =
         rw (kept SIZES refl, kept CHILDREN refl, kept FIRSTS refl)
         (λ i l. has_kept (t GIVEN) (u GIVEN) (get_or (t CHILDREN) (get_or (t FIRSTS) e 0 + i) 0) (h i l) keeps)
 
     pub node_stays : (k : ℕ) → NodeSlotted t k → NodeSlotted u k
-    node_stays k h = rw (kept NODES refl) (entry-stays (get_or (t NODES) k 0) h)
+    node_stays k h = rw (kept NODES refl) (entry_stays (get_or (t NODES) k 0) h)
 
-    pub raw-stays : ((i : ℕ) → i < rawRows t → NodeSlotted t (rawNode t i)) → (i : ℕ) → i < rawRows u → NodeSlotted u (rawNode u i)
-    raw-stays h i l = rw (raw-node-same i) (node_stays (rawNode t i) (h i (rw (← raws-same) l)))
+    pub raw_stays : ((i : ℕ) → i < raw_rows t → NodeSlotted t (raw_node t i)) → (i : ℕ) → i < raw_rows u → NodeSlotted u (raw_node u i)
+    raw_stays h i l = rw (raw_node-same i) (node_stays (raw_node t i) (h i (rw (← raws_same) l)))
 
     -- a row whose slots are there
-    pub row_same : (e : ℕ) → EntrySlotted t e → entryRow u e ≡ entryRow t e
+    pub row_same : (e : ℕ) → EntrySlotted t e → entry_row u e ≡ entry_row t e
     row_same e h =
         rw (kept CHILDREN refl, kept FIRSTS refl, kept SIZES refl)
         (row_stays (t GIVEN) (u GIVEN) (t CHILDREN) (t FIRSTS) (t SIZES) e
-        (λ i l. child-kept (t GIVEN) (u GIVEN) (get_or (t CHILDREN) (get_or (t FIRSTS) e 0 + i) 0) (h i l) keeps))
+        (λ i l. child_kept (t GIVEN) (u GIVEN) (get_or (t CHILDREN) (get_or (t FIRSTS) e 0 + i) 0) (h i l) keeps))
 
-    pub node-row-same : (k : ℕ) → NodeSlotted t k → row_in u k ≡ row_in t k
-    node-row-same k h = rw (kept NODES refl) (row_same (get_or (t NODES) k 0) h)
+    pub node_row_same : (k : ℕ) → NodeSlotted t k → row_in u k ≡ row_in t k
+    node_row_same k h = rw (kept NODES refl) (row_same (get_or (t NODES) k 0) h)
 
-pub there-now : (s p : List ℕ) (t : Store) → Work s p → Standing s p t → NodesThere s p t
-there-now s p t work h = (work, h.entered, h.nodes)
+pub there_now : (s p : List ℕ) (t : Store) → Work s p → Standing s p t → NodesThere s p t
+there_now s p t work h = (work, h.entered, h.nodes)
 
 -- STEP BY STEP
 
-pub grows-not : (t : Store) (g : GapTable) → Grows t t g g
-grows-not t g =
+pub grows_not : (t : Store) (g : GapTable) → Grows t t g g
+grows_not t g =
     record { apart = λ top a. a; long = refl; given = λ k l. refl; index = λ i l. refl; counters = λ c f. refl; kept = λ k f. refl }
 
 pub grows_then : (t u v : Store) (g h o : GapTable) → Grows t u g h → Grows u v h o → Grows t v g o
@@ -117,7 +117,7 @@ grows_then t u v g h o a b =
       given = λ k l. b.given k (rw (a.given k l) l) ∙ a.given k l;
       index = λ i l. b.index i (rw (a.index i l) l) ∙ a.index i l;
       counters = λ c f. b.counters c f ∙ a.counters c f;
-      kept = kept_then builtRegions t u v a.kept b.kept;
+      kept = kept_then built_regions t u v a.kept b.kept;
     }
 
 -- a refusal stays where it was told
@@ -126,8 +126,8 @@ pub told-as :
     Told x t u r → Told y t u r
 told-as x y t u r on told = record { node = told.node; made = told.made; refused = on _ told.refused; place = told.place }
 
-pub stacked-not : (t : Store) → Stacked t t
-stacked-not t = record { owners = λ k l. inl l; waits = λ k on. on; fewer = omega arith }
+pub stacked_not : (t : Store) → Stacked t t
+stacked_not t = record { owners = λ k l. inl l; waits = λ k on. on; fewer = omega arith }
 
 pub stacked_then : (t u v : Store) → Stacked t u → Stacked u v → Stacked t v
 stacked_then t u v a b =
@@ -139,67 +139,67 @@ stacked_then t u v a b =
 
 -- what has a number keeps it
 module _ (s p : List ℕ) (t u : Store) (g h : GapTable) (grows : Grows t u g h) where
-  pub done-stays : (child : ℕ) → ChildDone p t child → ChildDone p u child
+  pub done_stays : (child : ℕ) → ChildDone p t child → ChildDone p u child
   unfolding HasNumber
-  done-stays child d =
+  done_stays child d =
       record {
         index =
             rw (grows.kept NODES refl)
-            (λ b. let l = d.index b in rw (grows.index (get_or (t NODES) (child - ENTRY) 0 - constantsOf p) l) l);
+            (λ b. let l = d.index b in rw (grows.index (get_or (t NODES) (child - ENTRY) 0 - constants_of p) l) l);
         slot = rw (grows.kept NODES refl) (λ b. has_kept (t GIVEN) (u GIVEN) child (d.slot b) grows.given);
       }
 
-  pub kids-done-stay : (k : ℕ) → KidsDone s p t k → KidsDone s p u k
-  kids-done-stay k d = rw (nodes-same s p t u grows.kept grows.counters) (λ i l. done-stays _ (d i l))
+  pub kids_done_stay : (k : ℕ) → KidsDone s p t k → KidsDone s p u k
+  kids_done_stay k d = rw (nodes_same s p t u grows.kept grows.counters) (λ i l. done_stays _ (d i l))
 
 -- SLOTS ARE GIVEN
 
 module _ (s p : List ℕ) (t u : Store) (g h : GapTable) (goes : Goes t u g h) where
-  pub grows-goes : Grows t u g h
+  pub grows_goes : Grows t u g h
   unfolding every
-  grows-goes =
+  grows_goes =
       record {
         apart = goes.apart;
         long = goes.long;
         given = goes.given;
         index = λ i l. ap (λ (z : List ℕ). get_or z i 0) (goes.kept INDEXES refl);
-        counters = same_more moving builtCounters (t COUNTS) (u COUNTS) refl goes.counters;
-        kept = kept_more (COUNTS ∷ GIVEN ∷ PENDING ∷ []) builtRegions t u refl goes.kept;
+        counters = same_more moving built_counters (t COUNTS) (u COUNTS) refl goes.counters;
+        kept = kept_more (COUNTS ∷ GIVEN ∷ PENDING ∷ []) built_regions t u refl goes.kept;
       }
 
   -- the rows stay what they are
-  pub rows-goes : Working s p t g → (rows : Rows) → RowedIn p rows t → RowedIn p rows u
-  rows-goes work =
-      let kept = grows-goes.kept in
-      let same = grows-goes.counters in
-      rows-given p t u (goes.kept INDEXES refl) (goes.kept INLINE refl) (goes.kept ROW-HEADS refl) (goes.kept ROW-LINKS refl)
+  pub rows_goes : Working s p t g → (rows : Rows) → RowedIn p rows t → RowedIn p rows u
+  rows_goes work =
+      let kept = grows_goes.kept in
+      let same = grows_goes.counters in
+      rows_given p t u (goes.kept INDEXES refl) (goes.kept INLINE refl) (goes.kept ROW-HEADS refl) (goes.kept ROW-LINKS refl)
       (goes.kept NODES refl)
-      (omega (arith, made-same s p t u kept same))
-      (raws-same s p t u kept same)
+      (omega (arith, made_same s p t u kept same))
+      (raws_same s p t u kept same)
       (goes.counters ROW-COUNT refl)
       (goes.counters WRITTEN-COUNT refl)
       (goes.counters INLINE-COUNT refl)
       (λ e low word. row_same s p t u kept same goes.given e (work.indexed e low word))
       (λ i l. (
-        raw-index-same s p t u kept same i,
-        ap (row_in u) (raw-node-same s p t u kept same i) ∙ node-row-same s p t u kept same goes.given (rawNode t i) (work.raw i l),
+        raw_index-same s p t u kept same i,
+        ap (row_in u) (raw_node-same s p t u kept same i) ∙ node_row_same s p t u kept same goes.given (raw_node t i) (work.raw i l),
       ))
 
-  pub working-goes : Working s p t g → Working s p u h
-  working-goes work =
-      let kept = grows-goes.kept in
-      let same = grows-goes.counters in
+  pub working_goes : Working s p t g → Working s p u h
+  working_goes work =
+      let kept = grows_goes.kept in
+      let same = grows_goes.counters in
       record {
-        standing = standing-stays s p t u kept same work.standing;
+        standing = standing_stays s p t u kept same work.standing;
         live = goes.live work.live;
-        rowed = (work.rowed.0, rows-goes work work.rowed.0 work.rowed.1);
+        rowed = (work.rowed.0, rows_goes work work.rowed.0 work.rowed.1);
         indexed =
-            λ e low word. entry-stays s p t u kept same goes.given e (work.indexed e low (rw (← goes.kept INDEXES refl) word));
-        raw = raw-stays s p t u kept same goes.given work.raw;
+            λ e low word. entry_stays s p t u kept same goes.given e (work.indexed e low (rw (← goes.kept INDEXES refl) word));
+        raw = raw_stays s p t u kept same goes.given work.raw;
       }
 
-  pub boot-goes : (k : ℕ) → IsBootstrapIn p t k → IsBootstrapIn p u k
-  boot-goes k is =
+  pub boot_goes : (k : ℕ) → IsBootstrapIn p t k → IsBootstrapIn p u k
+  boot_goes k is =
       record {
         made = rw (goes.counters NODE-COUNT refl) is.made;
         behind = rw (goes.kept NODES refl) is.behind;
@@ -210,11 +210,11 @@ module _ (s p : List ℕ) (t u : Store) (g h : GapTable) (goes : Goes t u g h) w
 
 module _
     (s p : List ℕ) (found : Rows → Result ℕ (ℕ × Rows)) (k : ℕ) (t u : Store) (g : GapTable) (r : ℕ) (x : Indexed found p k t u r) where
-  pub live-indexed : LiveIn t g → LiveIn u g
-  live-indexed live =
+  pub live_indexed : LiveIn t g → LiveIn u g
+  live_indexed live =
       record {
         gaps =
-            gaps-live-same (t COUNTS) (u COUNTS) g
+            gaps_live_same (t COUNTS) (u COUNTS) g
             (record {
               count = x.counters GAP-COUNT refl;
               odd = x.counters ODD refl;
@@ -226,49 +226,49 @@ module _
         nodes = rw (x.kept PENDING refl, x.counters PENDING-COUNT refl, x.counters NODE-COUNT refl) live.nodes;
       }
 
-  pub grows-indexed : Grows t u g g
+  pub grows_indexed : Grows t u g g
   unfolding every
-  grows-indexed =
+  grows_indexed =
       record {
         apart = λ top a. rw (x.counters GAP-COUNT refl) a;
         long = refl;
         given = λ j l. ap (λ (z : List ℕ). get_or z j 0) (x.kept GIVEN refl);
         index =
             λ i l.
-            let z : i + constantsOf p - constantsOf p ≡ i = omega arith in
-            rw z at (x.stays (i + constantsOf p) (omega arith) (rw z l));
-        counters = same_more (ROW-COUNT ∷ WRITTEN-COUNT ∷ INLINE-COUNT ∷ []) builtCounters (t COUNTS) (u COUNTS) refl x.counters;
-        kept = kept_more written builtRegions t u refl x.kept;
+            let z : i + constants_of p - constants_of p ≡ i = omega arith in
+            rw z at (x.stays (i + constants_of p) (omega arith) (rw z l));
+        counters = same_more (ROW-COUNT ∷ WRITTEN-COUNT ∷ INLINE-COUNT ∷ []) built_counters (t COUNTS) (u COUNTS) refl x.counters;
+        kept = kept_more written built_regions t u refl x.kept;
       }
 
-  pub stacked-indexed : Stacked t u
-  stacked-indexed =
+  pub stacked_indexed : Stacked t u
+  stacked_indexed =
       record {
         owners = λ j l. inl (rw (← x.kept GIVEN refl) l);
         waits = λ j on. rw (x.kept PENDING refl, x.counters PENDING-COUNT refl) on;
         fewer = rw (x.kept GIVEN refl, x.counters PENDING-COUNT refl, x.counters NODE-COUNT refl) (omega arith);
       }
 
-  pub working-indexed :
-      ((i : ℕ) → (i ≡ get_or (t NODES) k 0 - constantsOf p → ⊥) → get_or (u INDEXES) i 0 ≡ get_or (t INDEXES) i 0) →
+  pub working_indexed :
+      ((i : ℕ) → (i ≡ get_or (t NODES) k 0 - constants_of p → ⊥) → get_or (u INDEXES) i 0 ≡ get_or (t INDEXES) i 0) →
       r ≡ 0 → IsBootstrapIn p t k → NodeSlotted t k → Working s p t g → Working s p u g
-  working-indexed others z is has work =
-      let kept = grows-indexed.kept in
-      let same = grows-indexed.counters in
+  working_indexed others z is has work =
+      let kept = grows_indexed.kept in
+      let same = grows_indexed.counters in
       let (rows, _, rowed) = x.given z work.rowed.0 work.rowed.1 in
       record {
-        standing = standing-stays s p t u kept same work.standing;
-        live = live-indexed work.live;
+        standing = standing_stays s p t u kept same work.standing;
+        live = live_indexed work.live;
         rowed = (rows, rowed);
         indexed =
             λ e low word.
-            entry-stays s p t u kept same grows-indexed.given e
+            entry_stays s p t u kept same grows_indexed.given e
             (⊎_elim
-            (λ (y : e - constantsOf p ≡ get_or (t NODES) k 0 - constantsOf p).
+            (λ (y : e - constants_of p ≡ get_or (t NODES) k 0 - constants_of p).
             let q : e ≡ get_or (t NODES) k 0 = omega (arith, is.behind) in
             rw q has)
-            (λ (y : e - constantsOf p ≡ get_or (t NODES) k 0 - constantsOf p → ⊥).
-            work.indexed e low (rw (← others (e - constantsOf p) y) word))
-            (equal (e - constantsOf p) (get_or (t NODES) k 0 - constantsOf p)));
-        raw = raw-stays s p t u kept same grows-indexed.given work.raw;
+            (λ (y : e - constants_of p ≡ get_or (t NODES) k 0 - constants_of p → ⊥).
+            work.indexed e low (rw (← others (e - constants_of p) y) word))
+            (equal (e - constants_of p) (get_or (t NODES) k 0 - constants_of p)));
+        raw = raw_stays s p t u kept same grows_indexed.given work.raw;
       }

@@ -5,8 +5,8 @@ ghost use Rattle.definition.specs.Definitions.{tag_at};
 ghost use Rattle.store.specs.Store.{store, On};
 ghost use Rattle.store.specs.Regions.{Work};
 ghost use Rattle.store.specs.Words.{ENTRY};
-ghost use Rattle.interner.specs.Nodes.{nodeCount, nodesIn};
-ghost use Rattle.rows.specs.Rowed.{RowRoom, KidsIn, indexWord, IsBootstrapIn};
+ghost use Rattle.interner.specs.Nodes.{node_count, nodes_in};
+ghost use Rattle.rows.specs.Rowed.{RowRoom, KidsIn, index_word_lem, IsBootstrapIn};
 ghost use Rattle.pool.specs.Pooled.{LiveIn, NodesThere};
 ghost use Rattle.building.specs.Built.{CanBuild, BuiltAll};
 ghost use Rattle.building.specs.Working.{Standing, Working, Owners, RawsSlotted, RowNumbered, Numbered, Finished, Judged, Drained};
@@ -18,7 +18,7 @@ use rows::{index_of, is_bootstrap, raw_row, raw_rows, row_index};
 use slots::Gap;
 use store::{CHILDREN, COUNTS, ENTRY, PENDING_COUNT, load};
 
-// The raw bootstraps' children have slots from then on, by falling index, 0, or 14: `rawRows`.
+// The raw bootstraps' children have slots from then on, by falling index, 0, or 14: `raw_rows`.
 fn slot_raw_rows(job: &[u8], w: &mut [u32], p: &[usize], gaps: &mut [Gap]) -> usize
     requires { On p.now (length w.old) × Work job.now p.now × Standing job.now p.now (store p.now w.old) × LiveIn (store p.now w.old) gaps.old }
     ensures { RawsSlotted job.now (store p.now w.old) (store p.now w.new) gaps.old gaps.new result }
@@ -38,12 +38,12 @@ fn slot_raw_rows(job: &[u8], w: &mut [u32], p: &[usize], gaps: &mut [Gap]) -> us
 // Bootstrap node k has an index.
 fn has_index(w: &[u32], p: &[usize], k: usize) -> bool
     requires { On p.now (length w.now) × RowRoom p.now × KidsIn p.now (store p.now w.now) × IsBootstrapIn p.now (store p.now w.now) k }
-    ensures { result ≡ ltb 0 (indexWord p.now (store p.now w.now) k) }
+    ensures { result ≡ ltb 0 (index_word_lem p.now (store p.now w.now) k) }
 {
     0 < index_of(w, p, k)
 }
 
-// Bootstrap node k has an index from then on, its children having slots, 0, or 14 or 17: `nodeNumber`.
+// Bootstrap node k has an index from then on, its children having slots, 0, or 14 or 17: `node_number`.
 fn number_bootstrap(job: &[u8], w: &mut [u32], p: &[usize], gaps: &mut [Gap], k: usize) -> usize
     requires { On p.now (length w.old) × Work job.now p.now × Working job.now p.now (store p.now w.old) gaps.old × IsBootstrapIn p.now (store p.now w.old) k }
     ensures { RowNumbered job.now p.now k (store p.now w.old) (store p.now w.new) gaps.old gaps.new result }
@@ -62,9 +62,9 @@ fn number_bootstrap(job: &[u8], w: &mut [u32], p: &[usize], gaps: &mut [Gap], k:
     0
 }
 
-// A child has its number from then on, 0, or 14 or 17: `childNumber`.
+// A child has its number from then on, 0, or 14 or 17: `child_number`.
 fn number_child(job: &[u8], w: &mut [u32], p: &[usize], gaps: &mut [Gap], child: usize) -> usize
-    requires { On p.now (length w.old) × Work job.now p.now × Working job.now p.now (store p.now w.old) gaps.old × (child < ENTRY + nodeCount (store p.now w.old)) }
+    requires { On p.now (length w.old) × Work job.now p.now × Working job.now p.now (store p.now w.old) gaps.old × (child < ENTRY + node_count (store p.now w.old)) }
     ensures { Numbered job.now p.now child (store p.now w.old) (store p.now w.new) gaps.old gaps.new result }
 {
     if is_bootstrap(w, p, child) {
@@ -78,9 +78,9 @@ fn number_child(job: &[u8], w: &mut [u32], p: &[usize], gaps: &mut [Gap], child:
     0
 }
 
-// Node k's children have their numbers from then on, in field order, 0, or 14 or 17: `childNumbers`.
+// Node k's children have their numbers from then on, in field order, 0, or 14 or 17: `child_numbers`.
 fn finish(job: &[u8], w: &mut [u32], p: &[usize], gaps: &mut [Gap], k: usize) -> usize
-    requires { On p.now (length w.old) × Work job.now p.now × Working job.now p.now (store p.now w.old) gaps.old × (k < nodeCount (store p.now w.old)) }
+    requires { On p.now (length w.old) × Work job.now p.now × Working job.now p.now (store p.now w.old) gaps.old × (k < node_count (store p.now w.old)) }
     ensures { Finished job.now p.now k (store p.now w.old) (store p.now w.new) gaps.old gaps.new result }
 {
     let first = first_child(w, p, k);
@@ -117,8 +117,8 @@ const NEWEST: usize = 55;
 
 // The version has the kind of node k. Under the newest, which has every kind, no tag is looked at.
 fn has_kind(job: &[u8], w: &[u32], p: &[usize], version: usize, k: usize) -> bool
-    requires { On p.now (length w.now) × NodesThere job.now p.now (store p.now w.now) × (k < nodeCount (store p.now w.now)) }
-    ensures { result ≡ known version (tag_at (nodesIn job.now (store p.now w.now)) k) }
+    requires { On p.now (length w.now) × NodesThere job.now p.now (store p.now w.now) × (k < node_count (store p.now w.now)) }
+    ensures { result ≡ known version (tag_at (nodes_in job.now (store p.now w.now)) k) }
 {
     if NEWEST <= version {
         return true;
@@ -135,7 +135,7 @@ fn judge(
     version: usize,
     k: usize,
 ) -> usize
-    requires { On p.now (length w.old) × Work job.now p.now × Working job.now p.now (store p.now w.old) gaps.old × (k < nodeCount (store p.now w.old)) }
+    requires { On p.now (length w.old) × Work job.now p.now × Working job.now p.now (store p.now w.old) gaps.old × (k < node_count (store p.now w.old)) }
     ensures { Judged job.now p.now version k (store p.now w.old) (store p.now w.new) gaps.old gaps.new result }
 {
     if has_kind(job, w, p, version, k) {
@@ -159,7 +159,7 @@ fn drain(job: &[u8], w: &mut [u32], p: &[usize], gaps: &mut [Gap], version: usiz
     0
 }
 
-// Raw bootstraps, then the stack, constants held to the version, 0, or 24, 14 or 17: `buildAll`.
+// Raw bootstraps, then the stack, constants held to the version, 0, or 24, 14 or 17: `build_all`.
 pub fn build_all(job: &[u8], w: &mut [u32], p: &[usize], gaps: &mut [Gap], version: usize) -> usize
     requires { On p.now (length w.old) × Work job.now p.now × CanBuild job.now p.now (store p.now w.old) gaps.old }
     ensures { BuiltAll job.now p.now version (store p.now w.old) (store p.now w.new) gaps.old gaps.new result }

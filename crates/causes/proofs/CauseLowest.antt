@@ -9,12 +9,12 @@ use Rattle.definition.specs.Basics.{good}
 use Rattle.definition.specs.Job.{Job}
 use Rattle.definition.specs.Form.{form}
 use Rattle.definition.specs.Run.{Lent}
-use Rattle.facts.proofs.Results.{good-inj}
+use Rattle.facts.proofs.Results.{good_inj}
 use Rattle.laws.specs.Statements.{IsBytes}
 use Rattle.laws.specs.LowestStatement.{LowestRecord}
-use Rattle.causes.specs.CauseStatement.{DefinitionCause, outside, secondTaken, onSecond, sameSlot, lastIndex, sameIndex, same_name, ResolvingCause, undefined, circular, SlotCause, noSlotAsked, noLdcSlotAsked, rawAbove, slotAbove, pairAbove, rawLacks, childLacks, bootstrapLacks, nameLacks, noIndex, tooNew, CauseOf, tooLong, tooLittle, notFormed, defining, resolving, slots, noRoom, CauseLowest}
+use Rattle.causes.specs.CauseStatement.{DefinitionCause, outside, second_taken, on_second, same_slot, last_index, same_index, same_name, ResolvingCause, undefined, circular, SlotCause, no_slot_asked, no_ldc_slot_asked, raw_above_lem, slot_above, pair_above, raw_lacks, child_lacks, bootstrap_lacks, name_lacks, no_index_lem, too_new, CauseOf, too_long_lem, too_little, not_formed, defining, resolving, slots, no_room_lem, CauseLowest}
 use Rattle.causes.proofs.Cause.{cause}
-use Rattle.causes.proofs.CausedForm.{formRefuted}
+use Rattle.causes.proofs.CausedForm.{form_refuted}
 
 module _ (job : Job (List ℕ)) where
   -- a number and a place of building, but for the name
@@ -33,43 +33,43 @@ module _ (job : Job (List ℕ)) where
   early : {X : Type 0} (code place : ℕ) → code < 14 → Building code place → X
   early code place low = other code place (λ is. absurd (omega (arith, low, is))) (λ is. omega (arith, low, is)) (λ is. omega (arith, low, is))
 
-  definition-early : {code place : ℕ} → DefinitionCause job code place → code < 14
-  definition-early (outside place n e at h) = omega arith
-  definition-early (secondTaken place n e at w t) = omega arith
-  definition-early (onSecond place n e i m k at f l a w q) = omega arith
-  definition-early (sameSlot place n e i k at f l a) = omega arith
-  definition-early (lastIndex place e at) = omega arith
-  definition-early (sameIndex place n e i k at l a) = omega arith
-  definition-early (same_name place i kind s r t at l a) = omega arith
+  definition_early : {code place : ℕ} → DefinitionCause job code place → code < 14
+  definition_early (outside place n e at h) = omega arith
+  definition_early (second_taken place n e at w t) = omega arith
+  definition_early (on_second place n e i m k at f l a w q) = omega arith
+  definition_early (same_slot place n e i k at f l a) = omega arith
+  definition_early (last_index place e at) = omega arith
+  definition_early (same_index place n e i k at l a) = omega arith
+  definition_early (same_name place i kind s r t at l a) = omega arith
 
-  resolving-early : {code place : ℕ} → ResolvingCause job code place → code < 14
-  resolving-early (undefined place r kind s is reaches none) = omega arith
-  resolving-early (circular place r t u is reaches refers back) = omega arith
+  resolving_early : {code place : ℕ} → ResolvingCause job code place → code < 14
+  resolving_early (undefined place r kind s is reaches none) = omega arith
+  resolving_early (circular place r t u is reaches refers back) = omega arith
 
   slot-lowest : {code place : ℕ} → SlotCause job code place → Building code place → Told place
-  slot-lowest (noSlotAsked answers e a asks none free) h = other 14 _ (λ _. omega arith) (λ is. omega arith) (λ is. omega arith) h
-  slot-lowest (noLdcSlotAsked answers e a asks none free) h = other 15 _ (λ is. absurd (omega arith)) (λ is. omega arith) (λ is. omega arith) h
-  slot-lowest (rawAbove answers n a asks high) h = other 16 _ (λ is. absurd (omega arith)) (λ is. omega arith) (λ is. omega arith) h
-  slot-lowest (slotAbove answers e s a asks has high) h = other 16 _ (λ is. absurd (omega arith)) (λ is. omega arith) (λ is. omega arith) h
-  slot-lowest (pairAbove answers e s a asks none wide high one two first) h = other 16 _ (λ is. absurd (omega arith)) (λ is. omega arith) (λ is. omega arith) h
-  slot-lowest (rawLacks d w b r c l place (e, _, told)) h = (e, told)
-  slot-lowest (childLacks d w b n tag l place (e, _, told)) h = (e, told)
-  slot-lowest (bootstrapLacks d w b n tag c l place (e, _, told)) h = (e, told)
-  slot-lowest (nameLacks d w m b made wanted l) h = other 14 _ (λ _. omega arith) (λ is. omega arith) (λ is. omega arith) h
-  slot-lowest (noIndex d w b n row p tag is new all place (e, _, told)) h = (e, told)
-  slot-lowest (tooNew d w b slot owner pending m st t place (e, _, told)) h = (e, told)
+  slot-lowest (no_slot_asked answers e a asks none free) h = other 14 _ (λ _. omega arith) (λ is. omega arith) (λ is. omega arith) h
+  slot-lowest (no_ldc_slot_asked answers e a asks none free) h = other 15 _ (λ is. absurd (omega arith)) (λ is. omega arith) (λ is. omega arith) h
+  slot-lowest (raw_above_lem answers n a asks high) h = other 16 _ (λ is. absurd (omega arith)) (λ is. omega arith) (λ is. omega arith) h
+  slot-lowest (slot_above answers e s a asks has high) h = other 16 _ (λ is. absurd (omega arith)) (λ is. omega arith) (λ is. omega arith) h
+  slot-lowest (pair_above answers e s a asks none wide high one two first) h = other 16 _ (λ is. absurd (omega arith)) (λ is. omega arith) (λ is. omega arith) h
+  slot-lowest (raw_lacks d w b r c l place (e, _, told)) h = (e, told)
+  slot-lowest (child_lacks d w b n tag l place (e, _, told)) h = (e, told)
+  slot-lowest (bootstrap_lacks d w b n tag c l place (e, _, told)) h = (e, told)
+  slot-lowest (name_lacks d w m b made wanted l) h = other 14 _ (λ _. omega arith) (λ is. omega arith) (λ is. omega arith) h
+  slot-lowest (no_index_lem d w b n row p tag is new all place (e, _, told)) h = (e, told)
+  slot-lowest (too_new d w b slot owner pending m st t place (e, _, told)) h = (e, told)
 
 module _ (lent : Lent) (bytes : List ℕ) (job : Job (List ℕ)) (are : IsBytes bytes) (formed : form bytes ≡ good job) where
-  lowest-caused : {code place : ℕ} → CauseOf lent bytes code place → Building job code place → Told job place
-  lowest-caused (tooLong long) h = early job 1 0 (omega arith) h
-  lowest-caused (tooLittle few) h = early job 2 0 (omega arith) h
-  lowest-caused (notFormed c) h = absurd (formRefuted bytes job are formed c)
-  lowest-caused {code} {place} (defining j f c) h = early job code place (definition-early j c) h
-  lowest-caused {code} {place} (resolving j f c) h = early job code place (resolving-early j c) h
-  lowest-caused {code} {place} (slots j f c) h =
-      let same : j ≡ job = good-inj (sym f ∙ formed) in
+  lowest_caused : {code place : ℕ} → CauseOf lent bytes code place → Building job code place → Told job place
+  lowest_caused (too_long_lem long) h = early job 1 0 (omega arith) h
+  lowest_caused (too_little few) h = early job 2 0 (omega arith) h
+  lowest_caused (not_formed c) h = absurd (form_refuted bytes job are formed c)
+  lowest_caused {code} {place} (defining j f c) h = early job code place (definition_early j c) h
+  lowest_caused {code} {place} (resolving j f c) h = early job code place (resolving_early j c) h
+  lowest_caused {code} {place} (slots j f c) h =
+      let same : j ≡ job = good_inj (sym f ∙ formed) in
       slot-lowest job (subst (λ (j : Job (List ℕ)). SlotCause j code place) same c) h
-  lowest-caused (noRoom j l f laid short) h = other job 18 _ (λ is. absurd (omega arith)) (λ is. omega arith) (λ is. omega arith) h
+  lowest_caused (no_room_lem j l f laid short) h = other job 18 _ (λ is. absurd (omega arith)) (λ is. omega arith) (λ is. omega arith) h
 
-pub causeLowest : CauseLowest
-causeLowest lent bytes job r are formed ran h = lowest-caused lent bytes job are formed (cause lent bytes r are ran) h
+pub cause_lowest : CauseLowest
+cause_lowest lent bytes job r are formed ran h = lowest_caused lent bytes job are formed (cause lent bytes r are ran) h

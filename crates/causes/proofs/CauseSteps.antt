@@ -4,9 +4,9 @@ use mathlib.Core.List.{List}
 use mathlib.Core.Option.{Option, none, some}
 use mathlib.Core.Path.{◌≡◌, refl}
 use Prim.Native.Nat.{ℕ}
-use Rattle.definition.specs.Basics.{Result, Refusal, atRecord, unless}
+use Rattle.definition.specs.Basics.{Result, Refusal, at_record, unless}
 use Rattle.definition.specs.Form.{whole}
-use Rattle.definition.specs.Places.{recordOf, atNodes}
+use Rattle.definition.specs.Places.{record_of, at_nodes}
 use Rattle.definition.specs.Resolving.{Mark}
 use Rattle.facts.proofs.Outcomes.{Ends, well, refused}
 
@@ -26,16 +26,16 @@ whole-cause (some a) h = well refl
 pub at_place :
     {A : Type 0} (C : ℕ → ℕ → Type 0) {P : A → Type 0} {r : Result ℕ A} (place : ℕ) →
     Ends (λ code. C code place) P r →
-    Ends (λ (e : Refusal). C e.code e.place) P (atRecord place r)
-unfolding atRecord
+    Ends (λ (e : Refusal). C e.code e.place) P (at_record place r)
+unfolding at_record
 at_place C place (well h) = well h
 at_place C place (refused h) = refused h
 
 -- a refusal at a node is told at the node's record
-pub at-nodes :
+pub at_nodes_lem :
     {A : Type 0} (C : ℕ → ℕ → Type 0) {P : A → Type 0} {r : Result Refusal A} (records : List ℕ) (marks : List Mark) →
-    Ends (λ (e : Refusal). C e.code (recordOf records marks e.place)) P r →
-    Ends (λ (e : Refusal). C e.code e.place) P (atNodes records marks r)
-unfolding atNodes
-at-nodes C records marks (well h) = well h
-at-nodes C records marks (refused h) = refused h
+    Ends (λ (e : Refusal). C e.code (record_of records marks e.place)) P r →
+    Ends (λ (e : Refusal). C e.code e.place) P (at_nodes records marks r)
+unfolding at_nodes
+at_nodes_lem C records marks (well h) = well h
+at_nodes_lem C records marks (refused h) = refused h

@@ -11,16 +11,16 @@ use lib.Dec.{eqb, leb}
 use lib.ListN.{length}
 use borrow.Author.Tests.{eqb-true, eqb-false, leb-true, leb-false}
 use Rattle.definition.specs.Basics.{Result, good, bad, lookup}
-use Rattle.definition.specs.Expression.{Number, int, float, long, double, tag_of, Sign, plus, minus, times, over, Expression, leaf, apply, four, eight, bits, Opening, ofLeaf, ofSign, openings, joined, secondPart, openedPart, expression, readExpression, alike, kindWithin}
+use Rattle.definition.specs.Expression.{Number, int, float, long, double, tag_of, Sign, plus, minus, times, over, Expression, leaf, apply, four, eight, bits, Opening, of_leaf, of_sign, openings, joined, second_part, opened_part, expression, read_expression, alike, kind_within}
 use Rattle.definition.specs.Bytes.{and_then, one, two}
-use Rattle.definition.specs.Form.{kind_of, comesOut}
-use Rattle.definition.specs.Job.{Definition, define, bodies, asConstant, workedOut, read_body, readDefinition}
-use Rattle.definition.specs.Shapes.{constant, shapes, bootstrapShape}
-use Rattle.definition.specs.Value.{integer, computed, value, oneKind, folded, constantIn}
+use Rattle.definition.specs.Form.{kind_of, comes_out}
+use Rattle.definition.specs.Job.{Definition, define, bodies, as_constant, worked_out, read_body, read_definition}
+use Rattle.definition.specs.Shapes.{constant, shapes, bootstrap_shape}
+use Rattle.definition.specs.Value.{integer, computed, value, one_kind, folded, constant_in}
 use Rattle.facts.proofs.Lists.{clash, none≢some, some_inj}
 use Rattle.facts.proofs.Outcomes.{Ends, well, refused, next, weaker, known-good}
-use Rattle.facts.proofs.Results.{bad≢good, good-inj, good-then, some_then}
-use Rattle.causes.specs.ExpressionFaults.{BadByte, here, pastLeaf, pastSign, HasLeaf, alone, inFirst, inSecond, OfKind, larger, depth, IsInteger, DividesByZero, byPart, withinFirst, withinSecond, ComesOut}
+use Rattle.facts.proofs.Results.{bad≢good, good_inj, good_then, some_then}
+use Rattle.causes.specs.ExpressionFaults.{BadByte, here, past_leaf, past_sign, HasLeaf, alone, in_first, in_second, OfKind, larger, depth, IsInteger, DividesByZero, by_part, within_first, within_second, ComesOut}
 
 -- ---- a byte that is neither leaf tag nor sign
 
@@ -38,13 +38,13 @@ joined-none s a (some b) e = none≢some (sym e)
 -- what an expression is read from
 data Parted (fuel : ℕ) (first : ℕ) (left : List ℕ) : Option Expression → List ℕ → Type 0 where
   neither : lookup first openings ≡ none → Parted fuel first left none left
-  aLeaf :
-      (kind : Number) (n : ℕ) (rest : List ℕ) → lookup first openings ≡ some (ofLeaf kind) → bits kind left ≡ some (n, rest) →
+  a_leaf :
+      (kind : Number) (n : ℕ) (rest : List ℕ) → lookup first openings ≡ some (of_leaf kind) → bits kind left ≡ some (n, rest) →
       Parted fuel first left (some (leaf kind n)) rest
-  firstBad : (s : Sign) (rest : List ℕ) → lookup first openings ≡ some (ofSign s) → expression fuel left ≡ some (none, rest) → Parted fuel first left none rest
-  twoParts :
+  first_bad : (s : Sign) (rest : List ℕ) → lookup first openings ≡ some (of_sign s) → expression fuel left ≡ some (none, rest) → Parted fuel first left none rest
+  two_parts :
       (s : Sign) (a : Expression) (b : Option Expression) (middle rest : List ℕ) →
-      lookup first openings ≡ some (ofSign s) →
+      lookup first openings ≡ some (of_sign s) →
       expression fuel left ≡ some (some a, middle) →
       expression fuel middle ≡ some (b, rest) →
       Parted fuel first left (joined s a b) rest
@@ -52,104 +52,104 @@ data Parted (fuel : ℕ) (first : ℕ) (left : List ℕ) : Option Expression →
 parted :
     (fuel first : ℕ) (left : List ℕ) (o : Option Expression) (rest : List ℕ) →
     expression (suc fuel) (first ∷ left) ≡ some (o, rest) → Parted fuel first left o rest
-unfolding expression openedPart secondPart one
+unfolding expression opened_part second_part one
 parted fuel first left o rest e = go (lookup first openings) refl e
   where
     moved : {a : Option Expression} {l : List ℕ} → Parted fuel first left a l → ◌≡◌ {A = Option (Option Expression × List ℕ)} (some (a, l)) (some (o, rest)) → Parted fuel first left o rest
     moved p q = subst (λ (r : Option Expression × List ℕ). Parted fuel first left r.0 r.1) (some_inj q) p
 
     second :
-        (s : Sign) → lookup first openings ≡ some (ofSign s) → (a : Option Expression) (middle : List ℕ) → expression fuel left ≡ some (a, middle) →
-        secondPart (expression fuel) s a middle ≡ some (o, rest) → Parted fuel first left o rest
-    second s q none middle h e = moved (firstBad s middle q h) e
-    second s q (some a) middle h e = some_then (expression fuel middle) _ (o, rest) e λ b last h₂ e₂. moved (twoParts s a b middle last q h h₂) e₂
+        (s : Sign) → lookup first openings ≡ some (of_sign s) → (a : Option Expression) (middle : List ℕ) → expression fuel left ≡ some (a, middle) →
+        second_part (expression fuel) s a middle ≡ some (o, rest) → Parted fuel first left o rest
+    second s q none middle h e = moved (first_bad s middle q h) e
+    second s q (some a) middle h e = some_then (expression fuel middle) _ (o, rest) e λ b last h₂ e₂. moved (two_parts s a b middle last q h h₂) e₂
 
-    go : (w : Option Opening) → lookup first openings ≡ w → openedPart (expression fuel) w left ≡ some (o, rest) → Parted fuel first left o rest
+    go : (w : Option Opening) → lookup first openings ≡ w → opened_part (expression fuel) w left ≡ some (o, rest) → Parted fuel first left o rest
     go none q e = moved (neither q) e
-    go (some (ofLeaf kind)) q e = some_then (bits kind left) _ (o, rest) e λ n last h e₂. moved (aLeaf kind n last q h) e₂
-    go (some (ofSign s)) q e = some_then (expression fuel left) _ (o, rest) e λ a middle h e₂. second s q a middle h e₂
+    go (some (of_leaf kind)) q e = some_then (bits kind left) _ (o, rest) e λ n last h e₂. moved (a_leaf kind n last q h) e₂
+    go (some (of_sign s)) q e = some_then (expression fuel left) _ (o, rest) e λ a middle h e₂. second s q a middle h e₂
 
-nothing-there : (fuel : ℕ) (r : Option Expression × List ℕ) → expression fuel [] ≡ some r → ⊥
+nothing_there : (fuel : ℕ) (r : Option Expression × List ℕ) → expression fuel [] ≡ some r → ⊥
 unfolding expression one
-nothing-there zero r e = none≢some e
-nothing-there (suc fuel) r e = none≢some e
+nothing_there zero r e = none≢some e
+nothing_there (suc fuel) r e = none≢some e
 
 no_fuel : (s : List ℕ) (r : Option Expression × List ℕ) → expression zero s ≡ some r → ⊥
 unfolding expression
 no_fuel s r e = none≢some e
 
 -- it is read behind the parts before it
-bad-behind : (fuel : ℕ) (s : List ℕ) (x : Expression) (rest : List ℕ) (parts : ℕ) → expression fuel s ≡ some (some x, rest) → BadByte parts rest → BadByte (suc parts) s
-bad-behind zero s x rest parts e h = absurd (no_fuel s (some x, rest) e)
-bad-behind (suc fuel) [] x rest parts e h = absurd (nothing-there (suc fuel) (some x, rest) e)
-bad-behind (suc fuel) (first ∷ left) x rest parts e h = go (some x) rest refl (parted fuel first left (some x) rest e) h (bad-behind fuel)
+bad_behind : (fuel : ℕ) (s : List ℕ) (x : Expression) (rest : List ℕ) (parts : ℕ) → expression fuel s ≡ some (some x, rest) → BadByte parts rest → BadByte (suc parts) s
+bad_behind zero s x rest parts e h = absurd (no_fuel s (some x, rest) e)
+bad_behind (suc fuel) [] x rest parts e h = absurd (nothing_there (suc fuel) (some x, rest) e)
+bad_behind (suc fuel) (first ∷ left) x rest parts e h = go (some x) rest refl (parted fuel first left (some x) rest e) h (bad_behind fuel)
   where
     go :
         (o : Option Expression) (end : List ℕ) → o ≡ some x → Parted fuel first left o end → BadByte parts end →
         ((s : List ℕ) (x : Expression) (rest : List ℕ) (parts : ℕ) → expression fuel s ≡ some (some x, rest) → BadByte parts rest → BadByte (suc parts) s) →
         BadByte (suc parts) (first ∷ left)
     go _ _ e (neither q) h rec = none≢some e
-    go _ _ e (aLeaf kind n rest q b) h rec = pastLeaf parts first left kind n rest q b h
-    go _ _ e (firstBad s rest q f) h rec = none≢some e
-    go _ _ e (twoParts s a b middle rest q f₁ f₂) h rec =
+    go _ _ e (a_leaf kind n rest q b) h rec = past_leaf parts first left kind n rest q b h
+    go _ _ e (first_bad s rest q f) h rec = none≢some e
+    go _ _ e (two_parts s a b middle rest q f₁ f₂) h rec =
         let (c, is) = joined-some s a b x e in
         let second : expression fuel middle ≡ some (some c, rest) = f₂ ∙ ap (λ b. some (b, rest)) is in
-        pastSign parts first left s q (rec left a middle (suc parts) f₁ (rec middle c rest parts second h))
+        past_sign parts first left s q (rec left a middle (suc parts) f₁ (rec middle c rest parts second h))
 
 -- where no expression is read, there is one
-bad-read : (fuel : ℕ) (s rest : List ℕ) (parts : ℕ) → expression fuel s ≡ some (none, rest) → BadByte (suc parts) s
-bad-read zero s rest parts e = absurd (no_fuel s (none, rest) e)
-bad-read (suc fuel) [] rest parts e = absurd (nothing-there (suc fuel) (none, rest) e)
-bad-read (suc fuel) (first ∷ left) rest parts e = go none rest refl (parted fuel first left none rest e) (bad-read fuel)
+bad_read : (fuel : ℕ) (s rest : List ℕ) (parts : ℕ) → expression fuel s ≡ some (none, rest) → BadByte (suc parts) s
+bad_read zero s rest parts e = absurd (no_fuel s (none, rest) e)
+bad_read (suc fuel) [] rest parts e = absurd (nothing_there (suc fuel) (none, rest) e)
+bad_read (suc fuel) (first ∷ left) rest parts e = go none rest refl (parted fuel first left none rest e) (bad_read fuel)
   where
     go :
         (o : Option Expression) (end : List ℕ) → o ≡ none → Parted fuel first left o end →
         ((s rest : List ℕ) (parts : ℕ) → expression fuel s ≡ some (none, rest) → BadByte (suc parts) s) →
         BadByte (suc parts) (first ∷ left)
     go _ _ e (neither q) rec = here parts first left q
-    go _ _ e (aLeaf kind n rest q b) rec = none≢some (sym e)
-    go _ _ e (firstBad s rest q f) rec = pastSign parts first left s q (rec left rest (suc parts) f)
-    go _ _ e (twoParts s a b middle rest q f₁ f₂) rec =
+    go _ _ e (a_leaf kind n rest q b) rec = none≢some (sym e)
+    go _ _ e (first_bad s rest q f) rec = past_sign parts first left s q (rec left rest (suc parts) f)
+    go _ _ e (two_parts s a b middle rest q f₁ f₂) rec =
         let second : expression fuel middle ≡ some (none, rest) = f₂ ∙ ap (λ b. some (b, rest)) (joined-none s a b e) in
-        pastSign parts first left s q (bad-behind fuel left a middle (suc parts) f₁ (rec middle rest parts second))
+        past_sign parts first left s q (bad_behind fuel left a middle (suc parts) f₁ (rec middle rest parts second))
 
-pub bad-byte : (left rest : List ℕ) → readExpression left ≡ some (none, rest) → BadByte 1 left
-unfolding readExpression
-bad-byte left rest e = bad-read (length left) left rest 0 e
+pub bad_byte_lem : (left rest : List ℕ) → read_expression left ≡ some (none, rest) → BadByte 1 left
+unfolding read_expression
+bad_byte_lem left rest e = bad_read (length left) left rest 0 e
 
 -- where one is, there is none in it
-good-before : (fuel : ℕ) (s : List ℕ) (x : Expression) (rest : List ℕ) (parts : ℕ) → expression fuel s ≡ some (some x, rest) → BadByte (suc parts) s → BadByte parts rest
-good-before zero s x rest parts e h = absurd (no_fuel s (some x, rest) e)
-good-before (suc fuel) [] x rest parts e h = absurd (nothing-there (suc fuel) (some x, rest) e)
-good-before (suc fuel) (first ∷ left) x rest parts e h = go (some x) rest refl (parted fuel first left (some x) rest e) h (good-before fuel)
+good_before : (fuel : ℕ) (s : List ℕ) (x : Expression) (rest : List ℕ) (parts : ℕ) → expression fuel s ≡ some (some x, rest) → BadByte (suc parts) s → BadByte parts rest
+good_before zero s x rest parts e h = absurd (no_fuel s (some x, rest) e)
+good_before (suc fuel) [] x rest parts e h = absurd (nothing_there (suc fuel) (some x, rest) e)
+good_before (suc fuel) (first ∷ left) x rest parts e h = go (some x) rest refl (parted fuel first left (some x) rest e) h (good_before fuel)
   where
     go :
         (o : Option Expression) (end : List ℕ) → o ≡ some x → Parted fuel first left o end → BadByte (suc parts) (first ∷ left) →
         ((s : List ℕ) (x : Expression) (rest : List ℕ) (parts : ℕ) → expression fuel s ≡ some (some x, rest) → BadByte (suc parts) s → BadByte parts rest) →
         BadByte parts end
     go _ _ e (neither q) h rec = none≢some e
-    go _ _ e (firstBad s rest q f) h rec = none≢some e
-    go _ _ e (aLeaf kind n rest q b) (here _ _ _ p) rec = none≢some (sym p ∙ q)
-    go _ _ e (aLeaf kind n rest q b) (pastLeaf _ _ _ k m last p c h) rec =
+    go _ _ e (first_bad s rest q f) h rec = none≢some e
+    go _ _ e (a_leaf kind n rest q b) (here _ _ _ p) rec = none≢some (sym p ∙ q)
+    go _ _ e (a_leaf kind n rest q b) (past_leaf _ _ _ k m last p c h) rec =
         let same : k ≡ kind = cc in
         let both : ◌≡◌ {A = ℕ × List ℕ} (m, last) (n, rest) = some_inj (sym c ∙ ap (λ k. bits k left) same ∙ b) in
         subst (BadByte parts) (ap (λ r. r.1) both) h
-    go _ _ e (aLeaf kind n rest q b) (pastSign _ _ _ s p h) rec = clash (cc)
-    go _ _ e (twoParts s a b middle rest q f₁ f₂) (here _ _ _ p) rec = none≢some (sym p ∙ q)
-    go _ _ e (twoParts s a b middle rest q f₁ f₂) (pastLeaf _ _ _ k m last p c h) rec = clash (cc)
-    go _ _ e (twoParts s a b middle rest q f₁ f₂) (pastSign _ _ _ t p h) rec =
+    go _ _ e (a_leaf kind n rest q b) (past_sign _ _ _ s p h) rec = clash (cc)
+    go _ _ e (two_parts s a b middle rest q f₁ f₂) (here _ _ _ p) rec = none≢some (sym p ∙ q)
+    go _ _ e (two_parts s a b middle rest q f₁ f₂) (past_leaf _ _ _ k m last p c h) rec = clash (cc)
+    go _ _ e (two_parts s a b middle rest q f₁ f₂) (past_sign _ _ _ t p h) rec =
         let (c, is) = joined-some s a b x e in
         let second : expression fuel middle ≡ some (some c, rest) = f₂ ∙ ap (λ b. some (b, rest)) is in
         rec middle c rest parts second (rec left a middle (suc parts) f₁ h)
 
-none-to-come : (parts : ℕ) (s : List ℕ) → BadByte parts s → parts ≡ 0 → ⊥
-none-to-come _ _ (here parts first left q) e = absurd (omega arith)
-none-to-come _ _ (pastLeaf parts first left kind n rest q b h) e = absurd (omega arith)
-none-to-come _ _ (pastSign parts first left s q h) e = absurd (omega arith)
+none-to_come : (parts : ℕ) (s : List ℕ) → BadByte parts s → parts ≡ 0 → ⊥
+none-to_come _ _ (here parts first left q) e = absurd (omega arith)
+none-to_come _ _ (past_leaf parts first left kind n rest q b h) e = absurd (omega arith)
+none-to_come _ _ (past_sign parts first left s q h) e = absurd (omega arith)
 
-pub no-bad-byte : (left : List ℕ) (x : Expression) (rest : List ℕ) → readExpression left ≡ some (some x, rest) → BadByte 1 left → ⊥
-unfolding readExpression
-no-bad-byte left x rest e h = none-to-come 0 rest (good-before (length left) left x rest 0 e h) refl
+pub no_bad_byte : (left : List ℕ) (x : Expression) (rest : List ℕ) → read_expression left ≡ some (some x, rest) → BadByte 1 left → ⊥
+unfolding read_expression
+no_bad_byte left x rest e h = none-to_come 0 rest (good_before (length left) left x rest 0 e h) refl
 
 -- ---- what is cut has none before its end
 
@@ -183,41 +183,41 @@ data Meets (fuel parts : ℕ) (s : List ℕ) : Type 0 where
   meets : (rest : List ℕ) → expression fuel s ≡ some (none, rest) → Meets fuel parts s
   ahead : (x : Expression) (rest : List ℕ) → expression fuel s ≡ some (some x, rest) → BadByte parts rest → length rest ≤ length s → Meets fuel parts s
 
-bad-met : (fuel parts : ℕ) (s : List ℕ) → length s ≤ fuel → BadByte (suc parts) s → Meets fuel parts s
-unfolding expression openedPart secondPart joined one
-bad-met zero parts _ low (here _ first left q) = absurd (omega arith)
-bad-met zero parts _ low (pastLeaf _ first left kind n rest q b h) = absurd (omega arith)
-bad-met zero parts _ low (pastSign _ first left s q h) = absurd (omega arith)
-bad-met (suc fuel) parts _ low (here _ first left q) = meets left (ap (λ o. openedPart (expression fuel) o left) q)
-bad-met (suc fuel) parts _ low (pastLeaf _ first left kind n rest q b h) =
+bad_met : (fuel parts : ℕ) (s : List ℕ) → length s ≤ fuel → BadByte (suc parts) s → Meets fuel parts s
+unfolding expression opened_part second_part joined one
+bad_met zero parts _ low (here _ first left q) = absurd (omega arith)
+bad_met zero parts _ low (past_leaf _ first left kind n rest q b h) = absurd (omega arith)
+bad_met zero parts _ low (past_sign _ first left s q h) = absurd (omega arith)
+bad_met (suc fuel) parts _ low (here _ first left q) = meets left (ap (λ o. opened_part (expression fuel) o left) q)
+bad_met (suc fuel) parts _ low (past_leaf _ first left kind n rest q b h) =
     ahead (leaf kind n) rest
-    (ap (λ o. openedPart (expression fuel) o left) q ∙ ap (λ o. and_then o (λ n rest. some (some (leaf kind n), rest))) b)
+    (ap (λ o. opened_part (expression fuel) o left) q ∙ ap (λ o. and_then o (λ n rest. some (some (leaf kind n), rest))) b)
     h
     (omega (arith, bits-fewer kind left n rest b))
-bad-met (suc fuel) parts _ low (pastSign _ first left s q h) = go (bad-met fuel (suc parts) left (omega arith) h) (bad-met fuel parts)
+bad_met (suc fuel) parts _ low (past_sign _ first left s q h) = go (bad_met fuel (suc parts) left (omega arith) h) (bad_met fuel parts)
   where
-    opens : expression (suc fuel) (first ∷ left) ≡ and_then (expression fuel left) (λ a. secondPart (expression fuel) s a)
-    opens = ap (λ o. openedPart (expression fuel) o left) q
+    opens : expression (suc fuel) (first ∷ left) ≡ and_then (expression fuel left) (λ a. second_part (expression fuel) s a)
+    opens = ap (λ o. opened_part (expression fuel) o left) q
 
     second :
         (a : Expression) (middle : List ℕ) → expression fuel left ≡ some (some a, middle) → length middle ≤ length left → Meets fuel parts middle →
         Meets (suc fuel) parts (first ∷ left)
     second a middle e few (meets rest f) =
         meets rest
-        (opens ∙ ap (λ o. and_then o (λ a. secondPart (expression fuel) s a)) e ∙ ap (λ o. and_then o (λ b rest. some (joined s a b, rest))) f)
+        (opens ∙ ap (λ o. and_then o (λ a. second_part (expression fuel) s a)) e ∙ ap (λ o. and_then o (λ b rest. some (joined s a b, rest))) f)
     second a middle e few (ahead b rest f h fewer) =
         ahead (apply s a b) rest
-        (opens ∙ ap (λ o. and_then o (λ a. secondPart (expression fuel) s a)) e ∙ ap (λ o. and_then o (λ b rest. some (joined s a b, rest))) f)
+        (opens ∙ ap (λ o. and_then o (λ a. second_part (expression fuel) s a)) e ∙ ap (λ o. and_then o (λ b rest. some (joined s a b, rest))) f)
         h
         (omega arith)
 
     go : Meets fuel (suc parts) left → ((s : List ℕ) → length s ≤ fuel → BadByte (suc parts) s → Meets fuel parts s) → Meets (suc fuel) parts (first ∷ left)
-    go (meets rest f) rec = meets rest (opens ∙ ap (λ o. and_then o (λ a. secondPart (expression fuel) s a)) f)
+    go (meets rest f) rec = meets rest (opens ∙ ap (λ o. and_then o (λ a. second_part (expression fuel) s a)) f)
     go (ahead a middle f h few) rec = second a middle f few (rec middle (omega arith) h)
 
-cut-unread : (left : List ℕ) → readExpression left ≡ none → BadByte 1 left → ⊥
-unfolding readExpression
-cut-unread left e h = go (bad-met (length left) 0 left (omega arith) h)
+cut-unread : (left : List ℕ) → read_expression left ≡ none → BadByte 1 left → ⊥
+unfolding read_expression
+cut-unread left e h = go (bad_met (length left) 0 left (omega arith) h)
   where
     go : Meets (length left) 0 left → ⊥
     go (meets rest f) = none≢some (sym e ∙ f)
@@ -225,7 +225,7 @@ cut-unread left e h = go (bad-met (length left) 0 left (omega arith) h)
 
 -- ---- kinds and depth
 
-tag-opens : (kind : Number) → lookup (tag_of kind) openings ≡ some (ofLeaf kind)
+tag-opens : (kind : Number) → lookup (tag_of kind) openings ≡ some (of_leaf kind)
 unfolding lookup openings tag_of
 tag-opens int = refl
 tag-opens float = refl
@@ -235,7 +235,7 @@ tag-opens double = refl
 -- a kind has its own tag
 tag-apart : (k l : Number) → tag_of k ≡ tag_of l → k ≡ l
 tag-apart k l e =
-    let same : ofLeaf k ≡ ofLeaf l = some_inj (sym (tag-opens k) ∙ ap (λ t. lookup t openings) e ∙ tag-opens l) in
+    let same : of_leaf k ≡ of_leaf l = some_inj (sym (tag-opens k) ∙ ap (λ t. lookup t openings) e ∙ tag-opens l) in
     cc
 
 larger-first : (m n : ℕ) → m ≤ larger m n
@@ -263,9 +263,9 @@ larger-below m n d h g = go (leb m n) refl
     go false e = rw e h
 
 -- every expression has a leaf
-pub a-leaf : (x : Expression) → (kind : Number) × HasLeaf kind x
-a-leaf (leaf kind n) = (kind, alone n)
-a-leaf (apply s a b) = let (kind, h) = a-leaf a in (kind, inFirst s a b h)
+pub a_leaf_lem : (x : Expression) → (kind : Number) × HasLeaf kind x
+a_leaf_lem (leaf kind n) = (kind, alone n)
+a_leaf_lem (apply s a b) = let (kind, h) = a_leaf_lem a in (kind, in_first s a b h)
 
 -- leaves of two kinds
 abbrev pub Mixed : Expression → Type 0
@@ -298,52 +298,52 @@ alike-none (some a) (some b) e = go (eqb (tag_of a) (tag_of b)) refl
     go true t = none≢some (sym (rw (t, alike) at e))
     go false t = inr (inr (a, b, refl, refl, λ q. eqb-false (tag_of a) (tag_of b) t (ap tag_of q)))
 
-kind-even : (deep : ℕ) (x : Expression) (kind : Number) → kindWithin deep x ≡ some kind → Even deep kind x
-unfolding kindWithin depth
+kind-even : (deep : ℕ) (x : Expression) (kind : Number) → kind_within deep x ≡ some kind → Even deep kind x
+unfolding kind_within depth
 kind-even zero (leaf k n) kind e = none≢some e
 kind-even zero (apply s a b) kind e = none≢some e
 kind-even (suc deep) (leaf k n) kind e =
     let same : k ≡ kind = some_inj e in
-    record { low = omega arith; has = subst (λ k. HasLeaf kind (leaf k n)) (sym same) (alone n); all = λ l h. leaf-only l h ∙ same }
+    record { low = omega arith; has = subst (λ k. HasLeaf kind (leaf k n)) (sym same) (alone n); all = λ l h. leaf_only l h ∙ same }
   where
-    leaf-only : (l : Number) → HasLeaf l (leaf k n) → l ≡ k
-    leaf-only _ (alone _) = refl
+    leaf_only : (l : Number) → HasLeaf l (leaf k n) → l ≡ k
+    leaf_only _ (alone _) = refl
 kind-even (suc deep) (apply s a b) kind e =
-    let both = alike-some (kindWithin deep a) (kindWithin deep b) kind e in
+    let both = alike-some (kind_within deep a) (kind_within deep b) kind e in
     joins (kind-even deep a kind both.0) (kind-even deep b kind both.1)
   where
     either : Even deep kind a → Even deep kind b → (l : Number) → HasLeaf l (apply s a b) → l ≡ kind
-    either f g l (inFirst _ _ _ h) = f.all l h
-    either f g l (inSecond _ _ _ h) = g.all l h
+    either f g l (in_first _ _ _ h) = f.all l h
+    either f g l (in_second _ _ _ h) = g.all l h
 
     joins : Even deep kind a → Even deep kind b → Even (suc deep) kind (apply s a b)
     joins f g =
         let below = larger-below (depth a) (depth b) deep f.low g.low in
-        record { low = omega arith; has = inFirst s a b f.has; all = either f g }
+        record { low = omega arith; has = in_first s a b f.has; all = either f g }
 
-kind-uneven : (deep : ℕ) (x : Expression) → kindWithin deep x ≡ none → (deep < depth x) ⊎ Mixed x
-unfolding kindWithin depth
+kind-uneven : (deep : ℕ) (x : Expression) → kind_within deep x ≡ none → (deep < depth x) ⊎ Mixed x
+unfolding kind_within depth
 kind-uneven zero (leaf k n) e = inl (omega arith)
 kind-uneven zero (apply s a b) e = inl (omega arith)
 kind-uneven (suc deep) (leaf k n) e = none≢some (sym e)
-kind-uneven (suc deep) (apply s a b) e = go (alike-none (kindWithin deep a) (kindWithin deep b) e) (kind-uneven deep a) (kind-uneven deep b)
+kind-uneven (suc deep) (apply s a b) e = go (alike-none (kind_within deep a) (kind_within deep b) e) (kind-uneven deep a) (kind-uneven deep b)
   where
     first : (deep < depth a) ⊎ Mixed a → (suc deep < depth (apply s a b)) ⊎ Mixed (apply s a b)
     first (inl h) = let l = larger-first (depth a) (depth b) in inl (omega arith)
-    first (inr (k, l, h, g, ne)) = inr (k, l, inFirst s a b h, inFirst s a b g, ne)
+    first (inr (k, l, h, g, ne)) = inr (k, l, in_first s a b h, in_first s a b g, ne)
 
     second : (deep < depth b) ⊎ Mixed b → (suc deep < depth (apply s a b)) ⊎ Mixed (apply s a b)
     second (inl h) = let l = larger-second (depth a) (depth b) in inl (omega arith)
-    second (inr (k, l, h, g, ne)) = inr (k, l, inSecond s a b h, inSecond s a b g, ne)
+    second (inr (k, l, h, g, ne)) = inr (k, l, in_second s a b h, in_second s a b g, ne)
 
     go :
-        (kindWithin deep a ≡ none) ⊎ ((kindWithin deep b ≡ none) ⊎ ((k : Number) × (l : Number) × (kindWithin deep a ≡ some k) × (kindWithin deep b ≡ some l) × (k ≢ l))) →
-        (kindWithin deep a ≡ none → (deep < depth a) ⊎ Mixed a) →
-        (kindWithin deep b ≡ none → (deep < depth b) ⊎ Mixed b) →
+        (kind_within deep a ≡ none) ⊎ ((kind_within deep b ≡ none) ⊎ ((k : Number) × (l : Number) × (kind_within deep a ≡ some k) × (kind_within deep b ≡ some l) × (k ≢ l))) →
+        (kind_within deep a ≡ none → (deep < depth a) ⊎ Mixed a) →
+        (kind_within deep b ≡ none → (deep < depth b) ⊎ Mixed b) →
         (suc deep < depth (apply s a b)) ⊎ Mixed (apply s a b)
     go (inl q) f g = first (f q)
     go (inr (inl q)) f g = second (g q)
-    go (inr (inr (k, l, p, q, ne))) f g = inr (k, l, inFirst s a b (kind-even deep a k p).has, inSecond s a b (kind-even deep b l q).has, ne)
+    go (inr (inr (k, l, p, q, ne))) f g = inr (k, l, in_first s a b (kind-even deep a k p).has, in_second s a b (kind-even deep b l q).has, ne)
 
 -- ---- an integer divided by zero
 
@@ -361,7 +361,7 @@ integer-cause kind m times a b i j is e = well tt
 integer-cause kind m over a b i j is e = go (eqb j 0) refl
   where
     go : (t : Bool) → eqb j 0 ≡ t → Ends (Why kind (apply over a b)) (λ _. Unit {0}) (integer m over i j)
-    go true t = rw (t, integer) (refused (refl, byPart a b is (e ∙ ap good (eqb-true j 0 t))))
+    go true t = rw (t, integer) (refused (refl, by_part a b is (e ∙ ap good (eqb-true j 0 t))))
     go false t = rw (t, integer) (well tt)
 
 computed-cause :
@@ -377,97 +377,97 @@ value-cause : (kind : Number) (x : Expression) → Ends (Why kind x) (λ _. Unit
 unfolding value
 value-cause kind (leaf k n) = well tt
 value-cause kind (apply s a b) =
-    next _ (weaker (λ c h. (h.0, withinFirst s a b h.1)) (λ _ h. h) (value-cause kind a)) λ i _.
-    next _ (weaker (λ c h. (h.0, withinSecond s a b h.1)) (λ _ h. h) (known-good (value kind b) (value-cause kind b))) λ j h.
+    next _ (weaker (λ c h. (h.0, within_first s a b h.1)) (λ _ h. h) (value-cause kind a)) λ i _.
+    next _ (weaker (λ c h. (h.0, within_second s a b h.1)) (λ _ h. h) (known-good (value kind b) (value-cause kind b))) λ j h.
     computed-cause kind s a b i j h.1
 
 -- and nothing that divides an integer by zero has a value
-no-quotient : (kind : Number) (i n : ℕ) → IsInteger kind → computed kind over i 0 ≡ good n → ⊥
+no_quotient : (kind : Number) (i n : ℕ) → IsInteger kind → computed kind over i 0 ≡ good n → ⊥
 unfolding computed integer
-no-quotient int i n is e = bad≢good e
-no-quotient float i n is e = is
-no-quotient long i n is e = bad≢good e
-no-quotient double i n is e = is
+no_quotient int i n is e = bad≢good e
+no_quotient float i n is e = is
+no_quotient long i n is e = bad≢good e
+no_quotient double i n is e = is
 
 no_value : (kind : Number) (x : Expression) (n : ℕ) → DividesByZero kind x → value kind x ≡ good n → ⊥
 unfolding value
-no_value kind _ n (byPart a b is z) e =
-    good-then (value kind a) _ n e λ i _ e₁.
-    good-then (value kind b) _ n e₁ λ j q e₂.
-    let same : j ≡ 0 = good-inj (sym q ∙ z) in
-    no-quotient kind i n is (subst (λ j. computed kind over i j ≡ good n) same e₂)
-no_value kind _ n (withinFirst s a b d) e = good-then (value kind a) _ n e λ i q _. no_value kind a i d q
-no_value kind _ n (withinSecond s a b d) e =
-    good-then (value kind a) _ n e λ i _ e₁.
-    good-then (value kind b) _ n e₁ λ j q _. no_value kind b j d q
+no_value kind _ n (by_part a b is z) e =
+    good_then (value kind a) _ n e λ i _ e₁.
+    good_then (value kind b) _ n e₁ λ j q e₂.
+    let same : j ≡ 0 = good_inj (sym q ∙ z) in
+    no_quotient kind i n is (subst (λ j. computed kind over i j ≡ good n) same e₂)
+no_value kind _ n (within_first s a b d) e = good_then (value kind a) _ n e λ i q _. no_value kind a i d q
+no_value kind _ n (within_second s a b d) e =
+    good_then (value kind a) _ n e λ i _ e₁.
+    good_then (value kind b) _ n e₁ λ j q _. no_value kind b j d q
 
 -- ---- a record 46
 
 -- what each fault is the cause of
 pub record Faults (Z : ℕ → Type 0) (left : List ℕ) : Type 0 where
   pub byte : BadByte 1 left → Z 22
-  pub kinds : (x : Expression) (rest : List ℕ) → readExpression left ≡ some (some x, rest) → Mixed x → Z 22
-  pub nested : (x : Expression) (rest : List ℕ) → readExpression left ≡ some (some x, rest) → 32 < depth x → Z 22
+  pub kinds : (x : Expression) (rest : List ℕ) → read_expression left ≡ some (some x, rest) → Mixed x → Z 22
+  pub nested : (x : Expression) (rest : List ℕ) → read_expression left ≡ some (some x, rest) → 32 < depth x → Z 22
   pub divided :
-      (x : Expression) (rest : List ℕ) (kind : Number) → readExpression left ≡ some (some x, rest) → OfKind kind x → depth x ≤ 32 → DividesByZero kind x →
+      (x : Expression) (rest : List ℕ) (kind : Number) → read_expression left ≡ some (some x, rest) → OfKind kind x → depth x ≤ 32 → DividesByZero kind x →
       Z 23
 
 folded-cause :
-    {Z : ℕ → Type 0} (left rest : List ℕ) (o : Option Expression) → readExpression left ≡ some (o, rest) → Faults Z left → Ends Z (λ _. ComesOut left) (folded o)
-unfolding folded oneKind
-folded-cause left rest none read f = refused (f.byte (bad-byte left rest read))
+    {Z : ℕ → Type 0} (left rest : List ℕ) (o : Option Expression) → read_expression left ≡ some (o, rest) → Faults Z left → Ends Z (λ _. ComesOut left) (folded o)
+unfolding folded one_kind
+folded-cause left rest none read f = refused (f.byte (bad_byte_lem left rest read))
 folded-cause {Z} left rest (some x) read f =
-    next _ (go (kindWithin 32 x) refl) λ kind even.
+    next _ (go (kind_within 32 x) refl) λ kind even.
     next _ (weaker (λ c h. subst Z (sym h.0) (f.divided x rest kind read even.all even.low h.1)) (λ _ h. h) (known-good (value kind x) (value-cause kind x))) λ n h.
-    well (record { parts = x; rest = rest; kind = kind; isRead = read; isOfKind = even.all; isNested = even.low; isDivided = λ d. no_value kind x n d h.1 })
+    well (record { parts = x; rest = rest; kind = kind; is_read = read; is_of_kind = even.all; is_nested = even.low; is_divided = λ d. no_value kind x n d h.1 })
   where
-    go : (o : Option Number) → kindWithin 32 x ≡ o → Ends Z (λ kind. Even 32 kind x) (oneKind (kindWithin 32 x))
-    go none e = subst (λ o. Ends Z (λ kind. Even 32 kind x) (oneKind o)) (sym e) (refused (⊎_elim (f.nested x rest read) (f.kinds x rest read) (kind-uneven 32 x e)))
-    go (some kind) e = subst (λ o. Ends Z (λ kind. Even 32 kind x) (oneKind o)) (sym e) (well (kind-even 32 x kind e))
+    go : (o : Option Number) → kind_within 32 x ≡ o → Ends Z (λ kind. Even 32 kind x) (one_kind (kind_within 32 x))
+    go none e = subst (λ o. Ends Z (λ kind. Even 32 kind x) (one_kind o)) (sym e) (refused (⊎_elim (f.nested x rest read) (f.kinds x rest read) (kind-uneven 32 x e)))
+    go (some kind) e = subst (λ o. Ends Z (λ kind. Even 32 kind x) (one_kind o)) (sym e) (well (kind-even 32 x kind e))
 
 -- what a 46 is read as
 pub expression-read :
-    (left : List ℕ) (x : Definition (List ℕ)) (rest : List ℕ) → readDefinition 0x46 left ≡ some (x, rest) →
-    (o : Option Expression) × (readExpression left ≡ some (o, rest)) × (x ≡ define (workedOut (folded o)))
-unfolding readDefinition read_body lookup bodies shapes bootstrapShape
+    (left : List ℕ) (x : Definition (List ℕ)) (rest : List ℕ) → read_definition 0x46 left ≡ some (x, rest) →
+    (o : Option Expression) × (read_expression left ≡ some (o, rest)) × (x ≡ define (worked_out (folded o)))
+unfolding read_definition read_body lookup bodies shapes bootstrap_shape
 expression-read left x rest e =
-    some_then (readExpression left) _ (x, rest) e λ o last read e₁.
-    let same : ◌≡◌ {A = Definition (List ℕ) × List ℕ} (define (workedOut (folded o)), last) (x, rest) = some_inj e₁ in
+    some_then (read_expression left) _ (x, rest) e λ o last read e₁.
+    let same : ◌≡◌ {A = Definition (List ℕ) × List ℕ} (define (worked_out (folded o)), last) (x, rest) = some_inj e₁ in
     (o, read ∙ ap (λ (r : Definition (List ℕ) × List ℕ). some (o, r.1)) same, sym (ap (λ (r : Definition (List ℕ) × List ℕ). r.0) same))
 
 -- one that can't be read is cut before any bad byte
-pub definition-cut : (left : List ℕ) → readDefinition 0x46 left ≡ none → BadByte 1 left → ⊥
-unfolding readDefinition read_body lookup bodies shapes bootstrapShape
-definition-cut left e = go (readExpression left) refl e
+pub definition_cut : (left : List ℕ) → read_definition 0x46 left ≡ none → BadByte 1 left → ⊥
+unfolding read_definition read_body lookup bodies shapes bootstrap_shape
+definition_cut left e = go (read_expression left) refl e
   where
     go :
-        (o : Option (Option Expression × List ℕ)) → readExpression left ≡ o → and_then o (λ x rest. some (define (workedOut (folded x)), rest)) ≡ none →
+        (o : Option (Option Expression × List ℕ)) → read_expression left ≡ o → and_then o (λ x rest. some (define (worked_out (folded x)), rest)) ≡ none →
         BadByte 1 left → ⊥
     go none q e = cut-unread left q
     go (some r) q e = none≢some (sym e)
 
 -- it goes into the table of constants
-pub worked-constant : (r : Result ℕ (Number × ℕ)) → kind_of (workedOut r).tag ≡ constant
-unfolding workedOut asConstant tag_of kind_of
+pub worked-constant : (r : Result ℕ (Number × ℕ)) → kind_of (worked_out r).tag ≡ constant
+unfolding worked_out as_constant tag_of kind_of
 worked-constant (good (int, n)) = refl
 worked-constant (good (float, n)) = refl
 worked-constant (good (long, n)) = refl
 worked-constant (good (double, n)) = refl
 worked-constant (bad code) = refl
 
-pub comes-cause :
+pub comes_cause :
     {Z : ℕ → Type 0} (first : ℕ) (left : List ℕ) (x : Definition (List ℕ)) (rest : List ℕ) →
-    readDefinition first left ≡ some (x, rest) →
+    read_definition first left ≡ some (x, rest) →
     (first ≡ 0x46 → Faults Z left) →
-    Ends Z (λ _. first ≡ 0x46 → ComesOut left) (comesOut first left)
-unfolding comesOut constantIn
-comes-cause {Z} first left x rest read f = go (eqb first 0x46) refl
+    Ends Z (λ _. first ≡ 0x46 → ComesOut left) (comes_out first left)
+unfolding comes_out constant_in
+comes_cause {Z} first left x rest read f = go (eqb first 0x46) refl
   where
-    go : (t : Bool) → eqb first 0x46 ≡ t → Ends Z (λ _. first ≡ 0x46 → ComesOut left) (comesOut first left)
+    go : (t : Bool) → eqb first 0x46 ≡ t → Ends Z (λ _. first ≡ 0x46 → ComesOut left) (comes_out first left)
     go true t =
         let is : first ≡ 0x46 = eqb-true first 0x46 t in
-        let (o, h, _) = expression-read left x rest (subst (λ f. readDefinition f left ≡ some (x, rest)) is read) in
-        rw (t, comesOut)
-        (next _ (subst (λ (p : Option (Option Expression × List ℕ)). Ends Z (λ _. ComesOut left) (constantIn p)) (sym h) (folded-cause left rest o h (f is))) λ _ c.
+        let (o, h, _) = expression-read left x rest (subst (λ f. read_definition f left ≡ some (x, rest)) is read) in
+        rw (t, comes_out)
+        (next _ (subst (λ (p : Option (Option Expression × List ℕ)). Ends Z (λ _. ComesOut left) (constant_in p)) (sym h) (folded-cause left rest o h (f is))) λ _ c.
         well (λ _. c))
-    go false t = rw (t, comesOut) (well (λ e. absurd (eqb-false first 0x46 t e)))
+    go false t = rw (t, comes_out) (well (λ e. absurd (eqb-false first 0x46 t e)))

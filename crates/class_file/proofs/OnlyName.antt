@@ -9,18 +9,18 @@ use lib.ListN.{drop, get_or}
 use Rattle.definition.specs.Ascii.{ascii}
 use Rattle.definition.specs.Basics.{same}
 use Rattle.jvms.specs.Pool.{Constant, Utf8, Integer, Float, Long, Double, Class, String, Fieldref, Methodref, InterfaceMethodref, NameAndType, MethodHandle, MethodType, Dynamic, InvokeDynamic, Module, Package, Slot, usable, unusable}
-use Rattle.jvms.specs.Written.{bytes2, constant-bytes, slot-bytes}
+use Rattle.jvms.specs.Written.{bytes2, constant_bytes, slot_bytes_lem}
 use Rattle.facts.proofs.Lists.{true≢false, same_true, same_refl}
-use Rattle.class_file.specs.ClassFile.{nameConstant, isName}
+use Rattle.class_file.specs.ClassFile.{name_constant, is_name_lem}
 use Rattle.class_file.specs.Promises.{Named}
 
 -- a constant that begins with another tag
-other : {C : Type 0} (tag : ℕ) (l : List ℕ) → tag ∷ l ≡ nameConstant → (tag ≡ 1 → ⊥) → C
-unfolding nameConstant constant-bytes
+other : {C : Type 0} (tag : ℕ) (l : List ℕ) → tag ∷ l ≡ name_constant → (tag ≡ 1 → ⊥) → C
+unfolding name_constant constant_bytes
 other tag l e differ = absurd (differ (ap (λ m. get_or m 0 0) e))
 
-only-name : (c : Constant) → constant-bytes c ≡ nameConstant → c ≡ Utf8 (ascii "BootstrapMethods")
-unfolding constant-bytes bytes2 nameConstant
+only-name : (c : Constant) → constant_bytes c ≡ name_constant → c ≡ Utf8 (ascii "BootstrapMethods")
+unfolding constant_bytes bytes2 name_constant
 only-name (Utf8 bytes) e = ap (λ l. Utf8 (drop 3 l)) e
 only-name (Integer b) e = other 3 _ e (λ z. omega arith)
 only-name (Float b) e = other 4 _ e (λ z. omega arith)
@@ -39,12 +39,12 @@ only-name (InvokeDynamic m n) e = other 18 _ e (λ z. omega arith)
 only-name (Module n) e = other 19 _ e (λ z. omega arith)
 only-name (Package n) e = other 20 _ e (λ z. omega arith)
 
-held : (slot : Option Slot) → isName slot ≡ true → slot ≡ some (usable (Utf8 (ascii "BootstrapMethods")))
-unfolding isName same slot-bytes nameConstant constant-bytes
+held : (slot : Option Slot) → is_name_lem slot ≡ true → slot ≡ some (usable (Utf8 (ascii "BootstrapMethods")))
+unfolding is_name_lem same slot_bytes_lem name_constant constant_bytes
 held none h = true≢false (sym h)
 held (some unusable) h = true≢false (sym h)
-held (some (usable c)) h = ap (λ x. some (usable x)) (only-name c (same_true (constant-bytes c) nameConstant h))
+held (some (usable c)) h = ap (λ x. some (usable x)) (only-name c (same_true (constant_bytes c) name_constant h))
 
 pub named : Named
-unfolding isName slot-bytes nameConstant
-named slot = (held slot, λ e. ap isName e ∙ same_refl nameConstant)
+unfolding is_name_lem slot_bytes_lem name_constant
+named slot = (held slot, λ e. ap is_name_lem e ∙ same_refl name_constant)

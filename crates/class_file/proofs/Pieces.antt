@@ -12,13 +12,13 @@ use Rattle.jvms.specs.Written.{bytes2, bytes4, Is2, Is4}
 use Rattle.facts.proofs.Lists.{tests_agree}
 use Rattle.writer.proofs.Laws.{be4-halves}
 use Rattle.raw_const.specs.Entries.{Wrote}
-use Rattle.class_file.specs.ClassFile.{attribute-bytes, attributes-bytes, classBytes}
-use Rattle.class_file.specs.Answers.{parts_of, headBytes, membersBytes, attributesOf, frameSize}
+use Rattle.class_file.specs.ClassFile.{attribute-bytes, attributes-bytes, class_bytes}
+use Rattle.class_file.specs.Answers.{parts_of, head_bytes, members_bytes, attributes_of, frame_size}
 
 -- a number's bytes, as the writer has them
-pub short-bytes : (x : ℕ) → Is2 x → be2 x ≡ bytes2 x
+pub short_bytes : (x : ℕ) → Is2 x → be2 x ≡ bytes2 x
 unfolding be2 bytes2
-short-bytes x h =
+short_bytes x h =
     let high : x / 256 % 256 ≡ x / 256 = omega arith in
     rw high
 
@@ -27,32 +27,32 @@ unfolding bytes4
 word_bytes x h =
     let high : Is2 (x / 65536) = omega arith in
     let low : Is2 (x % 65536) = omega arith in
-    sym (be4-halves x) ∙ (λ i. short-bytes (x / 65536) high i ++ short-bytes (x % 65536) low i)
+    sym (be4-halves x) ∙ (λ i. short_bytes (x / 65536) high i ++ short_bytes (x % 65536) low i)
 
-pub wrote-short : (d : List ℕ) (at x : ℕ) {d₁ : List ℕ} → Is2 x → d₁ ≡ paste d at (be2 x) 2 → Wrote d at (bytes2 x) d₁ (at + 2)
+pub wrote_short : (d : List ℕ) (at x : ℕ) {d₁ : List ℕ} → Is2 x → d₁ ≡ paste d at (be2 x) 2 → Wrote d at (bytes2 x) d₁ (at + 2)
 unfolding bytes2
-wrote-short d at x h e = record { out = e ∙ ap (λ l. paste d at l 2) (short-bytes x h); next = refl }
+wrote_short d at x h e = record { out = e ∙ ap (λ l. paste d at l 2) (short_bytes x h); next = refl }
 
-pub wrote-word : (d : List ℕ) (at x : ℕ) {d₁ : List ℕ} → Is4 x → d₁ ≡ paste d at (be4 x) 4 → Wrote d at (bytes4 x) d₁ (at + 4)
+pub wrote_word : (d : List ℕ) (at x : ℕ) {d₁ : List ℕ} → Is4 x → d₁ ≡ paste d at (be4 x) 4 → Wrote d at (bytes4 x) d₁ (at + 4)
 unfolding bytes2 bytes4
-wrote-word d at x h e = record { out = e ∙ ap (λ l. paste d at l 4) (word_bytes x h); next = refl }
+wrote_word d at x h e = record { out = e ∙ ap (λ l. paste d at l 4) (word_bytes x h); next = refl }
 
 -- what stands from attributes_count on, piece by piece
-pub attributes-none : (name count : ℕ) (b : List ℕ) → name ≡ 0 → attributesOf name count b ≡ bytes2 0
+pub attributes-none : (name count : ℕ) (b : List ℕ) → name ≡ 0 → attributes_of name count b ≡ bytes2 0
 unfolding attributes-bytes
 attributes-none name count b e = rw e
 
 pub attributes-one :
-    (name count : ℕ) (b : List ℕ) → 0 < name → attributesOf name count b ≡ bytes2 1 ++ bytes2 name ++ bytes4 (2 + length b) ++ bytes2 count ++ b
+    (name count : ℕ) (b : List ℕ) → 0 < name → attributes_of name count b ≡ bytes2 1 ++ bytes2 name ++ bytes4 (2 + length b) ++ bytes2 count ++ b
 unfolding attributes-bytes
 attributes-one zero count b h = absurd (omega arith)
 attributes-one (suc n) count b h = simp append_assoc
 
 pub attributes-items :
-    (name count : ℕ) (b : List ℕ) → 0 < name → attributesOf name count b ≡ bytes2 1 ++ (bytes2 name ++ (bytes4 (2 + length b) ++ (bytes2 count ++ b)))
+    (name count : ℕ) (b : List ℕ) → 0 < name → attributes_of name count b ≡ bytes2 1 ++ (bytes2 name ++ (bytes4 (2 + length b) ++ (bytes2 count ++ b)))
 attributes-items name count b h = attributes-one name count b h ∙ simp append_assoc
 
-pub length-one : (name count : ℕ) (b : List ℕ) → 0 < name → length (attributesOf name count b) ≡ 10 + length b
+pub length-one : (name count : ℕ) (b : List ℕ) → 0 < name → length (attributes_of name count b) ≡ 10 + length b
 unfolding bytes2 bytes4
 length-one name count b h = omega (arith, ap length (attributes-one name count b h))
 
@@ -62,13 +62,13 @@ regrouped :
     (a ++ b ++ c) ++ pool ++ (d ++ e ++ f ++ g ++ h ++ i) ++ l ≡ a ++ b ++ c ++ pool ++ d ++ e ++ f ++ g ++ h ++ i ++ l
 regrouped a b c pool d e f g h i l = simp append_assoc
 
-pub file-pieces :
+pub file_pieces :
     (minor major : ℕ) (pool : List ℕ) (flags this super name count : ℕ) (b : List ℕ) →
-    headBytes minor major ++ pool ++ membersBytes flags this super ++ attributesOf name count b
-    ≡ classBytes (parts_of minor major pool flags this super name count b)
-unfolding classBytes attribute-bytes
-file-pieces minor major pool flags this super name count b =
-    regrouped (bytes4 0xcafebabe) (bytes2 minor) (bytes2 major) pool (bytes2 flags) (bytes2 this) (bytes2 super) (bytes2 0) (bytes2 0) (bytes2 0) (attributesOf name count b)
+    head_bytes minor major ++ pool ++ members_bytes flags this super ++ attributes_of name count b
+    ≡ class_bytes (parts_of minor major pool flags this super name count b)
+unfolding class_bytes attribute-bytes
+file_pieces minor major pool flags this super name count b =
+    regrouped (bytes4 0xcafebabe) (bytes2 minor) (bytes2 major) pool (bytes2 flags) (bytes2 this) (bytes2 super) (bytes2 0) (bytes2 0) (bytes2 0) (attributes_of name count b)
 
 -- the same, each item before all that follows
 nested :
@@ -80,33 +80,33 @@ nested a b c pool d e f g h i l = simp append_assoc
 abbrev pub behind : ℕ → ℕ → ℕ → List ℕ → List ℕ
 behind flags this super l = bytes2 flags ++ (bytes2 this ++ (bytes2 super ++ (bytes2 0 ++ (bytes2 0 ++ (bytes2 0 ++ l)))))
 
-pub file-items :
+pub file_items :
     (minor major : ℕ) (pool : List ℕ) (flags this super name count : ℕ) (b : List ℕ) →
-    classBytes (parts_of minor major pool flags this super name count b)
-    ≡ bytes4 0xcafebabe ++ (bytes2 minor ++ (bytes2 major ++ (pool ++ behind flags this super (attributesOf name count b))))
-unfolding classBytes attribute-bytes
-file-items minor major pool flags this super name count b =
-    nested (bytes4 0xcafebabe) (bytes2 minor) (bytes2 major) pool (bytes2 flags) (bytes2 this) (bytes2 super) (bytes2 0) (bytes2 0) (bytes2 0) (attributesOf name count b)
+    class_bytes (parts_of minor major pool flags this super name count b)
+    ≡ bytes4 0xcafebabe ++ (bytes2 minor ++ (bytes2 major ++ (pool ++ behind flags this super (attributes_of name count b))))
+unfolding class_bytes attribute-bytes
+file_items minor major pool flags this super name count b =
+    nested (bytes4 0xcafebabe) (bytes2 minor) (bytes2 major) pool (bytes2 flags) (bytes2 this) (bytes2 super) (bytes2 0) (bytes2 0) (bytes2 0) (attributes_of name count b)
 
 pub length-file :
     (minor major : ℕ) (pool : List ℕ) (flags this super name count : ℕ) (b : List ℕ) →
-    length (classBytes (parts_of minor major pool flags this super name count b)) ≡ 20 + length pool + length (attributesOf name count b)
+    length (class_bytes (parts_of minor major pool flags this super name count b)) ≡ 20 + length pool + length (attributes_of name count b)
 unfolding bytes2 bytes4
 length-file minor major pool flags this super name count b =
     omega (
       arith,
-      ap length (file-pieces minor major pool flags this super name count b),
-      length-append (headBytes minor major ++ pool ++ membersBytes flags this super) (attributesOf name count b),
-      length-append (headBytes minor major ++ pool) (membersBytes flags this super),
-      length-append (headBytes minor major) pool,
+      ap length (file_pieces minor major pool flags this super name count b),
+      length-append (head_bytes minor major ++ pool ++ members_bytes flags this super) (attributes_of name count b),
+      length-append (head_bytes minor major ++ pool) (members_bytes flags this super),
+      length-append (head_bytes minor major) pool,
     )
 
-pub frame-none : (name : ℕ) → name ≡ 0 → 22 ≡ frameSize name
-frame-none name e = rw e
+pub frame_none : (name : ℕ) → name ≡ 0 → 22 ≡ frame_size name
+frame_none name e = rw e
 
-pub frame-some : (name : ℕ) → 0 < name → 30 ≡ frameSize name
-frame-some zero h = absurd (omega arith)
-frame-some (suc n) h = refl
+pub frame_some : (name : ℕ) → 0 < name → 30 ≡ frame_size name
+frame_some zero h = absurd (omega arith)
+frame_some (suc n) h = refl
 
 pub fits-left : (room f p b : ℕ) → f ≤ room → p ≤ room - f → leb b (room - f - p) ≡ leb (f + p + b) room
 fits-left room f p b hf hp =

@@ -8,70 +8,70 @@ use native.Mathlib.Omega.{arith}
 use lib.Dec.{eqb}
 use lib.ListN.{length, drop, length-drop}
 use lib.Seq.{drop-length}
-use Rattle.jvms.specs.Pool.{◌>>=◌, u2, Slot, constant-pool, wholly, read-pool, BootstrapMethod, read-bootstrap-methods}
+use Rattle.jvms.specs.Pool.{◌>>=◌, u2, Slot, constant_pool, wholly, read_pool_lem, BootstrapMethod, read_bootstrap_methods}
 use Rattle.facts.proofs.Lists.{none≢some, some_inj, true≢false}
-use Rattle.laws.proofs.reading.ReadIsSpelled.{wholly-some}
+use Rattle.laws.proofs.Reading.ReadIsSpelled.{wholly-some}
 use Rattle.places.specs.declared.PoolRead.{PoolRead}
 use Rattle.places.specs.declared.PoolRead.TheVariants.{Good, Bad}
 use Rattle.places.specs.Noting.{PoolNoted, MethodsPut}
 use Rattle.places.specs.Standing.{slot_of}
-use Rattle.class_file.specs.ClassFile.{isName, named}
+use Rattle.class_file.specs.ClassFile.{is_name_lem, named}
 use Rattle.class_file.specs.Answers.{Tells, Right}
 
 -- what reading a pool told, by its answer
 module _ (bytes : List ℕ) (at : ℕ) (before after : List ℕ) {r : PoolRead} (told : PoolNoted bytes at before after r) where
-  pub pool-bad : r ≡ Bad → (u2 >>= constant-pool) (drop at bytes) ≡ none
-  pool-bad e = (subst (λ a. PoolNoted bytes at before after a) e told).0
+  pub pool_bad : r ≡ Bad → (u2 >>= constant_pool) (drop at bytes) ≡ none
+  pool_bad e = (subst (λ a. PoolNoted bytes at before after a) e told).0
 
-  pub pool-good : (next : ℕ) → r ≡ Good next → PoolNoted bytes at before after (Good next)
-  pool-good next e = subst (λ a. PoolNoted bytes at before after a) e told
+  pub pool_good : (next : ℕ) → r ≡ Good next → PoolNoted bytes at before after (Good next)
+  pool_good next e = subst (λ a. PoolNoted bytes at before after a) e told
 
 -- a name slot, given or not
 pub named_none : (slots : List Slot) (name count : ℕ) → name ≡ 0 → eqb count 0 ≡ named (some slots) name count
 unfolding named
 named_none slots name count e = rw e
 
-pub named_some : (slots : List Slot) (name count : ℕ) → 0 < name → isName (slot_of slots name) ≡ named (some slots) name count
+pub named_some : (slots : List Slot) (name count : ℕ) → 0 < name → is_name_lem (slot_of slots name) ≡ named (some slots) name count
 unfolding named
 named_some slots zero count h = absurd (omega arith)
 named_some slots (suc n) count h = refl
 
 module _ (pool : List ℕ) (name count : ℕ) (bootstraps : List ℕ) where
   -- no pool
-  pub no-pool : (u2 >>= constant-pool) pool ≡ none → Right pool name count bootstraps → ⊥
-  unfolding read-pool
-  no-pool bad right = none≢some (sym bad ∙ wholly-some _ right.slots right.pool-read)
+  pub no_pool_lem : (u2 >>= constant_pool) pool ≡ none → Right pool name count bootstraps → ⊥
+  unfolding read_pool_lem
+  no_pool_lem bad right = none≢some (sym bad ∙ wholly-some _ right.slots right.pool_read)
 
   -- a pool with bytes up to a place
-  module _ (found : List Slot) (next : ℕ) (read : (u2 >>= constant-pool) pool ≡ some (found, drop next pool)) where
+  module _ (found : List Slot) (next : ℕ) (read : (u2 >>= constant_pool) pool ≡ some (found, drop next pool)) where
     whole : (right : Right pool name count bootstraps) → ◌≡◌ {A = List Slot × List ℕ} (found, drop next pool) (right.slots, [])
-    unfolding read-pool
-    whole right = some_inj (sym read ∙ wholly-some _ right.slots right.pool-read)
+    unfolding read_pool_lem
+    whole right = some_inj (sym read ∙ wholly-some _ right.slots right.pool_read)
 
-    pub pool-end : next ≤ length pool → Right pool name count bootstraps → next ≡ length pool
-    pool-end inside right = omega (arith, length-drop next pool, ap length (ap (λ r. r.1) (whole right)))
+    pub pool_end : next ≤ length pool → Right pool name count bootstraps → next ≡ length pool
+    pool_end inside right = omega (arith, length-drop next pool, ap length (ap (λ r. r.1) (whole right)))
 
     pub held : Right pool name count bootstraps → named (some found) name count ≡ true
-    held right = ap (λ r. named (some r.0) name count) (whole right) ∙ right.name-held
+    held right = ap (λ r. named (some r.0) name count) (whole right) ∙ right.name_held
 
-    pub all_read : next ≡ length pool → read-pool pool ≡ some found
-    unfolding read-pool wholly
+    pub all_read : next ≡ length pool → read_pool_lem pool ≡ some found
+    unfolding read_pool_lem wholly
     all_read last = ap wholly (read ∙ ap (λ k. some (found, drop k pool)) last ∙ ap (λ l. some (found, l)) (drop-length pool))
 
   -- all but the bootstrap methods is right
-  pub methods-tell :
-      (found : List Slot) (before after : List ℕ) (r : Bool) → read-pool pool ≡ some found → named (some found) name count ≡ true →
+  pub methods_tell :
+      (found : List Slot) (before after : List ℕ) (r : Bool) → read_pool_lem pool ≡ some found → named (some found) name count ≡ true →
       length bootstraps ≤ 4294967293 → MethodsPut bootstraps count before after r → Tells r (Right pool name count bootstraps)
-  methods-tell found before after true read n short put =
-      record { slots = found; pool-read = read; name-held = n; methods = put.0; methods-read = put.1; short = short }
-  methods-tell found before after false read n short put = λ right. none≢some (sym put.0 ∙ right.methods-read)
+  methods_tell found before after true read n short put =
+      record { slots = found; pool_read = read; name_held = n; methods = put.0; methods_read = put.1; short = short }
+  methods_tell found before after false read n short put = λ right. none≢some (sym put.0 ∙ right.methods_read)
 
 -- what reading bootstrap methods told, by its answer
 module _ (bytes : List ℕ) (count : ℕ) (before after : List ℕ) where
-  pub methods-none : (r : Bool) → MethodsPut bytes count before after r → not r ≡ true → read-bootstrap-methods count bytes ≡ none
-  methods-none true put e = true≢false (sym e)
-  methods-none false put e = put.0
+  pub methods_none : (r : Bool) → MethodsPut bytes count before after r → not r ≡ true → read_bootstrap_methods count bytes ≡ none
+  methods_none true put e = true≢false (sym e)
+  methods_none false put e = put.0
 
-  pub methods-some : (r : Bool) → MethodsPut bytes count before after r → not r ≡ false → (methods : List BootstrapMethod) × (read-bootstrap-methods count bytes ≡ some methods)
-  methods-some true put e = (put.0, put.1)
-  methods-some false put e = true≢false e
+  pub methods_some : (r : Bool) → MethodsPut bytes count before after r → not r ≡ false → (methods : List BootstrapMethod) × (read_bootstrap_methods count bytes ≡ some methods)
+  methods_some true put e = (put.0, put.1)
+  methods_some false put e = true≢false e

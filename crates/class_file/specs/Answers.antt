@@ -3,7 +3,7 @@ use Rattle.std.specs.Prelude.{Bool, true, false, List, ◌++◌, ◌≡◌, ℕ,
 use Rattle.std.proofs.Math.Option.{some}
 use Rattle.definition.specs.Basics.{Result, good, bad}
 use Rattle.definition.specs.Run.{overwrite}
-use Rattle.jvms.specs.Pool.{◌>>=◌, u2, Slot, constant-pool, read-pool, BootstrapMethod, read-bootstrap-methods}
+use Rattle.jvms.specs.Pool.{◌>>=◌, u2, Slot, constant_pool, read_pool_lem, BootstrapMethod, read_bootstrap_methods}
 use Rattle.jvms.specs.Written.{bytes2, bytes4}
 use Rattle.writer.specs.Numbers.{number2, number4}
 use Rattle.places.specs.Standing.{Noted}
@@ -16,32 +16,32 @@ use Rattle.class_file.specs.declared.ClassRead.TheVariants.{Parts as Places, Ref
 abbrev pub parts_of : ℕ → ℕ → List ℕ → ℕ → ℕ → ℕ → ℕ → ℕ → List ℕ → Parts
 parts_of minor major pool flags this super name count bootstraps =
     record {
-      minor-version = minor;
-      major-version = major;
+      minor_version = minor;
+      major_version = major;
       pool = pool;
-      access-flags = flags;
-      this-class = this;
-      super-class = super;
+      access_flags = flags;
+      this_class = this;
+      super_class = super;
       name = name;
       count = count;
       bootstraps = bootstraps;
     }
 
 -- what stands before the pool, between it and the attributes, and from attributes_count on
-abbrev pub headBytes : ℕ → ℕ → List ℕ
-headBytes minor major = bytes4 0xcafebabe ++ bytes2 minor ++ bytes2 major
+abbrev pub head_bytes : ℕ → ℕ → List ℕ
+head_bytes minor major = bytes4 0xcafebabe ++ bytes2 minor ++ bytes2 major
 
-abbrev pub membersBytes : ℕ → ℕ → ℕ → List ℕ
-membersBytes flags this super = bytes2 flags ++ bytes2 this ++ bytes2 super ++ bytes2 0 ++ bytes2 0 ++ bytes2 0
+abbrev pub members_bytes : ℕ → ℕ → ℕ → List ℕ
+members_bytes flags this super = bytes2 flags ++ bytes2 this ++ bytes2 super ++ bytes2 0 ++ bytes2 0 ++ bytes2 0
 
-abbrev pub attributesOf : ℕ → ℕ → List ℕ → List ℕ
-attributesOf name count bootstraps =
+abbrev pub attributes_of : ℕ → ℕ → List ℕ → List ℕ
+attributes_of name count bootstraps =
     attributes-bytes name (bytes2 name ++ bytes4 (2 + length bootstraps) ++ bytes2 count ++ bootstraps)
 
 -- how many bytes a file has besides its pool and its bootstrap methods, by its name slot
-abbrev pub frameSize : ℕ → ℕ
-frameSize zero = 22
-frameSize (suc i) = 30
+abbrev pub frame_size : ℕ → ℕ
+frame_size zero = 22
+frame_size (suc i) = 30
 
 -- a test tells whether something is so
 abbrev pub Tells : Bool → Type 0 → Type 0
@@ -61,10 +61,10 @@ OneAttribute file at = (at + 8 ≤ length file) × (at + 6 + number4 file (at + 
 -- what makes parts proper
 pub record Right (pool : List ℕ) (name count : ℕ) (bootstraps : List ℕ) : Type 0 where
   pub slots : List Slot
-  pub pool-read : read-pool pool ≡ some slots
-  pub name-held : named (some slots) name count ≡ true
+  pub pool_read : read_pool_lem pool ≡ some slots
+  pub name_held : named (some slots) name count ≡ true
   pub methods : List BootstrapMethod
-  pub methods-read : read-bootstrap-methods count bootstraps ≡ some methods
+  pub methods_read : read_bootstrap_methods count bootstraps ≡ some methods
   pub short : length bootstraps ≤ 4294967293
 
 -- the answer and the later contents of the output, by the definition's result
@@ -72,14 +72,14 @@ abbrev pub answer_of : Result ℕ (List ℕ) → Written
 answer_of (good file) = File (length file)
 answer_of (bad code) = NotWritten code
 
-abbrev pub outAfter : Result ℕ (List ℕ) → List ℕ → List ℕ
-outAfter (good file) before = overwrite file before
-outAfter (bad code) before = before
+abbrev pub out_after : Result ℕ (List ℕ) → List ℕ → List ℕ
+out_after (good file) before = overwrite file before
+out_after (bad code) before = before
 
 -- parts as places in their file
 abbrev pub places_of : List ℕ → Result ℕ Parts → ClassRead
 places_of file (good p) =
-    Places p.minor-version p.major-version (8 + length p.pool) p.access-flags p.this-class p.super-class p.name p.count (length file - length p.bootstraps)
+    Places p.minor_version p.major_version (8 + length p.pool) p.access_flags p.this_class p.super_class p.name p.count (length file - length p.bootstraps)
 places_of file (bad code) = NotRead code
 
 -- what stands in a file whose pool ends at a place
@@ -91,7 +91,7 @@ parts_at file end name count bootstraps =
 pub record Framed (file : List ℕ) (end : ℕ) (table : List ℕ) : Type 0 where
   pub head : Head file
   pub slots : List Slot
-  pub pool-read : (u2 >>= constant-pool) (drop 8 file) ≡ some (slots, drop end file)
+  pub pool_read : (u2 >>= constant_pool) (drop 8 file) ≡ some (slots, drop end file)
   pub behind : 8 ≤ end
   pub noted : Noted file slots table
   pub members : NoMembers file end

@@ -5,19 +5,19 @@ use Rattle.std.specs.Prelude.{Bool, true, false, ◌&&◌, List, [], ◌++◌, �
 use Rattle.std.proofs.Math.Option.{Option, none, some}
 use Rattle.definition.specs.Ascii.{ascii}
 use Rattle.definition.specs.Basics.{same, Result, good, bad}
-use Rattle.jvms.specs.Pool.{Reader, return, fail, and_then, ◌>>=◌, u2, u4, Utf8, Slot, constant-pool, wholly, read-pool, BootstrapMethod, read-bootstrap-methods}
-use Rattle.jvms.specs.Written.{bytes2, bytes4, constant-bytes, slot-bytes}
+use Rattle.jvms.specs.Pool.{Reader, return, fail, and_then, ◌>>=◌, u2, u4, Utf8, Slot, constant_pool, wholly, read_pool_lem, BootstrapMethod, read_bootstrap_methods}
+use Rattle.jvms.specs.Written.{bytes2, bytes4, constant_bytes, slot_bytes_lem}
 use Rattle.places.specs.Standing.{slot_of}
 
 -- what such a file is made of
 pub record Parts : Type 0 where
-  pub minor-version : ℕ
-  pub major-version : ℕ
+  pub minor_version : ℕ
+  pub major_version : ℕ
   -- the bytes of constant_pool_count and constant_pool
   pub pool : List ℕ
-  pub access-flags : ℕ
-  pub this-class : ℕ
-  pub super-class : ℕ
+  pub access_flags : ℕ
+  pub this_class : ℕ
+  pub super_class : ℕ
   -- attribute_name_index, or 0 if there is no attribute
   pub name : ℕ
   -- num_bootstrap_methods, and the bytes of bootstrap_methods
@@ -27,19 +27,19 @@ pub record Parts : Type 0 where
 -- ---- which parts make a file
 
 -- the constant that is the attribute's name
-unfoldable pub nameConstant : List ℕ
-nameConstant = constant-bytes (Utf8 (ascii "BootstrapMethods"))
+unfoldable pub name_constant : List ℕ
+name_constant = constant_bytes (Utf8 (ascii "BootstrapMethods"))
 
 -- a slot that holds it
-unfoldable pub isName : Option Slot → Bool
-isName none = false
-isName (some slot) = same (slot-bytes slot) nameConstant
+unfoldable pub is_name_lem : Option Slot → Bool
+is_name_lem none = false
+is_name_lem (some slot) = same (slot_bytes_lem slot) name_constant
 
 -- there is a pool, and its name slot holds the text; or no name slot is given and there are no bootstrap methods
 unfoldable pub named : Option (List Slot) → ℕ → ℕ → Bool
 named none name count = false
 named (some slots) zero count = eqb count 0
-named (some slots) (suc i) count = isName (slot_of slots (suc i))
+named (some slots) (suc i) count = is_name_lem (slot_of slots (suc i))
 
 -- bootstrap methods were read
 unfoldable pub matches : Option (List BootstrapMethod) → Bool
@@ -48,8 +48,8 @@ matches (some methods) = true
 
 unfoldable pub proper : Parts → Bool
 proper p =
-    named (read-pool p.pool) p.name p.count
-    && matches (read-bootstrap-methods p.count p.bootstraps)
+    named (read_pool_lem p.pool) p.name p.count
+    && matches (read_bootstrap_methods p.count p.bootstraps)
     && leb (length p.bootstraps) 4294967293
 
 -- ---- writing
@@ -64,15 +64,15 @@ attributes-bytes zero attribute = bytes2 0
 attributes-bytes (suc i) attribute = bytes2 1 ++ attribute
 
 -- 4.1
-unfoldable pub classBytes : Parts → List ℕ
-classBytes p =
+unfoldable pub class_bytes : Parts → List ℕ
+class_bytes p =
     bytes4 0xcafebabe
-    ++ bytes2 p.minor-version
-    ++ bytes2 p.major-version
+    ++ bytes2 p.minor_version
+    ++ bytes2 p.major_version
     ++ p.pool
-    ++ bytes2 p.access-flags
-    ++ bytes2 p.this-class
-    ++ bytes2 p.super-class
+    ++ bytes2 p.access_flags
+    ++ bytes2 p.this_class
+    ++ bytes2 p.super_class
     -- interfaces_count, fields_count, methods_count
     ++ bytes2 0
     ++ bytes2 0
@@ -83,8 +83,8 @@ classBytes p =
 unfoldable pub fitting : ℕ → List ℕ → Result ℕ (List ℕ)
 fitting room file = elim (leb (length file) room) [ true ↦ good file | false ↦ bad 18 ]
 
-unfoldable pub writeClass : ℕ → Parts → Result ℕ (List ℕ)
-writeClass room p = elim (proper p) [ true ↦ fitting room (classBytes p) | false ↦ bad 27 ]
+unfoldable pub write_class : ℕ → Parts → Result ℕ (List ℕ)
+write_class room p = elim (proper p) [ true ↦ fitting room (class_bytes p) | false ↦ bad 27 ]
 
 -- ---- reading
 
@@ -132,16 +132,16 @@ attributes (suc zero) = attribute
 attributes (suc (suc n)) = fail
 
 -- 4.1
-unfoldable pub class-file : Reader Parts
-class-file = do
+unfoldable pub class_file : Reader Parts
+class_file = do
   -- magic
   u4 must-be 0xcafebabe
-  minor-version ← u2
-  major-version ← u2
-  pool ← bytes_of (u2 >>= constant-pool)
-  access-flags ← u2
-  this-class ← u2
-  super-class ← u2
+  minor_version ← u2
+  major_version ← u2
+  pool ← bytes_of (u2 >>= constant_pool)
+  access_flags ← u2
+  this_class ← u2
+  super_class ← u2
   -- interfaces_count, fields_count, methods_count
   u2 must-be 0
   u2 must-be 0
@@ -150,12 +150,12 @@ class-file = do
   bootstrap-methods ← attributes attributes-count
   return
       (record {
-        minor-version = minor-version;
-        major-version = major-version;
+        minor_version = minor_version;
+        major_version = major_version;
         pool = pool;
-        access-flags = access-flags;
-        this-class = this-class;
-        super-class = super-class;
+        access_flags = access_flags;
+        this_class = this_class;
+        super_class = super_class;
         name = bootstrap-methods.0;
         count = bootstrap-methods.1;
         bootstraps = bootstrap-methods.2;
@@ -166,5 +166,5 @@ unfoldable pub accepted : Option Parts → Result ℕ Parts
 accepted none = bad 27
 accepted (some p) = elim (proper p) [ true ↦ good p | false ↦ bad 27 ]
 
-unfoldable pub readClass : List ℕ → Result ℕ Parts
-readClass file = accepted (wholly (class-file file))
+unfoldable pub read_class : List ℕ → Result ℕ Parts
+read_class file = accepted (wholly (class_file file))

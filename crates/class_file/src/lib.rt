@@ -7,8 +7,8 @@ ghost use Rattle.jvms.specs.Written.{bytes2, bytes4};
 ghost use Rattle.writer.specs.Numbers.{number2};
 ghost use Rattle.places.specs.Standing.{slot_of, Noted};
 ghost use Rattle.raw_const.specs.Entries.{Wrote};
-ghost use Rattle.class_file.specs.ClassFile.{named, classBytes, nameConstant, isName, writeClass, readClass};
-ghost use Rattle.class_file.specs.Answers.{parts_of, headBytes, membersBytes, attributesOf, frameSize, Tells, Head, NoMembers, OneAttribute, Right, answer_of, outAfter, parts_at, places_of, Framed};
+ghost use Rattle.class_file.specs.ClassFile.{named, class_bytes, name_constant, is_name_lem, write_class, read_class};
+ghost use Rattle.class_file.specs.Answers.{parts_of, head_bytes, members_bytes, attributes_of, frame_size, Tells, Head, NoMembers, OneAttribute, Right, answer_of, out_after, parts_at, places_of, Framed};
 
 use places::PoolRead;
 
@@ -75,7 +75,7 @@ fn write_bytes(out: &mut [u8], at: usize, bytes: &[u8]) -> usize
 // The magic number and the versions.
 fn write_head(out: &mut [u8], minor: u16, major: u16) -> usize
     requires { 8 ≤ length out.old }
-    ensures { Wrote out.old 0 (headBytes minor major) out.new result }
+    ensures { Wrote out.old 0 (head_bytes minor major) out.new result }
 {
     let next = write_word(out, 0, MAGIC);
     let next = write_short(out, next, minor);
@@ -91,7 +91,7 @@ fn write_members(
     super_class: u16,
 ) -> usize
     requires { at + 12 ≤ length out.old }
-    ensures { Wrote out.old at (membersBytes access_flags this_class super_class) out.new result }
+    ensures { Wrote out.old at (members_bytes access_flags this_class super_class) out.new result }
 {
     let next = write_short(out, at, access_flags);
     let next = write_short(out, next, this_class);
@@ -103,8 +103,8 @@ fn write_members(
 
 fn write_attributes(out: &mut [u8], at: usize, name: u16, count: u16, bootstraps: &[u8]) -> usize
     requires bootstraps_len_bound { length bootstraps.now ≤ 4294967293 }
-    requires bootstraps_in_bounds { at + length (attributesOf name count bootstraps.now) ≤ length out.old }
-    ensures { Wrote out.old at (attributesOf name count bootstraps.now) out.new result }
+    requires bootstraps_in_bounds { at + length (attributes_of name count bootstraps.now) ≤ length out.old }
+    ensures { Wrote out.old at (attributes_of name count bootstraps.now) out.new result }
 {
     if name == 0 {
         return write_short(out, at, 0);
@@ -118,14 +118,14 @@ fn write_attributes(out: &mut [u8], at: usize, name: u16, count: u16, bootstraps
 
 // How many bytes a file has besides its pool and its bootstrap methods.
 fn frame_size(name: u16) -> usize
-    ensures { result ≡ frameSize name }
+    ensures { result ≡ frame_size name }
 {
     if name == 0 { 22 } else { 30 }
 }
 
 // Whether a file fits, by what is left each time: the sum of the sizes may be too large a number.
 fn has_room(room: usize, name: u16, pool: usize, bootstraps: usize) -> bool
-    ensures { result ≡ leb (frameSize name + pool + bootstraps) room }
+    ensures { result ≡ leb (frame_size name + pool + bootstraps) room }
 {
     let frame = frame_size(name);
     if room < frame {
@@ -150,9 +150,9 @@ fn write_file(
     out: &mut [u8],
 ) -> usize
     requires bootstraps_len_bound { length bootstraps.now ≤ 4294967293 }
-    requires bootstraps_in_bounds { length (classBytes (parts_of minor major pool.now access_flags this_class super_class name count bootstraps.now)) ≤ length out.old }
+    requires bootstraps_in_bounds { length (class_bytes (parts_of minor major pool.now access_flags this_class super_class name count bootstraps.now)) ≤ length out.old }
     ensures { Wrote out.old 0
-        (classBytes (parts_of minor major pool.now access_flags this_class super_class name count bootstraps.now))
+        (class_bytes (parts_of minor major pool.now access_flags this_class super_class name count bootstraps.now))
         out.new result }
 {
     let next = write_head(out, minor, major);
@@ -164,7 +164,7 @@ fn write_file(
 // Whether the constant that is the attribute's name stands at a place.
 fn spells_name(bytes: &[u8], at: usize) -> bool
     requires { at + 19 ≤ length bytes.now }
-    ensures { result ≡ same (take 19 (drop at bytes.now)) nameConstant }
+    ensures { result ≡ same (take 19 (drop at bytes.now)) name_constant }
 {
     let mut i = 0;
     while i < 19 {
@@ -178,7 +178,7 @@ fn spells_name(bytes: &[u8], at: usize) -> bool
 
 // Whether a slot holds it, by the places of a pool's constants.
 fn holds_name(bytes: &[u8], name: u16, places: &[usize; 65536]) -> bool
-    ensures { (slots : List Slot) → Noted bytes.now slots places.now → result ≡ isName (slot_of slots name) }
+    ensures { (slots : List Slot) → Noted bytes.now slots places.now → result ≡ is_name_lem (slot_of slots name) }
 {
     let at = places[name as usize];
     if at == 0 {
@@ -236,9 +236,9 @@ pub fn write_class(
     bootstraps: &[u8],
     out: &mut [u8],
 ) -> Written
-    ensures value { result ≡ answer_of (writeClass (length out.old)
+    ensures value { result ≡ answer_of (write_class (length out.old)
         (parts_of minor major pool.now access_flags this_class super_class name count bootstraps.now)) }
-    ensures out_after { out.new ≡ outAfter (writeClass (length out.old)
+    ensures out_after { out.new ≡ out_after (write_class (length out.old)
         (parts_of minor major pool.now access_flags this_class super_class name count bootstraps.now)) out.old }
 {
     if !is_proper(pool, name, count, bootstraps) {
@@ -321,7 +321,7 @@ fn parts_at(file: &[u8], end: usize, name: u16, count: u16, bootstraps: usize) -
 // The parts of a file with one attribute, whose pool ends at a place.
 fn read_attribute(file: &[u8], end: usize, table: &mut [usize; 65536]) -> ClassRead
     requires { Framed file.now end table.old × (number2 file.now (end + 12) ≡ 1) }
-    ensures { result ≡ places_of file.now (readClass file.now) }
+    ensures { result ≡ places_of file.now (read_class file.now) }
 {
     let at = end + 14;
     if !has_attribute(file, at) {
@@ -342,7 +342,7 @@ fn read_attribute(file: &[u8], end: usize, table: &mut [usize; 65536]) -> ClassR
 // The parts of a file whose pool ends at a place, by the number of its attributes.
 fn read_attributes(file: &[u8], end: usize, table: &mut [usize; 65536]) -> ClassRead
     requires { Framed file.now end table.old }
-    ensures { result ≡ places_of file.now (readClass file.now) }
+    ensures { result ≡ places_of file.now (read_class file.now) }
 {
     let n = writer::get_u16(file, end + 12);
     if n == 1 {
@@ -359,7 +359,7 @@ fn read_attributes(file: &[u8], end: usize, table: &mut [usize; 65536]) -> Class
 
 // The parts of a class file, as places in it: 27 if it isn't one of this frame.
 pub fn read_class(file: &[u8]) -> ClassRead
-    ensures { result ≡ places_of file.now (readClass file.now) }
+    ensures { result ≡ places_of file.now (read_class file.now) }
 {
     if !has_head(file) {
         return ClassRead::Refused(27);

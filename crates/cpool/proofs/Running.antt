@@ -10,24 +10,24 @@ use Rattle.definition.specs.Job.{Job}
 use Rattle.definition.specs.Form.{form}
 use Rattle.definition.specs.Numbering.{top_of, literals, numbered}
 use Rattle.definition.specs.Layout.{Layout, layout}
-use Rattle.definition.specs.Run.{render, build, Lent, lent_of, longestJob, enough, fits, run}
+use Rattle.definition.specs.Run.{render, build, Lent, lent_of, longest_job, enough, fits, run}
 use Rattle.facts.proofs.Results.{passes, refuses}
-use Rattle.cpool.specs.Ran.{Slices, memoryOf}
-use Rattle.cpool.specs.Stages.{outputs, roomOf, fitted, onward}
+use Rattle.cpool.specs.Ran.{Slices, memory_of}
+use Rattle.cpool.specs.Stages.{outputs, room_of, fitted, onward}
 
 -- 1, then 2, then what the records lead to
 module _ (lent : Lent) (s : List ℕ) where
-  pub too_long : longestJob < length s → run lent s ≡ bad (record { code = 1; place = 0 })
+  pub too_long : longest_job < length s → run lent s ≡ bad (record { code = 1; place = 0 })
   unfolding run
-  too_long h = refuses 0 1 _ _ (lt-leb (length s) longestJob h)
+  too_long h = refuses 0 1 _ _ (lt-leb (length s) longest_job h)
 
-  pub too_short : length s ≤ longestJob → enough (length s) lent ≡ false → run lent s ≡ bad (record { code = 2; place = 0 })
+  pub too_short : length s ≤ longest_job → enough (length s) lent ≡ false → run lent s ≡ bad (record { code = 2; place = 0 })
   unfolding run
-  too_short h e = passes 0 1 _ _ (le-leb (length s) longestJob h) ∙ refuses 0 2 _ _ e
+  too_short h e = passes 0 1 _ _ (le-leb (length s) longest_job h) ∙ refuses 0 2 _ _ e
 
-  pub goes_on : length s ≤ longestJob → enough (length s) lent ≡ true → run lent s ≡ onward lent s
+  pub goes_on : length s ≤ longest_job → enough (length s) lent ≡ true → run lent s ≡ onward lent s
   unfolding run onward fitted
-  goes_on h e = passes 0 1 _ _ (le-leb (length s) longestJob h) ∙ passes 0 2 _ _ e
+  goes_on h e = passes 0 1 _ _ (le-leb (length s) longest_job h) ∙ passes 0 2 _ _ e
 
   -- the form pass refuses
   pub not-formed : (r : Refusal) → form s ≡ bad r → onward lent s ≡ bad r
@@ -46,6 +46,6 @@ module _ (lent : Lent) (s : List ℕ) where
   laid job l e f = rw (e, f)
 
 -- work and gaps are no question any more
-pub onward-room : (m : Slices) (s : List ℕ) → onward (lent_of (memoryOf m)) s ≡ onward (roomOf (outputs m.answers m.marks m.pool m.bootstraps m.class)) s
-unfolding onward fitted fits lent_of memoryOf roomOf
+pub onward-room : (m : Slices) (s : List ℕ) → onward (lent_of (memory_of m)) s ≡ onward (room_of (outputs m.answers m.marks m.pool m.bootstraps m.class)) s
+unfolding onward fitted fits lent_of memory_of room_of
 onward-room m s = refl

@@ -10,29 +10,29 @@ use Rattle.cpool.specs.declared.ClassLength.{ClassLength}
 use Rattle.cpool.specs.declared.ClassLength.TheVariants as classLength
 use Rattle.cpool.specs.declared.Outcome.{Outcome}
 use Rattle.cpool.specs.declared.Outcome.TheVariants as outcome
-use Rattle.cpool.specs.Ran.{Numbers, Slices, given, bytes_of, told, isBuilt, memoryOf, Ran, Told}
+use Rattle.cpool.specs.Ran.{Numbers, Slices, given, bytes_of, told, is_built, memory_of, Ran, Told}
 use Rattle.cpool.proofs.Walks.run.Reads as run
 use Rattle.cpool.proofs.Walks.cpool_run.Reads as cpool-run
 
 -- AN OUTCOME IS KNOWN BY ITS CASE AND ITS NUMBERS
 
-abbrev classFor : ℕ → ℕ → ClassLength
-classFor is bytes = elim (eqb is 0) [ true ↦ classLength.None | false ↦ classLength.Bytes bytes ]
+abbrev class_for : ℕ → ℕ → ClassLength
+class_for is bytes = elim (eqb is 0) [ true ↦ classLength.None | false ↦ classLength.Bytes bytes ]
 
-class_back : (c : ClassLength) → classFor (given c) (bytes_of c) ≡ c
+class_back : (c : ClassLength) → class_for (given c) (bytes_of c) ≡ c
 unfolding given bytes_of
 class_back classLength.None = refl
 class_back (classLength.Bytes n) = refl
 
-abbrev outcomeFor : Bool → Numbers → Outcome
-outcomeFor built n =
+abbrev outcome_for : Bool → Numbers → Outcome
+outcome_for built n =
     elim built [
-      | true ↦ outcome.Built n.answers n.pool n.bootstrapCount n.bootstraps n.name (classFor n.class n.classBytes) n.visits
+      | true ↦ outcome.Built n.answers n.pool n.bootstrap_count n.bootstraps n.name (class_for n.class n.class_bytes) n.visits
       | false ↦ outcome.Refused n.code n.place
     ]
 
-outcome-back : (r : Outcome) → outcomeFor (isBuilt r) (told r) ≡ r
-unfolding isBuilt told
+outcome-back : (r : Outcome) → outcome_for (is_built r) (told r) ≡ r
+unfolding is_built told
 outcome-back (outcome.Built answers pool count rows name class visits) = ap (λ c. outcome.Built answers pool count rows name c visits) (class_back class)
 outcome-back (outcome.Refused code place) = refl
 
@@ -48,8 +48,8 @@ pub record Same (m m' : Slices) : Type 0 where
   pub bootstraps : m.bootstraps ≡ m'.bootstraps
   pub class : m.class ≡ m'.class
 
-same_memory : (m m' : Slices) → memoryOf m ≡ memoryOf m' → m.rows ≡ m'.rows → Same m m'
-unfolding memoryOf
+same_memory : (m m' : Slices) → memory_of m ≡ memory_of m' → m.rows ≡ m'.rows → Same m m'
+unfolding memory_of
 same_memory m m' e rows =
     record {
       work = ap (λ x. x.work) e;
@@ -64,7 +64,7 @@ same_memory m m' e rows =
 one-run : (job : List ℕ) (before after after' : Slices) (r r' : Outcome) → Ran job before after r → Ran job before after' r' → (r ≡ r') × Same after after'
 one-run job before after after' r r' h h' = (
   sym (outcome-back r)
-      ∙ (λ i. outcomeFor ((h.case ∙ sym h'.case) i) ((h.numbers ∙ sym h'.numbers) i))
+      ∙ (λ i. outcome_for ((h.case ∙ sym h'.case) i) ((h.numbers ∙ sym h'.numbers) i))
       ∙ outcome-back r',
   same_memory after after' (h.memory ∙ sym h'.memory) (h.rows ∙ sym h'.rows),
 )
@@ -95,7 +95,7 @@ single κs a r r' s s' h h' =
     let one = one-run _ _ _ _ r r' h h' in
     (one.0, one.1.work, one.1.rows, one.1.answers, one.1.marks, one.1.pool, one.1.bootstraps, one.1.class)
 
-pub single-told :
+pub single_told :
     (κs : Lfts 9) (a : _) (r r' : ℕ) (s s' : _) →
     cpool-run.Learnt κs a r s → cpool-run.Learnt κs a r' s' →
     (r ≡ r')
@@ -107,6 +107,6 @@ pub single-told :
     × (s.1.1.1.1.1.1.0.now ≡ s'.1.1.1.1.1.1.0.now)
     × (s.1.1.1.1.1.1.1.0.now ≡ s'.1.1.1.1.1.1.1.0.now)
     × (s.1.1.1.1.1.1.1.1.0.now ≡ s'.1.1.1.1.1.1.1.1.0.now)
-single-told κs a r r' s s' h h' =
+single_told κs a r r' s s' h h' =
     let one = one-telling _ _ _ _ r r' _ _ h h' in
     (one.0, one.2.work, one.2.rows, one.2.answers, one.2.marks, one.2.pool, one.2.bootstraps, one.2.class, one.1)

@@ -2,8 +2,8 @@
 use Rattle.std.specs.Prelude.{Bool, true, false, List, [], ◌∷◌, map, ◌≡◌, ℕ, eqb, length}
 use Rattle.std.proofs.Math.Option.{Option, none, some}
 use Rattle.definition.specs.Basics.{Result, good, bad, Refusal}
-use Rattle.definition.specs.Run.{Built, Memory, lent_of, run, refusalOf, returned, clearedAfter, memoryAfter}
-use Rattle.slots.specs.Gaps.{GapTable, gap_of, noGap}
+use Rattle.definition.specs.Run.{Built, Memory, lent_of, run, refusal_of, returned, cleared_after, memory_after}
+use Rattle.slots.specs.Gaps.{GapTable, gap_of, no_gap}
 use Rattle.cpool.specs.declared.ClassLength.{ClassLength}
 use Rattle.cpool.specs.declared.ClassLength.TheVariants as classLength
 use Rattle.cpool.specs.declared.Outcome.{Outcome}
@@ -17,11 +17,11 @@ pub record Numbers : Type 0 where
   pub place : ℕ
   pub answers : ℕ
   pub pool : ℕ
-  pub bootstrapCount : ℕ
+  pub bootstrap_count : ℕ
   pub bootstraps : ℕ
   pub name : ℕ
   pub class : ℕ
-  pub classBytes : ℕ
+  pub class_bytes : ℕ
   pub visits : ℕ
 
 -- OF THE CODE'S OUTCOME
@@ -37,17 +37,17 @@ bytes_of (classLength.Bytes n) = n
 
 -- the numbers of each case: no refusal beside what is built, and every other number 0 beside a refusal
 unfoldable pub told : Outcome → Numbers
-told (outcome.Built answers pool bootstrapCount bootstraps name class visits) =
+told (outcome.Built answers pool bootstrap_count bootstraps name class visits) =
     record {
       code = 0;
       place = 0;
       answers = answers;
       pool = pool;
-      bootstrapCount = bootstrapCount;
+      bootstrap_count = bootstrap_count;
       bootstraps = bootstraps;
       name = name;
       class = given class;
-      classBytes = bytes_of class;
+      class_bytes = bytes_of class;
       visits = visits;
     }
 told (outcome.Refused code place) =
@@ -56,46 +56,46 @@ told (outcome.Refused code place) =
       place = place;
       answers = 0;
       pool = 0;
-      bootstrapCount = 0;
+      bootstrap_count = 0;
       bootstraps = 0;
       name = 0;
       class = 0;
-      classBytes = 0;
+      class_bytes = 0;
       visits = 0;
     }
 
-unfoldable pub isBuilt : Outcome → Bool
-isBuilt (outcome.Built answers pool bootstrapCount bootstraps name class visits) = true
-isBuilt (outcome.Refused code place) = false
+unfoldable pub is_built : Outcome → Bool
+is_built (outcome.Built answers pool bootstrap_count bootstraps name class visits) = true
+is_built (outcome.Refused code place) = false
 
 -- OF THE DEFINITION'S RESULT
 
-unfoldable pub classGiven : Option (List ℕ) → ℕ
-classGiven none = 0
-classGiven (some bytes) = 1
+unfoldable pub class_given : Option (List ℕ) → ℕ
+class_given none = 0
+class_given (some bytes) = 1
 
-unfoldable pub classSize : Option (List ℕ) → ℕ
-classSize none = 0
-classSize (some bytes) = length bytes
+unfoldable pub class_size : Option (List ℕ) → ℕ
+class_size none = 0
+class_size (some bytes) = length bytes
 
 unfoldable pub numbers : Result Refusal Built → Numbers
 numbers result =
     record {
-      code = (refusalOf result).code;
-      place = (refusalOf result).place;
+      code = (refusal_of result).code;
+      place = (refusal_of result).place;
       answers = returned (λ b. length b.answers) result;
       pool = returned (λ b. length b.pool) result;
-      bootstrapCount = returned (λ b. b.bootstrapCount) result;
+      bootstrap_count = returned (λ b. b.bootstrap_count) result;
       bootstraps = returned (λ b. length b.bootstraps) result;
       name = returned (λ b. b.name) result;
-      class = returned (λ b. classGiven b.class) result;
-      classBytes = returned (λ b. classSize b.class) result;
+      class = returned (λ b. class_given b.class) result;
+      class_bytes = returned (λ b. class_size b.class) result;
       visits = returned (λ b. b.visits) result;
     }
 
-unfoldable pub isGood : Result Refusal Built → Bool
-isGood (good b) = true
-isGood (bad r) = false
+unfoldable pub is_good : Result Refusal Built → Bool
+is_good (good b) = true
+is_good (bad r) = false
 
 -- THE MEMORY
 
@@ -110,8 +110,8 @@ pub record Slices : Type 0 where
   pub class : List ℕ
 
 -- the same as the definition has it
-unfoldable pub memoryOf : Slices → Memory
-memoryOf m =
+unfoldable pub memory_of : Slices → Memory
+memory_of m =
     record {
       work = m.work;
       gaps = map gap_of m.rows;
@@ -130,15 +130,15 @@ slices work rows answers marks pool bootstraps class =
 
 -- the definition's result for a job over what was lent
 unfoldable pub result_of : List ℕ → Slices → Result Refusal Built
-result_of job before = run (lent_of (memoryOf before)) job
+result_of job before = run (lent_of (memory_of before)) job
 
 -- the outcome r is the definition's, with each of its numbers, and the memory afterwards is the definition's, whatever it held. A gap
 -- record is left whole or is zero
 pub record Ran (job : List ℕ) (before after : Slices) (r : Outcome) : Type 0 where
-  pub case : isBuilt r ≡ isGood (result_of job before)
+  pub case : is_built r ≡ is_good (result_of job before)
   pub numbers : told r ≡ numbers (result_of job before)
-  pub memory : memoryOf after ≡ memoryAfter (result_of job before) (memoryOf before)
-  pub rows : after.rows ≡ clearedAfter noGap (result_of job before) before.rows
+  pub memory : memory_of after ≡ memory_after (result_of job before) (memory_of before)
+  pub rows : after.rows ≡ cleared_after no_gap (result_of job before) before.rows
 
 -- FOR RUST AND C
 
@@ -148,18 +148,18 @@ listed n =
     n.place
     ∷ n.answers
     ∷ n.pool
-    ∷ n.bootstrapCount
+    ∷ n.bootstrap_count
     ∷ n.bootstraps
     ∷ n.name
     ∷ n.class
-    ∷ n.classBytes
+    ∷ n.class_bytes
     ∷ n.visits
     ∷ []
 
 -- the same promise: the number returned is the definition's, 0 exactly if the job is built; so are those written, and the memory
 pub record Told (job : List ℕ) (before after : Slices) (code : ℕ) (others : List ℕ) : Type 0 where
   pub number : code ≡ (numbers (result_of job before)).code
-  pub case : eqb code 0 ≡ isGood (result_of job before)
+  pub case : eqb code 0 ≡ is_good (result_of job before)
   pub written : others ≡ listed (numbers (result_of job before))
-  pub memory : memoryOf after ≡ memoryAfter (result_of job before) (memoryOf before)
-  pub rows : after.rows ≡ clearedAfter noGap (result_of job before) before.rows
+  pub memory : memory_of after ≡ memory_after (result_of job before) (memory_of before)
+  pub rows : after.rows ≡ cleared_after no_gap (result_of job before) before.rows

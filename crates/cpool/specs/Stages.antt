@@ -1,11 +1,11 @@
 -- What the stages of a run behind refusals 1 and 2 leave. Assumes nothing.
 use Rattle.std.specs.Prelude.{List, ◌≡◌, ℕ, length}
 use Rattle.std.proofs.Math.Option.{Option}
-use Rattle.definition.specs.Basics.{Result, good, Refusal, ◌>>=◌, atRecord, unless}
-use Rattle.definition.specs.Run.{Built, Lent, build, fits, classOut, outputAfter}
+use Rattle.definition.specs.Basics.{Result, good, Refusal, ◌>>=◌, at_record, unless}
+use Rattle.definition.specs.Run.{Built, Lent, build, fits, class_out, output_after}
 use Rattle.cpool.specs.declared.ClassLength.{ClassLength}
 use Rattle.cpool.specs.declared.Outcome.{Outcome}
-use Rattle.cpool.specs.Ran.{given, bytes_of, told, isBuilt, classGiven, classSize, numbers, isGood}
+use Rattle.cpool.specs.Ran.{given, bytes_of, told, is_built, class_given, class_size, numbers, is_good}
 
 -- the five outputs
 pub record Outputs : Type 0 where
@@ -20,8 +20,8 @@ outputs answers marks pool bootstraps class =
     record { answers = answers; marks = marks; pool = pool; bootstraps = bootstraps; class = class }
 
 -- how much of each is lent; work and gaps are no question any more
-unfoldable pub roomOf : Outputs → Lent
-roomOf o =
+unfoldable pub room_of : Outputs → Lent
+room_of o =
     record {
       work = 0;
       gaps = 0;
@@ -34,26 +34,26 @@ roomOf o =
 
 -- a run behind refusals 1 and 2: 18 at the build record; and before that the form and the records in turn
 unfoldable pub fitted : Lent → ℕ → Built → Result Refusal Built
-fitted lent place b = atRecord place (unless (fits b lent) 18) >>= λ _. good b
+fitted lent place b = at_record place (unless (fits b lent) 18) >>= λ _. good b
 
 unfoldable pub onward : Lent → List ℕ → Result Refusal Built
 onward lent bytes = build bytes >>= λ r. fitted lent r.0 r.1
 
 -- a class name's length, as it is told
 pub record ClassTold (name : Option (List ℕ)) (r : ClassLength) : Type 0 where
-  pub given_is : given r ≡ classGiven name
-  pub bytes-are : bytes_of r ≡ classSize name
+  pub given_is : given r ≡ class_given name
+  pub bytes-are : bytes_of r ≡ class_size name
 
 -- r tells this result
 pub record Tells (result : Result Refusal Built) (r : Outcome) : Type 0 where
-  pub case : isBuilt r ≡ isGood result
+  pub case : is_built r ≡ is_good result
   pub numbers : told r ≡ numbers result
 
 -- and the outputs afterwards are as it says
 pub record Gave (result : Result Refusal Built) (before after : Outputs) (r : Outcome) : Type 0 where
   pub tells : Tells result r
-  pub answers : after.answers ≡ outputAfter (λ b. b.answers) result before.answers
-  pub marks : after.marks ≡ outputAfter (λ b. b.marks) result before.marks
-  pub pool : after.pool ≡ outputAfter (λ b. b.pool) result before.pool
-  pub bootstraps : after.bootstraps ≡ outputAfter (λ b. b.bootstraps) result before.bootstraps
-  pub class : after.class ≡ outputAfter (λ b. classOut b.class) result before.class
+  pub answers : after.answers ≡ output_after (λ b. b.answers) result before.answers
+  pub marks : after.marks ≡ output_after (λ b. b.marks) result before.marks
+  pub pool : after.pool ≡ output_after (λ b. b.pool) result before.pool
+  pub bootstraps : after.bootstraps ≡ output_after (λ b. b.bootstraps) result before.bootstraps
+  pub class : after.class ≡ output_after (λ b. class_out b.class) result before.class

@@ -2,16 +2,16 @@
 ghost use Rattle.std.specs.Prelude.{◌&&◌, List, ◌≡◌, ℕ, ◌+◌, ◌*◌, ◌/◌, ◌≤◌, ◌<◌, leb, length};
 ghost use Rattle.std.proofs.Math.Option.{Option};
 ghost use Rattle.definition.specs.Basics.{good, bad};
-ghost use Rattle.definition.specs.Run.{Built, longestJob};
+ghost use Rattle.definition.specs.Run.{Built, longest_job};
 ghost use Rattle.store.specs.Store.{store, size, On, IsWord};
-ghost use Rattle.store.specs.JobIn.{WellFormed, countsIn};
+ghost use Rattle.store.specs.JobIn.{WellFormed, counts_in};
 ghost use Rattle.store.specs.Regions.{COUNTS, PLACE, Work};
-ghost use Rattle.definitions.specs.Defining.{placeCount};
+ghost use Rattle.definitions.specs.Defining.{place_count};
 ghost use Rattle.output.specs.Rows.{RowsReady};
 ghost use Rattle.output.specs.Names.{NameIs};
 ghost use Rattle.builder.specs.Rendered.{Rendered};
 ghost use Rattle.cpool.specs.Ran.{given, bytes_of, told, Ran, slices, listed, Told};
-ghost use Rattle.cpool.specs.Stages.{outputs, roomOf, fitted, onward, ClassTold, Tells, Gave};
+ghost use Rattle.cpool.specs.Stages.{outputs, room_of, fitted, onward, ClassTold, Tells, Gave};
 
 use job::{Formed, JobCounts};
 use output::ClassName;
@@ -56,10 +56,10 @@ fn class_told(c: ClassName) -> ClassLength
     }
 }
 
-// A refusal met at the record in turn: `atRecord`.
+// A refusal met at the record in turn: `at_record`.
 fn refused(w: &[u32], p: &[usize], code: usize) -> Outcome
     requires { On p.now (length w.now) × (PLACE < size p.now COUNTS) × IsWord code }
-    ensures { Tells (bad (record { code = code; place = placeCount (store p.now w.now) })) result }
+    ensures { Tells (bad (record { code = code; place = place_count (store p.now w.now) })) result }
 {
     Outcome::Refused {
         code: code as u32,
@@ -124,7 +124,7 @@ fn give_out(
     class_name: &mut [u8],
 ) -> Outcome
     requires { On p.now (length w.now) × Work job.now p.now × ((b : Built) × Rendered job.now p.now (store p.now w.now) b) }
-    ensures { (b : Built) → Rendered job.now p.now (store p.now w.now) b → Gave (fitted (roomOf (outputs answers.old marks.old pool.old bootstraps.old class_name.old)) (placeCount (store p.now w.now)) b)
+    ensures { (b : Built) → Rendered job.now p.now (store p.now w.now) b → Gave (fitted (room_of (outputs answers.old marks.old pool.old bootstraps.old class_name.old)) (place_count (store p.now w.now)) b)
         (outputs answers.old marks.old pool.old bootstraps.old class_name.old)
         (outputs answers.new marks.new pool.new bootstraps.new class_name.new) result }
 {
@@ -158,8 +158,8 @@ fn build(
     bootstraps: &mut [u8],
     class_name: &mut [u8],
 ) -> Outcome
-    requires { WellFormed job.now × (c ≡ countsIn job.now) × (6 * length job.now + 1024 ≤ length w.old) × (length job.now / 5 + 2 ≤ length gaps.old) }
-    ensures { Gave (onward (roomOf (outputs answers.old marks.old pool.old bootstraps.old class_name.old)) job.now)
+    requires { WellFormed job.now × (c ≡ counts_in job.now) × (6 * length job.now + 1024 ≤ length w.old) × (length job.now / 5 + 2 ≤ length gaps.old) }
+    ensures { Gave (onward (room_of (outputs answers.old marks.old pool.old bootstraps.old class_name.old)) job.now)
         (outputs answers.old marks.old pool.old bootstraps.old class_name.old)
         (outputs answers.new marks.new pool.new bootstraps.new class_name.new) result }
 {
@@ -182,8 +182,8 @@ fn run_formed(
     bootstraps: &mut [u8],
     class_name: &mut [u8],
 ) -> Outcome
-    requires { (length job.now ≤ longestJob) × (6 * length job.now + 1024 ≤ length w.old) × (length job.now / 5 + 2 ≤ length gaps.old) }
-    ensures { Gave (onward (roomOf (outputs answers.old marks.old pool.old bootstraps.old class_name.old)) job.now)
+    requires { (length job.now ≤ longest_job) × (6 * length job.now + 1024 ≤ length w.old) × (length job.now / 5 + 2 ≤ length gaps.old) }
+    ensures { Gave (onward (room_of (outputs answers.old marks.old pool.old bootstraps.old class_name.old)) job.now)
         (outputs answers.old marks.old pool.old bootstraps.old class_name.old)
         (outputs answers.new marks.new pool.new bootstraps.new class_name.new) result }
 {
@@ -195,7 +195,7 @@ fn run_formed(
     }
 }
 
-// The whole run: 1, 2, form, the records in turn, 18; then work and gaps are cleared: `run`, `memoryAfter`.
+// The whole run: 1, 2, form, the records in turn, 18; then work and gaps are cleared: `run`, `memory_after`.
 pub fn run(
     job: &[u8],
     work: &mut [u32],

@@ -6,31 +6,31 @@ use Rattle.definition.specs.Readings.{marked, limited, dated, spelled, pointed, 
 use Rattle.definition.specs.Starred.{digit, bytes, prints, stated}
 
 -- every job of No. 6 has the marks of the reading chosen
-pub markedHold : map prints marked ≡ map stated marked
+pub marked_hold : map prints marked ≡ map stated marked
 unfolding opened digit bytes prints stated marked
-markedHold = refl
+marked_hold = refl
 
 -- every job of No. 10 prints what the reading chosen gives
-pub limitedHold : map prints limited ≡ map stated limited
+pub limited_hold : map prints limited ≡ map stated limited
 unfolding opened digit bytes prints stated limited
-limitedHold = refl
+limited_hold = refl
 
 -- every job of No. 5
-pub datedHold : map prints dated ≡ map stated dated
+pub dated_hold : map prints dated ≡ map stated dated
 unfolding opened digit bytes prints stated dated
-datedHold = refl
+dated_hold = refl
 
 -- every job of No. 8
-pub spelledHold : map prints spelled ≡ map stated spelled
+pub spelled_hold : map prints spelled ≡ map stated spelled
 unfolding opened digit bytes prints stated spelled
-spelledHold = refl
+spelled_hold = refl
 
 -- every job of No. 9
-pub pointedHold : map prints pointed ≡ map stated pointed
+pub pointed_hold : map prints pointed ≡ map stated pointed
 unfolding opened digit bytes prints stated pointed
-pointedHold = refl
+pointed_hold = refl
 
 -- every job of No. 3
-pub workedHold : map prints worked ≡ map stated worked
+pub worked_hold : map prints worked ≡ map stated worked
 unfolding opened digit bytes prints stated worked
-workedHold = refl
+worked_hold = refl

@@ -6,6 +6,6 @@ use Rattle.definition.specs.SecondTable.{second}
 use Rattle.definition.specs.Starred.{digit, bytes, prints, stated}
 
 -- every job of the table gives what the module gives
-pub secondHold : map prints second ≡ map stated second
+pub second_hold : map prints second ≡ map stated second
 unfolding opened digit bytes prints stated second
-secondHold = refl
+second_hold = refl

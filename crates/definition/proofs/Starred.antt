@@ -5,6 +5,6 @@ use Rattle.definition.specs.Opened.{opened}
 use Rattle.definition.specs.Starred.{digit, bytes, prints, stated, starred}
 
 -- STARRED: every starred job gives what document 01 says
-pub starredHold : map prints starred ≡ map stated starred
+pub starred_hold : map prints starred ≡ map stated starred
 unfolding opened digit bytes prints stated starred
-starredHold = refl
+starred_hold = refl

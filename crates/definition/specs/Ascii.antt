@@ -18,9 +18,9 @@ unfoldable pub decimal : ℕ → List ℕ
 decimal n = digits (suc n) n
 
 -- a hex digit of a number below 16
-unfoldable pub hexDigit : ℕ → ℕ
-hexDigit n = elim (ltb n 10) [ true ↦ 48 + n | false ↦ 87 + n ]
+unfoldable pub hex_digit : ℕ → ℕ
+hex_digit n = elim (ltb n 10) [ true ↦ 48 + n | false ↦ 87 + n ]
 
 -- bytes in hex, two digits each
 unfoldable pub hex : List ℕ → List ℕ
-hex bytes = concat (map (λ b. hexDigit (b / 16 % 16) ∷ᴸ (hexDigit (b % 16) ∷ᴸ []ᴸ)) bytes)
+hex bytes = concat (map (λ b. hex_digit (b / 16 % 16) ∷ᴸ (hex_digit (b % 16) ∷ᴸ []ᴸ)) bytes)

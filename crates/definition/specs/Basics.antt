@@ -19,9 +19,9 @@ pub record Refusal : Type 0 where
   pub place : ℕ
 
 -- a refusal number, met while the record, block or node `place` is in turn
-unfoldable pub atRecord : {A : Type 0} → ℕ → Result ℕ A → Result Refusal A
-atRecord place (good a) = good a
-atRecord place (bad code) = bad (record { code = code; place = place })
+unfoldable pub at_record : {A : Type 0} → ℕ → Result ℕ A → Result Refusal A
+at_record place (good a) = good a
+at_record place (bad code) = bad (record { code = code; place = place })
 
 -- refuses with this number unless the test holds
 unfoldable pub unless : Bool → ℕ → Result ℕ (Unit {0})

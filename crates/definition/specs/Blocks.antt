@@ -1,10 +1,10 @@
 -- The block file and the program (document 01, "The block file and the program"). Assumes nothing.
 use Rattle.std.specs.Prelude.{Bool, true, false, ◌&&◌, ◌||◌, List, [], ◌∷◌, ◌++◌, map, ℕ, zero, suc, ◌+◌, ◌*◌, ◌-◌, ◌/◌, ◌%◌, eqb, leb, ltb, length, take, drop, get_or, replicate}
 use Rattle.std.proofs.Math.Option.{Option, none, some}
-use Rattle.definition.specs.Basics.{Result, good, bad, ◌>>=◌, Refusal, atRecord, unless, same, every, concat, from}
+use Rattle.definition.specs.Basics.{Result, good, bad, ◌>>=◌, Refusal, at_record, unless, same, every, concat, from}
 use Rattle.definition.specs.Bytes.{be2, be4}
 use Rattle.definition.specs.Ascii.{ascii, decimal, hex}
-use Rattle.definition.specs.Run.{Built, Lent, longestJob, run, overwrite}
+use Rattle.definition.specs.Run.{Built, Lent, longest_job, run, overwrite}
 
 -- the sum over the bytes of (position + 1) x byte, from a position on
 unfoldable pub weighted : ℕ → List ℕ → ℕ
@@ -18,124 +18,124 @@ block number used content =
     front ++ be4 (weighted 0 front)
 
 -- how many blocks a file has, and block k of it
-unfoldable pub blockCount : List ℕ → ℕ
-blockCount file = length file / 512
+unfoldable pub block_count : List ℕ → ℕ
+block_count file = length file / 512
 
 unfoldable pub block_at : List ℕ → ℕ → List ℕ
 block_at file k = take 512 (drop (512 * k) file)
 
-unfoldable pub usedIn : List ℕ → ℕ
-usedIn b = 256 * get_or b 2 0 + get_or b 3 0
+unfoldable pub used_in : List ℕ → ℕ
+used_in b = 256 * get_or b 2 0 + get_or b 3 0
 
 -- all but the last use 504; the last uses 1 to 504, and 0 only if it is the only one
-unfoldable pub rightUse : Bool → Bool → ℕ → Bool
-rightUse only false used = eqb used 504
-rightUse only true used = leb used 504 && (only || leb 1 used)
+unfoldable pub right_use : Bool → Bool → ℕ → Bool
+right_use only false used = eqb used 504
+right_use only true used = leb used 504 && (only || leb 1 used)
 
 -- the unused bytes of a block: those of its 504 behind the used ones
 unfoldable pub padding : List ℕ → List ℕ
-padding b = drop (usedIn b) (take 504 (drop 4 b))
+padding b = drop (used_in b) (take 504 (drop 4 b))
 
-unfoldable pub allZero : List ℕ → Bool
-allZero bytes = every (λ b. eqb b 0) bytes
+unfoldable pub all_zero : List ℕ → Bool
+all_zero bytes = every (λ b. eqb b 0) bytes
 
 -- block k of n is right: its check, its number, its use, and then its padding, which must be zero
-unfoldable pub rightBlock : ℕ → List ℕ → ℕ → Bool
-rightBlock n file k =
+unfoldable pub right_block : ℕ → List ℕ → ℕ → Bool
+right_block n file k =
     let b = block_at file k in
     same (drop 508 b) (be4 (weighted 0 (take 508 b)))
-    && (same (take 2 b) (be2 k) && (rightUse (eqb n 1) (eqb (suc k) n) (usedIn b) && allZero (padding b)))
+    && (same (take 2 b) (be2 k) && (right_use (eqb n 1) (eqb (suc k) n) (used_in b) && all_zero (padding b)))
 
 -- 19 for the first block, from k on, that isn't right
-unfoldable pub blocksRight : ℕ → List ℕ → ℕ → ℕ → Result Refusal (Unit {0})
-blocksRight n file zero k = good tt
-blocksRight n file (suc left) k = atRecord k (unless (rightBlock n file k) 19) >>= λ _. blocksRight n file left (suc k)
+unfoldable pub blocks_right : ℕ → List ℕ → ℕ → ℕ → Result Refusal (Unit {0})
+blocks_right n file zero k = good tt
+blocks_right n file (suc left) k = at_record k (unless (right_block n file k) 19) >>= λ _. blocks_right n file left (suc k)
 
 -- the used bytes of a block
-unfoldable pub blockData : List ℕ → List ℕ
-blockData b = take (usedIn b) (drop 4 b)
+unfoldable pub block_data : List ℕ → List ℕ
+block_data b = take (used_in b) (drop 4 b)
 
 -- the most blocks that a job can take
-abbrev pub mostBlocks : ℕ
-mostBlocks = 2081
+abbrev pub most_blocks : ℕ
+most_blocks = 2081
 
 -- reading a file into an output of `room` bytes: the job, or 20, 1, 19, 1, 18
-unfoldable pub readBlocks : ℕ → List ℕ → Result Refusal (List ℕ)
-readBlocks room file = do
-  let n = blockCount file
-  _ ← atRecord 0 (unless (ltb 0 (length file) && eqb (length file % 512) 0) 20)
-  _ ← atRecord 0 (unless (leb n mostBlocks) 1)
-  _ ← blocksRight n file n 0
-  let job = concat (from (λ k. blockData (block_at file k)) 0 n)
-  _ ← atRecord 0 (unless (leb (length job) longestJob) 1)
-  _ ← atRecord 0 (unless (leb (length job) room) 18)
+unfoldable pub read_blocks : ℕ → List ℕ → Result Refusal (List ℕ)
+read_blocks room file = do
+  let n = block_count file
+  _ ← at_record 0 (unless (ltb 0 (length file) && eqb (length file % 512) 0) 20)
+  _ ← at_record 0 (unless (leb n most_blocks) 1)
+  _ ← blocks_right n file n 0
+  let job = concat (from (λ k. block_data (block_at file k)) 0 n)
+  _ ← at_record 0 (unless (leb (length job) longest_job) 1)
+  _ ← at_record 0 (unless (leb (length job) room) 18)
   good job
 
 -- how many blocks a job takes: one for the empty job
-unfoldable pub blocksFor : ℕ → ℕ
-blocksFor zero = 1
-blocksFor (suc n) = suc (n / 504)
+unfoldable pub blocks_for : ℕ → ℕ
+blocks_for zero = 1
+blocks_for (suc n) = suc (n / 504)
 
 -- block k of a job's file: up to 504 bytes of the job, padded with zeros
-unfoldable pub writtenBlock : List ℕ → ℕ → List ℕ
-writtenBlock job k =
+unfoldable pub written_block : List ℕ → ℕ → List ℕ
+written_block job k =
     let part = take 504 (drop (504 * k) job) in
     block k (length part) (part ++ replicate (504 - length part) 0)
 
 -- writing a job into an output of `room` bytes: the file, or 1, then 18
-unfoldable pub writeBlocks : ℕ → List ℕ → Result Refusal (List ℕ)
-writeBlocks room job = do
-  _ ← atRecord 0 (unless (leb (length job) longestJob) 1)
-  let n = blocksFor (length job)
-  _ ← atRecord 0 (unless (leb (512 * n) room) 18)
-  good (concat (from (writtenBlock job) 0 n))
+unfoldable pub write_blocks : ℕ → List ℕ → Result Refusal (List ℕ)
+write_blocks room job = do
+  _ ← at_record 0 (unless (leb (length job) longest_job) 1)
+  let n = blocks_for (length job)
+  _ ← at_record 0 (unless (leb (512 * n) room) 18)
+  good (concat (from (written_block job) 0 n))
 
 -- the output of either afterwards: a prefix is written, and a refusal doesn't touch it
-unfoldable pub blocksAfter : Result Refusal (List ℕ) → List ℕ → List ℕ
-blocksAfter (bad r) before = before
-blocksAfter (good new) before = overwrite new before
+unfoldable pub blocks_after : Result Refusal (List ℕ) → List ℕ → List ℕ
+blocks_after (bad r) before = before
+blocks_after (good new) before = overwrite new before
 
 -- a line of text
 unfoldable pub line : List ℕ → List ℕ
 line s = s ++ 10 ∷ []
 
 -- `none` with no line after it, or the class name's length and hex
-unfoldable pub classText : Option (List ℕ) → List ℕ
-classText none = line (ascii "class none")
-classText (some s) = line (ascii "class " ++ decimal (length s)) ++ line (hex s)
+unfoldable pub class_text : Option (List ℕ) → List ℕ
+class_text none = line (ascii "class none")
+class_text (some s) = line (ascii "class " ++ decimal (length s)) ++ line (hex s)
 
 -- an answer's line: its slot and its mark
-unfoldable pub markText : ℕ → List ℕ
-markText zero = ascii " raw"
-markText (suc zero) = ascii " new"
-markText (suc (suc n)) = ascii " old"
+unfoldable pub mark_text : ℕ → List ℕ
+mark_text zero = ascii " raw"
+mark_text (suc zero) = ascii " new"
+mark_text (suc (suc n)) = ascii " old"
 
-unfoldable pub answerLines : List ℕ → List ℕ → List ℕ
-answerLines [] marks = []
-answerLines (a ∷ answers) [] = line (decimal a) ++ answerLines answers []
-answerLines (a ∷ answers) (m ∷ marks) = line (decimal a ++ markText m) ++ answerLines answers marks
+unfoldable pub answer_lines : List ℕ → List ℕ → List ℕ
+answer_lines [] marks = []
+answer_lines (a ∷ answers) [] = line (decimal a) ++ answer_lines answers []
+answer_lines (a ∷ answers) (m ∷ marks) = line (decimal a ++ mark_text m) ++ answer_lines answers marks
 
 -- what the program prints
 unfoldable pub printed : Result Refusal Built → List ℕ
 printed (bad r) = line (ascii "refused " ++ decimal r.code ++ 32 ∷ decimal r.place)
 printed (good b) =
     line (ascii "answers " ++ decimal (length b.answers))
-    ++ answerLines b.answers b.marks
+    ++ answer_lines b.answers b.marks
     ++ line (ascii "pool " ++ decimal (length b.pool))
     ++ line (hex b.pool)
-    ++ line (ascii "bootstraps " ++ decimal b.bootstrapCount ++ 32 ∷ decimal (length b.bootstraps))
+    ++ line (ascii "bootstraps " ++ decimal b.bootstrap_count ++ 32 ∷ decimal (length b.bootstraps))
     ++ line (hex b.bootstraps)
     ++ line (ascii "name " ++ decimal b.name)
-    ++ classText b.class
+    ++ class_text b.class
     ++ line (ascii "visits " ++ decimal b.visits)
 
 -- the program lends 65,536 bytes for each output, and work enough
-unfoldable pub poolrunLent : Lent
-poolrunLent =
+unfoldable pub poolrun_lent : Lent
+poolrun_lent =
     record { work = 6 * 2560 + 1024; gaps = 2560 / 5 + 2; answers = 32768; marks = 65536; pool = 65536; bootstraps = 65536; class = 65536 }
 
 -- the program: a file of at most 2,560 bytes, else 1
 unfoldable pub poolrun : List ℕ → List ℕ
 poolrun file =
     printed
-    (atRecord 0 (unless (leb (length file) 2560) 1) >>= λ _. readBlocks longestJob file >>= λ job. run poolrunLent job)
+    (at_record 0 (unless (leb (length file) 2560) 1) >>= λ _. read_blocks longest_job file >>= λ job. run poolrun_lent job)

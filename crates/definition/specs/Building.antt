@@ -2,13 +2,13 @@
 use Rattle.std.specs.Prelude.{Bool, true, false, List, [], ◌∷◌, ◌++◌, reverse, ℕ, zero, suc, ◌+◌, ◌-◌, eqb, ltb, length, get_or, replicate}
 use Rattle.std.proofs.Math.Option.{Option, none, some}
 use Rattle.std.proofs.Math.ListN.{get_elem?}
-use Rattle.definition.specs.Basics.{Result, good, bad, ◌>>=◌, Refusal, atRecord, unless, same, position, lookup}
+use Rattle.definition.specs.Basics.{Result, good, bad, ◌>>=◌, Refusal, at_record, unless, same, position, lookup}
 use Rattle.definition.specs.Settings.{known}
-use Rattle.definition.specs.Shapes.{bootstrapTag, Entry, withKids, is_wide}
-use Rattle.definition.specs.Numbering.{attributeNumber}
+use Rattle.definition.specs.Shapes.{bootstrap_tag, Entry, with_kids, is_wide}
+use Rattle.definition.specs.Numbering.{attribute_number}
 use Rattle.definition.specs.Definitions.{tag_at}
-use Rattle.definition.specs.Resolving.{Node, firstNode, sameNode, intern}
-use Rattle.definition.specs.Slots.{Slots, slotFor}
+use Rattle.definition.specs.Resolving.{Node, first_node, same_node, intern}
+use Rattle.definition.specs.Slots.{Slots, slot_for}
 
 -- the gaps and positions; slots given out, as node and slot; the building stack, its top first, as slot and node; and the version that
 -- constants are held to
@@ -32,13 +32,13 @@ give ldc k p (some r) = good (r.0, record { slots = r.1; given = (k, r.0) ∷ p.
 unfoldable pub allocate : List Node → Bool → ℕ → Pool → Result ℕ (ℕ × Pool)
 allocate nodes ldc k p =
     elim (lookup k p.given) [
-      | none ↦ give ldc k p (slotFor (is_wide (tag_at nodes k)) ldc p.slots)
+      | none ↦ give ldc k p (slot_for (is_wide (tag_at nodes k)) ldc p.slots)
       | some s ↦ good (s, p)
     ]
 
 -- the slot of a child: a raw number is itself
 unfoldable pub slot_of : List Node → Bool → ℕ → Pool → Result ℕ (ℕ × Pool)
-slot_of nodes ldc child p = elim (ltb child firstNode) [ true ↦ good (child, p) | false ↦ allocate nodes ldc (child - firstNode) p ]
+slot_of nodes ldc child p = elim (ltb child first_node) [ true ↦ good (child, p) | false ↦ allocate nodes ldc (child - first_node) p ]
 
 -- how a child's slot is come by (document 02, No. 6): it is a raw number, or the node gets a slot now, or has one
 pub data Origin : Type 0 where
@@ -46,7 +46,7 @@ pub data Origin : Type 0 where
 
 unfoldable pub origin_of : ℕ → Pool → Origin
 origin_of child p =
-    elim (ltb child firstNode) [ true ↦ raw | false ↦ elim (lookup (child - firstNode) p.given) [ none ↦ new | some s ↦ old ] ]
+    elim (ltb child first_node) [ true ↦ raw | false ↦ elim (lookup (child - first_node) p.given) [ none ↦ new | some s ↦ old ] ]
 
 -- the number that marks it in the outputs
 unfoldable pub mark_of : Origin → ℕ
@@ -58,7 +58,7 @@ mark_of old = 2
 unfoldable pub slots_of : List Node → List ℕ → Pool → Result Refusal (List ℕ × Pool)
 slots_of nodes [] p = good ([], p)
 slots_of nodes (child ∷ children) p =
-    atRecord (child - firstNode) (slot_of nodes false child p) >>= λ r.
+    at_record (child - first_node) (slot_of nodes false child p) >>= λ r.
     slots_of nodes children r.1 >>= λ rest.
     good (r.0 ∷ rest.0, rest.1)
 
@@ -73,35 +73,35 @@ pub record Rows : Type 0 where
   pub inline : List (Row × ℕ)
 
 -- raw rows whose index is next are written
-unfoldable pub writeRaw : List Row → List (ℕ × Row) → List Row × List (ℕ × Row)
-writeRaw written [] = (written, [])
-writeRaw written (r ∷ waiting) =
-    elim (eqb r.0 (length written)) [ true ↦ writeRaw (written ++ r.1 ∷ []) waiting | false ↦ (written, r ∷ waiting) ]
+unfoldable pub write_raw : List Row → List (ℕ × Row) → List Row × List (ℕ × Row)
+write_raw written [] = (written, [])
+write_raw written (r ∷ waiting) =
+    elim (eqb r.0 (length written)) [ true ↦ write_raw (written ++ r.1 ∷ []) waiting | false ↦ (written, r ∷ waiting) ]
 
 unfoldable pub index_of : Row → List (Row × ℕ) → Option ℕ
 index_of row [] = none
 index_of row (r ∷ inline) = elim (same row r.0) [ true ↦ some r.1 | false ↦ index_of row inline ]
 
 -- a row takes the next index: 17 if all 65,535 are used
-unfoldable pub takeIndex : Row → List (Row × ℕ) → List Row × List (ℕ × Row) → Result ℕ (ℕ × Rows)
-takeIndex row inline r =
+unfoldable pub take_index : Row → List (Row × ℕ) → List Row × List (ℕ × Row) → Result ℕ (ℕ × Rows)
+take_index row inline r =
     elim (ltb (length r.0) 65535) [
       | true ↦ good (length r.0, record { written = r.0 ++ row ∷ []; waiting = r.1; inline = (row, length r.0) ∷ inline })
       | false ↦ bad 17
     ]
 
 -- an inline row with the same numbers as an earlier inline one shares its index
-unfoldable pub rowIndex : Row → Rows → Result ℕ (ℕ × Rows)
-rowIndex row rows =
+unfoldable pub row_index : Row → Rows → Result ℕ (ℕ × Rows)
+row_index row rows =
     elim (index_of row rows.inline) [
-      | none ↦ takeIndex row rows.inline (writeRaw rows.written rows.waiting)
+      | none ↦ take_index row rows.inline (write_raw rows.written rows.waiting)
       | some i ↦ good (i, rows)
     ]
 
 -- at the end each hole repeats the next raw row above it
-unfoldable pub fillHoles : List Row → List (ℕ × Row) → List Row
-fillHoles written [] = written
-fillHoles written (r ∷ waiting) = fillHoles (written ++ replicate (suc r.0 - length written) r.1) waiting
+unfoldable pub fill_holes : List Row → List (ℕ × Row) → List Row
+fill_holes written [] = written
+fill_holes written (r ∷ waiting) = fill_holes (written ++ replicate (suc r.0 - length written) r.1) waiting
 
 -- what building has made: slots, bootstrap rows, and the slots that hold a finished entry
 pub record Made : Type 0 where
@@ -109,40 +109,40 @@ pub record Made : Type 0 where
   pub rows : Rows
   pub owned : List (ℕ × Entry ℕ ℕ)
 
-unfoldable pub kidsOf : List Node → ℕ → List ℕ
-kidsOf nodes k = elim (get_elem? nodes k) [ none ↦ [] | some n ↦ n.kids ]
+unfoldable pub kids_of : List Node → ℕ → List ℕ
+kids_of nodes k = elim (get_elem? nodes k) [ none ↦ [] | some n ↦ n.kids ]
 
 -- the number that stands for a node in its parent: an inline bootstrap's index, once its children have slots, or a slot
-unfoldable pub nodeNumber : List Node → ℕ → Pool → Rows → Result Refusal (ℕ × Pool × Rows)
-nodeNumber nodes k p rows =
-    elim (eqb (tag_at nodes k) bootstrapTag) [
+unfoldable pub node_number : List Node → ℕ → Pool → Rows → Result Refusal (ℕ × Pool × Rows)
+node_number nodes k p rows =
+    elim (eqb (tag_at nodes k) bootstrap_tag) [
       | true ↦
-          slots_of nodes (kidsOf nodes k) p >>= λ r.
-          atRecord k (rowIndex r.0 rows) >>= λ i.
+          slots_of nodes (kids_of nodes k) p >>= λ r.
+          at_record k (row_index r.0 rows) >>= λ i.
           good (i.0, r.1, i.1)
-      | false ↦ atRecord k (allocate nodes false k p) >>= λ r. good (r.0, r.1, rows)
+      | false ↦ at_record k (allocate nodes false k p) >>= λ r. good (r.0, r.1, rows)
     ]
 
-unfoldable pub childNumber : List Node → ℕ → Pool → Rows → Result Refusal (ℕ × Pool × Rows)
-childNumber nodes child p rows =
-    elim (ltb child firstNode) [ true ↦ good (child, p, rows) | false ↦ nodeNumber nodes (child - firstNode) p rows ]
+unfoldable pub child_number : List Node → ℕ → Pool → Rows → Result Refusal (ℕ × Pool × Rows)
+child_number nodes child p rows =
+    elim (ltb child first_node) [ true ↦ good (child, p, rows) | false ↦ node_number nodes (child - first_node) p rows ]
 
-unfoldable pub childNumbers : List Node → List ℕ → Pool → Rows → Result Refusal (List ℕ × Pool × Rows)
-childNumbers nodes [] p rows = good ([], p, rows)
-childNumbers nodes (child ∷ children) p rows =
-    childNumber nodes child p rows >>= λ r.
-    childNumbers nodes children r.1 r.2 >>= λ rest.
+unfoldable pub child_numbers : List Node → List ℕ → Pool → Rows → Result Refusal (List ℕ × Pool × Rows)
+child_numbers nodes [] p rows = good ([], p, rows)
+child_numbers nodes (child ∷ children) p rows =
+    child_number nodes child p rows >>= λ r.
+    child_numbers nodes children r.1 r.2 >>= λ rest.
     good (r.0 ∷ rest.0, rest.1, rest.2)
 
 -- a slot's node, taken from the stack: its children in field order, then the slot holds the finished entry
 unfoldable pub finish : List Node → ℕ → Made → Option Node → Result Refusal Made
 finish nodes s m none = good m
 finish nodes s m (some n) =
-    childNumbers nodes n.kids m.pool m.rows >>= λ r.
-    good (record { pool = r.1; rows = r.2; owned = (s, withKids r.0 n) ∷ m.owned })
+    child_numbers nodes n.kids m.pool m.rows >>= λ r.
+    good (record { pool = r.1; rows = r.2; owned = (s, with_kids r.0 n) ∷ m.owned })
 
-unfoldable pub withPending : List (ℕ × ℕ) → Made → Made
-withPending pending m =
+unfoldable pub with_pending : List (ℕ × ℕ) → Made → Made
+with_pending pending m =
     record {
       pool = record { slots = m.pool.slots; given = m.pool.given; pending = pending; version = m.pool.version };
       rows = m.rows;
@@ -156,21 +156,21 @@ drain zero nodes [] m = good m
 drain zero nodes (top ∷ pending) m = bad (record { code = 0; place = top.1 })
 drain (suc fuel) nodes [] m = good m
 drain (suc fuel) nodes (top ∷ pending) m =
-    atRecord top.1 (unless (known m.pool.version (tag_at nodes top.1)) 24) >>= λ _.
-    finish nodes top.0 (withPending pending m) (get_elem? nodes top.1) >>= λ m'.
+    at_record top.1 (unless (known m.pool.version (tag_at nodes top.1)) 24) >>= λ _.
+    finish nodes top.0 (with_pending pending m) (get_elem? nodes top.1) >>= λ m'.
     drain fuel nodes m'.pool.pending m'
 
 -- raw bootstraps get their children's slots by falling index; given by falling index, the rows come out by rising index
-unfoldable pub rawRows : List Node → List (ℕ × ℕ) → Pool → List (ℕ × Row) → Result Refusal (List (ℕ × Row) × Pool)
-rawRows nodes [] p rows = good (rows, p)
-rawRows nodes (r ∷ falling) p rows =
-    slots_of nodes (kidsOf nodes r.1) p >>= λ row. rawRows nodes falling row.1 ((r.0, row.0) ∷ rows)
+unfoldable pub raw_rows : List Node → List (ℕ × ℕ) → Pool → List (ℕ × Row) → Result Refusal (List (ℕ × Row) × Pool)
+raw_rows nodes [] p rows = good (rows, p)
+raw_rows nodes (r ∷ falling) p rows =
+    slots_of nodes (kids_of nodes r.1) p >>= λ row. raw_rows nodes falling row.1 ((r.0, row.0) ∷ rows)
 
 -- raw bootstraps, then the stack; each node gets at most one slot, so it is taken from no more often than it has items now and there
 -- are nodes
-unfoldable pub buildAll : List Node → List (ℕ × ℕ) → Pool → Result Refusal Made
-buildAll nodes indexes p =
-    rawRows nodes (reverse indexes) p [] >>= λ r.
+unfoldable pub build_all : List Node → List (ℕ × ℕ) → Pool → Result Refusal Made
+build_all nodes indexes p =
+    raw_rows nodes (reverse indexes) p [] >>= λ r.
     drain
     (length r.1.pending + length nodes)
     nodes
@@ -178,46 +178,46 @@ buildAll nodes indexes p =
     (record { pool = r.1; rows = record { written = []; waiting = r.0; inline = [] }; owned = [] })
 
 -- the text "BootstrapMethods"
-unfoldable pub attributeText : Node
-attributeText = record { tag = 1; literal = attributeNumber; byte = 0; kids = [] }
+unfoldable pub attribute_text : Node
+attribute_text = record { tag = 1; literal = attribute_number; byte = 0; kids = [] }
 
 -- is the name wanted: always, if there are bootstraps, never
-unfoldable pub nameWanted : ℕ → ℕ → Bool
-nameWanted zero bootstraps = true
-nameWanted (suc zero) bootstraps = ltb 0 bootstraps
-nameWanted (suc (suc n)) bootstraps = false
+unfoldable pub name_wanted : ℕ → ℕ → Bool
+name_wanted zero bootstraps = true
+name_wanted (suc zero) bootstraps = ltb 0 bootstraps
+name_wanted (suc (suc n)) bootstraps = false
 
 -- the name, if wanted, gets a slot as an ordinary request; 0: none
-unfoldable pub nameSlot : Bool → List Node → Made → Result ℕ (ℕ × Made)
-nameSlot false nodes m = good (0, m)
-nameSlot true nodes m =
-    allocate (intern attributeText nodes) false (position (sameNode attributeText) nodes) m.pool >>= λ r.
-    good (r.0, record { pool = r.1; rows = m.rows; owned = (r.0, attributeText) ∷ m.owned })
+unfoldable pub name_slot : Bool → List Node → Made → Result ℕ (ℕ × Made)
+name_slot false nodes m = good (0, m)
+name_slot true nodes m =
+    allocate (intern attribute_text nodes) false (position (same_node attribute_text) nodes) m.pool >>= λ r.
+    good (r.0, record { pool = r.1; rows = m.rows; owned = (r.0, attribute_text) ∷ m.owned })
 
 -- what a slot holds: nothing (slot 0, the second half of a wide one), the empty text (nobody owns it), or an entry
 pub data Content : Type 0 where
   nothing : Content
-  emptyText : Content
+  empty_text : Content
   holds : Entry ℕ ℕ → Content
 
 -- a slot with no entry of its own, by what the slot before it holds: nothing behind a wide one, else the empty text
 unfoldable pub behind : Option (Entry ℕ ℕ) → Content
-behind none = emptyText
-behind (some e) = elim (is_wide e.tag) [ true ↦ nothing | false ↦ emptyText ]
+behind none = empty_text
+behind (some e) = elim (is_wide e.tag) [ true ↦ nothing | false ↦ empty_text ]
 
 -- what a slot holds; nothing is owned at or past the count, so such a slot holds the empty text
-unfoldable pub contentOf : List (ℕ × Entry ℕ ℕ) → ℕ → Content
-contentOf owned zero = nothing
-contentOf owned (suc s) = elim (lookup (suc s) owned) [ none ↦ behind (lookup s owned) | some e ↦ holds e ]
+unfoldable pub content_of : List (ℕ × Entry ℕ ℕ) → ℕ → Content
+content_of owned zero = nothing
+content_of owned (suc s) = elim (lookup (suc s) owned) [ none ↦ behind (lookup s owned) | some e ↦ holds e ]
 
 -- a text that a slot holds: none, the empty one, or a literal
-unfoldable pub textIn : Content → Option (Option ℕ)
-textIn nothing = none
-textIn emptyText = some none
-textIn (holds e) = elim (eqb e.tag 1) [ true ↦ some (some e.literal) | false ↦ none ]
+unfoldable pub text_in : Content → Option (Option ℕ)
+text_in nothing = none
+text_in empty_text = some none
+text_in (holds e) = elim (eqb e.tag 1) [ true ↦ some (some e.literal) | false ↦ none ]
 
 -- a class name is given if the class slot holds a Class whose slot holds a text
-unfoldable pub className : List (ℕ × Entry ℕ ℕ) → Content → Option (Option ℕ)
-className owned nothing = none
-className owned emptyText = none
-className owned (holds e) = elim (eqb e.tag 7) [ true ↦ textIn (contentOf owned (get_or e.kids 0 0)) | false ↦ none ]
+unfoldable pub class_name : List (ℕ × Entry ℕ ℕ) → Content → Option (Option ℕ)
+class_name owned nothing = none
+class_name owned empty_text = none
+class_name owned (holds e) = elim (eqb e.tag 7) [ true ↦ text_in (content_of owned (get_or e.kids 0 0)) | false ↦ none ]

@@ -45,19 +45,19 @@ bits double = eight
 
 -- what a byte opens: the tags of leaves, then the signs in ASCII
 pub data Opening : Type 0 where
-  ofLeaf : Number → Opening
-  ofSign : Sign → Opening
+  of_leaf : Number → Opening
+  of_sign : Sign → Opening
 
 unfoldable pub openings : List (ℕ × Opening)
 openings =
-    (3, ofLeaf int)
-    ∷ (4, ofLeaf float)
-    ∷ (5, ofLeaf long)
-    ∷ (6, ofLeaf double)
-    ∷ (0x2B, ofSign plus)
-    ∷ (0x2D, ofSign minus)
-    ∷ (0x2A, ofSign times)
-    ∷ (0x2F, ofSign over)
+    (3, of_leaf int)
+    ∷ (4, of_leaf float)
+    ∷ (5, of_leaf long)
+    ∷ (6, of_leaf double)
+    ∷ (0x2B, of_sign plus)
+    ∷ (0x2D, of_sign minus)
+    ∷ (0x2A, of_sign times)
+    ∷ (0x2F, of_sign over)
     ∷ []
 
 -- A part's reader fails where the bytes end. A byte that is neither leaf tag nor sign is no failure: it is read, and no expression comes of it.
@@ -65,30 +65,30 @@ unfoldable pub joined : Sign → Expression → Option Expression → Option Exp
 joined s a none = none
 joined s a (some b) = some (apply s a b)
 
-unfoldable pub secondPart : Parser (Option Expression) → Sign → Option Expression → Parser (Option Expression)
-secondPart part s none = return none
-secondPart part s (some a) = do
+unfoldable pub second_part : Parser (Option Expression) → Sign → Option Expression → Parser (Option Expression)
+second_part part s none = return none
+second_part part s (some a) = do
   b ← part
   return (joined s a b)
 
-unfoldable pub openedPart : Parser (Option Expression) → Option Opening → Parser (Option Expression)
-openedPart part none = return none
-openedPart part (some (ofLeaf kind)) = do
+unfoldable pub opened_part : Parser (Option Expression) → Option Opening → Parser (Option Expression)
+opened_part part none = return none
+opened_part part (some (of_leaf kind)) = do
   b ← bits kind
   return (some (leaf kind b))
-openedPart part (some (ofSign s)) = do
+opened_part part (some (of_sign s)) = do
   a ← part
-  secondPart part s a
+  second_part part s a
 
 -- fuel is the bytes' number or more
 unfoldable pub expression : ℕ → Parser (Option Expression)
 expression zero = fail
 expression (suc fuel) = do
   first ← one
-  openedPart (expression fuel) (lookup first openings)
+  opened_part (expression fuel) (lookup first openings)
 
-unfoldable pub readExpression : Parser (Option Expression)
-readExpression s = expression (length s) s
+unfoldable pub read_expression : Parser (Option Expression)
+read_expression s = expression (length s) s
 
 -- ---- its kind: that of all its leaves, if they are alike and it is nested no deeper than this; a lone leaf is 1 deep
 
@@ -97,8 +97,8 @@ alike none b = none
 alike (some a) none = none
 alike (some a) (some b) = elim (eqb (tag_of a) (tag_of b)) [ true ↦ some a | false ↦ none ]
 
-unfoldable pub kindWithin : ℕ → Expression → Option Number
-kindWithin zero (leaf kind b) = none
-kindWithin zero (apply s a b) = none
-kindWithin (suc deep) (leaf kind b) = some kind
-kindWithin (suc deep) (apply s a b) = alike (kindWithin deep a) (kindWithin deep b)
+unfoldable pub kind_within : ℕ → Expression → Option Number
+kind_within zero (leaf kind b) = none
+kind_within zero (apply s a b) = none
+kind_within (suc deep) (leaf kind b) = some kind
+kind_within (suc deep) (apply s a b) = alike (kind_within deep a) (kind_within deep b)

@@ -4,20 +4,20 @@ use Rattle.std.specs.Prelude.{Bool, true, false, not, List, [], ◌∷◌, ◌++
 use Rattle.definition.specs.Basics.{Result, good, bad, Refusal, position}
 use Rattle.definition.specs.Shapes.{Entry}
 use Rattle.definition.specs.Job.{Reference, Definition, define, named, placed, setting}
-use Rattle.definition.specs.Numbering.{isBootstrap}
+use Rattle.definition.specs.Numbering.{is_bootstrap}
 use Rattle.definition.specs.Resolving.{Mark, fresh, underway, done}
 
 -- the records of the entries that pass, from record `place` on
-unfoldable pub recordsOf : {L : Type 0} → (Entry L Reference → Bool) → ℕ → List (Definition L) → List ℕ
-recordsOf p place [] = []
-recordsOf p place (define e ∷ rest) = elim (p e) [ true ↦ place ∷ recordsOf p (suc place) rest | false ↦ recordsOf p (suc place) rest ]
-recordsOf p place (named kind s r ∷ rest) = recordsOf p (suc place) rest
-recordsOf p place (placed kind at number ∷ rest) = recordsOf p (suc place) rest
-recordsOf p place (setting s ∷ rest) = recordsOf p (suc place) rest
+unfoldable pub records_of : {L : Type 0} → (Entry L Reference → Bool) → ℕ → List (Definition L) → List ℕ
+records_of p place [] = []
+records_of p place (define e ∷ rest) = elim (p e) [ true ↦ place ∷ records_of p (suc place) rest | false ↦ records_of p (suc place) rest ]
+records_of p place (named kind s r ∷ rest) = records_of p (suc place) rest
+records_of p place (placed kind at number ∷ rest) = records_of p (suc place) rest
+records_of p place (setting s ∷ rest) = records_of p (suc place) rest
 
 -- the record of each entry of the one table
-unfoldable pub tableRecords : {L : Type 0} → List (Definition L) → List ℕ
-tableRecords definitions = recordsOf (λ e. not (isBootstrap e)) 0 definitions ++ recordsOf isBootstrap 0 definitions
+unfoldable pub table_records : {L : Type 0} → List (Definition L) → List ℕ
+table_records definitions = records_of (λ e. not (is_bootstrap e)) 0 definitions ++ records_of is_bootstrap 0 definitions
 
 -- an entry became node k
 unfoldable pub became : ℕ → Mark → Bool
@@ -27,10 +27,10 @@ became k (done n) = eqb k n
 
 -- a node's record: the entries that became it are all constants or all bootstraps, and the records of either rise, so the first of them
 -- has the lowest
-unfoldable pub recordOf : List ℕ → List Mark → ℕ → ℕ
-recordOf records marks k = get_or records (position (became k) marks) 0
+unfoldable pub record_of : List ℕ → List Mark → ℕ → ℕ
+record_of records marks k = get_or records (position (became k) marks) 0
 
 -- a refusal at a node, told at its record
-unfoldable pub atNodes : {A : Type 0} → List ℕ → List Mark → Result Refusal A → Result Refusal A
-atNodes records marks (good a) = good a
-atNodes records marks (bad r) = bad (record { code = r.code; place = recordOf records marks r.place })
+unfoldable pub at_nodes : {A : Type 0} → List ℕ → List Mark → Result Refusal A → Result Refusal A
+at_nodes records marks (good a) = good a
+at_nodes records marks (bad r) = bad (record { code = r.code; place = record_of records marks r.place })

@@ -2,7 +2,7 @@
 use Rattle.std.specs.Prelude.{Bool, true, ◌&&◌, List, [], ◌∷◌, ℕ, leb}
 use Rattle.std.proofs.Math.Option.{none, some}
 use Rattle.definition.specs.Basics.{lookup}
-use Rattle.definition.specs.Slots.{highestSlot}
+use Rattle.definition.specs.Slots.{highest_slot}
 
 pub data Setting : Type 0 where
   -- 47: the major version of the receiver's class files
@@ -13,15 +13,15 @@ pub data Setting : Type 0 where
   highest : ℕ → Setting
 
 -- a highest slot is one that there is
-unfoldable pub isSlot : ℕ → Bool
-isSlot n = leb 1 n && leb n highestSlot
+unfoldable pub is_slot : ℕ → Bool
+is_slot n = leb 1 n && leb n highest_slot
 
 -- the highest slot of a job with these settings
-unfoldable pub highestOf : List Setting → ℕ
-highestOf [] = highestSlot
-highestOf (version v ∷ settings) = highestOf settings
-highestOf (texts ∷ settings) = highestOf settings
-highestOf (highest n ∷ settings) = n
+unfoldable pub highest_of : List Setting → ℕ
+highest_of [] = highest_slot
+highest_of (version v ∷ settings) = highest_of settings
+highest_of (texts ∷ settings) = highest_of settings
+highest_of (highest n ∷ settings) = n
 
 -- JVMS table 4.4-B: the first version that has a kind of constant, where it isn't the first of all
 unfoldable pub since : List (ℕ × ℕ)

@@ -19,7 +19,7 @@ pub data Field : Type 0 where
   -- a reference
   to : Kind → Field
   -- two bytes of count, then that many references to constants
-  toMany : Field
+  to_many : Field
 
 -- JVMS 4.4.1 to 4.4.12, by tag
 unfoldable pub shapes : List (ℕ × List Field)
@@ -44,12 +44,12 @@ shapes =
     ∷ []
 
 -- JVMS 4.7.23: bootstrap_method_ref, num_bootstrap_arguments, bootstrap_arguments
-unfoldable pub bootstrapShape : List Field
-bootstrapShape = to constant ∷ toMany ∷ []
+unfoldable pub bootstrap_shape : List Field
+bootstrap_shape = to constant ∷ to_many ∷ []
 
 -- in a job a bootstrap is an entry with this for its tag
-abbrev pub bootstrapTag : ℕ
-bootstrapTag = 0x40
+abbrev pub bootstrap_tag : ℕ
+bootstrap_tag = 0x40
 
 -- JVMS 4.4.5: a Long or a Double takes two slots
 unfoldable pub is_wide : ℕ → Bool
@@ -64,46 +64,46 @@ pub record Entry (L R : Type 0) : Type 0 where
   pub kids : List R
 
 -- an entry with other references
-unfoldable pub withKids : {L R S : Type 0} → List S → Entry L R → Entry L S
-withKids kids e = record { tag = e.tag; literal = e.literal; byte = e.byte; kids = kids }
+unfoldable pub with_kids : {L R S : Type 0} → List S → Entry L R → Entry L S
+with_kids kids e = record { tag = e.tag; literal = e.literal; byte = e.byte; kids = kids }
 
 -- an entry with its literal in another form
-unfoldable pub withLiteral : {L M R : Type 0} → M → Entry L R → Entry M R
-withLiteral literal e = record { tag = e.tag; literal = literal; byte = e.byte; kids = e.kids }
+unfoldable pub with_literal : {L M R : Type 0} → M → Entry L R → Entry M R
+with_literal literal e = record { tag = e.tag; literal = literal; byte = e.byte; kids = e.kids }
 
-unfoldable pub withByte : {L R : Type 0} → ℕ → Entry L R → Entry L R
-withByte b e = record { tag = e.tag; literal = e.literal; byte = b; kids = e.kids }
+unfoldable pub with_byte : {L R : Type 0} → ℕ → Entry L R → Entry L R
+with_byte b e = record { tag = e.tag; literal = e.literal; byte = b; kids = e.kids }
 
 -- reads the fields of a shape, where `kid` reads a reference, into an entry that has none of them yet
-unfoldable pub readFields : {R : Type 0} → (Kind → Parser R) → List Field → Entry (List ℕ) R → Parser (Entry (List ℕ) R)
-readFields kid [] e = return e
-readFields kid (text ∷ fields) e = do
+unfoldable pub read_fields : {R : Type 0} → (Kind → Parser R) → List Field → Entry (List ℕ) R → Parser (Entry (List ℕ) R)
+read_fields kid [] e = return e
+read_fields kid (text ∷ fields) e = do
   size ← two
   s ← many size one
-  readFields kid fields (withLiteral s e)
-readFields kid (bits size ∷ fields) e = do
+  read_fields kid fields (with_literal s e)
+read_fields kid (bits size ∷ fields) e = do
   s ← many size one
-  readFields kid fields (withLiteral s e)
-readFields kid (byte ∷ fields) e = do
+  read_fields kid fields (with_literal s e)
+read_fields kid (byte ∷ fields) e = do
   b ← one
-  readFields kid fields (withByte b e)
-readFields kid (to kind ∷ fields) e = do
+  read_fields kid fields (with_byte b e)
+read_fields kid (to kind ∷ fields) e = do
   r ← kid kind
-  readFields kid fields (withKids (e.kids ++ r ∷ []) e)
-readFields kid (toMany ∷ fields) e = do
+  read_fields kid fields (with_kids (e.kids ++ r ∷ []) e)
+read_fields kid (to_many ∷ fields) e = do
   size ← two
   rs ← many size (kid constant)
-  readFields kid fields (withKids (e.kids ++ rs) e)
+  read_fields kid fields (with_kids (e.kids ++ rs) e)
 
 -- an entry of a tag, read by its shape
 unfoldable pub read_entry : {R : Type 0} → (Kind → Parser R) → ℕ → List Field → Parser (Entry (List ℕ) R)
-read_entry kid tag fields = readFields kid fields (record { tag = tag; literal = []; byte = 0; kids = [] })
+read_entry kid tag fields = read_fields kid fields (record { tag = tag; literal = []; byte = 0; kids = [] })
 
 -- the bytes of an entry's fields, by its shape: the reader's other side
-unfoldable pub writeFields : List Field → Entry (List ℕ) ℕ → List ℕ → List ℕ
-writeFields [] e kids = []
-writeFields (text ∷ fields) e kids = be2 (length e.literal) ++ e.literal ++ writeFields fields e kids
-writeFields (bits size ∷ fields) e kids = e.literal ++ writeFields fields e kids
-writeFields (byte ∷ fields) e kids = e.byte ∷ writeFields fields e kids
-writeFields (to kind ∷ fields) e kids = be2 (get_or kids 0 0) ++ writeFields fields e (tail kids)
-writeFields (toMany ∷ fields) e kids = be2 (length kids) ++ concat (map be2 kids) ++ writeFields fields e []
+unfoldable pub write_fields : List Field → Entry (List ℕ) ℕ → List ℕ → List ℕ
+write_fields [] e kids = []
+write_fields (text ∷ fields) e kids = be2 (length e.literal) ++ e.literal ++ write_fields fields e kids
+write_fields (bits size ∷ fields) e kids = e.literal ++ write_fields fields e kids
+write_fields (byte ∷ fields) e kids = e.byte ∷ write_fields fields e kids
+write_fields (to kind ∷ fields) e kids = be2 (get_or kids 0 0) ++ write_fields fields e (tail kids)
+write_fields (to_many ∷ fields) e kids = be2 (length kids) ++ concat (map be2 kids) ++ write_fields fields e []

@@ -4,7 +4,7 @@ use Rattle.std.specs.Prelude.{true, false, List, [], ◌∷◌, ◌++◌, ℕ, �
 use Prim.Native.Char.{code}
 use Prim.Native.String.{String, [] as end, ◌∷◌ as ◌then◌}
 use Rattle.definition.specs.Ascii.{ascii}
-use Rattle.definition.specs.Blocks.{printed, poolrunLent, poolrun}
+use Rattle.definition.specs.Blocks.{printed, poolrun_lent, poolrun}
 use Rattle.definition.specs.Run.{run}
 
 -- a hex digit's value, and bytes written in hex
@@ -22,7 +22,7 @@ pub data Case : Type 0 where
   file : List ℕ → String → Case
 
 unfoldable pub prints : Case → List ℕ
-prints (job given text) = printed (run poolrunLent (bytes given))
+prints (job given text) = printed (run poolrun_lent (bytes given))
 prints (file given text) = poolrun given
 
 unfoldable pub stated : Case → List ℕ

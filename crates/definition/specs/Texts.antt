@@ -1,7 +1,7 @@
 -- Texts as JVMS 4.4.7 has them (document 02, No. 8): the sixteen-bit units of a text, both ways. Assumes nothing.
 use Rattle.std.specs.Prelude.{Bool, true, false, ◌&&◌, List, [], ◌∷◌, map, ℕ, zero, suc, ◌+◌, ◌*◌, ◌-◌, ◌/◌, ◌%◌, leb, length}
 use Rattle.std.proofs.Math.Option.{Option, none, some}
-use Rattle.definition.specs.Basics.{Result, good, bad, ◌>>=◌ as ◌then◌, Refusal, atRecord, unless, concat}
+use Rattle.definition.specs.Basics.{Result, good, bad, ◌>>=◌ as ◌then◌, Refusal, at_record, unless, concat}
 use Rattle.definition.specs.Bytes.{Parser, return, fail, ◌>>=◌, one}
 
 unfoldable pub between : ℕ → ℕ → ℕ → Bool
@@ -36,15 +36,15 @@ units (suc most) [] = some []
 units (suc most) (b ∷ bytes) =
     elim (unit (b ∷ bytes)) [ none ↦ none | some r ↦ elim (units most r.1) [ none ↦ none | some rest ↦ some (r.0 ∷ rest) ] ]
 
-unfoldable pub unitsOf : List ℕ → Option (List ℕ)
-unitsOf bytes = units (length bytes) bytes
+unfoldable pub units_of : List ℕ → Option (List ℕ)
+units_of bytes = units (length bytes) bytes
 
-unfoldable pub isText : List ℕ → Bool
-isText bytes = elim (unitsOf bytes) [ none ↦ false | some l ↦ true ]
+unfoldable pub is_text : List ℕ → Bool
+is_text bytes = elim (units_of bytes) [ none ↦ false | some l ↦ true ]
 
 -- a unit in the form that JVMS 4.4.7 lays down for it: 0001 to 007F in one byte, 0000 and 0080 to 07FF in two, the others in three
-unfoldable pub unitBytes : ℕ → List ℕ
-unitBytes n =
+unfoldable pub unit_bytes : ℕ → List ℕ
+unit_bytes n =
     elim (between 0x0001 0x007f n) [
       | true ↦ n ∷ []
       | false ↦
@@ -55,16 +55,16 @@ unitBytes n =
     ]
 
 unfoldable pub text_of : List ℕ → List ℕ
-text_of l = concat (map unitBytes l)
+text_of l = concat (map unit_bytes l)
 
 -- the units of a text into room for so many: 25, then 18
-unfoldable pub readText : ℕ → List ℕ → Result Refusal (List ℕ)
-readText room bytes =
-    elim (unitsOf bytes) [
+unfoldable pub read_text : ℕ → List ℕ → Result Refusal (List ℕ)
+read_text room bytes =
+    elim (units_of bytes) [
       | none ↦ bad (record { code = 25; place = 0 })
-      | some l ↦ ◌then◌ (atRecord 0 (unless (leb (length l) room) 18)) λ _. good l
+      | some l ↦ ◌then◌ (at_record 0 (unless (leb (length l) room) 18)) λ _. good l
     ]
 
 -- the text of units into room for so many bytes: 18
-unfoldable pub writeText : ℕ → List ℕ → Result Refusal (List ℕ)
-writeText room l = ◌then◌ (atRecord 0 (unless (leb (length (text_of l)) room) 18)) λ _. good (text_of l)
+unfoldable pub write_text : ℕ → List ℕ → Result Refusal (List ℕ)
+write_text room l = ◌then◌ (at_record 0 (unless (leb (length (text_of l)) room) 18)) λ _. good (text_of l)

@@ -5,7 +5,7 @@ use Rattle.std.specs.Float.{Format, binary32, binary64}
 use Rattle.std.specs.Float.Ieee.{unlike, add, sub, mul, div, of_bits, to_bits}
 use Rattle.definition.specs.Basics.{Result, good, bad, ◌>>=◌}
 use Rattle.definition.specs.Bytes.{be4, be8}
-use Rattle.definition.specs.Expression.{Number, int, float, long, double, Sign, plus, minus, times, over, Expression, leaf, apply, kindWithin}
+use Rattle.definition.specs.Expression.{Number, int, float, long, double, Sign, plus, minus, times, over, Expression, leaf, apply, kind_within}
 
 -- Int and Long: the bits are two's complement, and m is how many numbers a width has. A number is negative from m / 2 on.
 unfoldable pub negative : ℕ → ℕ → Bool
@@ -54,25 +54,25 @@ value kind (apply s a b) = do
 
 -- ---- a record 46 once it is read: 22, then 23; else the constant's kind and bits
 
-unfoldable pub oneKind : Option Number → Result ℕ Number
-oneKind none = bad 22
-oneKind (some kind) = good kind
+unfoldable pub one_kind : Option Number → Result ℕ Number
+one_kind none = bad 22
+one_kind (some kind) = good kind
 
 unfoldable pub folded : Option Expression → Result ℕ (Number × ℕ)
 folded none = bad 22
 folded (some e) = do
-  kind ← oneKind (kindWithin 32 e)
+  kind ← one_kind (kind_within 32 e)
   b ← value kind e
   good (kind, b)
 
 -- the bytes of a constant's bits
-unfoldable pub bitsBytes : Number → ℕ → List ℕ
-bitsBytes int b = be4 b
-bitsBytes float b = be4 b
-bitsBytes long b = be8 b
-bitsBytes double b = be8 b
+unfoldable pub bits_bytes : Number → ℕ → List ℕ
+bits_bytes int b = be4 b
+bits_bytes float b = be4 b
+bits_bytes long b = be8 b
+bits_bytes double b = be8 b
 
 -- what the record's bytes come to; 3: they are cut
-unfoldable pub constantIn : Option (Option Expression × List ℕ) → Result ℕ (Number × ℕ)
-constantIn none = bad 3
-constantIn (some r) = folded r.0
+unfoldable pub constant_in : Option (Option Expression × List ℕ) → Result ℕ (Number × ℕ)
+constant_in none = bad 3
+constant_in (some r) = folded r.0

@@ -11,27 +11,27 @@ use Rattle.definition.specs.Job.{Reference}
 use Rattle.store.specs.Store.{Store, put, Kept}
 use Rattle.store.specs.Regions.{COUNTS, RECORDS, OFFSETS, FIRSTS, SIZES, GOALS, REFERENCE-COUNT}
 use Rattle.store.proofs.Keeping.{kept_put, kept_then, kept_more}
-use Rattle.definitions.specs.Kids.{entryPut, counted, HasKids, ReadsAll, CanEnter, Enters}
+use Rattle.definitions.specs.Kids.{entry_put, counted, HasKids, ReadsAll, CanEnter, Enters}
 
 -- an entry's words, and so many references more
-abbrev pub withEntry : Store → ℕ → ℕ → ℕ → Store
-withEntry t e at n = put (entryPut t e at n) COUNTS REFERENCE-COUNT (get_or (t COUNTS) REFERENCE-COUNT 0 + n)
+abbrev pub with_entry : Store → ℕ → ℕ → ℕ → Store
+with_entry t e at n = put (entry_put t e at n) COUNTS REFERENCE-COUNT (get_or (t COUNTS) REFERENCE-COUNT 0 + n)
 
-abbrev entryRegions : List ℕ
-entryRegions = COUNTS ∷ RECORDS ∷ OFFSETS ∷ FIRSTS ∷ SIZES ∷ GOALS ∷ []
+abbrev entry_regions : List ℕ
+entry_regions = COUNTS ∷ RECORDS ∷ OFFSETS ∷ FIRSTS ∷ SIZES ∷ GOALS ∷ []
 
 module _ (s : List ℕ) (t : Store) (at e n : ℕ) where
-  entry_kept : Kept entryRegions t (withEntry t e at n)
+  entry_kept : Kept entry_regions t (with_entry t e at n)
   entry_kept =
-      kept_put entryRegions t _ COUNTS _ _ refl
-      (kept_put entryRegions t _ SIZES _ _ refl
-      (kept_put entryRegions t _ FIRSTS _ _ refl (kept_put entryRegions t _ OFFSETS _ _ refl (kept_put entryRegions t _ RECORDS _ _ refl (λ k _. refl)))))
+      kept_put entry_regions t _ COUNTS _ _ refl
+      (kept_put entry_regions t _ SIZES _ _ refl
+      (kept_put entry_regions t _ FIRSTS _ _ refl (kept_put entry_regions t _ OFFSETS _ _ refl (kept_put entry_regions t _ RECORDS _ _ refl (λ k _. refl)))))
 
   module _ (x : Entry (List ℕ) Reference) (next : ℕ) (can : CanEnter s t at e x next) (count : n ≡ length x.kids) where
-    pub has-kids : HasKids s at n x next
-    has-kids = record { stands = can.stands; cited = can.cited; count = count }
+    pub has_kids : HasKids s at n x next
+    has_kids = record { stands = can.stands; cited = can.cited; count = count }
 
-    pub enters_none : (r : ℕ) → n ≡ 0 → r ≡ next → Enters s t (withEntry t e at n) at e r x next
+    pub enters_none : (r : ℕ) → n ≡ 0 → r ≡ next → Enters s t (with_entry t e at n) at e r x next
     enters_none r bare end =
         record {
           end = end;
@@ -44,10 +44,10 @@ module _ (s : List ℕ) (t : Store) (at e n : ℕ) where
           kept = entry_kept;
         }
 
-    pub enters-kids : (u : Store) (r : ℕ) → ReadsAll s (withEntry t e at n) u at n (get_or (t COUNTS) REFERENCE-COUNT 0) r → Enters s t u at e r x next
+    pub enters_kids : (u : Store) (r : ℕ) → ReadsAll s (with_entry t e at n) u at n (get_or (t COUNTS) REFERENCE-COUNT 0) r → Enters s t u at e r x next
     unfolding every
-    enters-kids u r read =
-        let g = read.all x next has-kids in
+    enters_kids u r read =
+        let g = read.all x next has_kids in
         record {
           end = g.0;
           counts = read.kept COUNTS refl ∙ rw count;
@@ -56,14 +56,14 @@ module _ (s : List ℕ) (t : Store) (at e n : ℕ) where
           firsts = read.kept FIRSTS refl;
           sizes = read.kept SIZES refl ∙ rw count;
           goals = rw count at g.1;
-          kept = kept_then entryRegions t (withEntry t e at n) u entry_kept (kept_more (GOALS ∷ []) entryRegions (withEntry t e at n) u refl read.kept);
+          kept = kept_then entry_regions t (with_entry t e at n) u entry_kept (kept_more (GOALS ∷ []) entry_regions (with_entry t e at n) u refl read.kept);
         }
 
 -- counting an entry changes no count of references
-pub can-counted :
+pub can_counted :
     (s : List ℕ) (t : Store) (c at e : ℕ) (x : Entry (List ℕ) Reference) (next : ℕ) → 1 < c → c < 4 → CanEnter s t at e x next →
     CanEnter s (counted t c) at e x next
-can-counted s t c at e x next low high can =
+can_counted s t c at e x next low high can =
     record {
       stands = can.stands;
       cited = can.cited;

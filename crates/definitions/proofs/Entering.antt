@@ -12,18 +12,18 @@ use borrow.Author.Tests.{lt-ltb, le-ltb}
 use Rattle.definition.specs.Shapes.{Kind, constant, bootstrap, Entry}
 use Rattle.definition.specs.Job.{Reference, Definition, define}
 use Rattle.definition.specs.Form.{kind_of}
-use Rattle.definition.specs.Numbering.{isBootstrap, constantsOf, bootstrapsOf}
-use Rattle.definition.specs.Definitions.{sameKind}
-use Rattle.definition.specs.Resolving.{placeOf}
-use Rattle.facts.proofs.Lists.{none≢some, some_inj, found_inside, place-front, place-behind, append_at, inside_found, order}
-use Rattle.laws.specs.Counted.{countIn}
-use Rattle.job.specs.Stored.{Found, anyDefinition}
-use Rattle.store.specs.JobIn.{definitionsIn, constantsIn, entriesIn, tableIn, table_of}
+use Rattle.definition.specs.Numbering.{is_bootstrap, constants_of, bootstraps_of}
+use Rattle.definition.specs.Definitions.{same_kind_lem}
+use Rattle.definition.specs.Resolving.{place_of}
+use Rattle.facts.proofs.Lists.{none≢some, some_inj, found_inside, place_front, place_behind, append_at, inside_found, order}
+use Rattle.laws.specs.Counted.{count_in}
+use Rattle.job.specs.Stored.{Found, any_definition}
+use Rattle.store.specs.JobIn.{definitions_in, constants_in, entries_in, table_in, table_of}
 use Rattle.store.specs.Words.{IsReference}
 use Rattle.store.specs.Entries.{Apart}
 use Rattle.definitions.specs.Kids.{Referred}
-use Rattle.definitions.specs.Defining.{doneIn, entered_at, EnteredAt, Entries}
-use Rattle.definitions.proofs.Prefixes.{take_next, constants-append, bootstraps-append, first-constant, first-bootstrap, noEntry, none-entered, kind-told, no-constants}
+use Rattle.definitions.specs.Defining.{done_in, entered_at, EnteredAt, Entries}
+use Rattle.definitions.proofs.Prefixes.{take_next, constants_append, bootstraps_append, first_constant, first_bootstrap, no_entry, none-entered, kind-told, no_constants}
 
 -- at the end of a list
 last_or : {A : Type 0} (l : List A) (x y : A) (i : ℕ) → get_elem? (l ++ x ∷ []) i ≡ some y → ((i ≡ length l) × (x ≡ y)) ⊎ ((i < length l) × (get_elem? l i ≡ some y))
@@ -35,102 +35,102 @@ last_or l x y i e = ⊎_elim (λ h. inr (found_inside l i y h, h)) (λ h. behind
 
 module _ (c : ℕ) (ds : List (Definition (List ℕ))) where
   -- entries below c are constants, the others bootstraps
-  pub entered-low : (es : List (Definition (List ℕ))) (e : ℕ) → e < c → entered_at c es e ≡ get_elem? (constantsOf es) e
+  pub entered_low : (es : List (Definition (List ℕ))) (e : ℕ) → e < c → entered_at c es e ≡ get_elem? (constants_of es) e
   unfolding entered_at
-  entered-low es e h = rw (lt-ltb e c h, entered_at)
+  entered_low es e h = rw (lt-ltb e c h, entered_at)
 
-  pub entered-high : (es : List (Definition (List ℕ))) (e : ℕ) → c ≤ e → entered_at c es e ≡ get_elem? (bootstrapsOf es) (e - c)
+  pub entered_high : (es : List (Definition (List ℕ))) (e : ℕ) → c ≤ e → entered_at c es e ≡ get_elem? (bootstraps_of es) (e - c)
   unfolding entered_at
-  entered-high es e h = rw (le-ltb e c h, entered_at)
+  entered_high es e h = rw (le-ltb e c h, entered_at)
 
   -- a record that is no entry changes nothing
-  module _ (d : Definition (List ℕ)) (h : noEntry d ≡ true) where
-    pub constants-same : constantsOf (ds ++ d ∷ []) ≡ constantsOf ds
-    constants-same = constants-append ds (d ∷ []) ∙ rw ((none-entered d [] h).0, no-constants.0, append-nil)
+  module _ (d : Definition (List ℕ)) (h : no_entry d ≡ true) where
+    pub constants_same : constants_of (ds ++ d ∷ []) ≡ constants_of ds
+    constants_same = constants_append ds (d ∷ []) ∙ rw ((none-entered d [] h).0, no_constants.0, append-nil)
 
-    pub bootstraps-same : bootstrapsOf (ds ++ d ∷ []) ≡ bootstrapsOf ds
-    bootstraps-same = bootstraps-append ds (d ∷ []) ∙ rw ((none-entered d [] h).1, no-constants.1, append-nil)
+    pub bootstraps_same : bootstraps_of (ds ++ d ∷ []) ≡ bootstraps_of ds
+    bootstraps_same = bootstraps_append ds (d ∷ []) ∙ rw ((none-entered d [] h).1, no_constants.1, append-nil)
 
-    pub entered-same : (e : ℕ) → entered_at c (ds ++ d ∷ []) e ≡ entered_at c ds e
-    entered-same e =
+    pub entered_same : (e : ℕ) → entered_at c (ds ++ d ∷ []) e ≡ entered_at c ds e
+    entered_same e =
         ⊎_elim
-        (λ (l : e < c). entered-low (ds ++ d ∷ []) e l ∙ ap (λ l. get_elem? l e) constants-same ∙ sym (entered-low ds e l))
-        (λ (l : c ≤ e). entered-high (ds ++ d ∷ []) e l ∙ ap (λ l. get_elem? l (e - c)) bootstraps-same ∙ sym (entered-high ds e l))
+        (λ (l : e < c). entered_low (ds ++ d ∷ []) e l ∙ ap (λ l. get_elem? l e) constants_same ∙ sym (entered_low ds e l))
+        (λ (l : c ≤ e). entered_high (ds ++ d ∷ []) e l ∙ ap (λ l. get_elem? l (e - c)) bootstraps_same ∙ sym (entered_high ds e l))
         (order e c)
 
   -- an entry is the one in turn, or one of those before
   abbrev NewOr : Entry (List ℕ) Reference → ℕ → ℕ → Entry (List ℕ) Reference → Type 0
   NewOr x new e y = ((e ≡ new) × (x ≡ y)) ⊎ ((e ≡ new → ⊥) × (entered_at c ds e ≡ some y))
 
-  module _ (x : Entry (List ℕ) Reference) (few : length (constantsOf (ds ++ define x ∷ [])) ≤ c) where
-    new-constant : isBootstrap x ≡ false → (e : ℕ) (y : Entry (List ℕ) Reference) → entered_at c (ds ++ define x ∷ []) e ≡ some y → NewOr x (length (constantsOf ds)) e y
-    new-constant b e y g = ⊎_elim low high (order e c)
+  module _ (x : Entry (List ℕ) Reference) (few : length (constants_of (ds ++ define x ∷ [])) ≤ c) where
+    new_constant : is_bootstrap x ≡ false → (e : ℕ) (y : Entry (List ℕ) Reference) → entered_at c (ds ++ define x ∷ []) e ≡ some y → NewOr x (length (constants_of ds)) e y
+    new_constant b e y g = ⊎_elim low high (order e c)
       where
-        more : constantsOf (ds ++ define x ∷ []) ≡ constantsOf ds ++ x ∷ []
-        more = constants-append ds (define x ∷ []) ∙ rw ((first-constant x [] b).0, no-constants.0)
+        more : constants_of (ds ++ define x ∷ []) ≡ constants_of ds ++ x ∷ []
+        more = constants_append ds (define x ∷ []) ∙ rw ((first_constant x [] b).0, no_constants.0)
 
-        same : bootstrapsOf (ds ++ define x ∷ []) ≡ bootstrapsOf ds
-        same = bootstraps-append ds (define x ∷ []) ∙ rw ((first-constant x [] b).1, no-constants.1, append-nil)
+        same : bootstraps_of (ds ++ define x ∷ []) ≡ bootstraps_of ds
+        same = bootstraps_append ds (define x ∷ []) ∙ rw ((first_constant x [] b).1, no_constants.1, append-nil)
 
-        room : suc (length (constantsOf ds)) ≤ c
-        room = omega (arith, few, ap length more, length-append (constantsOf ds) (x ∷ []))
+        room : suc (length (constants_of ds)) ≤ c
+        room = omega (arith, few, ap length more, length-append (constants_of ds) (x ∷ []))
 
-        low : e < c → NewOr x (length (constantsOf ds)) e y
+        low : e < c → NewOr x (length (constants_of ds)) e y
         low h =
             ⊎_elim
             (λ l. inl l)
-            (λ l. inr (λ q. omega (arith, l.0), entered-low ds e h ∙ l.1))
-            (last_or (constantsOf ds) x y e (ap (λ l. get_elem? l e) (sym more) ∙ sym (entered-low (ds ++ define x ∷ []) e h) ∙ g))
+            (λ l. inr (λ q. omega (arith, l.0), entered_low ds e h ∙ l.1))
+            (last_or (constants_of ds) x y e (ap (λ l. get_elem? l e) (sym more) ∙ sym (entered_low (ds ++ define x ∷ []) e h) ∙ g))
 
-        high : c ≤ e → NewOr x (length (constantsOf ds)) e y
-        high h = inr (λ q. omega (arith, room), entered-high ds e h ∙ ap (λ l. get_elem? l (e - c)) (sym same) ∙ sym (entered-high (ds ++ define x ∷ []) e h) ∙ g)
+        high : c ≤ e → NewOr x (length (constants_of ds)) e y
+        high h = inr (λ q. omega (arith, room), entered_high ds e h ∙ ap (λ l. get_elem? l (e - c)) (sym same) ∙ sym (entered_high (ds ++ define x ∷ []) e h) ∙ g)
 
-    new-bootstrap : isBootstrap x ≡ true → (e : ℕ) (y : Entry (List ℕ) Reference) → entered_at c (ds ++ define x ∷ []) e ≡ some y → NewOr x (c + length (bootstrapsOf ds)) e y
-    new-bootstrap b e y g = ⊎_elim low high (order e c)
+    new_bootstrap : is_bootstrap x ≡ true → (e : ℕ) (y : Entry (List ℕ) Reference) → entered_at c (ds ++ define x ∷ []) e ≡ some y → NewOr x (c + length (bootstraps_of ds)) e y
+    new_bootstrap b e y g = ⊎_elim low high (order e c)
       where
-        same : constantsOf (ds ++ define x ∷ []) ≡ constantsOf ds
-        same = constants-append ds (define x ∷ []) ∙ rw ((first-bootstrap x [] b).0, no-constants.0, append-nil)
+        same : constants_of (ds ++ define x ∷ []) ≡ constants_of ds
+        same = constants_append ds (define x ∷ []) ∙ rw ((first_bootstrap x [] b).0, no_constants.0, append-nil)
 
-        more : bootstrapsOf (ds ++ define x ∷ []) ≡ bootstrapsOf ds ++ x ∷ []
-        more = bootstraps-append ds (define x ∷ []) ∙ rw ((first-bootstrap x [] b).1, no-constants.1)
+        more : bootstraps_of (ds ++ define x ∷ []) ≡ bootstraps_of ds ++ x ∷ []
+        more = bootstraps_append ds (define x ∷ []) ∙ rw ((first_bootstrap x [] b).1, no_constants.1)
 
-        low : e < c → NewOr x (c + length (bootstrapsOf ds)) e y
-        low h = inr (λ q. omega arith, entered-low ds e h ∙ ap (λ l. get_elem? l e) (sym same) ∙ sym (entered-low (ds ++ define x ∷ []) e h) ∙ g)
+        low : e < c → NewOr x (c + length (bootstraps_of ds)) e y
+        low h = inr (λ q. omega arith, entered_low ds e h ∙ ap (λ l. get_elem? l e) (sym same) ∙ sym (entered_low (ds ++ define x ∷ []) e h) ∙ g)
 
-        high : c ≤ e → NewOr x (c + length (bootstrapsOf ds)) e y
+        high : c ≤ e → NewOr x (c + length (bootstraps_of ds)) e y
         high h =
             ⊎_elim
             (λ l. inl (omega (arith, l.0), l.1))
-            (λ l. inr (λ q. omega (arith, l.0), entered-high ds e h ∙ l.1))
-            (last_or (bootstrapsOf ds) x y (e - c) (ap (λ l. get_elem? l (e - c)) (sym more) ∙ sym (entered-high (ds ++ define x ∷ []) e h) ∙ g))
+            (λ l. inr (λ q. omega (arith, l.0), entered_high ds e h ∙ l.1))
+            (last_or (bootstraps_of ds) x y (e - c) (ap (λ l. get_elem? l (e - c)) (sym more) ∙ sym (entered_high (ds ++ define x ∷ []) e h) ∙ g))
 
-    pub new-entry : (e : ℕ) (y : Entry (List ℕ) Reference) → entered_at c (ds ++ define x ∷ []) e ≡ some y → NewOr x (placeOf c (kind_of x.tag) (countIn (kind_of x.tag) ds)) e y
-    unfolding placeOf countIn sameKind
-    new-entry e y g = ways (kind_of x.tag) refl
+    pub new_entry : (e : ℕ) (y : Entry (List ℕ) Reference) → entered_at c (ds ++ define x ∷ []) e ≡ some y → NewOr x (place_of c (kind_of x.tag) (count_in (kind_of x.tag) ds)) e y
+    unfolding place_of count_in same_kind_lem
+    new_entry e y g = ways (kind_of x.tag) refl
       where
-        ways : (kind : Kind) → kind_of x.tag ≡ kind → NewOr x (placeOf c kind (countIn kind ds)) e y
-        ways constant h = new-constant (kind-told x constant h) e y g
-        ways bootstrap h = new-bootstrap (kind-told x bootstrap h) e y g
+        ways : (kind : Kind) → kind_of x.tag ≡ kind → NewOr x (place_of c kind (count_in kind ds)) e y
+        ways constant h = new_constant (kind-told x constant h) e y g
+        ways bootstrap h = new_bootstrap (kind-told x bootstrap h) e y g
 
 -- all of them are the one table
-pub entered_all : (s : List ℕ) (e : ℕ) (x : Entry (List ℕ) Reference) → get_elem? (tableIn s) e ≡ some x → entered_at (constantsIn s) (definitionsIn s) e ≡ some x
+pub entered_all : (s : List ℕ) (e : ℕ) (x : Entry (List ℕ) Reference) → get_elem? (table_in s) e ≡ some x → entered_at (constants_in s) (definitions_in s) e ≡ some x
 unfolding table_of
 entered_all s e x h =
     ⊎_elim
-    (λ (l : e < constantsIn s). entered-low (constantsIn s) [] (definitionsIn s) e l ∙ sym (place-front (constantsOf (definitionsIn s)) (bootstrapsOf (definitionsIn s)) e l) ∙ h)
-    (λ (l : constantsIn s ≤ e).
-    let q : constantsIn s + (e - constantsIn s) ≡ e = omega arith in
-    entered-high (constantsIn s) [] (definitionsIn s) e l
-    ∙ sym (place-behind (constantsOf (definitionsIn s)) (bootstrapsOf (definitionsIn s)) (e - constantsIn s))
-    ∙ ap (get_elem? (constantsOf (definitionsIn s) ++ bootstrapsOf (definitionsIn s))) q
+    (λ (l : e < constants_in s). entered_low (constants_in s) [] (definitions_in s) e l ∙ sym (place_front (constants_of (definitions_in s)) (bootstraps_of (definitions_in s)) e l) ∙ h)
+    (λ (l : constants_in s ≤ e).
+    let q : constants_in s + (e - constants_in s) ≡ e = omega arith in
+    entered_high (constants_in s) [] (definitions_in s) e l
+    ∙ sym (place_behind (constants_of (definitions_in s)) (bootstraps_of (definitions_in s)) (e - constants_in s))
+    ∙ ap (get_elem? (constants_of (definitions_in s) ++ bootstraps_of (definitions_in s))) q
     ∙ h)
-    (order e (constantsIn s))
+    (order e (constants_in s))
 
 -- REGIONS
 
 module _ (s records offsets firsts sizes goals : List ℕ) (k end : ℕ) (have : Entries s records offsets firsts sizes goals k end) where
   -- a record that is no entry
-  pub entries-skip : (d : Definition (List ℕ)) → get_elem? (definitionsIn s) k ≡ some d → noEntry d ≡ true → Entries s records offsets firsts sizes goals (suc k) end
+  pub entries-skip : (d : Definition (List ℕ)) → get_elem? (definitions_in s) k ≡ some d → no_entry d ≡ true → Entries s records offsets firsts sizes goals (suc k) end
   entries-skip d turn skip =
       record {
         at = λ e x h. have.at e x (back e x h);
@@ -138,22 +138,22 @@ module _ (s records offsets firsts sizes goals : List ℕ) (k end : ℕ) (have :
         words = have.words;
       }
     where
-      back : (e : ℕ) (x : Entry (List ℕ) Reference) → entered_at (constantsIn s) (doneIn s (suc k)) e ≡ some x → entered_at (constantsIn s) (doneIn s k) e ≡ some x
-      back e x h = sym (entered-same (constantsIn s) (doneIn s k) d skip e) ∙ ap (λ l. entered_at (constantsIn s) l e) (sym (take_next (definitionsIn s) k d turn)) ∙ h
+      back : (e : ℕ) (x : Entry (List ℕ) Reference) → entered_at (constants_in s) (done_in s (suc k)) e ≡ some x → entered_at (constants_in s) (done_in s k) e ≡ some x
+      back e x h = sym (entered_same (constants_in s) (done_in s k) d skip e) ∙ ap (λ l. entered_at (constants_in s) l e) (sym (take_next (definitions_in s) k d turn)) ∙ h
 
   -- an entry
-  module _ (x : Entry (List ℕ) Reference) (turn : get_elem? (definitionsIn s) k ≡ some (define x)) (few : length (constantsOf (doneIn s (suc k))) ≤ constantsIn s)
-      (at next : ℕ) (found : Found anyDefinition s at (define x) next) (e : ℕ) (new : placeOf (constantsIn s) (kind_of x.tag) (countIn (kind_of x.tag) (doneIn s k)) ≡ e)
+  module _ (x : Entry (List ℕ) Reference) (turn : get_elem? (definitions_in s) k ≡ some (define x)) (few : length (constants_of (done_in s (suc k))) ≤ constants_in s)
+      (at next : ℕ) (found : Found any_definition s at (define x) next) (e : ℕ) (new : place_of (constants_in s) (kind_of x.tag) (count_in (kind_of x.tag) (done_in s k)) ≡ e)
       (r-room : e < length records) (o-room : e < length offsets) (f-room : e < length firsts) (s-room : e < length sizes)
       (after : List ℕ) (read : Referred s goals after end (length x.kids) x.kids) where
-    which : (d : ℕ) (y : Entry (List ℕ) Reference) → entered_at (constantsIn s) (doneIn s (suc k)) d ≡ some y → ((d ≡ e) × (x ≡ y)) ⊎ ((d ≡ e → ⊥) × (entered_at (constantsIn s) (doneIn s k) d ≡ some y))
+    which : (d : ℕ) (y : Entry (List ℕ) Reference) → entered_at (constants_in s) (done_in s (suc k)) d ≡ some y → ((d ≡ e) × (x ≡ y)) ⊎ ((d ≡ e → ⊥) × (entered_at (constants_in s) (done_in s k) d ≡ some y))
     which d y h =
-        let all = take_next (definitionsIn s) k (define x) turn in
-        rw new at (new-entry (constantsIn s) (doneIn s k) x (rw all at few) d y (rw all at h))
+        let all = take_next (definitions_in s) k (define x) turn in
+        rw new at (new_entry (constants_in s) (done_in s k) x (rw all at few) d y (rw all at h))
 
     -- the new one
-    first-is : get_or (set firsts e end) e 0 ≡ end
-    first-is = get_or-set_same firsts e end 0 f-room
+    first_is : get_or (set firsts e end) e 0 ≡ end
+    first_is = get_or-set_same firsts e end 0 f-room
 
     size_is : get_or (set sizes e (length x.kids)) e 0 ≡ length x.kids
     size_is = get_or-set_same sizes e (length x.kids) 0 s-room
@@ -161,13 +161,13 @@ module _ (s records offsets firsts sizes goals : List ℕ) (k end : ℕ) (have :
     here : EnteredAt s (set records e k) (set offsets e at) (set firsts e end) (set sizes e (length x.kids)) after (end + length x.kids) e x
     here =
         record {
-          at = record { next = next; stands = rw (get_or-set_same offsets e at 0 o-room) found; count = size_is; room = rw (first-is, size_is) (omega arith) };
-          kids = λ i r h. rw first-is (read.words i r (found_inside x.kids i r h) h).0;
+          at = record { next = next; stands = rw (get_or-set_same offsets e at 0 o-room) found; count = size_is; room = rw (first_is, size_is) (omega arith) };
+          kids = λ i r h. rw first_is (read.words i r (found_inside x.kids i r h) h).0;
           turn = rw (get_or-set_same records e k 0 r-room) (record { is = turn; number = new });
         }
 
     -- the old ones
-    there : (d : ℕ) (y : Entry (List ℕ) Reference) → (d ≡ e → ⊥) → entered_at (constantsIn s) (doneIn s k) d ≡ some y → EnteredAt s (set records e k) (set offsets e at) (set firsts e end) (set sizes e (length x.kids)) after (end + length x.kids) d y
+    there : (d : ℕ) (y : Entry (List ℕ) Reference) → (d ≡ e → ⊥) → entered_at (constants_in s) (done_in s k) d ≡ some y → EnteredAt s (set records e k) (set offsets e at) (set firsts e end) (set sizes e (length x.kids)) after (end + length x.kids) d y
     there d y other h =
         let old = have.at d y h in
         let fs = get_or-set_other firsts e d end 0 other in
@@ -182,25 +182,25 @@ module _ (s records offsets firsts sizes goals : List ℕ) (k end : ℕ) (have :
         }
 
     -- words of an old one lie before the new one's
-    new-behind : (d : ℕ) (y : Entry (List ℕ) Reference) → (d ≡ e → ⊥) → entered_at (constantsIn s) (doneIn s k) d ≡ some y → get_or (set firsts e end) d 0 + get_or (set sizes e (length x.kids)) d 0 ≤ get_or (set firsts e end) e 0
-    new-behind d y other h = rw (first-is, get_or-set_other firsts e d end 0 other, get_or-set_other sizes e d (length x.kids) 0 other) (have.at d y h).at.room
+    new_behind : (d : ℕ) (y : Entry (List ℕ) Reference) → (d ≡ e → ⊥) → entered_at (constants_in s) (done_in s k) d ≡ some y → get_or (set firsts e end) d 0 + get_or (set sizes e (length x.kids)) d 0 ≤ get_or (set firsts e end) e 0
+    new_behind d y other h = rw (first_is, get_or-set_other firsts e d end 0 other, get_or-set_other sizes e d (length x.kids) 0 other) (have.at d y h).at.room
 
     pub entries-more : Entries s (set records e k) (set offsets e at) (set firsts e end) (set sizes e (length x.kids)) after (suc k) (end + length x.kids)
     entries-more =
         record {
           at = λ d y h. ⊎_elim (λ n. rw (n.0, ← n.1) here) (λ n. there d y n.0 n.1) (which d y h);
-          apart = λ a b y z g h n. ⊎_elim (λ p. ⊎_elim (λ q. absurd (n (p.0 ∙ sym q.0))) (λ q. inr (rw p.0 (new-behind b z q.0 q.1))) (which b z h)) (λ p. ⊎_elim (λ q. inl (rw q.0 (new-behind a y p.0 p.1))) (λ q. both a b y z p.0 q.0 p.1 q.1 n) (which b z h)) (which a y g);
+          apart = λ a b y z g h n. ⊎_elim (λ p. ⊎_elim (λ q. absurd (n (p.0 ∙ sym q.0))) (λ q. inr (rw p.0 (new_behind b z q.0 q.1))) (which b z h)) (λ p. ⊎_elim (λ q. inl (rw q.0 (new_behind a y p.0 p.1))) (λ q. both a b y z p.0 q.0 p.1 q.1 n) (which b z h)) (which a y g);
           words = λ i l. ⊎_elim (λ (b : i < end). rw (read.below i b) (have.words i b)) (λ (b : end ≤ i). fresh i b l) (order i end);
         }
       where
         both :
-            (a b : ℕ) (y z : Entry (List ℕ) Reference) → (a ≡ e → ⊥) → (b ≡ e → ⊥) → entered_at (constantsIn s) (doneIn s k) a ≡ some y →
-            entered_at (constantsIn s) (doneIn s k) b ≡ some z → (a ≡ b → ⊥) → Apart (set firsts e end) (set sizes e (length x.kids)) a b
+            (a b : ℕ) (y z : Entry (List ℕ) Reference) → (a ≡ e → ⊥) → (b ≡ e → ⊥) → entered_at (constants_in s) (done_in s k) a ≡ some y →
+            entered_at (constants_in s) (done_in s k) b ≡ some z → (a ≡ b → ⊥) → Apart (set firsts e end) (set sizes e (length x.kids)) a b
         both a b y z p q g h n =
             rw (get_or-set_other firsts e a end 0 p, get_or-set_other firsts e b end 0 q, get_or-set_other sizes e a (length x.kids) 0 p, get_or-set_other sizes e b (length x.kids) 0 q)
             (have.apart a b y z g h n)
 
-        fresh : (i : ℕ) → end ≤ i → i < end + length x.kids → IsReference s (entriesIn s) (get_or after i 0)
+        fresh : (i : ℕ) → end ≤ i → i < end + length x.kids → IsReference s (entries_in s) (get_or after i 0)
         fresh i b l =
             let q : end + (i - end) ≡ i = omega arith in
             let g = inside_found x.kids (i - end) (omega arith) in

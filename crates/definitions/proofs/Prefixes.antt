@@ -10,12 +10,12 @@ use Rattle.definition.specs.Basics.{only}
 use Rattle.definition.specs.Shapes.{Kind, bootstrap, Entry}
 use Rattle.definition.specs.Job.{Reference, Definition, define, named, placed, setting}
 use Rattle.definition.specs.Form.{kind_of}
-use Rattle.definition.specs.Numbering.{entries, isBootstrap, constantsOf, bootstrapsOf}
-use Rattle.definition.specs.Definitions.{sameKind}
+use Rattle.definition.specs.Numbering.{entries, is_bootstrap, constants_of, bootstraps_of}
+use Rattle.definition.specs.Definitions.{same_kind_lem}
 use Rattle.facts.proofs.Lists.{none≢some, some_inj, only_here, only-later}
-use Rattle.job.specs.Forms.{kidsIn, referencesIn}
+use Rattle.job.specs.Forms.{kids_in, references_in}
 use Rattle.job.proofs.Counting.{in_table}
-use Rattle.store.specs.JobIn.{namingsOf}
+use Rattle.store.specs.JobIn.{namings_of}
 
 -- the first k + 1, and all, by the one at place k
 pub take_next : {A : Type 0} (l : List A) (k : ℕ) (x : A) → get_elem? l k ≡ some x → take (suc k) l ≡ take k l ++ x ∷ []
@@ -67,61 +67,61 @@ module _ (ds : List (Definition (List ℕ))) where
       go (placed kind at n ∷ ds) = go ds
       go (setting rule ∷ ds) = go ds
 
-  pub namings-append : (es : List (Definition (List ℕ))) → namingsOf (ds ++ es) ≡ namingsOf ds ++ namingsOf es
-  unfolding namingsOf
+  pub namings-append : (es : List (Definition (List ℕ))) → namings_of (ds ++ es) ≡ namings_of ds ++ namings_of es
+  unfolding namings_of
   namings-append es = go ds
     where
-      go : (ds : List (Definition (List ℕ))) → namingsOf (ds ++ es) ≡ namingsOf ds ++ namingsOf es
+      go : (ds : List (Definition (List ℕ))) → namings_of (ds ++ es) ≡ namings_of ds ++ namings_of es
       go [] = refl
       go (define e ∷ ds) = go ds
       go (named kind s r ∷ ds) = ap (λ l. record { kind = kind; label = s; target = r } ∷ l) (go ds)
       go (placed kind at n ∷ ds) = go ds
       go (setting rule ∷ ds) = go ds
 
-  pub references-append : (es : List (Definition (List ℕ))) → referencesIn (ds ++ es) ≡ referencesIn ds + referencesIn es
-  unfolding referencesIn
+  pub references-append : (es : List (Definition (List ℕ))) → references_in (ds ++ es) ≡ references_in ds + references_in es
+  unfolding references_in
   references-append es = go ds
     where
-      go : (ds : List (Definition (List ℕ))) → referencesIn (ds ++ es) ≡ referencesIn ds + referencesIn es
+      go : (ds : List (Definition (List ℕ))) → references_in (ds ++ es) ≡ references_in ds + references_in es
       go [] = omega arith
       go (d ∷ ds) = omega (arith, go ds)
 
-  pub constants-append : (es : List (Definition (List ℕ))) → constantsOf (ds ++ es) ≡ constantsOf ds ++ constantsOf es
-  unfolding constantsOf
-  constants-append es = rw (entries-append es) (only-append (λ e. not (isBootstrap e)) (entries ds) (entries es))
+  pub constants_append : (es : List (Definition (List ℕ))) → constants_of (ds ++ es) ≡ constants_of ds ++ constants_of es
+  unfolding constants_of
+  constants_append es = rw (entries-append es) (only-append (λ e. not (is_bootstrap e)) (entries ds) (entries es))
 
-  pub bootstraps-append : (es : List (Definition (List ℕ))) → bootstrapsOf (ds ++ es) ≡ bootstrapsOf ds ++ bootstrapsOf es
-  unfolding bootstrapsOf
-  bootstraps-append es = rw (entries-append es) (only-append isBootstrap (entries ds) (entries es))
+  pub bootstraps_append : (es : List (Definition (List ℕ))) → bootstraps_of (ds ++ es) ≡ bootstraps_of ds ++ bootstraps_of es
+  unfolding bootstraps_of
+  bootstraps_append es = rw (entries-append es) (only-append is_bootstrap (entries ds) (entries es))
 
 -- one entry
 module _ (x : Entry (List ℕ) Reference) (ds : List (Definition (List ℕ))) where
-  pub first-constant : isBootstrap x ≡ false → (constantsOf (define x ∷ ds) ≡ x ∷ constantsOf ds) × (bootstrapsOf (define x ∷ ds) ≡ bootstrapsOf ds)
-  unfolding constantsOf bootstrapsOf entries
-  first-constant h = (only_here (λ e. not (isBootstrap e)) x (entries ds) (ap not h), only-later isBootstrap x (entries ds) h)
+  pub first_constant : is_bootstrap x ≡ false → (constants_of (define x ∷ ds) ≡ x ∷ constants_of ds) × (bootstraps_of (define x ∷ ds) ≡ bootstraps_of ds)
+  unfolding constants_of bootstraps_of entries
+  first_constant h = (only_here (λ e. not (is_bootstrap e)) x (entries ds) (ap not h), only-later is_bootstrap x (entries ds) h)
 
-  pub first-bootstrap : isBootstrap x ≡ true → (constantsOf (define x ∷ ds) ≡ constantsOf ds) × (bootstrapsOf (define x ∷ ds) ≡ x ∷ bootstrapsOf ds)
-  unfolding constantsOf bootstrapsOf entries
-  first-bootstrap h = (only-later (λ e. not (isBootstrap e)) x (entries ds) (ap not h), only_here isBootstrap x (entries ds) h)
+  pub first_bootstrap : is_bootstrap x ≡ true → (constants_of (define x ∷ ds) ≡ constants_of ds) × (bootstraps_of (define x ∷ ds) ≡ x ∷ bootstraps_of ds)
+  unfolding constants_of bootstraps_of entries
+  first_bootstrap h = (only-later (λ e. not (is_bootstrap e)) x (entries ds) (ap not h), only_here is_bootstrap x (entries ds) h)
 
 -- a record that is no entry
-unfoldable pub noEntry : Definition (List ℕ) → Bool
-noEntry (define e) = false
-noEntry (named kind s r) = true
-noEntry (placed kind at n) = true
-noEntry (setting rule) = true
+unfoldable pub no_entry : Definition (List ℕ) → Bool
+no_entry (define e) = false
+no_entry (named kind s r) = true
+no_entry (placed kind at n) = true
+no_entry (setting rule) = true
 
-pub none-entered : (d : Definition (List ℕ)) (ds : List (Definition (List ℕ))) → noEntry d ≡ true → (constantsOf (d ∷ ds) ≡ constantsOf ds) × (bootstrapsOf (d ∷ ds) ≡ bootstrapsOf ds) × (referencesIn (d ∷ ds) ≡ referencesIn ds)
-unfolding constantsOf bootstrapsOf entries noEntry referencesIn kidsIn
+pub none-entered : (d : Definition (List ℕ)) (ds : List (Definition (List ℕ))) → no_entry d ≡ true → (constants_of (d ∷ ds) ≡ constants_of ds) × (bootstraps_of (d ∷ ds) ≡ bootstraps_of ds) × (references_in (d ∷ ds) ≡ references_in ds)
+unfolding constants_of bootstraps_of entries no_entry references_in kids_in
 none-entered (define e) ds h = absurd (let z : ◌≡◌ {A = ℕ} 0 1 = cc in omega arith)
 none-entered (named kind s r) ds h = (refl, refl, omega arith)
 none-entered (placed kind at n) ds h = (refl, refl, omega arith)
 none-entered (setting rule) ds h = (refl, refl, omega arith)
 
 -- tables' numbers
-pub kind-told : (x : Entry (List ℕ) Reference) (kind : Kind) → kind_of x.tag ≡ kind → isBootstrap x ≡ sameKind bootstrap kind
+pub kind-told : (x : Entry (List ℕ) Reference) (kind : Kind) → kind_of x.tag ≡ kind → is_bootstrap x ≡ same_kind_lem bootstrap kind
 kind-told x kind h = in_table x kind h
 
-pub no-constants : (constantsOf {L = List ℕ} [] ≡ []) × (bootstrapsOf {L = List ℕ} [] ≡ []) × (referencesIn [] ≡ 0)
-unfolding constantsOf bootstrapsOf entries only referencesIn
-no-constants = (refl, refl, refl)
+pub no_constants : (constants_of {L = List ℕ} [] ≡ []) × (bootstraps_of {L = List ℕ} [] ≡ []) × (references_in [] ≡ 0)
+unfolding constants_of bootstraps_of entries only references_in
+no_constants = (refl, refl, refl)

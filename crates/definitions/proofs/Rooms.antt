@@ -4,37 +4,37 @@ use mathlib.Core.Path.{◌≡◌}
 use Prim.Native.Nat.{ℕ, ◌-◌, ◌≤◌}
 use native.Mathlib.Omega.{arith}
 use lib.ListN.{length}
-use Rattle.job.specs.Forms.{countsOf}
+use Rattle.job.specs.Forms.{counts_of}
 use Rattle.store.specs.Store.{size, Laid}
-use Rattle.store.specs.JobIn.{countsIn, definitionsIn, entriesIn, constantsIn}
-use Rattle.store.specs.Regions.{COUNTS, MARKS, INDEXES, RECORDS, OFFSETS, FIRSTS, SIZES, GOALS, RAW-KEYS, rawsOf, Work}
+use Rattle.store.specs.JobIn.{counts_in, definitions_in, entries_in, constants_in}
+use Rattle.store.specs.Regions.{COUNTS, MARKS, INDEXES, RECORDS, OFFSETS, FIRSTS, SIZES, GOALS, RAW-KEYS, raws_of, Work}
 use Rattle.store.proofs.Laying.{work-sizes, work-formed, entries-counted}
 use Rattle.store.proofs.Bounds.{small}
 use Rattle.sym_refs.proofs.Rooms.{room as names-room}
 use Rattle.raws.specs.Raws.{RawRoom}
-use Rattle.raws.proofs.Starting.{raw-room}
+use Rattle.raws.proofs.Starting.{raw_room_lem}
 
 pub record Room (s p : List ℕ) : Type 0 where
   pub laid : Laid p
   pub bytes : length s ≤ 1048576
   pub counts : size p COUNTS ≡ 20
-  pub records : size p RECORDS ≡ entriesIn s
-  pub offsets : size p OFFSETS ≡ entriesIn s
-  pub firsts : size p FIRSTS ≡ entriesIn s
-  pub sizes : size p SIZES ≡ entriesIn s
-  pub goals : size p GOALS ≡ (countsIn s).references
-  pub references : (countsIn s).references ≤ 1048576
-  pub entries : entriesIn s ≤ 131072
-  pub marks : size p MARKS ≡ entriesIn s
+  pub records : size p RECORDS ≡ entries_in s
+  pub offsets : size p OFFSETS ≡ entries_in s
+  pub firsts : size p FIRSTS ≡ entries_in s
+  pub sizes : size p SIZES ≡ entries_in s
+  pub goals : size p GOALS ≡ (counts_in s).references
+  pub references : (counts_in s).references ≤ 1048576
+  pub entries : entries_in s ≤ 131072
+  pub marks : size p MARKS ≡ entries_in s
   pub indexes : size p INDEXES ≤ size p MARKS
-  pub constants : size p MARKS - size p INDEXES ≡ constantsIn s
-  pub definitions : length (definitionsIn s) ≤ 1048576
+  pub constants : size p MARKS - size p INDEXES ≡ constants_in s
+  pub definitions : length (definitions_in s) ≤ 1048576
   pub raws : RawRoom p
-  pub few-raws : size p RAW-KEYS ≤ 4000000
-  pub raw-keys : size p RAW-KEYS ≡ rawsOf (countsIn s)
+  pub few_raws : size p RAW-KEYS ≤ 4000000
+  pub raw_keys : size p RAW-KEYS ≡ raws_of (counts_in s)
 
 pub room : (s p : List ℕ) → Work s p → Room s p
-unfolding countsIn countsOf
+unfolding counts_in counts_of
 room s p work =
     let z = work-sizes s p work in
     let m = small s (work-formed s p work) in
@@ -52,9 +52,9 @@ room s p work =
       entries = m.entries;
       marks = omega (arith, z.marks, e);
       indexes = omega (arith, z.marks, z.indexes);
-      constants = omega (arith, z.marks, z.indexes, m.constantsAre);
+      constants = omega (arith, z.marks, z.indexes, m.constants_are);
       definitions = m.definitions;
-      raws = raw-room p (countsIn s) z (omega (arith, m.raw-constants, m.raw-bootstraps));
-      few-raws = omega (arith, z.raw-keys, m.raw-constants, m.raw-bootstraps);
-      raw-keys = z.raw-keys;
+      raws = raw_room_lem p (counts_in s) z (omega (arith, m.raw_constants, m.raw_bootstraps));
+      few_raws = omega (arith, z.raw_keys, m.raw_constants, m.raw_bootstraps);
+      raw_keys = z.raw_keys;
     }

@@ -13,36 +13,36 @@ use Rattle.definition.specs.Shapes.{Entry, is_wide}
 use Rattle.definition.specs.Job.{Reference}
 use Rattle.definition.specs.Definitions.{Defined}
 use Rattle.laws.specs.Statements.{IsBytes}
-use Rattle.job.specs.Stored.{EntryStands, WhatEntry, isWorked, wordsBytes}
+use Rattle.job.specs.Stored.{EntryStands, WhatEntry, is_worked, words_bytes}
 use Rattle.store.specs.Store.{Store, size, put, Kept}
-use Rattle.store.specs.JobIn.{namingsIn, constantsIn}
+use Rattle.store.specs.JobIn.{namings_in, constants_in}
 use Rattle.store.specs.Regions.{COUNTS, NAME-HEADS, RAW-HEADS, NAME-LINKS, RAW-LINKS, RECORDS, OFFSETS, FIRSTS, SIZES, GOALS, NAME-PLACES, RAW-KEYS, RAW-ENTRIES, VALUES, CONSTANT-COUNT, Work}
-use Rattle.store.specs.Words.{numberBytes}
+use Rattle.store.specs.Words.{number_bytes}
 use Rattle.store.specs.Entries.{WordsAt}
 use Rattle.store.proofs.Keeping.{kept_put, kept_then, kept_more}
 use Rattle.definitions.specs.Kids.{Valued, counted, CanEnter, Enters}
-use Rattle.definitions.specs.Defining.{Defining, placeCount, definedRegions, SomePlace, Stepped}
-use Rattle.definitions.proofs.Valued.{values-as}
-use Rattle.definitions.proofs.Placed.{constant-needs, constant-done}
-use Rattle.definitions.proofs.Steps.{SameEntries, SameNames, SameRaws, names-still, raws-still, entries-as, counters-as}
+use Rattle.definitions.specs.Defining.{Defining, place_count, defined_regions, SomePlace, Stepped}
+use Rattle.definitions.proofs.Valued.{values_as}
+use Rattle.definitions.proofs.Placed.{constant_needs, constant_done}
+use Rattle.definitions.proofs.Steps.{SameEntries, SameNames, SameRaws, names_still, raws_still, entries-as, counters_as}
 
 -- the two words are stored
-module _ (s : List ℕ) (t : Store) (at tag high low first : ℕ) (is : WhatEntry s at (λ x. tag ≡ x.tag)) (words : WhatEntry s at (λ x. wordsBytes x.tag high low ≡ x.literal))
+module _ (s : List ℕ) (t : Store) (at tag high low first : ℕ) (is : WhatEntry s at (λ x. tag ≡ x.tag)) (words : WhatEntry s at (λ x. words_bytes x.tag high low ≡ x.literal))
     (lead : first ≡ cond (is_wide tag) high low) (room : at / 3 + 1 < length (t VALUES)) where
-  bytes-are : WhatEntry s at (λ x. numberBytes x.tag first low ≡ x.literal)
-  unfolding numberBytes wordsBytes
+  bytes-are : WhatEntry s at (λ x. number_bytes x.tag first low ≡ x.literal)
+  unfolding number_bytes words_bytes
   bytes-are x next f = ways (is_wide x.tag) refl
     where
       same : is_wide tag ≡ is_wide x.tag
       same = ap is_wide (is x next f)
 
-      ways : (b : Bool) → is_wide x.tag ≡ b → numberBytes x.tag first low ≡ x.literal
+      ways : (b : Bool) → is_wide x.tag ≡ b → number_bytes x.tag first low ≡ x.literal
       ways true w =
           let e : first ≡ high = lead ∙ rw (same ∙ w) in
-          rw (w, numberBytes, e) (rw (w, wordsBytes) at (words x next f))
+          rw (w, number_bytes, e) (rw (w, words_bytes) at (words x next f))
       ways false w =
           let e : first ≡ low = lead ∙ rw (same ∙ w) in
-          rw (w, numberBytes, e) (rw (w, wordsBytes) at (words x next f))
+          rw (w, number_bytes, e) (rw (w, words_bytes) at (words x next f))
 
   pub value-put : Valued s t (put (put t VALUES (at / 3) first) VALUES (at / 3 + 1) low) at
   value-put =
@@ -82,7 +82,7 @@ module _ (p : List ℕ) (top : ℕ) (s : List ℕ) (t u : Store) (at : ℕ) (val
   same-raws : SameRaws t u
   same-raws =
       record {
-        itemKeys = valued.kept RAW-KEYS refl;
+        item_keys = valued.kept RAW-KEYS refl;
         entries = valued.kept RAW-ENTRIES refl;
         heads = valued.kept RAW-HEADS refl;
         links = valued.kept RAW-LINKS refl;
@@ -90,29 +90,29 @@ module _ (p : List ℕ) (top : ℕ) (s : List ℕ) (t u : Store) (at : ℕ) (val
         held = same-counter _;
       }
 
-  all-valued : (k : ℕ) (d : Defined) → Defining p top s t k at d → Defining p top s u k at d
-  all-valued k d g =
+  all_valued : (k : ℕ) (d : Defined) → Defining p top s t k at d → Defining p top s u k at d
+  all_valued k d g =
       record {
         few = g.few;
         rest = g.rest;
         laid = g.laid;
         turn = g.turn;
         entries = entries-as s k t u same_entries g.entries;
-        values = values-as s k t u at g.values same_entries.offsets valued.before;
-        counters = counters-as s k t u same_entries g.counters;
-        names = names-still (size p NAME-HEADS) s t u same_names g.names;
+        values = values_as s k t u at g.values same_entries.offsets valued.before;
+        counters = counters_as s k t u same_entries g.counters;
+        names = names_still (size p NAME-HEADS) s t u same_names g.names;
         named = same_names.count ∙ g.named;
-        naming = g.naming ∙ ap (λ m. take m (namingsIn s)) (sym same_names.count);
-        raws = raws-still p (constantsIn s) top d.held d.indexes t u same-raws g.raws;
+        naming = g.naming ∙ ap (λ m. take m (namings_in s)) (sym same_names.count);
+        raws = raws_still p (constants_in s) top d.held d.indexes t u same-raws g.raws;
         room = omega (arith, same-raws.count, g.room);
       }
 
-  place_same : placeCount u ≡ placeCount t
+  place_same : place_count u ≡ place_count t
   place_same = same-counter _
 
   pub value-place : SomePlace p top s t at → SomePlace p top s u at
   unfolding SomePlace
-  value-place (d, (g, more)) = (d, (subst (λ m. Defining p top s u m at d) (sym place_same) (all-valued (placeCount t) d g), omega (arith, place_same)))
+  value-place (d, (g, more)) = (d, (subst (λ m. Defining p top s u m at d) (sym place_same) (all_valued (place_count t) d g), omega (arith, place_same)))
 
   pub value-step : (v : Store) (r : ℕ) → Stepped p top s u v r → Stepped p top s t v r
   unfolding every
@@ -122,7 +122,7 @@ module _ (p : List ℕ) (top : ℕ) (s : List ℕ) (t u : Store) (at : ℕ) (val
         refused = λ h. rw place_same at (step.refused h);
         place = step.place ∙ place_same;
         counters = λ c l. step.counters c l ∙ same-counter c;
-        kept = kept_then definedRegions t u v (kept_more (VALUES ∷ []) definedRegions t u refl valued.kept) step.kept;
+        kept = kept_then defined_regions t u v (kept_more (VALUES ∷ []) defined_regions t u refl valued.kept) step.kept;
       }
 
 -- A CONSTANT WORKED OUT is the record in turn
@@ -133,10 +133,10 @@ module _ (p : List ℕ) (top : ℕ) (s : List ℕ) (t : Store) (at : ℕ) (place
 
   pub worked-needs : (x : Entry (List ℕ) Reference) × (next : ℕ) × CanEnter s t at (0 + get_or (t COUNTS) CONSTANT-COUNT 0) x next
   worked-needs =
-      constant-needs p top s t at place work bytes long (no 0x41 (λ e. omega arith)) (no 0x42 (λ e. omega arith)) (no 0x43 (λ e. omega arith)) (no 0x44 (λ e. omega arith))
+      constant_needs p top s t at place work bytes long (no 0x41 (λ e. omega arith)) (no 0x42 (λ e. omega arith)) (no 0x43 (λ e. omega arith)) (no 0x44 (λ e. omega arith))
       (no 0x47 (λ e. omega arith)) (no 0x48 (λ e. omega arith)) (no 0x49 (λ e. omega arith)) (no 0x40 (λ e. omega arith))
 
-  pub worked-here : EntryStands s at × (isWorked s at ≡ true)
+  pub worked-here : EntryStands s at × (is_worked s at ≡ true)
   worked-here = let n = worked-needs in ((n.0, n.1, n.2.stands), eq-eqb (get_or s at 0) 0x46 byte)
 
   pub worked-done :
@@ -144,5 +144,5 @@ module _ (p : List ℕ) (top : ℕ) (s : List ℕ) (t : Store) (at : ℕ) (place
       ((x : Entry (List ℕ) Reference) (next : ℕ) → CanEnter s t at (0 + get_or (t COUNTS) CONSTANT-COUNT 0) x next → Enters s (counted t CONSTANT-COUNT) u at (0 + get_or (t COUNTS) CONSTANT-COUNT 0) res x next) →
       WordsAt s (t VALUES) at → Stepped p top s t u res
   worked-done =
-      constant-done p top s t at place work bytes long (no 0x41 (λ e. omega arith)) (no 0x42 (λ e. omega arith)) (no 0x43 (λ e. omega arith)) (no 0x44 (λ e. omega arith))
+      constant_done p top s t at place work bytes long (no 0x41 (λ e. omega arith)) (no 0x42 (λ e. omega arith)) (no 0x43 (λ e. omega arith)) (no 0x44 (λ e. omega arith))
       (no 0x47 (λ e. omega arith)) (no 0x48 (λ e. omega arith)) (no 0x49 (λ e. omega arith)) (no 0x40 (λ e. omega arith))

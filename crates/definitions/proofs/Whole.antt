@@ -11,25 +11,25 @@ use lib.Seq.{get_or-set_same, get_or-set_other}
 use Rattle.definition.specs.Basics.{good, bad}
 use Rattle.definition.specs.Shapes.{Entry}
 use Rattle.definition.specs.Job.{Reference}
-use Rattle.definition.specs.Numbering.{entries, literals, numberedDefinition, numbered}
-use Rattle.definition.specs.Definitions.{Defined, defineAll, nothingDefined}
+use Rattle.definition.specs.Numbering.{entries, literals, numbered_definition, numbered}
+use Rattle.definition.specs.Definitions.{Defined, define_all, nothing_defined}
 use Rattle.facts.proofs.Lists.{none≢some, found_inside, inside_found, order}
-use Rattle.job.specs.Forms.{referencesIn, countsOf}
+use Rattle.job.specs.Forms.{references_in, counts_of}
 use Rattle.store.specs.Store.{Store, size, put, Kept}
-use Rattle.store.specs.JobIn.{jobIn, definitionsIn, countsIn, namingsOf, namingsIn, tableIn, constantsIn}
-use Rattle.store.specs.Regions.{COUNTS, NAME-HEADS, RAW-HEADS, NAME-LINKS, NAME-PLACES, PLACE, AT, CONSTANT-COUNT, BOOTSTRAP-COUNT, REFERENCE-COUNT, NAME-COUNT, RAW-COUNT, HELD-COUNT, rawsOf, Work}
+use Rattle.store.specs.JobIn.{job_in, definitions_in, counts_in, namings_of, namings_in, table_in, constants_in}
+use Rattle.store.specs.Regions.{COUNTS, NAME-HEADS, RAW-HEADS, NAME-LINKS, NAME-PLACES, PLACE, AT, CONSTANT-COUNT, BOOTSTRAP-COUNT, REFERENCE-COUNT, NAME-COUNT, RAW-COUNT, HELD-COUNT, raws_of, Work}
 use Rattle.store.specs.Words.{REFUSED}
 use Rattle.store.proofs.Keeping.{kept_put, kept_then}
 use Rattle.store.proofs.Laying.{work-formed}
-use Rattle.store.proofs.Bounds.{formed-laid}
-use Rattle.sym_refs.specs.Names.{Names, nameCount}
-use Rattle.raws.proofs.Starting.{raws-begin}
-use Rattle.definitions.specs.Defining.{doneIn, entered_at, recordsIn, definedIn, Defining, placeCount, definedRegions, SomePlace, Stepped, DefinedAll, Defines, Zeros}
+use Rattle.store.proofs.Bounds.{formed_laid}
+use Rattle.sym_refs.specs.Names.{Names, name_count}
+use Rattle.raws.proofs.Starting.{raws_begin}
+use Rattle.definitions.specs.Defining.{done_in, entered_at, records_in, defined_in, Defining, place_count, defined_regions, SomePlace, Stepped, DefinedAll, Defines, Zeros}
 use Rattle.definitions.proofs.Rooms.{room}
-use Rattle.definitions.proofs.Prefixes.{take_all, drop_all, no-constants}
-use Rattle.definitions.proofs.Entering.{entered-low, entered-high, entered_all}
-use Rattle.definitions.proofs.Valued.{values-as}
-use Rattle.definitions.proofs.Steps.{SameEntries, SameNames, SameRaws, names-still, raws-still, entries-as, counters-as}
+use Rattle.definitions.proofs.Prefixes.{take_all, drop_all, no_constants}
+use Rattle.definitions.proofs.Entering.{entered_low, entered_high, entered_all}
+use Rattle.definitions.proofs.Valued.{values_as}
+use Rattle.definitions.proofs.Steps.{SameEntries, SameNames, SameRaws, names_still, raws_still, entries-as, counters_as}
 
 -- the counters that the definitions don't know
 abbrev pub SameBehind : Store → Store → Type 0
@@ -47,12 +47,12 @@ module _ (p : List ℕ) (top : ℕ) (s : List ℕ) (t : Store) (work : Work s p)
   unfolding Zeros
   zero-at k h i = ⊎_elim (λ (l : i < size p k). zeros k h i l) (λ (l : size p k ≤ i). past_end (t k) i (omega (arith, long k))) (order i (size p k))
 
-  none-entered : (e : ℕ) (x : Entry (List ℕ) Reference) {C : Type 0} → entered_at (constantsIn s) [] e ≡ some x → C
+  none-entered : (e : ℕ) (x : Entry (List ℕ) Reference) {C : Type 0} → entered_at (constants_in s) [] e ≡ some x → C
   none-entered e x h =
       ⊎_elim
-      (λ (l : e < constantsIn s). none≢some (sym (entered-low (constantsIn s) [] [] e l ∙ ap (λ l. get_elem? l e) no-constants.0) ∙ h))
-      (λ (l : constantsIn s ≤ e). none≢some (sym (entered-high (constantsIn s) [] [] e l ∙ ap (λ l. get_elem? l (e - constantsIn s)) no-constants.1) ∙ h))
-      (order e (constantsIn s))
+      (λ (l : e < constants_in s). none≢some (sym (entered_low (constants_in s) [] [] e l ∙ ap (λ l. get_elem? l e) no_constants.0) ∙ h))
+      (λ (l : constants_in s ≤ e). none≢some (sym (entered_high (constants_in s) [] [] e l ∙ ap (λ l. get_elem? l (e - constants_in s)) no_constants.1) ∙ h))
+      (order e (constants_in s))
 
   no_names : (n : ℕ) → n ≡ 0 → Names (size p NAME-HEADS) s (t NAME-PLACES) (t NAME-HEADS) (t NAME-LINKS) n
   no_names n e =
@@ -64,14 +64,14 @@ module _ (p : List ℕ) (top : ℕ) (s : List ℕ) (t : Store) (work : Work s p)
         unlike = λ i j x y l m. absurd (omega arith);
       })
 
-  pub all-begin : top < 65535 → Defining p top s t 0 0 nothingDefined
-  unfolding nothingDefined definitionsIn namingsOf
-  all-begin few =
+  pub all_begin : top < 65535 → Defining p top s t 0 0 nothing_defined
+  unfolding nothing_defined definitions_in namings_of
+  all_begin few =
       record {
         few = omega arith;
         rest = refl;
-        laid = formed-laid s (work-formed s p work);
-        turn = (formed-laid s (work-formed s p work)).definitions;
+        laid = formed_laid s (work-formed s p work);
+        turn = (formed_laid s (work-formed s p work)).definitions;
         entries =
             record {
               at = λ e x h. none-entered e x h;
@@ -81,14 +81,14 @@ module _ (p : List ℕ) (top : ℕ) (s : List ℕ) (t : Store) (work : Work s p)
         values = λ e x h. none-entered e x h;
         counters =
             record {
-              constants = zero-at COUNTS (omega arith) CONSTANT-COUNT ∙ sym (ap length no-constants.0);
-              bootstraps = zero-at COUNTS (omega arith) BOOTSTRAP-COUNT ∙ sym (ap length no-constants.1);
-              references = zero-at COUNTS (omega arith) REFERENCE-COUNT ∙ sym no-constants.2;
+              constants = zero-at COUNTS (omega arith) CONSTANT-COUNT ∙ sym (ap length no_constants.0);
+              bootstraps = zero-at COUNTS (omega arith) BOOTSTRAP-COUNT ∙ sym (ap length no_constants.1);
+              references = zero-at COUNTS (omega arith) REFERENCE-COUNT ∙ sym no_constants.2;
             };
-        names = no_names (nameCount t) (zero-at COUNTS (omega arith) NAME-COUNT);
+        names = no_names (name_count t) (zero-at COUNTS (omega arith) NAME-COUNT);
         named = zero-at COUNTS (omega arith) NAME-COUNT;
         naming = rw (zero-at COUNTS (omega arith) NAME-COUNT);
-        raws = raws-begin p (constantsIn s) top t few (zero-at RAW-HEADS (omega arith)) (zero-at COUNTS (omega arith) RAW-COUNT) (zero-at COUNTS (omega arith) HELD-COUNT);
+        raws = raws_begin p (constants_in s) top t few (zero-at RAW-HEADS (omega arith)) (zero-at COUNTS (omega arith) RAW-COUNT) (zero-at COUNTS (omega arith) HELD-COUNT);
         room = omega (arith, zero-at COUNTS (omega arith) RAW-COUNT);
       }
 
@@ -116,117 +116,117 @@ module _ (p : List ℕ) (top : ℕ) (s : List ℕ) (t : Store) (k at : ℕ) (d :
   same_names = record { places = refl; heads = refl; links = refl; count = same NAME-COUNT (omega arith) }
 
   same-raws : SameRaws t (put t COUNTS j v)
-  same-raws = record { itemKeys = refl; entries = refl; heads = refl; links = refl; count = same RAW-COUNT (omega arith); held = same HELD-COUNT (omega arith) }
+  same-raws = record { item_keys = refl; entries = refl; heads = refl; links = refl; count = same RAW-COUNT (omega arith); held = same HELD-COUNT (omega arith) }
 
-  pub all-stored : Defining p top s (put t COUNTS j v) k at d
-  all-stored =
+  pub all_stored : Defining p top s (put t COUNTS j v) k at d
+  all_stored =
       record {
         few = g.few;
         rest = g.rest;
         laid = g.laid;
         turn = g.turn;
         entries = entries-as s k t (put t COUNTS j v) same_entries g.entries;
-        values = values-as s k t (put t COUNTS j v) at g.values refl (λ i l. refl);
-        counters = counters-as s k t (put t COUNTS j v) same_entries g.counters;
-        names = names-still (size p NAME-HEADS) s t (put t COUNTS j v) same_names g.names;
+        values = values_as s k t (put t COUNTS j v) at g.values refl (λ i l. refl);
+        counters = counters_as s k t (put t COUNTS j v) same_entries g.counters;
+        names = names_still (size p NAME-HEADS) s t (put t COUNTS j v) same_names g.names;
         named = same_names.count ∙ g.named;
-        naming = g.naming ∙ ap (λ m. take m (namingsIn s)) (sym same_names.count);
-        raws = raws-still p (constantsIn s) top d.held d.indexes t (put t COUNTS j v) same-raws g.raws;
+        naming = g.naming ∙ ap (λ m. take m (namings_in s)) (sym same_names.count);
+        raws = raws_still p (constants_in s) top d.held d.indexes t (put t COUNTS j v) same-raws g.raws;
         room = omega (arith, same-raws.count, g.room);
       }
 
 module _ (p : List ℕ) (top : ℕ) (s : List ℕ) (t : Store) (k at : ℕ) (d : Defined) (g : Defining p top s t k at d) (wide : 20 ≤ length (t COUNTS)) where
-  placed : placeCount (put t COUNTS PLACE k) ≡ k
+  placed : place_count (put t COUNTS PLACE k) ≡ k
   placed = get_or-set_same (t COUNTS) PLACE k 0 (omega arith)
 
-  pub all-place : k < length (definitionsIn s) → SomePlace p top s (put t COUNTS PLACE k) at
+  pub all_place : k < length (definitions_in s) → SomePlace p top s (put t COUNTS PLACE k) at
   unfolding SomePlace
-  all-place more =
-      (d, (subst (λ m. Defining p top s (put t COUNTS PLACE k) m at d) (sym placed) (all-stored p top s t k at d g PLACE k (omega arith)), omega (arith, placed)))
+  all_place more =
+      (d, (subst (λ m. Defining p top s (put t COUNTS PLACE k) m at d) (sym placed) (all_stored p top s t k at d g PLACE k (omega arith)), omega (arith, placed)))
 
   module _ (u : Store) (r : ℕ) (step : Stepped p top s (put t COUNTS PLACE k) u r) where
-    pub all-next : r < REFUSED → (d' : Defined) × Defining p top s u (k + 1) r d'
-    all-next h =
+    pub all_next : r < REFUSED → (d' : Defined) × Defining p top s u (k + 1) r d'
+    all_next h =
         let n = step.through h in
         (n.0, rw (add-one k) (subst (λ m. Defining p top s u (suc m) r n.0) placed n.1))
 
-    pub all-refused : REFUSED ≤ r → (0 < r - REFUSED) × (definedIn top s ≡ bad (record { code = r - REFUSED; place = placeCount u }))
-    all-refused h = let n = step.refused h in (omega (arith, n.0), rw step.place n.1)
+    pub all_refused : REFUSED ≤ r → (0 < r - REFUSED) × (defined_in top s ≡ bad (record { code = r - REFUSED; place = place_count u }))
+    all_refused h = let n = step.refused h in (omega (arith, n.0), rw step.place n.1)
 
 -- BEHIND
 
-module _ (p : List ℕ) (top : ℕ) (s : List ℕ) (t : Store) (work : Work s p) (k at : ℕ) (d : Defined) (g : Defining p top s t k at d) (end : length (definitionsIn s) ≤ k) where
-  all_done : doneIn s k ≡ definitionsIn s
-  all_done = take_all (definitionsIn s) k end
+module _ (p : List ℕ) (top : ℕ) (s : List ℕ) (t : Store) (work : Work s p) (k at : ℕ) (d : Defined) (g : Defining p top s t k at d) (end : length (definitions_in s) ≤ k) where
+  all_done : done_in s k ≡ definitions_in s
+  all_done = take_all (definitions_in s) k end
 
-  pub all-at : at ≡ g.laid.fifty
-  all-at = rw (drop_all (definitionsIn s) k end) at g.turn
+  pub all_at : at ≡ g.laid.fifty
+  all_at = rw (drop_all (definitions_in s) k end) at g.turn
 
-  records-long : length (recordsIn s) ≡ length (definitionsIn s)
-  unfolding recordsIn numbered definitionsIn
-  records-long = length-map (jobIn s).definitions (numberedDefinition (literals (jobIn s)))
+  records-long : length (records_in s) ≡ length (definitions_in s)
+  unfolding records_in numbered definitions_in
+  records-long = length-map (job_in s).definitions (numbered_definition (literals (job_in s)))
 
-  run : definedIn top s ≡ good d
-  unfolding defineAll
-  run = g.rest ∙ rw (drop_all (recordsIn s) k (omega (arith, records-long)))
+  run : defined_in top s ≡ good d
+  unfolding define_all
+  run = g.rest ∙ rw (drop_all (records_in s) k (omega (arith, records-long)))
 
-  references-are : get_or (t COUNTS) REFERENCE-COUNT 0 ≡ (countsIn s).references
-  unfolding countsIn countsOf
-  references-are = g.counters.references ∙ ap referencesIn all_done
+  references-are : get_or (t COUNTS) REFERENCE-COUNT 0 ≡ (counts_in s).references
+  unfolding counts_in counts_of
+  references-are = g.counters.references ∙ ap references_in all_done
 
-  raws-are : rawsOf (countsOf (doneIn s k) 0) ≡ rawsOf (countsIn s)
-  unfolding countsIn countsOf
-  raws-are = ap (λ l. rawsOf (countsOf l 0)) all_done
+  raws_are : raws_of (counts_of (done_in s k) 0) ≡ raws_of (counts_in s)
+  unfolding counts_in counts_of
+  raws_are = ap (λ l. raws_of (counts_of l 0)) all_done
 
-  named-all : nameCount t ≡ length (namingsIn s)
-  named-all = g.named ∙ ap (λ l. length (namingsOf l)) all_done
+  named-all : name_count t ≡ length (namings_in s)
+  named-all = g.named ∙ ap (λ l. length (namings_of l)) all_done
 
-  entry_of : (e : ℕ) (x : Entry (List ℕ) Reference) → get_elem? (tableIn s) e ≡ some x → entered_at (constantsIn s) (doneIn s k) e ≡ some x
+  entry_of : (e : ℕ) (x : Entry (List ℕ) Reference) → get_elem? (table_in s) e ≡ some x → entered_at (constants_in s) (done_in s k) e ≡ some x
   entry_of e x h = rw all_done (entered_all s e x h)
 
   pub all_end : (u : Store) → u ≡ put (put t COUNTS PLACE k) COUNTS AT (at + 1) → 20 ≤ length (t COUNTS) → DefinedAll p top s u d
   all_end u e wide =
-      let f = all-stored p top s (put t COUNTS PLACE k) k at d (all-stored p top s t k at d g PLACE k (omega arith)) AT (at + 1) (omega arith) in
+      let f = all_stored p top s (put t COUNTS PLACE k) k at d (all_stored p top s t k at d g PLACE k (omega arith)) AT (at + 1) (omega arith) in
       rw e
       (record {
         is = run;
-        naming = g.naming ∙ take_all (namingsIn s) (nameCount t) (omega (arith, named-all));
+        naming = g.naming ∙ take_all (namings_in s) (name_count t) (omega (arith, named-all));
         entered =
             record {
               at = λ e x h. rw references-are at (g.entries.at e x (entry_of e x h)).at;
-              apart = λ a b low high n. let x = inside_found (tableIn s) a low in let y = inside_found (tableIn s) b high in g.entries.apart a b x.0 y.0 (entry_of a x.0 x.1) (entry_of b y.0 y.1) n;
-              worked = λ e low. let x = inside_found (tableIn s) e low in (g.values e x.0 (entry_of e x.0 x.1)).1;
+              apart = λ a b low high n. let x = inside_found (table_in s) a low in let y = inside_found (table_in s) b high in g.entries.apart a b x.0 y.0 (entry_of a x.0 x.1) (entry_of b y.0 y.1) n;
+              worked = λ e low. let x = inside_found (table_in s) e low in (g.values e x.0 (entry_of e x.0 x.1)).1;
             };
         kids = λ e x h i r. (g.entries.at e x (entry_of e x h)).kids i r;
         words = λ i l. g.entries.words i (omega (arith, references-are));
         turns = λ e x h. (g.entries.at e x (entry_of e x h)).turn;
         names = f.names;
-        named = f.named ∙ ap (λ l. length (namingsOf l)) all_done;
+        named = f.named ∙ ap (λ l. length (namings_of l)) all_done;
         raws = f.raws;
-        room = omega (arith, f.room, raws-are, (room s p work).raw-keys);
+        room = omega (arith, f.room, raws_are, (room s p work).raw_keys);
         laid = g.laid;
-        at = get_or-set_same (set (t COUNTS) PLACE k) AT (at + 1) 0 (simp length-set (omega arith)) ∙ ap (λ m. m + 1) all-at;
+        at = get_or-set_same (set (t COUNTS) PLACE k) AT (at + 1) 0 (simp length-set (omega arith)) ∙ ap (λ m. m + 1) all_at;
       })
 
-  pub all-low : at < length s
-  all-low = omega (arith, all-at, found_inside s g.laid.fifty 0x50 g.laid.isFifty)
+  pub all_low : at < length s
+  all_low = omega (arith, all_at, found_inside s g.laid.fifty 0x50 g.laid.is_fifty)
 
-  pub all-finish : (t₀ u : Store) (n : ℕ) → Kept definedRegions t₀ t → SameBehind t₀ t → n ≡ k → n ≡ length (definitionsIn s) → u ≡ put (put t COUNTS PLACE n) COUNTS AT (at + 1) → 20 ≤ length (t COUNTS) → Defines p top s t₀ u 0
-  all-finish t₀ u n kept counters is long e wide =
+  pub all_finish : (t₀ u : Store) (n : ℕ) → Kept defined_regions t₀ t → SameBehind t₀ t → n ≡ k → n ≡ length (definitions_in s) → u ≡ put (put t COUNTS PLACE n) COUNTS AT (at + 1) → 20 ≤ length (t COUNTS) → Defines p top s t₀ u 0
+  all_finish t₀ u n kept counters is long e wide =
       record {
         through = λ _. ((d, all_end u (rw is at e) wide), rw e (get_or-set_other (set (t COUNTS) PLACE n) AT PLACE (at + 1) 0 (λ q. omega arith) ∙ get_or-set_same (t COUNTS) PLACE n 0 (omega arith) ∙ long));
         refused = λ z. absurd (omega arith);
         counters = λ c l. rw e (get_or-set_other (set (t COUNTS) PLACE n) AT c (at + 1) 0 (λ q. omega arith) ∙ get_or-set_other (t COUNTS) PLACE c n 0 (λ q. omega arith) ∙ counters c l);
-        kept = rw e (kept_put definedRegions t₀ (put t COUNTS PLACE n) COUNTS AT (at + 1) refl (kept_put definedRegions t₀ t COUNTS PLACE n refl kept));
+        kept = rw e (kept_put defined_regions t₀ (put t COUNTS PLACE n) COUNTS AT (at + 1) refl (kept_put defined_regions t₀ t COUNTS PLACE n refl kept));
       }
 
 -- what is written between
-pub all-kept :
-    (p : List ℕ) (top : ℕ) (s : List ℕ) (t₀ t u : Store) (k r : ℕ) → Kept definedRegions t₀ t → Stepped p top s (put t COUNTS PLACE k) u r →
-    Kept definedRegions t₀ u
-all-kept p top s t₀ t u k r kept step =
-    kept_then definedRegions t₀ (put t COUNTS PLACE k) u (kept_put definedRegions t₀ t COUNTS PLACE k refl kept) step.kept
+pub all_kept :
+    (p : List ℕ) (top : ℕ) (s : List ℕ) (t₀ t u : Store) (k r : ℕ) → Kept defined_regions t₀ t → Stepped p top s (put t COUNTS PLACE k) u r →
+    Kept defined_regions t₀ u
+all_kept p top s t₀ t u k r kept step =
+    kept_then defined_regions t₀ (put t COUNTS PLACE k) u (kept_put defined_regions t₀ t COUNTS PLACE k refl kept) step.kept
 
-pub all-counters :
+pub all_counters :
     (p : List ℕ) (top : ℕ) (s : List ℕ) (t₀ t u : Store) (k r : ℕ) → SameBehind t₀ t → Stepped p top s (put t COUNTS PLACE k) u r → SameBehind t₀ u
-all-counters p top s t₀ t u k r same step c l = step.counters c l ∙ get_or-set_other (t COUNTS) PLACE c k 0 (λ q. omega arith) ∙ same c l
+all_counters p top s t₀ t u k r same step c l = step.counters c l ∙ get_or-set_other (t COUNTS) PLACE c k 0 (λ q. omega arith) ∙ same c l

@@ -4,17 +4,17 @@ use Rattle.std.proofs.Math.Option.{some}
 use Rattle.std.proofs.Math.ListN.{get_elem?}
 use Rattle.definition.specs.Shapes.{Entry}
 use Rattle.definition.specs.Job.{Reference, define}
-use Rattle.job.specs.Stored.{Found, anyDefinition, KidsTurn}
+use Rattle.job.specs.Stored.{Found, any_definition, KidsTurn}
 use Rattle.store.specs.Store.{Store, put, Kept}
-use Rattle.store.specs.JobIn.{countsIn, constantsIn, entriesIn}
+use Rattle.store.specs.JobIn.{counts_in, constants_in, entries_in}
 use Rattle.store.specs.Regions.{COUNTS, RECORDS, OFFSETS, FIRSTS, SIZES, GOALS, VALUES, PLACE, REFERENCE-COUNT}
-use Rattle.store.specs.Words.{referenceWord, IsReference}
+use Rattle.store.specs.Words.{reference_word, IsReference}
 use Rattle.store.specs.Entries.{WordsAt}
 use Rattle.sym_refs.specs.Names.{CitedIn}
 
 -- entry e is the record in turn, at a place, with n references, whose words begin behind those that were counted
-abbrev pub entryPut : Store → ℕ → ℕ → ℕ → Store
-entryPut t e at n =
+abbrev pub entry_put : Store → ℕ → ℕ → ℕ → Store
+entry_put t e at n =
     put (put (put (put t RECORDS e (get_or (t COUNTS) PLACE 0)) OFFSETS e at) FIRSTS e (get_or (t COUNTS) REFERENCE-COUNT 0)) SIZES e n
 
 -- one more is counted
@@ -28,9 +28,9 @@ pub record Valued (s : List ℕ) (t u : Store) (at : ℕ) : Type 0 where
   pub kept : Kept (VALUES ∷ []) t u
 
 -- the bytes of a bootstrap's count, where it stands behind a reference
-unfoldable pub gapAfter : Bool → ℕ
-gapAfter true = 2
-gapAfter false = 0
+unfoldable pub gap_after : Bool → ℕ
+gap_after true = 2
+gap_after false = 0
 
 -- what an entry refers to is there
 abbrev pub AllCited : List ℕ → Entry (List ℕ) Reference → Type 0
@@ -40,7 +40,7 @@ AllCited s x = (i : ℕ) (r : Reference) → get_elem? x.kids i ≡ some r → C
 pub record Referred (s before after : List ℕ) (first m : ℕ) (kids : List Reference) : Type 0 where
   pub words :
       (i : ℕ) (r : Reference) → i < m → get_elem? kids i ≡ some r →
-      (referenceWord s (constantsIn s) (get_or after (first + i) 0) ≡ r) × IsReference s (entriesIn s) (get_or after (first + i) 0)
+      (reference_word s (constants_in s) (get_or after (first + i) 0) ≡ r) × IsReference s (entries_in s) (get_or after (first + i) 0)
   pub below : (j : ℕ) → j < first → get_or after j 0 ≡ get_or before j 0
 
 -- the first i references of an entry that ends at `next` were read, and the next one stands at `from`: t before, u now
@@ -50,7 +50,7 @@ pub record ReadSoFar (s : List ℕ) (t u : Store) (first i from : ℕ) (x : Entr
 
 -- the entry at a place has n references, and what it cites is there
 pub record HasKids (s : List ℕ) (at n : ℕ) (x : Entry (List ℕ) Reference) (next : ℕ) : Type 0 where
-  pub stands : Found anyDefinition s at (define x) next
+  pub stands : Found any_definition s at (define x) next
   pub cited : AllCited s x
   pub count : n ≡ length x.kids
 
@@ -61,10 +61,10 @@ pub record ReadsAll (s : List ℕ) (t u : Store) (at n first r : ℕ) : Type 0 w
 
 -- the entry at a place can be entry e: it stands there, cites what is there, and its references' words find room
 pub record CanEnter (s : List ℕ) (t : Store) (at e : ℕ) (x : Entry (List ℕ) Reference) (next : ℕ) : Type 0 where
-  pub stands : Found anyDefinition s at (define x) next
+  pub stands : Found any_definition s at (define x) next
   pub cited : AllCited s x
-  pub low : e < entriesIn s
-  pub room : get_or (t COUNTS) REFERENCE-COUNT 0 + length x.kids ≤ (countsIn s).references
+  pub low : e < entries_in s
+  pub room : get_or (t COUNTS) REFERENCE-COUNT 0 + length x.kids ≤ (counts_in s).references
 
 -- it became entry e: t before, u after, r the place behind it
 pub record Enters (s : List ℕ) (t u : Store) (at e r : ℕ) (x : Entry (List ℕ) Reference) (next : ℕ) : Type 0 where

@@ -3,17 +3,17 @@ ghost use Rattle.std.specs.Prelude.{true, cond, List, ◌≡◌, ℕ, ◌+◌, �
 ghost use Rattle.definition.specs.Shapes.{Kind, Entry};
 ghost use Rattle.definition.specs.Job.{Reference, define, named};
 ghost use Rattle.definition.specs.Definitions.{Defined};
-ghost use Rattle.job.specs.Stored.{Found, ReferenceStands, WhatReference, EntryStands, anyDefinition, isWorked, firstPlace};
+ghost use Rattle.job.specs.Stored.{Found, ReferenceStands, WhatReference, EntryStands, any_definition, is_worked, first_place};
 ghost use Rattle.store.specs.Store.{size, store, put, On, IsWord};
-ghost use Rattle.store.specs.JobIn.{WellFormed, definitionsIn, countsIn};
+ghost use Rattle.store.specs.JobIn.{WellFormed, definitions_in, counts_in};
 ghost use Rattle.store.specs.Regions.{Work, COUNTS, RECORDS, OFFSETS, FIRSTS, SIZES, GOALS, PLACE, REFERENCE-COUNT, NODE-HEADS, ORDER, RAW-ENTRIES};
-ghost use Rattle.sym_refs.specs.Names.{kindByte};
-ghost use Rattle.raws.specs.Raws.{rawCount};
-ghost use Rattle.resolver.specs.Resolved.{Table, AtRest, visitsOwed};
+ghost use Rattle.sym_refs.specs.Names.{kind_byte};
+ghost use Rattle.raws.specs.Raws.{raw_count};
+ghost use Rattle.resolver.specs.Resolved.{Table, AtRest, visits_owed};
 ghost use Rattle.definitions.specs.Begun.{Begun};
-ghost use Rattle.definitions.specs.Kids.{entryPut, Valued, gapAfter, HasKids, ReadsAll, CanEnter, Enters, counted};
+ghost use Rattle.definitions.specs.Kids.{entry_put, Valued, gap_after, HasKids, ReadsAll, CanEnter, Enters, counted};
 ghost use Rattle.definitions.specs.Defining.{SomePlace, answered, Stepped, DefinedAll, Defines, Zeros};
-ghost use Rattle.definitions.specs.Ending.{rawGoal, rawAt, rawGoals, ResolvesAll, IsRaw, CanResolve, Fresh, Ended};
+ghost use Rattle.definitions.specs.Ending.{raw_goal, raw_at_lem, raw_goals, ResolvesAll, IsRaw, CanResolve, Fresh, Ended};
 
 use job::JobCounts;
 use raws::{place_bootstrap, place_constant, raw_entry, sort_raws};
@@ -28,7 +28,7 @@ use sym_refs::{add_name, link_references, reference_word, resolve_names};
 // Entry e is that of the record in turn, at a place, with n references.
 fn put_entry(w: &mut [u32], p: &[usize], e: usize, at: usize, n: usize)
     requires { On p.now (length w.old) × (e < size p.now RECORDS) × (e < size p.now OFFSETS) × (e < size p.now FIRSTS) × (e < size p.now SIZES) × (size p.now COUNTS ≡ 20) × IsWord at × IsWord n }
-    ensures { store p.now w.new ≡ entryPut (store p.now w.old) e at n }
+    ensures { store p.now w.new ≡ entry_put (store p.now w.old) e at n }
 {
     let place = load(w, p, COUNTS, PLACE);
     let first = load(w, p, COUNTS, REFERENCE_COUNT);
@@ -51,7 +51,7 @@ fn take_references(w: &mut [u32], p: &[usize], n: usize) -> usize
 // Where the first reference of an entry stands: behind its tag, or behind a method handle's kind.
 fn first_place(tag: u8, at: usize) -> usize
     requires { at ≤ 1048576 }
-    ensures { result ≡ firstPlace tag at }
+    ensures { result ≡ first_place tag at }
 {
     if raw_const::is_handle(tag) {
         at + 2
@@ -63,7 +63,7 @@ fn first_place(tag: u8, at: usize) -> usize
 // The place behind a reference, or behind the count that follows a bootstrap's first.
 fn place_behind(job: &[u8], at: usize, counted: bool) -> usize
     requires { ReferenceStands job.now at × (length job.now ≤ 1048576) }
-    ensures { WhatReference job.now at (λ kind a next. result ≡ next + gapAfter counted) }
+    ensures { WhatReference job.now at (λ kind a next. result ≡ next + gap_after counted) }
 {
     let behind = job::after_reference(job, at);
     if counted { behind + 2 } else { behind }
@@ -78,7 +78,7 @@ fn first_word(wide: bool, high: u32, low: u32) -> u32
 
 // The value of the constant at a place, which was worked out, is kept as words.
 fn put_value(job: &[u8], w: &mut [u32], p: &[usize], at: usize)
-    requires { On p.now (length w.old) × Work job.now p.now × EntryStands job.now at × (isWorked job.now at ≡ true) }
+    requires { On p.now (length w.old) × Work job.now p.now × EntryStands job.now at × (is_worked job.now at ≡ true) }
     ensures { Valued job.now (store p.now w.old) (store p.now w.new) at }
 {
     let value = job::worked_at(job, at);
@@ -91,8 +91,8 @@ fn put_value(job: &[u8], w: &mut [u32], p: &[usize], at: usize)
 
 // The place behind an entry that has no references.
 fn after_literal(job: &[u8], at: usize) -> usize
-    requires { ((x : Entry (List ℕ) Reference) × (next : ℕ) × Found anyDefinition job.now at (define x) next × (length x.kids ≡ 0)) × (length job.now ≤ 1048576) }
-    ensures { (x : Entry (List ℕ) Reference) (next : ℕ) → Found anyDefinition job.now at (define x) next → length x.kids ≡ 0 → result ≡ next }
+    requires { ((x : Entry (List ℕ) Reference) × (next : ℕ) × Found any_definition job.now at (define x) next × (length x.kids ≡ 0)) × (length job.now ≤ 1048576) }
+    ensures { (x : Entry (List ℕ) Reference) (next : ℕ) → Found any_definition job.now at (define x) next → length x.kids ≡ 0 → result ≡ next }
 {
     if job::is_worked(job, at) {
         return job::after_worked(job, at);
@@ -167,15 +167,15 @@ fn answer(code: usize, next: usize) -> usize
 
 // The place behind a name's record.
 fn after_naming(job: &[u8], at: usize) -> usize
-    requires { (kind : Kind) × (l : List ℕ) × (r : Reference) × (next : ℕ) × Found anyDefinition job.now at (named kind l r) next }
-    ensures { (kind : Kind) (l : List ℕ) (a : Reference) (next : ℕ) → Found anyDefinition job.now at (named kind l a) next → result ≡ next }
+    requires { (kind : Kind) × (l : List ℕ) × (r : Reference) × (next : ℕ) × Found any_definition job.now at (named kind l r) next }
+    ensures { (kind : Kind) (l : List ℕ) (a : Reference) (next : ℕ) → Found any_definition job.now at (named kind l a) next → result ≡ next }
 {
     job::after_reference(job, job::name_at(job, at + 1).end)
 }
 
 // A name, 11: `named`.
 fn add_sym_def(job: &[u8], w: &mut [u32], p: &[usize], at: usize) -> usize
-    requires { On p.now (length w.old) × Work job.now p.now × ((top : ℕ) × SomePlace p.now top job.now (store p.now w.old) at) × ((kind : Kind) × (get_or job.now at 0 ≡ kindByte kind)) }
+    requires { On p.now (length w.old) × Work job.now p.now × ((top : ℕ) × SomePlace p.now top job.now (store p.now w.old) at) × ((kind : Kind) × (get_or job.now at 0 ≡ kind_byte kind)) }
     ensures { (top : ℕ) → SomePlace p.now top job.now (store p.now w.old) at → Stepped p.now top job.now (store p.now w.old) (store p.now w.new) result }
 {
     let code = add_name(job, w, p, at);
@@ -214,7 +214,7 @@ fn add_worked(job: &[u8], w: &mut [u32], p: &[usize], at: usize) -> usize
     add_counted(job, w, p, at, CONSTANT_COUNT, 0)
 }
 
-// The definition at a place; the place behind it, or REFUSED + a number: `defineOne`. The form pass has read what settings say.
+// The definition at a place; the place behind it, or REFUSED + a number: `define_one`. The form pass has read what settings say.
 fn define_one(job: &[u8], w: &mut [u32], p: &[usize], at: usize, top: usize) -> usize
     requires { On p.now (length w.old) × Work job.now p.now × SomePlace p.now top job.now (store p.now w.old) at }
     ensures { Stepped p.now top job.now (store p.now w.old) (store p.now w.new) result }
@@ -233,9 +233,9 @@ fn define_one(job: &[u8], w: &mut [u32], p: &[usize], at: usize, top: usize) -> 
     }
 }
 
-// The n definitions in turn, 0, or a refusal's number: `defineAll`. Then record 50 is in turn, and AT is behind it.
+// The n definitions in turn, 0, or a refusal's number: `define_all`. Then record 50 is in turn, and AT is behind it.
 fn define_all(job: &[u8], w: &mut [u32], p: &[usize], n: usize, top: usize) -> usize
-    requires { On p.now (length w.old) × Work job.now p.now × Zeros p.now (store p.now w.old) × (n ≡ length (definitionsIn job.now)) × (top < 65535) }
+    requires { On p.now (length w.old) × Work job.now p.now × Zeros p.now (store p.now w.old) × (n ≡ length (definitions_in job.now)) × (top < 65535) }
     ensures { Defines p.now top job.now (store p.now w.old) (store p.now w.new) result }
 {
     let mut at = 0;
@@ -255,8 +255,8 @@ fn define_all(job: &[u8], w: &mut [u32], p: &[usize], n: usize, top: usize) -> u
 
 // Resolves place i of the order of raw definitions, unless it is a second half.
 fn resolve_raw(job: &[u8], w: &mut [u32], p: &[usize], i: usize) -> usize
-    requires { On p.now (length w.old) × Work job.now p.now × Table job.now (store p.now w.old) × AtRest (size p.now NODE-HEADS) job.now (store p.now w.old) × (i < size p.now ORDER) × (get_or (store p.now w.old ORDER) i 0 < size p.now RAW-ENTRIES) × IsRaw job.now (rawAt (store p.now w.old RAW-ENTRIES) (store p.now w.old ORDER) i) × IsWord (visitsOwed job.now (store p.now w.old) + 1) }
-    ensures { ResolvesAll (size p.now NODE-HEADS) job.now (rawGoal (rawAt (store p.now w.old RAW-ENTRIES) (store p.now w.old ORDER) i)) 1 (store p.now w.old) (store p.now w.new) result }
+    requires { On p.now (length w.old) × Work job.now p.now × Table job.now (store p.now w.old) × AtRest (size p.now NODE-HEADS) job.now (store p.now w.old) × (i < size p.now ORDER) × (get_or (store p.now w.old ORDER) i 0 < size p.now RAW-ENTRIES) × IsRaw job.now (raw_at_lem (store p.now w.old RAW-ENTRIES) (store p.now w.old ORDER) i) × IsWord (visits_owed job.now (store p.now w.old) + 1) }
+    ensures { ResolvesAll (size p.now NODE-HEADS) job.now (raw_goal (raw_at_lem (store p.now w.old RAW-ENTRIES) (store p.now w.old ORDER) i)) 1 (store p.now w.old) (store p.now w.new) result }
 {
     let e = raw_entry(w, p, i);
     if e == HALF {
@@ -265,10 +265,10 @@ fn resolve_raw(job: &[u8], w: &mut [u32], p: &[usize], i: usize) -> usize
     resolve(job, w, p, ENTRY + e)
 }
 
-// Resolves all raw definitions in their order, 0, or a refusal's number: `resolveAll`.
+// Resolves all raw definitions in their order, 0, or a refusal's number: `resolve_all`.
 fn resolve_raws(job: &[u8], w: &mut [u32], p: &[usize]) -> usize
-    requires { On p.now (length w.old) × Work job.now p.now × Table job.now (store p.now w.old) × AtRest (size p.now NODE-HEADS) job.now (store p.now w.old) × CanResolve p.now job.now (store p.now w.old) (rawCount (store p.now w.old)) }
-    ensures { ResolvesAll (size p.now NODE-HEADS) job.now (rawGoals (store p.now w.old RAW-ENTRIES) (store p.now w.old ORDER) 0 (rawCount (store p.now w.old))) (rawCount (store p.now w.old)) (store p.now w.old) (store p.now w.new) result }
+    requires { On p.now (length w.old) × Work job.now p.now × Table job.now (store p.now w.old) × AtRest (size p.now NODE-HEADS) job.now (store p.now w.old) × CanResolve p.now job.now (store p.now w.old) (raw_count (store p.now w.old)) }
+    ensures { ResolvesAll (size p.now NODE-HEADS) job.now (raw_goals (store p.now w.old RAW-ENTRIES) (store p.now w.old ORDER) 0 (raw_count (store p.now w.old))) (raw_count (store p.now w.old)) (store p.now w.old) (store p.now w.new) result }
 {
     let n = load(w, p, COUNTS, RAW_COUNT);
     let mut i = 0;
@@ -283,7 +283,7 @@ fn resolve_raws(job: &[u8], w: &mut [u32], p: &[usize]) -> usize
 }
 
 // Record 50: names and references are linked, raw constants resolved by rising slot, then raw bootstraps by rising index:
-// `endDefinitions`, but for gaps and stack.
+// `end_definitions`, but for gaps and stack.
 fn end_definitions(job: &[u8], w: &mut [u32], p: &[usize]) -> usize
     requires { On p.now (length w.old) × Work job.now p.now × ((top : ℕ) × (d : Defined) × DefinedAll p.now top job.now (store p.now w.old) d) × Fresh p.now (store p.now w.old) }
     ensures { (top : ℕ) (d : Defined) → DefinedAll p.now top job.now (store p.now w.old) d → Ended p.now top job.now (store p.now w.old) (store p.now w.new) d result }
@@ -297,7 +297,7 @@ fn end_definitions(job: &[u8], w: &mut [u32], p: &[usize]) -> usize
 // A job up to record 50, in words that may hold anything: regions laid out, definitions in turn, record 50. 0, or a refusal's number, met
 // at the record that PLACE tells.
 pub fn begin(job: &[u8], w: &mut [u32], p: &mut [usize], c: JobCounts, top: usize) -> usize
-    requires { WellFormed job.now × (c ≡ countsIn job.now) × (length p.old ≡ 33) × (6 * length job.now + 1024 ≤ length w.old) × (top < 65535) }
+    requires { WellFormed job.now × (c ≡ counts_in job.now) × (length p.old ≡ 33) × (6 * length job.now + 1024 ≤ length w.old) × (top < 65535) }
     ensures { Begun p.new (length w.new) top job.now (store p.new w.new) result }
 {
     let n = c.definitions;

@@ -20,8 +20,8 @@ among-last c x (y ∷ l) f =
     (b, rw (ne_eqb c y a) d)
 
 -- a counter that the gaps don't go by
-pub gaps-set : (counts : List ℕ) (k n : ℕ) → among k (GAP-COUNT ∷ ODD ∷ WIDE ∷ PLAIN ∷ []) ≡ false → SameGaps counts (set counts k n)
-gaps-set counts k n f =
+pub gaps_set : (counts : List ℕ) (k n : ℕ) → among k (GAP-COUNT ∷ ODD ∷ WIDE ∷ PLAIN ∷ []) ≡ false → SameGaps counts (set counts k n)
+gaps_set counts k n f =
     let (a, x) = not-among k GAP-COUNT (ODD ∷ WIDE ∷ PLAIN ∷ []) f in
     let (b, y) = not-among k ODD (WIDE ∷ PLAIN ∷ []) x in
     let (c, z) = not-among k WIDE (PLAIN ∷ []) y in

@@ -11,32 +11,32 @@ use lib.Seq.{get_or-set_same, get_or-set_other}
 use Rattle.definition.specs.Basics.{good, bad, position, lookup}
 use Rattle.definition.specs.Shapes.{is_wide}
 use Rattle.definition.specs.Definitions.{tag_at}
-use Rattle.definition.specs.Resolving.{Node, sameNode, intern}
-use Rattle.definition.specs.Slots.{highestSlot, Slots, size, slotFor}
-use Rattle.definition.specs.Building.{Made, no_slot, give, attributeText, nameSlot}
+use Rattle.definition.specs.Resolving.{Node, same_node, intern}
+use Rattle.definition.specs.Slots.{highest_slot, Slots, size, slot_for}
+use Rattle.definition.specs.Building.{Made, no_slot, give, attribute_text, name_slot}
 use Rattle.facts.proofs.Lists.{equal}
 use Rattle.laws.specs.Gaps.{Apart}
-use Rattle.laws.proofs.resolving.Interning.{interned}
-use Rattle.laws.proofs.slots.Gaps.{apart-at}
-use Rattle.laws.proofs.slots.SlotRequest.{width, slot-taken, allocate-new, allocate-old}
-use Rattle.slots.specs.Gaps.{GapTable, slotsAt}
+use Rattle.laws.proofs.Resolving.Interning.{interned}
+use Rattle.laws.proofs.Slots.Gaps.{apart_at}
+use Rattle.laws.proofs.Slots.SlotRequest.{width, slot-taken, allocate-new, allocate-old}
+use Rattle.slots.specs.Gaps.{GapTable, slots_at_lem}
 use Rattle.store.specs.Store.{Store, put, among, Kept}
 use Rattle.store.specs.Regions.{COUNTS, GIVEN, ODD, WIDE, PLAIN, NAME-SLOT}
 use Rattle.store.proofs.Keeping.{kept_put}
-use Rattle.interner.specs.Nodes.{nodesIn}
+use Rattle.interner.specs.Nodes.{nodes_in}
 use Rattle.rows.specs.Rowed.{RowedIn}
-use Rattle.pool.specs.Pooled.{gapsIn, slotsIn, PooledIn, GapsLive, Took}
+use Rattle.pool.specs.Pooled.{gaps_in, slots_in, PooledIn, GapsLive, Took}
 use Rattle.pool.proofs.Words.{word_none, word_some}
-use Rattle.pool.proofs.Giving.{SameGaps, slots_same, gaps-live-same}
-use Rattle.ending.specs.Ended.{nameIn, name_of, Named}
+use Rattle.pool.proofs.Giving.{SameGaps, slots_same, gaps_live_same}
+use Rattle.ending.specs.Ended.{name_in, name_of, Named}
 use Rattle.ending.specs.Naming.{Wants, KeptName, PoolNamed}
-use Rattle.ending.proofs.Counters.{among-last, gaps-set}
+use Rattle.ending.proofs.Counters.{among-last, gaps_set}
 
 -- THE DEFINITION
 
 module _ (nodes : List Node) (m : Made) where
   abbrev place : ℕ
-  place = position (sameNode attributeText) nodes
+  place = position (same_node attribute_text) nodes
 
   -- what is made with the name at a slot, the slots being these
   abbrev taken : ℕ → Slots → Made
@@ -44,43 +44,43 @@ module _ (nodes : List Node) (m : Made) where
       record {
         pool = record { slots = slots; given = (place, slot) ∷ m.pool.given; pending = (slot, place) ∷ m.pool.pending; version = m.pool.version };
         rows = m.rows;
-        owned = (slot, attributeText) ∷ m.owned;
+        owned = (slot, attribute_text) ∷ m.owned;
       }
 
   abbrev shared : ℕ → Made
-  shared slot = record { pool = m.pool; rows = m.rows; owned = (slot, attributeText) ∷ m.owned }
+  shared slot = record { pool = m.pool; rows = m.rows; owned = (slot, attribute_text) ∷ m.owned }
 
   -- a text isn't wide
-  narrow : is_wide (tag_at (intern attributeText nodes) place) ≡ false
-  unfolding tag_at attributeText is_wide
-  narrow = let there : get_elem? (intern attributeText nodes) place ≡ some attributeText = (interned attributeText nodes).there in rw (there, tag_at)
+  narrow : is_wide (tag_at (intern attribute_text nodes) place) ≡ false
+  unfolding tag_at attribute_text is_wide
+  narrow = let there : get_elem? (intern attribute_text nodes) place ≡ some attribute_text = (interned attribute_text nodes).there in rw (there, tag_at)
 
-  name-shared : (slot : ℕ) → lookup place m.pool.given ≡ some slot → nameSlot true nodes m ≡ good (slot, shared slot)
-  unfolding nameSlot
-  name-shared slot e = rw (allocate-old (intern attributeText nodes) false place slot m.pool e)
+  name_shared : (slot : ℕ) → lookup place m.pool.given ≡ some slot → name_slot true nodes m ≡ good (slot, shared slot)
+  unfolding name_slot
+  name_shared slot e = rw (allocate-old (intern attribute_text nodes) false place slot m.pool e)
 
   module _ (lacks : lookup place m.pool.given ≡ none) where
-    name-refused : slotFor false false m.pool.slots ≡ none → nameSlot true nodes m ≡ bad 14
-    unfolding nameSlot give no_slot
-    name-refused e = rw (allocate-new (intern attributeText nodes) false place m.pool lacks, narrow, e)
+    name_refused : slot_for false false m.pool.slots ≡ none → name_slot true nodes m ≡ bad 14
+    unfolding name_slot give no_slot
+    name_refused e = rw (allocate-new (intern attribute_text nodes) false place m.pool lacks, narrow, e)
 
-    name-taken :
-        (slot : ℕ) (slots : Slots) → slotFor false false m.pool.slots ≡ some (slot, slots) →
-        nameSlot true nodes m ≡ good (slot, taken slot slots)
-    unfolding nameSlot give
-    name-taken slot slots e = rw (allocate-new (intern attributeText nodes) false place m.pool lacks, narrow, e)
+    name_taken :
+        (slot : ℕ) (slots : Slots) → slot_for false false m.pool.slots ≡ some (slot, slots) →
+        name_slot true nodes m ≡ good (slot, taken slot slots)
+    unfolding name_slot give
+    name_taken slot slots e = rw (allocate-new (intern attribute_text nodes) false place m.pool lacks, narrow, e)
 
 -- a new slot is no higher than the highest
-taken-low : (s after : Slots) (slot : ℕ) → Apart highestSlot 1 s.gaps → slotFor false false s ≡ some (slot, after) → slot ≤ highestSlot
+taken_low : (s after : Slots) (slot : ℕ) → Apart highest_slot 1 s.gaps → slot_for false false s ≡ some (slot, after) → slot ≤ highest_slot
 unfolding size width
-taken-low s after slot a e =
+taken_low s after slot a e =
     let t = slot-taken false false s slot after e in
-    let r = apart-at highestSlot 1 t.at s.gaps t.gap a t.there in
+    let r = apart_at highest_slot 1 t.at s.gaps t.gap a t.there in
     omega (arith, r.2, t.enough, t.slot)
 
-gaps-apart : (counts : List ℕ) (g : GapTable) → Apart highestSlot 1 (gapsIn counts g) → Apart highestSlot 1 (slotsIn counts g).gaps
-unfolding slotsAt
-gaps-apart counts g a = a
+gaps_apart : (counts : List ℕ) (g : GapTable) → Apart highest_slot 1 (gaps_in counts g) → Apart highest_slot 1 (slots_in counts g).gaps
+unfolding slots_at_lem
+gaps_apart counts g a = a
 
 -- THE WORDS with the name at a slot
 
@@ -88,28 +88,28 @@ module _ (v : Store) (slot : ℕ) where
   abbrev after : Store
   after = put v COUNTS NAME-SLOT slot
 
-  named-is : NAME-SLOT < length (v COUNTS) → nameIn after ≡ slot
+  named-is : NAME-SLOT < length (v COUNTS) → name_in after ≡ slot
   named-is room = get_or-set_same (v COUNTS) NAME-SLOT slot 0 room
 
   others : (c : ℕ) → (c ≡ NAME-SLOT → ⊥) → get_or (after COUNTS) c 0 ≡ get_or (v COUNTS) c 0
   others c other = get_or-set_other (v COUNTS) NAME-SLOT c slot 0 other
 
   same-gaps : SameGaps (v COUNTS) (after COUNTS)
-  same-gaps = gaps-set (v COUNTS) NAME-SLOT slot refl
+  same-gaps = gaps_set (v COUNTS) NAME-SLOT slot refl
 
 module _ (s p : List ℕ) (t : Store) (g : GapTable) (live : GapsLive (t COUNTS) g) where
   abbrev nodes : List Node
-  nodes = nodesIn s t
+  nodes = nodes_in s t
 
   abbrev at : ℕ
-  at = position (sameNode attributeText) nodes
+  at = position (same_node attribute_text) nodes
 
-  is_name : (b : Bool) → Wants s p t b → (m : Made) → RowedIn p m.rows t → name_of s t m ≡ nameSlot b nodes m
+  is_name : (b : Bool) → Wants s p t b → (m : Made) → RowedIn p m.rows t → name_of s t m ≡ name_slot b nodes m
   is_name b wants m rowed = rw (← wants m.rows rowed)
 
   -- NOT WANTED
-  pub not_named : Wants s p t false → nameIn t ≡ 0 → PoolNamed s p t t g g 0
-  unfolding nameSlot
+  pub not_named : Wants s p t false → name_in t ≡ 0 → PoolNamed s p t t g g 0
+  unfolding name_slot
   not_named wants unnamed =
       record {
         met =
@@ -134,50 +134,50 @@ module _ (s p : List ℕ) (t : Store) (g : GapTable) (live : GapsLive (t COUNTS)
       -- the name at a slot, for what the words are
       record Gets (m : Made) : Type 0 where
         made : Made
-        is : nameSlot true nodes m ≡ good (slot, made)
-        slots : slotsIn (v COUNTS) h ≡ made.pool.slots
+        is : name_slot true nodes m ≡ good (slot, made)
+        slots : slots_in (v COUNTS) h ≡ made.pool.slots
         rows : made.rows ≡ m.rows
-        owned : made.owned ≡ (slot, attributeText) ∷ m.owned
+        owned : made.owned ≡ (slot, attribute_text) ∷ m.owned
 
       module _
-          (alive : GapsLive (v COUNTS) h) (apart : (top : ℕ) → Apart top 1 (gapsIn (t COUNTS) g) → Apart top 1 (gapsIn (v COUNTS) h))
+          (alive : GapsLive (v COUNTS) h) (apart : (top : ℕ) → Apart top 1 (gaps_in (t COUNTS) g) → Apart top 1 (gaps_in (v COUNTS) h))
           (long : length h ≡ length g) (same : (c : ℕ) → among c (ODD ∷ WIDE ∷ PLAIN ∷ []) ≡ false → get_or (v COUNTS) c 0 ≡ get_or (t COUNTS) c 0)
           (stays : Kept (COUNTS ∷ []) t v) where
         named :
             ((m : Made) → PooledIn m.pool t g → 0 < slot → Gets m) →
-            ((m : Made) → PooledIn m.pool t g → slot ≡ 0 → nameSlot true nodes m ≡ bad 14) →
-            (((k : ℕ) → get_or (t GIVEN) k 0 ≤ highestSlot) → slot ≤ highestSlot) →
+            ((m : Made) → PooledIn m.pool t g → slot ≡ 0 → name_slot true nodes m ≡ bad 14) →
+            (((k : ℕ) → get_or (t GIVEN) k 0 ≤ highest_slot) → slot ≤ highest_slot) →
             PoolNamed s p t u g h r
         named gets refused low =
             record {
               met = λ m q rowed z. met m rowed (some-slot z) (gets m q (some-slot z));
-              refused = λ m q rowed l. is_name true wants m rowed ∙ refused m q (no-slot l) ∙ ap bad (sym (kept.unmet (no-slot l)));
-              low = λ all. rw is-slot (low all);
-              live = rw kept.is (gaps-live-same (v COUNTS) (after v slot COUNTS) h (same-gaps v slot) alive);
+              refused = λ m q rowed l. is_name true wants m rowed ∙ refused m q (no_slot_lem l) ∙ ap bad (sym (kept.unmet (no_slot_lem l)));
+              low = λ all. rw is_slot_lem (low all);
+              live = rw kept.is (gaps_live_same (v COUNTS) (after v slot COUNTS) h (same-gaps v slot) alive);
               apart = λ top a. rw (kept.is, (same-gaps v slot).count) (apart top a);
               long = long;
               counters = λ c f. let (other, few) = among-last c NAME-SLOT (ODD ∷ WIDE ∷ PLAIN ∷ []) f in rw (kept.is, others v slot c other) (same c few);
               kept = rw kept.is (kept_put (COUNTS ∷ []) t v COUNTS NAME-SLOT slot refl stays);
             }
           where
-            is-slot : nameIn u ≡ slot
-            is-slot = rw kept.is (named-is v slot room)
+            is_slot_lem : name_in u ≡ slot
+            is_slot_lem = rw kept.is (named-is v slot room)
 
             some-slot : r ≡ 0 → 0 < slot
             some-slot z = ⊎_elim (λ (e : slot ≡ 0). absurd (omega (arith, kept.unmet e))) (λ (e : slot ≡ 0 → ⊥). omega (arith, e)) (equal slot 0)
 
-            no-slot : 0 < r → slot ≡ 0
-            no-slot l = ⊎_elim (λ (e : slot ≡ 0). e) (λ (e : slot ≡ 0 → ⊥). absurd (omega (arith, kept.met (omega (arith, e))))) (equal slot 0)
+            no_slot_lem : 0 < r → slot ≡ 0
+            no_slot_lem l = ⊎_elim (λ (e : slot ≡ 0). e) (λ (e : slot ≡ 0 → ⊥). absurd (omega (arith, kept.met (omega (arith, e))))) (equal slot 0)
 
-            met : (m : Made) → RowedIn p m.rows t → 0 < slot → Gets m → (made : Made) × (name_of s t m ≡ good (nameIn u, made)) × Named m made u h
+            met : (m : Made) → RowedIn p m.rows t → 0 < slot → Gets m → (made : Made) × (name_of s t m ≡ good (name_in u, made)) × Named m made u h
             met m rowed pos q = (
               q.made,
-              is_name true wants m rowed ∙ rw is-slot q.is,
+              is_name true wants m rowed ∙ rw is_slot_lem q.is,
               record {
                 slots = rw kept.is (slots_same (v COUNTS) (after v slot COUNTS) h (same-gaps v slot) ∙ q.slots);
                 rows = q.rows;
-                unnamed = λ e. absurd (omega (arith, is-slot));
-                named = λ l. rw is-slot q.owned;
+                unnamed = λ e. absurd (omega (arith, is_slot_lem));
+                named = λ l. rw is_slot_lem q.owned;
               },
             )
 
@@ -189,7 +189,7 @@ module _ (s p : List ℕ) (t : Store) (g : GapTable) (live : GapsLive (t COUNTS)
         (λ m q pos.
         record {
           made = shared nodes m own;
-          is = name-shared nodes m own (q.given at ∙ rw (← is) (word_some own pos));
+          is = name_shared nodes m own (q.given at ∙ rw (← is) (word_some own pos));
           slots = q.slots;
           rows = refl;
           owned = refl;
@@ -205,13 +205,13 @@ module _ (s p : List ℕ) (t : Store) (g : GapTable) (live : GapsLive (t COUNTS)
         named wants v u h slot r room kept took.live took.apart took.long took.counters took.kept
         (λ m q pos.
         record {
-          made = taken nodes m slot (slotsIn (v COUNTS) h);
-          is = name-taken nodes m (free m q) slot (slotsIn (v COUNTS) h) (rw (← q.slots) (took.met pos));
+          made = taken nodes m slot (slots_in (v COUNTS) h);
+          is = name_taken nodes m (free m q) slot (slots_in (v COUNTS) h) (rw (← q.slots) (took.met pos));
           slots = refl;
           rows = refl;
           owned = refl;
         })
-        (λ m q z. name-refused nodes m (free m q) (rw (← q.slots) (took.unmet z)))
+        (λ m q z. name_refused nodes m (free m q) (rw (← q.slots) (took.unmet z)))
         (λ all.
         ⊎_elim
         (λ (e : slot ≡ 0). omega arith)
@@ -221,5 +221,5 @@ module _ (s p : List ℕ) (t : Store) (g : GapTable) (live : GapsLive (t COUNTS)
         free : (m : Made) → PooledIn m.pool t g → lookup at m.pool.given ≡ none
         free m q = q.given at ∙ word_none (get_or (t GIVEN) at 0) (sym is ∙ lacks)
 
-        low : 0 < slot → slot ≤ highestSlot
-        low pos = taken-low (slotsIn (t COUNTS) g) (slotsIn (v COUNTS) h) slot (gaps-apart (t COUNTS) g live.apart) (took.met pos)
+        low : 0 < slot → slot ≤ highest_slot
+        low pos = taken_low (slots_in (t COUNTS) g) (slots_in (v COUNTS) h) slot (gaps_apart (t COUNTS) g live.apart) (took.met pos)

@@ -2,25 +2,25 @@
 use Rattle.std.specs.Prelude.{Bool, false, List, [], ◌∷◌, ◌≡◌, ℕ, ◌+◌, ◌≤◌, ◌<◌, length, get_or, drop}
 use Rattle.std.proofs.Math.Option.{some}
 use Rattle.definition.specs.Basics.{good, bad}
-use Rattle.definition.specs.Slots.{highestSlot}
-use Rattle.definition.specs.Job.{readBuild}
-use Rattle.definition.specs.Building.{Rows, Made, nameWanted}
+use Rattle.definition.specs.Slots.{highest_slot}
+use Rattle.definition.specs.Job.{read_build}
+use Rattle.definition.specs.Building.{Rows, Made, name_wanted}
 use Rattle.laws.specs.Gaps.{Apart}
 use Rattle.slots.specs.Gaps.{GapTable}
 use Rattle.store.specs.Store.{Store, put, among, Kept}
-use Rattle.store.specs.JobIn.{jobIn}
+use Rattle.store.specs.JobIn.{job_in}
 use Rattle.store.specs.Regions.{COUNTS, GIVEN, AT, ODD, WIDE, PLAIN, NAME-SLOT}
 use Rattle.rows.specs.Rowed.{RawsReadyIn, RowedIn, table_of}
-use Rattle.pool.specs.Pooled.{gapsIn, PooledIn, GapsLive, NodesThere}
-use Rattle.ending.specs.Ended.{nameIn, name_of, Named}
+use Rattle.pool.specs.Pooled.{gaps_in, PooledIn, GapsLive, NodesThere}
+use Rattle.ending.specs.Ended.{name_in, name_of, Named}
 
 -- record 60 is in turn
 abbrev pub BuildAt : List ℕ → Store → Type 0
-BuildAt s t = readBuild (drop (get_or (t COUNTS) AT 0 + 1) s) ≡ some ((jobIn s).build, [])
+BuildAt s t = read_build (drop (get_or (t COUNTS) AT 0 + 1) s) ≡ some ((job_in s).build, [])
 
 -- r tells whether it wants the name, for any rows that the words are
 abbrev pub Wants : List ℕ → List ℕ → Store → Bool → Type 0
-Wants s p t r = (rows : Rows) → RowedIn p rows t → r ≡ nameWanted (jobIn s).build.nameByte (length (table_of rows))
+Wants s p t r = (rows : Rows) → RowedIn p rows t → r ≡ name_wanted (job_in s).build.name_byte (length (table_of rows))
 
 -- the name has this slot, or there is none and r is the refusal's number
 pub record KeptName (slot : ℕ) (t u : Store) (r : ℕ) : Type 0 where
@@ -34,17 +34,17 @@ pub record CanName (s p : List ℕ) (t : Store) (g : GapTable) : Type 0 where
   pub raws : RawsReadyIn p t
   pub gaps : GapsLive (t COUNTS) g
   pub build : BuildAt s t
-  pub unnamed : nameIn t ≡ 0
+  pub unnamed : name_in t ≡ 0
 
 -- the name has a slot if it is wanted, or r is the refusal's number: t and g before, u and h after
 pub record PoolNamed (s p : List ℕ) (t u : Store) (g h : GapTable) (r : ℕ) : Type 0 where
   pub met :
       (m : Made) → PooledIn m.pool t g → RowedIn p m.rows t → r ≡ 0 →
-      (after : Made) × (name_of s t m ≡ good (nameIn u, after)) × Named m after u h
+      (after : Made) × (name_of s t m ≡ good (name_in u, after)) × Named m after u h
   pub refused : (m : Made) → PooledIn m.pool t g → RowedIn p m.rows t → 0 < r → name_of s t m ≡ bad r
-  pub low : ((k : ℕ) → get_or (t GIVEN) k 0 ≤ highestSlot) → nameIn u ≤ highestSlot
+  pub low : ((k : ℕ) → get_or (t GIVEN) k 0 ≤ highest_slot) → name_in u ≤ highest_slot
   pub live : GapsLive (u COUNTS) h
-  pub apart : (top : ℕ) → Apart top 1 (gapsIn (t COUNTS) g) → Apart top 1 (gapsIn (u COUNTS) h)
+  pub apart : (top : ℕ) → Apart top 1 (gaps_in (t COUNTS) g) → Apart top 1 (gaps_in (u COUNTS) h)
   pub long : length h ≡ length g
   pub counters : (c : ℕ) → among c (ODD ∷ WIDE ∷ PLAIN ∷ NAME-SLOT ∷ []) ≡ false → get_or (u COUNTS) c 0 ≡ get_or (t COUNTS) c 0
   pub kept : Kept (COUNTS ∷ []) t u

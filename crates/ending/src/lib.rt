@@ -1,11 +1,11 @@
 // The end of a pool: the slot of the name "BootstrapMethods", and the pool's count.
 ghost use Rattle.std.specs.Prelude.{◌≡◌, ◌<◌, length, get_or};
 ghost use Rattle.definition.specs.Basics.{position};
-ghost use Rattle.definition.specs.Resolving.{sameNode};
-ghost use Rattle.definition.specs.Building.{attributeText};
+ghost use Rattle.definition.specs.Resolving.{same_node};
+ghost use Rattle.definition.specs.Building.{attribute_text};
 ghost use Rattle.store.specs.Store.{size, store, put, On, IsWord};
 ghost use Rattle.store.specs.Regions.{COUNTS, GIVEN, NAME-SLOT, Work};
-ghost use Rattle.interner.specs.Nodes.{nodesIn};
+ghost use Rattle.interner.specs.Nodes.{nodes_in};
 ghost use Rattle.rows.specs.Rowed.{RawsReadyIn};
 ghost use Rattle.pool.specs.Pooled.{NodesThere};
 ghost use Rattle.ending.specs.Ended.{CanEnd, PoolEnded};
@@ -29,7 +29,7 @@ fn name_wanted(job: &[u8], w: &[u32], p: &[usize]) -> bool
 // The slot of the node of the text "BootstrapMethods", 0 if there is no such node or it has none.
 fn attribute_slot(job: &[u8], w: &[u32], p: &[usize]) -> usize
     requires { On p.now (length w.now) × NodesThere job.now p.now (store p.now w.now) }
-    ensures { (result ≡ get_or (store p.now w.now GIVEN) (position (sameNode attributeText) (nodesIn job.now (store p.now w.now))) 0) × IsWord result }
+    ensures { (result ≡ get_or (store p.now w.now GIVEN) (position (same_node attribute_text) (nodes_in job.now (store p.now w.now))) 0) × IsWord result }
 {
     let k = interner::find_attribute(job, w, p);
     if size_of(p, GIVEN) <= k {
@@ -63,7 +63,7 @@ fn name_slot(job: &[u8], w: &mut [u32], p: &[usize], gaps: &mut [Gap]) -> usize
     keep_name(w, p, slot)
 }
 
-// The name, if wanted, has a slot from then on, and the pool its count, 0, or 14: `nameSlot`, `countFrom` of `layout_of`.
+// The name, if wanted, has a slot from then on, and the pool its count, 0, or 14: `name_slot`, `count_from` of `layout_of`.
 pub fn end_pool(job: &[u8], w: &mut [u32], p: &[usize], gaps: &mut [Gap], top: usize) -> usize
     requires { On p.now (length w.old) × CanEnd job.now p.now top (store p.now w.old) gaps.old }
     ensures { PoolEnded job.now p.now top (store p.now w.old) (store p.now w.new) gaps.old gaps.new result }

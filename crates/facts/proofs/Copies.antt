@@ -22,10 +22,10 @@ pub take_short : (n : ℕ) (l : List ℕ) → take (length (take n l)) l ≡ tak
 take_short n l = ap (take (length (take n l))) (sym (take-append-drop n l)) ∙ take-append_seam (take n l) (drop n l)
 
 -- a turn of the loop that pads with zeros
-pub pad-more :
+pub pad_more :
     (d : List ℕ) (at n i : ℕ) → at + n ≤ length d → i < n →
     set (paste d at (replicate n 0) i) (at + i) 0 ≡ paste d at (replicate n 0) (i + 1)
-pad-more d at n i room more =
+pad_more d at n i room more =
     let zeros : List ℕ = replicate n 0 in
     let long : i < length zeros = rw length-replicate more in
     ap (λ z. set (paste d at zeros i) (at + i) z) (sym (get_or-replicate n i 0 0 more))
@@ -63,8 +63,8 @@ unfolding overwrite concat from
 joined-none f d = refl
 
 -- a turn of a loop that copies one part behind the other
-pub part-more :
+pub part_more :
     (f : ℕ → List ℕ) (k : ℕ) (d : List ℕ) (at n : ℕ) → length (joined f k) ≡ at → length (f k) ≡ n →
     paste (overwrite (joined f k) d) at (f k) n ≡ overwrite (joined f (k + 1)) d
-part-more f k d at n lj lf =
+part_more f k d at n lj lf =
     overwrite-more (joined f k) (f k) d at n lj lf ∙ ap (λ l. overwrite l d) (sym (ap (joined f) (add-one k) ∙ joined-more f k))

@@ -31,35 +31,35 @@ module _ {A : Type 0} (P : A → Type 0) where
   each_append [] m h k = k
   each_append (x ∷ l) m h k = (h.0, each_append l m h.1 k)
 
-  pub each-reverse : (l acc : List A) → Each P l → Each P acc → Each P (reverse_aux l acc)
-  each-reverse [] acc h k = k
-  each-reverse (x ∷ l) acc h k = each-reverse l (x ∷ acc) h.1 (h.0, k)
+  pub each_reverse : (l acc : List A) → Each P l → Each P acc → Each P (reverse_aux l acc)
+  each_reverse [] acc h k = k
+  each_reverse (x ∷ l) acc h k = each_reverse l (x ∷ acc) h.1 (h.0, k)
 
-  pub each-only : (p : A → Bool) (l : List A) → Each P l → Each P (only p l)
+  pub each_only : (p : A → Bool) (l : List A) → Each P l → Each P (only p l)
   unfolding only
-  each-only p [] h = tt
-  each-only p (x ∷ l) h = go (p x) refl (each-only p l h.1)
+  each_only p [] h = tt
+  each_only p (x ∷ l) h = go (p x) refl (each_only p l h.1)
     where
       go : (b : Bool) → p x ≡ b → Each P (only p l) → Each P (only p (x ∷ l))
       go true e ih = rw (only_here p x l e) (h.0, ih)
       go false e ih = rw (only-later p x l e) ih
 
 -- what follows from what
-pub each-weaker : {A : Type 0} (P Q : A → Type 0) → ((a : A) → P a → Q a) → (l : List A) → Each P l → Each Q l
-each-weaker P Q f [] h = tt
-each-weaker P Q f (x ∷ l) h = (f x h.0, each-weaker P Q f l h.1)
+pub each_weaker : {A : Type 0} (P Q : A → Type 0) → ((a : A) → P a → Q a) → (l : List A) → Each P l → Each Q l
+each_weaker P Q f [] h = tt
+each_weaker P Q f (x ∷ l) h = (f x h.0, each_weaker P Q f l h.1)
 
 -- images
 pub each_map : {A B : Type 0} (P : A → Type 0) (Q : B → Type 0) (f : A → B) → ((a : A) → P a → Q (f a)) → (l : List A) → Each P l → Each Q (map f l)
 each_map P Q f g [] h = tt
 each_map P Q f g (x ∷ l) h = (g x h.0, each_map P Q f g l h.1)
 
-pub each-image : {A B : Type 0} (Q : B → Type 0) (f : A → B) → ((a : A) → Q (f a)) → (l : List A) → Each Q (map f l)
-each-image Q f g l = each_from Q (map f l) (λ i b e. let r = map-some f l i b e in subst Q r.2 (g r.0))
+pub each_image : {A B : Type 0} (Q : B → Type 0) (f : A → B) → ((a : A) → Q (f a)) → (l : List A) → Each Q (map f l)
+each_image Q f g l = each_from Q (map f l) (λ i b e. let r = map-some f l i b e in subst Q r.2 (g r.0))
 
 -- a premise for all is one for each
-pub each-under : {A : Type 0} (H : Type 0) (P : A → Type 0) (l : List A) → (H → Each P l) → Each (λ x. H → P x) l
-each-under H P l h = each_from (λ x. H → P x) l (λ i a e p. each_at P l i a (h p) e)
+pub each_under : {A : Type 0} (H : Type 0) (P : A → Type 0) (l : List A) → (H → Each P l) → Each (λ x. H → P x) l
+each_under H P l h = each_from (λ x. H → P x) l (λ i a e p. each_at P l i a (h p) e)
 
 -- the one at a key
 pub lookup-each : {A : Type 0} (P : ℕ → A → Type 0) (k : ℕ) (l : List (ℕ × A)) (a : A) → Each (λ r. P r.0 r.1) l → lookup k l ≡ some a → P k a

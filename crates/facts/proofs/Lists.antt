@@ -97,16 +97,16 @@ module _ {A : Type 0} where
   found_inside (x ∷ l) (suc i) a h = let k = found_inside l i a h in omega arith
 
   -- nothing is found only from the length on
-  pub missing-outside : (l : List A) (i : ℕ) → get_elem? l i ≡ none → length l ≤ i
-  missing-outside [] i h = omega arith
-  missing-outside (x ∷ l) zero h = none≢some (sym h)
-  missing-outside (x ∷ l) (suc i) h = let k = missing-outside l i h in omega arith
+  pub missing_outside : (l : List A) (i : ℕ) → get_elem? l i ≡ none → length l ≤ i
+  missing_outside [] i h = omega arith
+  missing_outside (x ∷ l) zero h = none≢some (sym h)
+  missing_outside (x ∷ l) (suc i) h = let k = missing_outside l i h in omega arith
 
   -- what is found is what the reader with a default reads
-  pub found-read : (l : List A) (i : ℕ) (a d : A) → get_elem? l i ≡ some a → get_or l i d ≡ a
-  found-read [] i a d h = cc
-  found-read (x ∷ l) zero a d h = cc
-  found-read (x ∷ l) (suc i) a d h = found-read l i a d h
+  pub found_read : (l : List A) (i : ℕ) (a d : A) → get_elem? l i ≡ some a → get_or l i d ≡ a
+  found_read [] i a d h = cc
+  found_read (x ∷ l) zero a d h = cc
+  found_read (x ∷ l) (suc i) a d h = found_read l i a d h
 
   -- inside, what the reader with a default reads is found
   pub read_found : (l : List A) (i : ℕ) (d : A) → i < length l → get_elem? l i ≡ some (get_or l i d)
@@ -120,33 +120,33 @@ module _ {A : Type 0} where
   inside_found (x ∷ l) i h = (get_or (x ∷ l) i x, read_found (x ∷ l) i x h)
 
   -- the place that is set has the new value
-  pub found-set : (l : List A) (i : ℕ) (a : A) → i < length l → get_elem? (set l i a) i ≡ some a
-  found-set [] i a h = absurd (not-suc-le-zero h)
-  found-set (x ∷ l) zero a h = refl
-  found-set (x ∷ l) (suc i) a h = found-set l i a (le_of_suc-le-suc h)
+  pub found_set : (l : List A) (i : ℕ) (a : A) → i < length l → get_elem? (set l i a) i ≡ some a
+  found_set [] i a h = absurd (not-suc-le-zero h)
+  found_set (x ∷ l) zero a h = refl
+  found_set (x ∷ l) (suc i) a h = found_set l i a (le_of_suc-le-suc h)
 
   -- every other place keeps its value
-  pub found-elsewhere : (l : List A) (i j : ℕ) (a : A) → (j ≡ i → ⊥) → get_elem? (set l i a) j ≡ get_elem? l j
-  found-elsewhere [] i j a h = refl
-  found-elsewhere (x ∷ l) zero zero a h = absurd (h refl)
-  found-elsewhere (x ∷ l) zero (suc j) a h = refl
-  found-elsewhere (x ∷ l) (suc i) zero a h = refl
-  found-elsewhere (x ∷ l) (suc i) (suc j) a h = found-elsewhere l i j a (λ e. h (ap suc e))
+  pub found_elsewhere : (l : List A) (i j : ℕ) (a : A) → (j ≡ i → ⊥) → get_elem? (set l i a) j ≡ get_elem? l j
+  found_elsewhere [] i j a h = refl
+  found_elsewhere (x ∷ l) zero zero a h = absurd (h refl)
+  found_elsewhere (x ∷ l) zero (suc j) a h = refl
+  found_elsewhere (x ∷ l) (suc i) zero a h = refl
+  found_elsewhere (x ∷ l) (suc i) (suc j) a h = found_elsewhere l i j a (λ e. h (ap suc e))
 
   -- what is found after a set is the new value at that place, or the old one elsewhere
-  pub found-after-set :
+  pub found_after_set :
       (l : List A) (i j : ℕ) (a b : A) →
       get_elem? (set l i a) j ≡ some b →
       ((j ≡ i) × (a ≡ b)) ⊎ ((j ≡ i → ⊥) × (get_elem? l j ≡ some b))
-  found-after-set l i j a b h = go (equal j i)
+  found_after_set l i j a b h = go (equal j i)
     where
       go : (j ≡ i) ⊎ (j ≡ i → ⊥) → ((j ≡ i) × (a ≡ b)) ⊎ ((j ≡ i → ⊥) × (get_elem? l j ≡ some b))
       go (inl e) =
           let inside : j < length l = subst (λ (n : ℕ). j < n) (length-set l i a) (found_inside (set l i a) j b h) in
-          let new = found-set l i a (subst (λ (n : ℕ). n < length l) e inside) in
+          let new = found_set l i a (subst (λ (n : ℕ). n < length l) e inside) in
           let old = subst (λ (n : ℕ). get_elem? (set l i a) n ≡ some b) e h in
           inl (e, cc)
-      go (inr n) = inr (n, sym (found-elsewhere l i j a n) ∙ h)
+      go (inr n) = inr (n, sym (found_elsewhere l i j a n) ∙ h)
 
   -- what is put at a place is read, or what was there
   pub set-either : (P : A → Type 0) (l : List A) (i j : ℕ) (a d : A) → P a → P (get_or l j d) → P (get_or (set l i a) j d)
@@ -157,24 +157,24 @@ module _ {A : Type 0} where
   set-either P (x ∷ l) (suc i) (suc j) a d h k = set-either P l i j a d h k
 
   -- a list in front of another keeps its places
-  pub place-front : (l m : List A) (i : ℕ) → i < length l → get_elem? (l ++ m) i ≡ get_elem? l i
-  place-front [] m i h = absurd (not-suc-le-zero h)
-  place-front (x ∷ l) m zero h = refl
-  place-front (x ∷ l) m (suc i) h = place-front l m i (le_of_suc-le-suc h)
+  pub place_front : (l m : List A) (i : ℕ) → i < length l → get_elem? (l ++ m) i ≡ get_elem? l i
+  place_front [] m i h = absurd (not-suc-le-zero h)
+  place_front (x ∷ l) m zero h = refl
+  place_front (x ∷ l) m (suc i) h = place_front l m i (le_of_suc-le-suc h)
 
   -- the second list's places come behind
-  pub place-behind : (l m : List A) (i : ℕ) → get_elem? (l ++ m) (length l + i) ≡ get_elem? m i
-  place-behind [] m i = rw (zero-add i)
-  place-behind (x ∷ l) m i = rw (suc-add (length l) i) (place-behind l m i)
+  pub place_behind : (l m : List A) (i : ℕ) → get_elem? (l ++ m) (length l + i) ≡ get_elem? m i
+  place_behind [] m i = rw (zero-add i)
+  place_behind (x ∷ l) m i = rw (suc-add (length l) i) (place_behind l m i)
 
-  pub place-drop : (l : List A) (n i : ℕ) → get_elem? (drop n l) i ≡ get_elem? l (n + i)
-  place-drop l zero i = rw (zero-add i)
-  place-drop [] (suc n) i = refl
-  place-drop (x ∷ l) (suc n) i = rw (suc-add n i) (place-drop l n i)
+  pub place_drop : (l : List A) (n i : ℕ) → get_elem? (drop n l) i ≡ get_elem? l (n + i)
+  place_drop l zero i = rw (zero-add i)
+  place_drop [] (suc n) i = refl
+  place_drop (x ∷ l) (suc n) i = rw (suc-add n i) (place_drop l n i)
 
   -- what is found is still found when more follows
-  pub found-append : (l m : List A) (i : ℕ) (a : A) → get_elem? l i ≡ some a → get_elem? (l ++ m) i ≡ some a
-  found-append l m i a h = place-front l m i (found_inside l i a h) ∙ h
+  pub found_append : (l m : List A) (i : ℕ) (a : A) → get_elem? l i ≡ some a → get_elem? (l ++ m) i ≡ some a
+  found_append l m i a h = place_front l m i (found_inside l i a h) ∙ h
 
   -- a place of two joined lists is one of the first, or one of the second
   pub append_at :
@@ -184,31 +184,31 @@ module _ {A : Type 0} where
   append_at l m i a e = ways (order i (length l))
     where
       ways : (i < length l) ⊎ (length l ≤ i) → (get_elem? l i ≡ some a) ⊎ ((j : ℕ) × (i ≡ length l + j) × (get_elem? m j ≡ some a))
-      ways (inl h) = inl (sym (place-front l m i h) ∙ e)
+      ways (inl h) = inl (sym (place_front l m i h) ∙ e)
       ways (inr h) =
           let q : i ≡ length l + (i - length l) = omega arith in
-          inr (i - length l, q, sym (place-behind l m (i - length l)) ∙ ap (get_elem? (l ++ m)) (sym q) ∙ e)
+          inr (i - length l, q, sym (place_behind l m (i - length l)) ∙ ap (get_elem? (l ++ m)) (sym q) ∙ e)
 
   -- what is joined behind stands at the length
-  pub found-seam : (l : List A) (a : A) (m : List A) → get_elem? (l ++ a ∷ m) (length l) ≡ some a
-  found-seam [] a m = refl
-  found-seam (x ∷ l) a m = found-seam l a m
+  pub found_seam : (l : List A) (a : A) (m : List A) → get_elem? (l ++ a ∷ m) (length l) ≡ some a
+  found_seam [] a m = refl
+  found_seam (x ∷ l) a m = found_seam l a m
 
   -- in n times a there is only a
-  pub found-replicate : (n i : ℕ) (a b : A) → get_elem? (replicate n a) i ≡ some b → a ≡ b
-  found-replicate zero i a b h = cc
-  found-replicate (suc n) zero a b h = cc
-  found-replicate (suc n) (suc i) a b h = found-replicate n i a b h
+  pub found_replicate : (n i : ℕ) (a b : A) → get_elem? (replicate n a) i ≡ some b → a ≡ b
+  found_replicate zero i a b h = cc
+  found_replicate (suc n) zero a b h = cc
+  found_replicate (suc n) (suc i) a b h = found_replicate n i a b h
 
   get_replicate : (i : ℕ) (a : A) → get_elem? (replicate (suc i) a) i ≡ some a
   get_replicate zero a = refl
   get_replicate (suc i) a = get_replicate i a
 
   -- a list filled up with copies through place i has one there
-  pub found-filled : (l : List A) (i : ℕ) (a : A) → length l ≤ i → get_elem? (l ++ replicate (suc i - length l) a) i ≡ some a
-  found-filled [] i a h = rw sub-zero (get_replicate i a)
-  found-filled (x ∷ l) zero a h = absurd (not-suc-le-zero h)
-  found-filled (x ∷ l) (suc i) a h = rw suc-sub-suc (found-filled l i a (le_of_suc-le-suc h))
+  pub found_filled : (l : List A) (i : ℕ) (a : A) → length l ≤ i → get_elem? (l ++ replicate (suc i - length l) a) i ≡ some a
+  found_filled [] i a h = rw sub-zero (get_replicate i a)
+  found_filled (x ∷ l) zero a h = absurd (not-suc-le-zero h)
+  found_filled (x ∷ l) (suc i) a h = rw suc-sub-suc (found_filled l i a (le_of_suc-le-suc h))
 
   -- and its length is one more than i
   pub length-filled : (l : List A) (i : ℕ) (a : A) → length l ≤ i → length (l ++ replicate (suc i - length l) a) ≡ suc i
@@ -248,10 +248,10 @@ module _ {A : Type 0} where
 
   -- what stands in two joined lists stands in one of them, and the other way
   pub among-left : (a : A) (l m : List A) → Among a l → Among a (l ++ m)
-  among-left a l m h = (h.0, found-append l m h.0 a h.1)
+  among-left a l m h = (h.0, found_append l m h.0 a h.1)
 
   pub among-right : (a : A) (l m : List A) → Among a m → Among a (l ++ m)
-  among-right a l m h = (length l + h.0, place-behind l m h.0 ∙ h.1)
+  among-right a l m h = (length l + h.0, place_behind l m h.0 ∙ h.1)
 
   pub among-either : (a : A) (l m : List A) → Among a (l ++ m) → Among a l ⊎ Among a m
   among-either a l m h = ways (append_at l m h.0 a h.1)
@@ -288,9 +288,9 @@ abbrev pub stands : ℕ → List ℕ → Bool
 stands n [] = false
 stands n (x ∷ l) = eqb n x || stands n l
 
-pub stands-among : (n : ℕ) (l : List ℕ) → stands n l ≡ true → Among n l
-stands-among n [] h = clash (cc)
-stands-among n (x ∷ l) h = go (eqb n x) refl h (stands-among n l)
+pub stands_among : (n : ℕ) (l : List ℕ) → stands n l ≡ true → Among n l
+stands_among n [] h = clash (cc)
+stands_among n (x ∷ l) h = go (eqb n x) refl h (stands_among n l)
   where
     go : (b : Bool) → eqb n x ≡ b → (b || stands n l) ≡ true → (stands n l ≡ true → Among n l) → Among n (x ∷ l)
     go true e h rest = (0, ap some (sym (eqb-true n x e)))
@@ -462,10 +462,10 @@ place_map f [] i d h = absurd (omega arith)
 place_map f (x ∷ xs) zero d h = refl
 place_map f (x ∷ xs) (suc i) d h = place_map f xs i d (omega arith)
 
-pub get-map : {A B : Type 0} (f : A → B) (xs : List A) (i : ℕ) (x : A) (d : B) → get_elem? xs i ≡ some x → get_or (map f xs) i d ≡ f x
-get-map f [] i x d e = none≢some e
-get-map f (y ∷ xs) zero x d e = ap f (some_inj e)
-get-map f (y ∷ xs) (suc i) x d e = get-map f xs i x d e
+pub get_map : {A B : Type 0} (f : A → B) (xs : List A) (i : ℕ) (x : A) (d : B) → get_elem? xs i ≡ some x → get_or (map f xs) i d ≡ f x
+get_map f [] i x d e = none≢some e
+get_map f (y ∷ xs) zero x d e = ap f (some_inj e)
+get_map f (y ∷ xs) (suc i) x d e = get_map f xs i x d e
 
 pub map-set : {A B : Type 0} (f : A → B) (xs : List A) (i : ℕ) (x : A) → map f (set xs i x) ≡ set (map f xs) i (f x)
 map-set f [] i x = refl

@@ -2,7 +2,7 @@
 use mathlib.Core.Bool.{Bool, true, false}
 use mathlib.Core.Path.{◌≡◌, refl, subst}
 use Prim.Native.Nat.{ℕ}
-use Rattle.definition.specs.Basics.{Result, good, bad, atRecord, unless, ◌>>=◌}
+use Rattle.definition.specs.Basics.{Result, good, bad, at_record, unless, ◌>>=◌}
 
 -- a good result has P, a refusal Q
 pub data Ends {E A : Type 0} (Q : E → Type 0) (P : A → Type 0) : Result E A → Type 0 where
@@ -28,17 +28,17 @@ pub weaker :
 weaker q p (well {a = a} h) = well (p a h)
 weaker q p (refused {e = e} h) = refused (q e h)
 
-ofGood : {E A : Type 0} {Q : E → Type 0} {P : A → Type 0} {a : A} → Ends Q P (good a) → P a
-ofGood (well h) = h
+of_good : {E A : Type 0} {Q : E → Type 0} {P : A → Type 0} {a : A} → Ends Q P (good a) → P a
+of_good (well h) = h
 
-ofBad : {E A : Type 0} {Q : E → Type 0} {P : A → Type 0} {e : E} → Ends Q P (bad e) → Q e
-ofBad (refused h) = h
+of_bad : {E A : Type 0} {Q : E → Type 0} {P : A → Type 0} {e : E} → Ends Q P (bad e) → Q e
+of_bad (refused h) = h
 
-pub whenGood : {E A : Type 0} {Q : E → Type 0} {P : A → Type 0} {r : Result E A} {a : A} → Ends Q P r → r ≡ good a → P a
-whenGood {Q} {P} h e = ofGood (subst (λ r. Ends Q P r) e h)
+pub when_good : {E A : Type 0} {Q : E → Type 0} {P : A → Type 0} {r : Result E A} {a : A} → Ends Q P r → r ≡ good a → P a
+when_good {Q} {P} h e = of_good (subst (λ r. Ends Q P r) e h)
 
-pub whenBad : {E A : Type 0} {Q : E → Type 0} {P : A → Type 0} {r : Result E A} {e : E} → Ends Q P r → r ≡ bad e → Q e
-whenBad {Q} {P} h e = ofBad (subst (λ r. Ends Q P r) e h)
+pub when_bad : {E A : Type 0} {Q : E → Type 0} {P : A → Type 0} {r : Result E A} {e : E} → Ends Q P r → r ≡ bad e → Q e
+when_bad {Q} {P} h e = of_bad (subst (λ r. Ends Q P r) e h)
 
 -- what a result is tells how it ends
 pub ended : {E A : Type 0} {Q : E → Type 0} {P : A → Type 0} (r : Result E A) → ((a : A) → r ≡ good a → P a) → ((e : E) → r ≡ bad e → Q e) → Ends Q P r
@@ -59,11 +59,11 @@ abbrev pub Anything : {A : Type 0} → A → Type 0
 Anything a = Unit {0}
 
 -- a number's place doesn't matter
-pub atRecord-ends :
-    {A : Type 0} {Z : ℕ → Type 0} {P : A → Type 0} {r : Result ℕ A} (place : ℕ) → Ends Z P r → Ends (λ e. Z e.code) P (atRecord place r)
-unfolding atRecord
-atRecord-ends place (well h) = well h
-atRecord-ends place (refused h) = refused h
+pub at_record-ends :
+    {A : Type 0} {Z : ℕ → Type 0} {P : A → Type 0} {r : Result ℕ A} (place : ℕ) → Ends Z P r → Ends (λ e. Z e.code) P (at_record place r)
+unfolding at_record
+at_record-ends place (well h) = well h
+at_record-ends place (refused h) = refused h
 
 pub unless-ends : {Z : ℕ → Type 0} (b : Bool) (code : ℕ) → Z code → Ends Z Anything (unless b code)
 unfolding unless

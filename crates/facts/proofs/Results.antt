@@ -6,7 +6,7 @@ use mathlib.Core.Logic.{◌⊎◌, inl, inr}
 use mathlib.Core.Option.{Option, none, some}
 use mathlib.Core.Path.{◌≡◌, refl, ap}
 use Prim.Native.Nat.{ℕ}
-use Rattle.definition.specs.Basics.{Result, good, bad, Refusal, atRecord, unless, ◌>>=◌}
+use Rattle.definition.specs.Basics.{Result, good, bad, Refusal, at_record, unless, ◌>>=◌}
 use Rattle.definition.specs.Bytes.{Parser, and_then}
 use Rattle.definition.specs.Form.{whole}
 use Rattle.facts.proofs.Lists.{clash}
@@ -18,28 +18,28 @@ pub bad≢good : {E A X : Type 0} {e : E} {a : A} → ◌≡◌ {A = Result E A}
 bad≢good h = clash (cc)
 
 -- one result is one value
-pub good-inj : {E A : Type 0} {a b : A} → ◌≡◌ {A = Result E A} (good a) (good b) → a ≡ b
-good-inj e = cc
+pub good_inj : {E A : Type 0} {a b : A} → ◌≡◌ {A = Result E A} (good a) (good b) → a ≡ b
+good_inj e = cc
 
 -- and one refusal one number
-pub bad-inj : {E A : Type 0} {a b : E} → ◌≡◌ {A = Result E A} (bad a) (bad b) → a ≡ b
-bad-inj e = cc
+pub bad_inj : {E A : Type 0} {a b : E} → ◌≡◌ {A = Result E A} (bad a) (bad b) → a ≡ b
+bad_inj e = cc
 
 -- a chain that ends well went well at its first stage
-pub good-first : {E A B : Type 0} (r : Result E A) (f : A → Result E B) (b : B) → (r >>= f) ≡ good b → (a : A) × (r ≡ good a) × (f a ≡ good b)
-good-first (good a) f b e = (a, refl, e)
-good-first (bad c) f b e = bad≢good e
+pub good_first : {E A B : Type 0} (r : Result E A) (f : A → Result E B) (b : B) → (r >>= f) ≡ good b → (a : A) × (r ≡ good a) × (f a ≡ good b)
+good_first (good a) f b e = (a, refl, e)
+good_first (bad c) f b e = bad≢good e
 
 -- the same, for what follows from the stage's value
-pub good-then :
+pub good_then :
     {E A B C : Type 0} (r : Result E A) (f : A → Result E B) (b : B) → (r >>= f) ≡ good b → ((a : A) → r ≡ good a → f a ≡ good b → C) → C
-good-then r f b e k = let h = good-first r f b e in k h.0 h.1 h.2
+good_then r f b e k = let h = good_first r f b e in k h.0 h.1 h.2
 
 -- a good result at a record is a good result
-pub atRecord-good : {A : Type 0} (place : ℕ) (r : Result ℕ A) (a : A) → atRecord place r ≡ good a → r ≡ good a
-unfolding atRecord
-atRecord-good place (good x) a h = ap good (good-inj h)
-atRecord-good place (bad code) a h = bad≢good h
+pub at_record-good : {A : Type 0} (place : ℕ) (r : Result ℕ A) (a : A) → at_record place r ≡ good a → r ≡ good a
+unfolding at_record
+at_record-good place (good x) a h = ap good (good_inj h)
+at_record-good place (bad code) a h = bad≢good h
 
 -- what wasn't refused passed the test
 pub unless-good : (b : Bool) (code : ℕ) (u : Unit {0}) → unless b code ≡ good u → b ≡ true
@@ -57,7 +57,7 @@ unless-first false code f a h = bad≢good h
 pub whole-good : {A : Type 0} (o : Option A) (a : A) → whole o ≡ good a → o ≡ some a
 unfolding whole
 whole-good none a h = bad≢good h
-whole-good (some x) a h = ap some (good-inj h)
+whole-good (some x) a h = ap some (good_inj h)
 
 -- a chain of parsers that ends well went well at its first stage
 pub some_then :
@@ -75,58 +75,58 @@ decided true x y z e f g = f refl e
 decided false x y z e f g = g refl e
 
 -- a test that refuses with a number was passed, if nothing is refused with that number
-pub past-unless :
+pub past_unless :
     {A : Type 0} (t : Bool) (place code : ℕ) (f : Unit {0} → Result Refusal A) →
-    ((r : Refusal) → (atRecord place (unless t code) >>= f) ≡ bad r → r.code ≡ code → ⊥) →
-    (atRecord place (unless t code) >>= f) ≡ f tt
-unfolding atRecord unless
-past-unless true place code f h = refl
-past-unless false place code f h = absurd (h (record { code = code; place = place }) refl refl)
+    ((r : Refusal) → (at_record place (unless t code) >>= f) ≡ bad r → r.code ≡ code → ⊥) →
+    (at_record place (unless t code) >>= f) ≡ f tt
+unfolding at_record unless
+past_unless true place code f h = refl
+past_unless false place code f h = absurd (h (record { code = code; place = place }) refl refl)
 
 -- ---- a check that gives nothing but leave to go on
 
 module _ {A : Type 0} (next : Result Refusal A) where
   -- the outcome is good: the check was, and what comes next is
-  pub thenGood : (r : Result Refusal (Unit {0})) (a : A) → (r >>= λ _. next) ≡ good a → (r ≡ good tt) × (next ≡ good a)
-  thenGood (good u) a e = (refl, e)
-  thenGood (bad x) a e = clash (cc)
+  pub then_good : (r : Result Refusal (Unit {0})) (a : A) → (r >>= λ _. next) ≡ good a → (r ≡ good tt) × (next ≡ good a)
+  then_good (good u) a e = (refl, e)
+  then_good (bad x) a e = clash (cc)
 
   -- the outcome is a refusal: the check's, or a later one
-  pub thenBad :
+  pub then_bad :
       (r : Result Refusal (Unit {0})) (x : Refusal) → (r >>= λ _. next) ≡ bad x → (r ≡ bad x) ⊎ ((r ≡ good tt) × (next ≡ bad x))
-  thenBad (good u) x e = inr (refl, e)
-  thenBad (bad y) x e = inl (cc)
+  then_bad (good u) x e = inr (refl, e)
+  then_bad (bad y) x e = inl (cc)
 
 -- ---- a test in front of what comes next: it passes, or it is refused
 
 module _ {A : Type 0} (t : Bool) (place code : ℕ) (next : Result Refusal A) where
   abbrev pub guarded : Result Refusal A
-  guarded = atRecord place (unless t code) >>= λ _. next
+  guarded = at_record place (unless t code) >>= λ _. next
 
 module _ {A : Type 0} (place code : ℕ) (next : Result Refusal A) where
   -- a test that holds leaves what comes next
   pub passes : (t : Bool) → t ≡ true → guarded t place code next ≡ next
-  unfolding atRecord unless
+  unfolding at_record unless
   passes true e = refl
   passes false e = clash (cc)
 
   -- one that doesn't is refused with its number, at its place
   pub refuses : (t : Bool) → t ≡ false → guarded t place code next ≡ bad (record { code = code; place = place })
-  unfolding atRecord unless
+  unfolding at_record unless
   refuses true e = clash (cc)
   refuses false e = refl
 
   -- the outcome is good: the test held
   pub passed : (t : Bool) (a : A) → guarded t place code next ≡ good a → (t ≡ true) × (next ≡ good a)
-  unfolding atRecord unless
+  unfolding at_record unless
   passed true a e = (refl, e)
   passed false a e = clash (cc)
 
   -- the outcome is a refusal: the test's, or a later one
-  pub refusedBy :
+  pub refused_by :
       (t : Bool) (r : Refusal) →
       guarded t place code next ≡ bad r →
       ((t ≡ false) × (record { code = code; place = place } ≡ r)) ⊎ ((t ≡ true) × (next ≡ bad r))
-  unfolding atRecord unless
-  refusedBy true r e = inr (refl, e)
-  refusedBy false r e = inl (refl, cc)
+  unfolding at_record unless
+  refused_by true r e = inr (refl, e)
+  refused_by false r e = inl (refl, cc)

@@ -164,7 +164,7 @@ rising_none low top k (x ∷ rows) r h =
     lookup-miss k x rows (λ q. omega arith) ∙ rising_none (suc x.0) top k rows r.2 (omega arith)
 
 -- a new key keeps the keys rising
-pub rising-insert :
+pub rising_insert :
     {A : Type 0} (low top k : ℕ) (a : A) (rows : List (ℕ × A)) →
     low ≤ k →
     k ≤ top →
@@ -172,8 +172,8 @@ pub rising-insert :
     Rising low top (keys rows) →
     Rising low top (keys (insert k a rows))
 unfolding insert
-rising-insert low top k a [] h t new rising = (h, t, tt)
-rising-insert {A} low top k a (r ∷ rows) h t new rising = ways (order k r.0) (equal k r.0) (rising-insert (suc r.0) top k a rows)
+rising_insert low top k a [] h t new rising = (h, t, tt)
+rising_insert {A} low top k a (r ∷ rows) h t new rising = ways (order k r.0) (equal k r.0) (rising_insert (suc r.0) top k a rows)
   where
     ways :
         (k < r.0) ⊎ (r.0 ≤ k) →
@@ -188,17 +188,17 @@ rising-insert {A} low top k a (r ∷ rows) h t new rising = ways (order k r.0) (
 
 module _ {A : Type 0} where
   -- what stands in such a table is what is found at its key
-  pub rising-from : (low top : ℕ) (rows : List (ℕ × A)) (k : ℕ) (a : A) → Rising low top (keys rows) → Among (k, a) rows → low ≤ k
-  rising-from low top [] k a r h = among-nil (k, a) h
-  rising-from low top (x ∷ rows) k a r (zero, e) = let q = some_key x (k, a) e in omega (arith, r.0)
-  rising-from low top (x ∷ rows) k a r (suc i, e) = let h = rising-from (suc x.0) top rows k a r.2 (i, e) in omega (arith, r.0)
+  pub rising_from : (low top : ℕ) (rows : List (ℕ × A)) (k : ℕ) (a : A) → Rising low top (keys rows) → Among (k, a) rows → low ≤ k
+  rising_from low top [] k a r h = among-nil (k, a) h
+  rising_from low top (x ∷ rows) k a r (zero, e) = let q = some_key x (k, a) e in omega (arith, r.0)
+  rising_from low top (x ∷ rows) k a r (suc i, e) = let h = rising_from (suc x.0) top rows k a r.2 (i, e) in omega (arith, r.0)
 
-  pub rising-lookup : (low top : ℕ) (rows : List (ℕ × A)) (k : ℕ) (a : A) → Rising low top (keys rows) → Among (k, a) rows → lookup k rows ≡ some a
-  rising-lookup low top [] k a r h = among-nil (k, a) h
-  rising-lookup low top (x ∷ rows) k a r (zero, e) = lookup-hit k x rows (sym (some_key x (k, a) e)) ∙ ap some (some-row x (k, a) e)
-  rising-lookup low top (x ∷ rows) k a r (suc i, e) =
-      let b = rising-from (suc x.0) top rows k a r.2 (i, e) in
-      lookup-miss k x rows (λ q. omega arith) ∙ rising-lookup (suc x.0) top rows k a r.2 (i, e)
+  pub rising_lookup : (low top : ℕ) (rows : List (ℕ × A)) (k : ℕ) (a : A) → Rising low top (keys rows) → Among (k, a) rows → lookup k rows ≡ some a
+  rising_lookup low top [] k a r h = among-nil (k, a) h
+  rising_lookup low top (x ∷ rows) k a r (zero, e) = lookup-hit k x rows (sym (some_key x (k, a) e)) ∙ ap some (some-row x (k, a) e)
+  rising_lookup low top (x ∷ rows) k a r (suc i, e) =
+      let b = rising_from (suc x.0) top rows k a r.2 (i, e) in
+      lookup-miss k x rows (λ q. omega arith) ∙ rising_lookup (suc x.0) top rows k a r.2 (i, e)
 
 -- ---- every row of a table
 
@@ -220,10 +220,10 @@ module _ {A : Type 0} (P : Option A → Type 0) where
   InRows [] = P none
   InRows (r ∷ rows) = P (some r.1) × InRows rows
 
-  pub looked-up : (k : ℕ) (rows : List (ℕ × A)) → InRows rows → P (lookup k rows)
+  pub looked_up : (k : ℕ) (rows : List (ℕ × A)) → InRows rows → P (lookup k rows)
   unfolding lookup
-  looked-up k [] h = h
-  looked-up k (r ∷ rows) h = ways (eqb k r.0) refl (looked-up k rows h.1)
+  looked_up k [] h = h
+  looked_up k (r ∷ rows) h = ways (eqb k r.0) refl (looked_up k rows h.1)
     where
       ways : (b : Bool) → eqb k r.0 ≡ b → P (lookup k rows) → P (lookup k (r ∷ rows))
       ways true e rest = rw (e, lookup) h.0

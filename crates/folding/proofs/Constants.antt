@@ -10,9 +10,9 @@ use lib.Ieee.{binary32, binary64}
 use lib.ListN.{length, drop}
 use Rattle.definition.specs.Basics as results
 use Rattle.definition.specs.Basics.{Result, good, bad}
-use Rattle.definition.specs.Expression.{Number, int, float, long, double, Sign, plus, minus, times, over, Expression, leaf, apply, expression, readExpression, kindWithin}
-use Rattle.definition.specs.Value.{quotient, integer, computed, value, oneKind, folded, constantIn}
-use Rattle.folding.specs.Folding.{number_of, ofNumber, bits_of, Comes, FoldedTo, constantAs, Reads, Ends}
+use Rattle.definition.specs.Expression.{Number, int, float, long, double, Sign, plus, minus, times, over, Expression, leaf, apply, expression, read_expression, kind_within}
+use Rattle.definition.specs.Value.{quotient, integer, computed, value, one_kind, folded, constant_in}
+use Rattle.folding.specs.Folding.{number_of, of_number, bits_of, Comes, FoldedTo, constant_as, Reads, Ends}
 use Rattle.folding.specs.declared.Value.{Value}
 use Rattle.folding.specs.declared.Constant.{Constant}
 use Rattle.folding.specs.declared.Constant.TheVariants as constant
@@ -24,9 +24,9 @@ abbrev code_of : Result ℕ ℕ → ℕ
 code_of (good n) = 23
 code_of (bad code) = code
 
-abbrev goodOf : ℕ → Result ℕ ℕ → ℕ
-goodOf n (good m) = m
-goodOf n (bad code) = n
+abbrev good_of : ℕ → Result ℕ ℕ → ℕ
+good_of n (good m) = m
+good_of n (bad code) = n
 
 -- what can't be worked out is 23
 
@@ -60,74 +60,74 @@ value-code k (apply s a b) = go (value k a) (value k b) (value-code k a) (value-
 
 -- the bits of a value that was worked out are the value's
 
-computed-bits : (k : Number) (s : Sign) (a b n : ℕ) → computed k s a b ≡ good n → bits_of (ofNumber k n) ≡ n
-unfolding computed bits_of ofNumber
+computed-bits : (k : Number) (s : Sign) (a b n : ℕ) → computed k s a b ≡ good n → bits_of (of_number k n) ≡ n
+unfolding computed bits_of of_number
 computed-bits int s a b n e = refl
-computed-bits float s a b n e = subst (λ n. bits_of (ofNumber float n) ≡ n) (ap (goodOf n) e) (rounded-bits binary32 s a b)
+computed-bits float s a b n e = subst (λ n. bits_of (of_number float n) ≡ n) (ap (good_of n) e) (rounded-bits binary32 s a b)
 computed-bits long s a b n e = refl
-computed-bits double s a b n e = subst (λ n. bits_of (ofNumber double n) ≡ n) (ap (goodOf n) e) (rounded-bits binary64 s a b)
+computed-bits double s a b n e = subst (λ n. bits_of (of_number double n) ≡ n) (ap (good_of n) e) (rounded-bits binary64 s a b)
 
-value-bits : (k : Number) (g : Sign) (a b : Expression) (n : ℕ) → value k (apply g a b) ≡ good n → bits_of (ofNumber k n) ≡ n
+value-bits : (k : Number) (g : Sign) (a b : Expression) (n : ℕ) → value k (apply g a b) ≡ good n → bits_of (of_number k n) ≡ n
 unfolding value
 value-bits k g a b n e = go (value k a) (value k b) e
   where
-    go : (l m : Result ℕ ℕ) → results.◌>>=◌ l (λ x. results.◌>>=◌ m (λ y. computed k g x y)) ≡ good n → bits_of (ofNumber k n) ≡ n
+    go : (l m : Result ℕ ℕ) → results.◌>>=◌ l (λ x. results.◌>>=◌ m (λ y. computed k g x y)) ≡ good n → bits_of (of_number k n) ≡ n
     go (good x) (good y) e = computed-bits k g x y n e
     go (good x) (bad c) e = absurd (let z : ◌≡◌ {A = ℕ} 0 1 = cc in omega arith)
     go (bad c) m e = absurd (let z : ◌≡◌ {A = ℕ} 0 1 = cc in omega arith)
 
 -- ---- the constant
 
-folded-is : (e : Expression) (k : Number) → kindWithin 32 e ≡ some k → folded (some e) ≡ results.◌>>=◌ (value k e) (λ b. good (k, b))
-unfolding folded oneKind
-folded-is e k h = ap (λ o. results.◌>>=◌ (oneKind o) (λ k. results.◌>>=◌ (value k e) (λ b. good (k, b)))) h
+folded-is : (e : Expression) (k : Number) → kind_within 32 e ≡ some k → folded (some e) ≡ results.◌>>=◌ (value k e) (λ b. good (k, b))
+unfolding folded one_kind
+folded-is e k h = ap (λ o. results.◌>>=◌ (one_kind o) (λ k. results.◌>>=◌ (value k e) (λ b. good (k, b)))) h
 
-pub refused-kind : (e : Expression) → kindWithin 32 e ≡ none → constant.Refused 22 ≡ constantAs (folded (some e))
-unfolding folded oneKind constantAs
-refused-kind e h = sym (ap (λ o. constantAs (results.◌>>=◌ (oneKind o) (λ k. results.◌>>=◌ (value k e) (λ b. good (k, b))))) h)
+pub refused_kind : (e : Expression) → kind_within 32 e ≡ none → constant.Refused 22 ≡ constant_as (folded (some e))
+unfolding folded one_kind constant_as
+refused_kind e h = sym (ap (λ o. constant_as (results.◌>>=◌ (one_kind o) (λ k. results.◌>>=◌ (value k e) (λ b. good (k, b))))) h)
 
 module _ (s : List ℕ) (e : Expression) (rest : List ℕ) (v : Value) (next : ℕ) (z : Bool) (h : FoldedTo s 32 e rest v next z) where
-  pub refused-zero : z ≡ true → constant.Refused 23 ≡ constantAs (folded (some e))
-  unfolding constantAs
-  refused-zero t = go (value (number_of v) e) h.comes (value-code (number_of v) e) ∙ sym (ap constantAs (folded-is e (number_of v) h.kind))
+  pub refused_zero : z ≡ true → constant.Refused 23 ≡ constant_as (folded (some e))
+  unfolding constant_as
+  refused_zero t = go (value (number_of v) e) h.comes (value-code (number_of v) e) ∙ sym (ap constant_as (folded-is e (number_of v) h.kind))
     where
-      go : (r : Result ℕ ℕ) → Comes (number_of v) r v z → code_of r ≡ 23 → constant.Refused 23 ≡ constantAs (results.◌>>=◌ r (λ b. good (number_of v, b)))
+      go : (r : Result ℕ ℕ) → Comes (number_of v) r v z → code_of r ≡ 23 → constant.Refused 23 ≡ constant_as (results.◌>>=◌ r (λ b. good (number_of v, b)))
       go (good b) (p, q) i = absurd (let z : ◌≡◌ {A = ℕ} 0 1 = cc in omega arith)
       go (bad c) p i = ap constant.Refused (sym i)
 
-  pub worked-out : z ≡ false → (g : Sign) (a b : Expression) → e ≡ apply g a b → (r : Constant) → r ≡ constantAs (good (number_of v, bits_of v)) → r ≡ constantAs (folded (some e))
-  worked-out f g a b is r i =
-      i ∙ ap constantAs (go (value (number_of v) e) refl h.comes) ∙ sym (ap constantAs (folded-is e (number_of v) h.kind))
+  pub worked_out_lem : z ≡ false → (g : Sign) (a b : Expression) → e ≡ apply g a b → (r : Constant) → r ≡ constant_as (good (number_of v, bits_of v)) → r ≡ constant_as (folded (some e))
+  worked_out_lem f g a b is r i =
+      i ∙ ap constant_as (go (value (number_of v) e) refl h.comes) ∙ sym (ap constant_as (folded-is e (number_of v) h.kind))
     where
       go : (r : Result ℕ ℕ) → value (number_of v) e ≡ r → Comes (number_of v) r v z → ◌≡◌ {A = Result ℕ (Number × ℕ)} (good (number_of v, bits_of v)) (results.◌>>=◌ r (λ b. good (number_of v, b)))
       go (good n) q (p, t) = ap (λ m. good (number_of v, m)) (ap bits_of p ∙ value-bits (number_of v) g a b n (ap (value (number_of v)) (sym is) ∙ q))
       go (bad c) q (p, t) = absurd (let z : ◌≡◌ {A = ℕ} 0 1 = cc in omega arith)
 
-pub lone-leaf : (k : Number) (b : ℕ) (e : Expression) → e ≡ leaf k b → (r : Constant) → r ≡ constantAs (good (k, b)) → r ≡ constantAs (folded (some e))
-unfolding folded oneKind kindWithin value
-lone-leaf k b e is r i = i ∙ ap (λ e. constantAs (folded (some e))) (sym is)
+pub lone_leaf_lem : (k : Number) (b : ℕ) (e : Expression) → e ≡ leaf k b → (r : Constant) → r ≡ constant_as (good (k, b)) → r ≡ constant_as (folded (some e))
+unfolding folded one_kind kind_within value
+lone_leaf_lem k b e is r i = i ∙ ap (λ e. constant_as (folded (some e))) (sym is)
 
 -- ---- the constant at a place, by how its expression ends
 
 module _ (s : List ℕ) (at : ℕ) where
   abbrev constant_of : Constant
-  constant_of = constantAs (constantIn (readExpression (drop at s)))
+  constant_of = constant_as (constant_in (read_expression (drop at s)))
 
   pub ends-reads : (next : ℕ) → Ends s at next → Reads s at
-  unfolding readExpression
+  unfolding read_expression
   ends-reads next h = record { fuel = length (drop at s); what = h.what; rest = drop next s; read = h.read }
 
   pub whole-constant :
       (next : ℕ) → Ends s at next → (r : Constant) →
-      ((fuel : ℕ) (e : Expression) (rest : List ℕ) → expression fuel (drop at s) ≡ some (some e, rest) → r ≡ constantAs (folded (some e))) →
+      ((fuel : ℕ) (e : Expression) (rest : List ℕ) → expression fuel (drop at s) ≡ some (some e, rest) → r ≡ constant_as (folded (some e))) →
       r ≡ constant_of
-  unfolding readExpression constantIn
-  whole-constant next h r f = f (length (drop at s)) h.what (drop next s) h.read ∙ ap (λ o. constantAs (constantIn o)) (sym h.read)
+  unfolding read_expression constant_in
+  whole-constant next h r f = f (length (drop at s)) h.what (drop next s) h.read ∙ ap (λ o. constant_as (constant_in o)) (sym h.read)
 
-  pub cut-constant : readExpression (drop at s) ≡ none → constant.Refused 3 ≡ constant_of
-  unfolding constantIn constantAs
-  cut-constant h = ap (λ o. constantAs (constantIn o)) (sym h)
+  pub cut-constant : read_expression (drop at s) ≡ none → constant.Refused 3 ≡ constant_of
+  unfolding constant_in constant_as
+  cut-constant h = ap (λ o. constant_as (constant_in o)) (sym h)
 
-  pub bad-constant : (rest : List ℕ) → readExpression (drop at s) ≡ some (none, rest) → constant.Refused 22 ≡ constant_of
-  unfolding constantIn constantAs folded
-  bad-constant rest h = ap (λ o. constantAs (constantIn o)) (sym h)
+  pub bad_constant : (rest : List ℕ) → read_expression (drop at s) ≡ some (none, rest) → constant.Refused 22 ≡ constant_of
+  unfolding constant_in constant_as folded
+  bad_constant rest h = ap (λ o. constant_as (constant_in o)) (sym h)

@@ -9,10 +9,10 @@ use lib.Ieee.Compare.{differs_from_itself, nan_differs}
 use borrow.Author.Tests.{lt-ltb, le-ltb}
 use Rattle.definition.specs.Expression.{Sign}
 use Rattle.definition.specs.Value.{operation, rounded}
-use Rattle.laws.proofs.values.Rounding.{operation-fits, nan-by-test}
+use Rattle.laws.proofs.Values.Rounding.{operation-fits, nan-by_test}
 
-pub is-nan : (x : Float) → ne x x ≡ true → x ≡ nan
-is-nan x e = differs_from_itself x (subst T (sym e) tt)
+pub is_nan_lem : (x : Float) → ne x x ≡ true → x ≡ nan
+is_nan_lem x e = differs_from_itself x (subst T (sym e) tt)
 
 pub no_nan : (x : Float) → ne x x ≡ false → T (not (is_nan x))
 unfolding is_nan
@@ -20,20 +20,20 @@ no_nan nan e = absurd (true≢false (sym nan_differs ∙ e))
 no_nan (inf s) e = tt
 no_nan (fin s m k) e = tt
 
-pub bits-of-nan-32 : (x : Float) → ne x x ≡ true → 2143289344 ≡ to_bits binary32 x
+pub bits_of-nan-32 : (x : Float) → ne x x ≡ true → 2143289344 ≡ to_bits binary32 x
 unfolding to_bits
-bits-of-nan-32 x e = sym (ap (to_bits binary32) (is-nan x e))
+bits_of-nan-32 x e = sym (ap (to_bits binary32) (is_nan_lem x e))
 
-pub bits-of-nan-64 : (x : Float) → ne x x ≡ true → 9221120237041090560 ≡ to_bits binary64 x
+pub bits_of-nan-64 : (x : Float) → ne x x ≡ true → 9221120237041090560 ≡ to_bits binary64 x
 unfolding to_bits
-bits-of-nan-64 x e = sym (ap (to_bits binary64) (is-nan x e))
+bits_of-nan-64 x e = sym (ap (to_bits binary64) (is_nan_lem x e))
 
 -- a pattern above the infinity's is a NaN's, and no other is
-pub patterns-nan : (f : Format) (n : ℕ) → ones f * hid f < n % top f → of_bits f n ≡ nan
-patterns-nan f n h = nan-by-test (of_bits f n) (sym (nan_bits_is f n) ∙ nan_bits_above f n ∙ lt-ltb (ones f * hid f) (n % top f) h)
+pub patterns_nan : (f : Format) (n : ℕ) → ones f * hid f < n % top f → of_bits f n ≡ nan
+patterns_nan f n h = nan-by_test (of_bits f n) (sym (nan_bits_is f n) ∙ nan_bits_above f n ∙ lt-ltb (ones f * hid f) (n % top f) h)
 
-pub patterns-number : (f : Format) (n : ℕ) → n % top f ≤ ones f * hid f → T (not (nan_bits f n))
-patterns-number f n h = subst (λ t. T (not t)) (sym (nan_bits_above f n ∙ le-ltb (ones f * hid f) (n % top f) h)) tt
+pub patterns_number : (f : Format) (n : ℕ) → n % top f ≤ ones f * hid f → T (not (nan_bits f n))
+patterns_number f n h = subst (λ t. T (not t)) (sym (nan_bits_above f n ∙ le-ltb (ones f * hid f) (n % top f) h)) tt
 
 pub zero_by_zero : (f : Format) → div f (of_bits f 0) (of_bits f 0) ≡ nan
 unfolding div of_bits

@@ -9,7 +9,7 @@ use lib.Ieee.{unlike}
 use lib.Dec.{leb, ltb}
 use Rattle.definition.specs.Expression.{over}
 use Rattle.definition.specs.Value.{negative, negated, magnitude, quotient, integer}
-use Rattle.folding.specs.Folding.{asWhole}
+use Rattle.folding.specs.Folding.{as_whole}
 use Rattle.folding.specs.declared.Whole.TheVariants as whole
 
 once : (n m : ℕ) → m ≤ n → n < m + m → n % m ≡ n - m
@@ -24,13 +24,13 @@ module _ (last a b : ℕ) (A : a ≤ last) (B : b ≤ last) where
       let e : a + b - (last + 1) ≡ a - (last - b) - 1 = omega arith in
       sym (once (a + b) (last + 1) (omega arith) (omega arith) ∙ e)
 
-  pub difference-fits : b ≤ a → a - b ≡ (a + (last + 1 - b)) % (last + 1)
-  difference-fits h =
+  pub difference_fits : b ≤ a → a - b ≡ (a + (last + 1 - b)) % (last + 1)
+  difference_fits h =
       let e : a + (last + 1 - b) - (last + 1) ≡ a - b = omega arith in
       sym (once (a + (last + 1 - b)) (last + 1) (omega arith) (omega arith) ∙ e)
 
-  pub difference-wraps : a < b → a + (last - b) + 1 ≡ (a + (last + 1 - b)) % (last + 1)
-  difference-wraps h =
+  pub difference_wraps : a < b → a + (last - b) + 1 ≡ (a + (last + 1 - b)) % (last + 1)
+  difference_wraps h =
       let e : a + (last + 1 - b) ≡ a + (last - b) + 1 = omega arith in
       sym (mod-eq_of_lt {n = a + (last + 1 - b)} {m = last + 1} (omega arith) ∙ e)
 
@@ -72,10 +72,10 @@ rearranged p q u v r = simp (add-mul, mul-add, mul_assoc, mul_comm, mul_left_com
 gathered : (s x y r t : ℕ) → s * (r * r) + ((x * r + y) * r + t) ≡ (s + x) * (r * r) + (t + y * r)
 gathered s x y r t = simp (add-mul, mul_assoc, add_assoc, add_comm, add_left_comm)
 
-pub by-halves :
+pub by_halves :
     (r m a b : ℕ) → r * r ≡ m →
     (a % r * (b % r) + (a / r * (b % r) % r + a % r * (b / r) % r) % r * r) % m ≡ (a * b) % m
-by-halves r m a b e =
+by_halves r m a b e =
     let p = a / r in
     let q = a % r in
     let u = b / r in
@@ -92,27 +92,27 @@ by-halves r m a b e =
     ∙ ap (λ n. (q * v + n * r) % m) (add-mod (p * v) (q * u) r))
 
 -- what the halves' products keep within
-pub root-positive : (r last : ℕ) → r * r ≡ last + 1 → 0 < r
-root-positive zero last e = absurd (none e)
+pub root_positive : (r last : ℕ) → r * r ≡ last + 1 → 0 < r
+root_positive zero last e = absurd (none e)
   where
     none : 0 ≡ last + 1 → ⊥
     none e = omega arith
-root-positive (suc r) last e = omega arith
+root_positive (suc r) last e = omega arith
 
 pub rest_below : (r last a : ℕ) → r * r ≡ last + 1 → a % r < r
-rest_below r last a e = mod-lt a (root-positive r last e)
+rest_below r last a e = mod-lt a (root_positive r last e)
 
 pub top_below : (r last a : ℕ) → a ≤ last → r * r ≡ last + 1 → a / r < r
-top_below r last a h e = (div-lt_iff_lt-mul (root-positive r last e)).1 (rw e (omega arith))
+top_below r last a h e = (div-lt_iff_lt-mul (root_positive r last e)).1 (rw e (omega arith))
 
 pub both_below : (r last p q : ℕ) → r * r ≡ last + 1 → p < r → q < r → p * q ≤ last
 both_below r last p q e P Q =
-    let h : p * q < r * r = lt_of_le_of_lt (mul-le-mul_left p (le_of_lt Q)) (mul-lt-mul_of_pos_right P (root-positive r last e)) in
+    let h : p * q < r * r = lt_of_le_of_lt (mul-le-mul_left p (le_of_lt Q)) (mul-lt-mul_of_pos_right P (root_positive r last e)) in
     omega arith
 
-pub shifted-below : (r last p : ℕ) → r * r ≡ last + 1 → p < r → p * r ≤ last
-shifted-below r last p e P =
-    let h : p * r < r * r = mul-lt-mul_of_pos_right P (root-positive r last e) in
+pub shifted_below : (r last p : ℕ) → r * r ≡ last + 1 → p < r → p * r ≤ last
+shifted_below r last p e P =
+    let h : p * r < r * r = mul-lt-mul_of_pos_right P (root_positive r last e) in
     omega arith
 
 pub rests-below : (r last p q : ℕ) → r * r ≡ last + 1 → p < r → q < r → p + q ≤ last
@@ -170,10 +170,10 @@ module _
 
 -- ---- all four signs
 
-pub over_none : (m a b : ℕ) → b ≡ 0 → whole.ByZero ≡ asWhole (integer m over a b)
-unfolding integer asWhole
+pub over_none : (m a b : ℕ) → b ≡ 0 → whole.ByZero ≡ as_whole (integer m over a b)
+unfolding integer as_whole
 over_none m a b e = rw (eq-eqb b 0 e, integer)
 
-pub over-some : (m a b n : ℕ) → (b ≡ 0 → ⊥) → n ≡ quotient m a b → whole.Of n ≡ asWhole (integer m over a b)
-unfolding integer asWhole
+pub over-some : (m a b n : ℕ) → (b ≡ 0 → ⊥) → n ≡ quotient m a b → whole.Of n ≡ as_whole (integer m over a b)
+unfolding integer as_whole
 over-some m a b n e h = rw (ne_eqb b 0 e, integer) (ap whole.Of h)

@@ -15,14 +15,14 @@ use Rattle.definition.specs.Basics.{lookup}
 use Rattle.definition.specs.Bytes.{Parser, return, and_then, ◌>>=◌, one, two}
 use Rattle.writer.specs.Numbers.{number2, number4, number8}
 use Rattle.facts.proofs.Tables.{lookup-none}
-use Rattle.definition.specs.Expression.{Number, int, float, long, double, Sign, Expression, leaf, Opening, ofLeaf, ofSign, openings, four, eight, bits, joined, secondPart, openedPart, expression}
+use Rattle.definition.specs.Expression.{Number, int, float, long, double, Sign, Expression, leaf, Opening, of_leaf, of_sign, openings, four, eight, bits, joined, second_part, opened_part, expression}
 use Rattle.folding.specs.Folding.{size_of, bits_at}
 
-pub no-opening :
+pub no_opening :
     (x : ℕ) → (x ≡ 3 → ⊥) → (x ≡ 4 → ⊥) → (x ≡ 5 → ⊥) → (x ≡ 6 → ⊥) → (x ≡ 0x2B → ⊥) → (x ≡ 0x2D → ⊥) → (x ≡ 0x2A → ⊥) → (x ≡ 0x2F → ⊥) →
     none ≡ lookup x openings
 unfolding openings
-no-opening x a b c d e f g h = sym (lookup-none x openings (a, (b, (c, (d, (e, (f, (g, (h, tt)))))))))
+no_opening x a b c d e f g h = sym (lookup-none x openings (a, (b, (c, (d, (e, (f, (g, (h, tt)))))))))
 
 -- ---- numbers
 
@@ -46,8 +46,8 @@ one-cut s at h =
 
 -- two numbers of a size make one of twice the size
 module _ (p : Parser ℕ) (n w : ℕ) (number : List ℕ → ℕ → ℕ) (reads : At p n number) (cuts : Cut p n) where
-  twice-at : (s : List ℕ) (at : ℕ) → at + (n + n) ≤ length s → (p >>= λ a. p >>= λ b. return (w * a + b)) (drop at s) ≡ some (w * number s at + number s (at + n), drop (at + (n + n)) s)
-  twice-at s at h =
+  twice_at : (s : List ℕ) (at : ℕ) → at + (n + n) ≤ length s → (p >>= λ a. p >>= λ b. return (w * a + b)) (drop at s) ≡ some (w * number s at + number s (at + n), drop (at + (n + n)) s)
+  twice_at s at h =
       let first = reads s at (omega arith) in
       let second = reads s (at + n) (omega arith) in
       let e : at + n + n ≡ at + (n + n) = omega arith in
@@ -68,7 +68,7 @@ module _ (p : Parser ℕ) (n w : ℕ) (number : List ℕ → ℕ → ℕ) (reads
 
 two_at : At two 2 number2
 unfolding two
-two_at = twice-at one 1 256 (λ s at. get_or s at 0) one_at one-cut
+two_at = twice_at one 1 256 (λ s at. get_or s at 0) one_at one-cut
 
 two-cut : Cut two 2
 unfolding two
@@ -76,7 +76,7 @@ two-cut = twice_cut one 1 256 (λ s at. get_or s at 0) one_at one-cut
 
 four-at : At four 4 number4
 unfolding four
-four-at = twice-at two 2 65536 number2 two_at two-cut
+four-at = twice_at two 2 65536 number2 two_at two-cut
 
 four-cut : Cut four 4
 unfolding four
@@ -84,18 +84,18 @@ four-cut = twice_cut two 2 65536 number2 two_at two-cut
 
 eight-at : At eight 8 number8
 unfolding eight
-eight-at = twice-at four 4 4294967296 number4 four-at four-cut
+eight-at = twice_at four 4 4294967296 number4 four-at four-cut
 
 eight-cut : Cut eight 8
 unfolding eight
 eight-cut = twice_cut four 4 4294967296 number4 four-at four-cut
 
-pub bits-at : (kind : Number) → At (bits kind) (size_of kind) (bits_at kind)
+pub bits_at_lem : (kind : Number) → At (bits kind) (size_of kind) (bits_at kind)
 unfolding bits size_of bits_at
-bits-at int = four-at
-bits-at float = four-at
-bits-at long = eight-at
-bits-at double = eight-at
+bits_at_lem int = four-at
+bits_at_lem float = four-at
+bits_at_lem long = eight-at
+bits_at_lem double = eight-at
 
 pub bits-cut : (kind : Number) → Cut (bits kind) (size_of kind)
 unfolding bits size_of
@@ -114,56 +114,56 @@ abbrev pub behind : {A : Type 0} → Option (A × List ℕ) → List ℕ
 behind none = []
 behind (some r) = r.1
 
-shrinks-return : {A : Type 0} (a : A) → Shrinks (return a)
-shrinks-return a s b r e = rw (ap behind e) (le_refl (length r))
+shrinks_return : {A : Type 0} (a : A) → Shrinks (return a)
+shrinks_return a s b r e = rw (ap behind e) (le_refl (length r))
 
-shrinks-one : Shrinks one
+shrinks_one : Shrinks one
 unfolding one
-shrinks-one [] a r e = absurd (let z : ◌≡◌ {A = ℕ} 0 1 = cc in omega arith)
-shrinks-one (x ∷ s) a r e = rw (ap behind e) (omega arith)
+shrinks_one [] a r e = absurd (let z : ◌≡◌ {A = ℕ} 0 1 = cc in omega arith)
+shrinks_one (x ∷ s) a r e = rw (ap behind e) (omega arith)
 
-shrinks-bind : {A B : Type 0} (p : Parser A) (f : A → Parser B) → Shrinks p → ((a : A) → Shrinks (f a)) → Shrinks (p >>= f)
-shrinks-bind {A} {B} p f h g s b r e = go (p s) refl e
+shrinks_bind : {A B : Type 0} (p : Parser A) (f : A → Parser B) → Shrinks p → ((a : A) → Shrinks (f a)) → Shrinks (p >>= f)
+shrinks_bind {A} {B} p f h g s b r e = go (p s) refl e
   where
     go : (o : Option (A × List ℕ)) → p s ≡ o → and_then o f ≡ some (b, r) → length r ≤ length s
     go none q e = absurd (let z : ◌≡◌ {A = ℕ} 0 1 = cc in omega arith)
     go (some (a, l)) q e = le_trans (g a l b r e) (h s a l q)
 
-shrinks-two : Shrinks two
+shrinks_two : Shrinks two
 unfolding two
-shrinks-two = shrinks-bind one (λ a. one >>= λ b. return (256 * a + b)) shrinks-one (λ a. shrinks-bind one (λ b. return (256 * a + b)) shrinks-one (λ b. shrinks-return (256 * a + b)))
+shrinks_two = shrinks_bind one (λ a. one >>= λ b. return (256 * a + b)) shrinks_one (λ a. shrinks_bind one (λ b. return (256 * a + b)) shrinks_one (λ b. shrinks_return (256 * a + b)))
 
-shrinks-four : Shrinks four
+shrinks_four : Shrinks four
 unfolding four
-shrinks-four = shrinks-bind two (λ a. two >>= λ b. return (65536 * a + b)) shrinks-two (λ a. shrinks-bind two (λ b. return (65536 * a + b)) shrinks-two (λ b. shrinks-return (65536 * a + b)))
+shrinks_four = shrinks_bind two (λ a. two >>= λ b. return (65536 * a + b)) shrinks_two (λ a. shrinks_bind two (λ b. return (65536 * a + b)) shrinks_two (λ b. shrinks_return (65536 * a + b)))
 
-shrinks-eight : Shrinks eight
+shrinks_eight : Shrinks eight
 unfolding eight
-shrinks-eight = shrinks-bind four (λ a. four >>= λ b. return (4294967296 * a + b)) shrinks-four (λ a. shrinks-bind four (λ b. return (4294967296 * a + b)) shrinks-four (λ b. shrinks-return (4294967296 * a + b)))
+shrinks_eight = shrinks_bind four (λ a. four >>= λ b. return (4294967296 * a + b)) shrinks_four (λ a. shrinks_bind four (λ b. return (4294967296 * a + b)) shrinks_four (λ b. shrinks_return (4294967296 * a + b)))
 
-shrinks-bits : (kind : Number) → Shrinks (bits kind)
+shrinks_bits : (kind : Number) → Shrinks (bits kind)
 unfolding bits
-shrinks-bits int = shrinks-four
-shrinks-bits float = shrinks-four
-shrinks-bits long = shrinks-eight
-shrinks-bits double = shrinks-eight
+shrinks_bits int = shrinks_four
+shrinks_bits float = shrinks_four
+shrinks_bits long = shrinks_eight
+shrinks_bits double = shrinks_eight
 
-shrinks-second : (part : Parser (Option Expression)) (s : Sign) → Shrinks part → (a : Option Expression) → Shrinks (secondPart part s a)
-unfolding secondPart
-shrinks-second part s h none = shrinks-return none
-shrinks-second part s h (some a) = shrinks-bind part (λ b. return (joined s a b)) h (λ b. shrinks-return (joined s a b))
+shrinks_second : (part : Parser (Option Expression)) (s : Sign) → Shrinks part → (a : Option Expression) → Shrinks (second_part part s a)
+unfolding second_part
+shrinks_second part s h none = shrinks_return none
+shrinks_second part s h (some a) = shrinks_bind part (λ b. return (joined s a b)) h (λ b. shrinks_return (joined s a b))
 
-shrinks-opened : (part : Parser (Option Expression)) → Shrinks part → (o : Option Opening) → Shrinks (openedPart part o)
-unfolding openedPart
-shrinks-opened part h none = shrinks-return none
-shrinks-opened part h (some (ofLeaf kind)) = shrinks-bind (bits kind) (λ b. return (some (leaf kind b))) (shrinks-bits kind) (λ b. shrinks-return (some (leaf kind b)))
-shrinks-opened part h (some (ofSign s)) = shrinks-bind part (secondPart part s) h (shrinks-second part s h)
+shrinks_opened : (part : Parser (Option Expression)) → Shrinks part → (o : Option Opening) → Shrinks (opened_part part o)
+unfolding opened_part
+shrinks_opened part h none = shrinks_return none
+shrinks_opened part h (some (of_leaf kind)) = shrinks_bind (bits kind) (λ b. return (some (leaf kind b))) (shrinks_bits kind) (λ b. shrinks_return (some (leaf kind b)))
+shrinks_opened part h (some (of_sign s)) = shrinks_bind part (second_part part s) h (shrinks_second part s h)
 
 pub shrinks : (fuel : ℕ) → Shrinks (expression fuel)
 unfolding expression
 shrinks zero s a r e = absurd (let z : ◌≡◌ {A = ℕ} 0 1 = cc in omega arith)
 shrinks (suc fuel) s a r e =
-    shrinks-bind one (λ first. openedPart (expression fuel) (lookup first openings)) shrinks-one (λ first. shrinks-opened (expression fuel) (shrinks fuel) (lookup first openings)) s a r e
+    shrinks_bind one (λ first. opened_part (expression fuel) (lookup first openings)) shrinks_one (λ first. shrinks_opened (expression fuel) (shrinks fuel) (lookup first openings)) s a r e
 
 -- ---- any fuel will do that is the bytes' number or more
 
@@ -171,19 +171,19 @@ abbrev Agree : Parser (Option Expression) → Parser (Option Expression) → ℕ
 Agree p q n = (s : List ℕ) → length s ≤ n → p s ≡ q s
 
 second-agree :
-    (p q : Parser (Option Expression)) (n : ℕ) → Agree p q n → (g : Sign) (a : Option Expression) (s : List ℕ) → length s ≤ n → secondPart p g a s ≡ secondPart q g a s
-unfolding secondPart
+    (p q : Parser (Option Expression)) (n : ℕ) → Agree p q n → (g : Sign) (a : Option Expression) (s : List ℕ) → length s ≤ n → second_part p g a s ≡ second_part q g a s
+unfolding second_part
 second-agree p q n h g none s l = refl
 second-agree p q n h g (some a) s l = ap (λ o. and_then o (λ b. return (joined g a b))) (h s l)
 
 opened-agree :
-    (p q : Parser (Option Expression)) (n : ℕ) → Agree p q n → Shrinks q → (o : Option Opening) (s : List ℕ) → length s ≤ n → openedPart p o s ≡ openedPart q o s
-unfolding openedPart
+    (p q : Parser (Option Expression)) (n : ℕ) → Agree p q n → Shrinks q → (o : Option Opening) (s : List ℕ) → length s ≤ n → opened_part p o s ≡ opened_part q o s
+unfolding opened_part
 opened-agree p q n h k none s l = refl
-opened-agree p q n h k (some (ofLeaf kind)) s l = refl
-opened-agree p q n h k (some (ofSign g)) s l = ap (λ o. and_then o (secondPart p g)) (h s l) ∙ go (q s) refl
+opened-agree p q n h k (some (of_leaf kind)) s l = refl
+opened-agree p q n h k (some (of_sign g)) s l = ap (λ o. and_then o (second_part p g)) (h s l) ∙ go (q s) refl
   where
-    go : (o : Option (Option Expression × List ℕ)) → q s ≡ o → and_then o (secondPart p g) ≡ and_then o (secondPart q g)
+    go : (o : Option (Option Expression × List ℕ)) → q s ≡ o → and_then o (second_part p g) ≡ and_then o (second_part q g)
     go none e = refl
     go (some (a, r)) e = second-agree p q n h g a r (le_trans (k s a r e) l)
 

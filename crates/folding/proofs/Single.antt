@@ -27,19 +27,19 @@ abbrev rest_of : List ℕ → Option (Option Expression × List ℕ) → List �
 rest_of s none = s
 rest_of s (some r) = r.1
 
-abbrev whatOf : Option (Option Expression × List ℕ) → Option Expression
-whatOf none = none
-whatOf (some r) = r.0
+abbrev what_of : Option (Option Expression × List ℕ) → Option Expression
+what_of none = none
+what_of (some r) = r.0
 
 one_span : (s : List ℕ) (at : ℕ) (r r' : Span) → Spans s at r → Spans s at r' → r ≡ r'
 one_span s at (span.To n) (span.To m) h k =
     ap span.To (one_place s n m h.within k.within (ap (rest_of s) (sym h.read ∙ k.read)))
 one_span s at (span.To n) span.Cut h k = clash (cc h.read)
-one_span s at (span.To n) (span.Bad m) h k = none≢some (ap whatOf (sym k.0 ∙ h.read))
+one_span s at (span.To n) (span.Bad m) h k = none≢some (ap what_of (sym k.0 ∙ h.read))
 one_span s at span.Cut (span.To m) h k = clash (cc k.read)
 one_span s at span.Cut span.Cut h k = refl
 one_span s at span.Cut (span.Bad m) h k = clash (cc k.0)
-one_span s at (span.Bad n) (span.To m) h k = none≢some (ap whatOf (sym h.0 ∙ k.read))
+one_span s at (span.Bad n) (span.To m) h k = none≢some (ap what_of (sym h.0 ∙ k.read))
 one_span s at (span.Bad n) span.Cut h k = clash (cc h.0)
 one_span s at (span.Bad n) (span.Bad m) h k = ap span.Bad (one_place s n m h.2 k.2 (ap (rest_of s) (sym h.0 ∙ k.0)))
 

@@ -4,7 +4,7 @@ use Rattle.std.proofs.Math.Option.{Option, none, some}
 use Rattle.std.specs.Float.{binary32, binary64}
 use Rattle.std.specs.Float.Ieee.{of_bits, to_bits}
 use Rattle.definition.specs.Basics.{Result, good, bad}
-use Rattle.definition.specs.Expression.{Number, int, float, long, double, Sign, plus, minus, times, over, Opening, ofLeaf, ofSign, tag_of, Expression, expression, readExpression, alike, kindWithin}
+use Rattle.definition.specs.Expression.{Number, int, float, long, double, Sign, plus, minus, times, over, Opening, of_leaf, of_sign, tag_of, Expression, expression, read_expression, alike, kind_within}
 use Rattle.definition.specs.Value.{computed, value}
 use Rattle.definition.specs.Bytes.{Parser, return, ◌>>=◌}
 use Rattle.writer.specs.Numbers.{number4, number8}
@@ -42,25 +42,25 @@ sign_of sign.Times = times
 sign_of sign.Over = over
 
 unfoldable pub opens : Opens → Option Opening
-opens (Leaf k) = some (ofLeaf (kind_of k))
-opens (Parts s) = some (ofSign (sign_of s))
+opens (Leaf k) = some (of_leaf (kind_of k))
+opens (Parts s) = some (of_sign (sign_of s))
 opens Neither = none
 
-unfoldable pub asWhole : Result ℕ ℕ → Whole
-asWhole (good n) = whole.Of n
-asWhole (bad code) = whole.ByZero
+unfoldable pub as_whole : Result ℕ ℕ → Whole
+as_whole (good n) = whole.Of n
+as_whole (bad code) = whole.ByZero
 
 abbrev pub WholeWithin : ℕ → Whole → Type 0
 WholeWithin m (whole.Of n) = n < m
 WholeWithin m whole.ByZero = Unit {0}
 
-unfoldable pub combinedInt : Whole → Combined
-combinedInt (whole.Of n) = Of (Int n) false
-combinedInt whole.ByZero = Of (Int 0) true
+unfoldable pub combined_int : Whole → Combined
+combined_int (whole.Of n) = Of (Int n) false
+combined_int whole.ByZero = Of (Int 0) true
 
-unfoldable pub combinedLong : Whole → Combined
-combinedLong (whole.Of n) = Of (Long n) false
-combinedLong whole.ByZero = Of (Long 0) true
+unfoldable pub combined_long : Whole → Combined
+combined_long (whole.Of n) = Of (Long n) false
+combined_long whole.ByZero = Of (Long 0) true
 
 -- a value's kind, and the value of a kind and bits
 unfoldable pub number_of : Value → Number
@@ -69,21 +69,21 @@ number_of (Float x) = float
 number_of (Long n) = long
 number_of (Double x) = double
 
-unfoldable pub ofNumber : Number → ℕ → Value
-ofNumber int b = Int b
-ofNumber float b = Float (of_bits binary32 b)
-ofNumber long b = Long b
-ofNumber double b = Double (of_bits binary64 b)
+unfoldable pub of_number : Number → ℕ → Value
+of_number int b = Int b
+of_number float b = Float (of_bits binary32 b)
+of_number long b = Long b
+of_number double b = Double (of_bits binary64 b)
 
 -- a value stands for what an operation or an expression comes to; divided by zero, it keeps only its kind
 abbrev pub Comes : Number → Result ℕ ℕ → Value → Bool → Type 0
-Comes kind (good b) v byZero = (v ≡ ofNumber kind b) × (byZero ≡ false)
-Comes kind (bad code) v byZero = (number_of v ≡ kind) × (byZero ≡ true)
+Comes kind (good b) v by_zero = (v ≡ of_number kind b) × (by_zero ≡ false)
+Comes kind (bad code) v by_zero = (number_of v ≡ kind) × (by_zero ≡ true)
 
 abbrev pub Combines : Sign → Value → Value → Combined → Type 0
-Combines s v w (Of x byZero) =
+Combines s v w (Of x by_zero) =
     (alike (some (number_of v)) (some (number_of w)) ≡ some (number_of x))
-    × ((a b : ℕ) → v ≡ ofNumber (number_of x) a → w ≡ ofNumber (number_of x) b → Comes (number_of x) (computed (number_of x) s a b) x byZero)
+    × ((a b : ℕ) → v ≡ of_number (number_of x) a → w ≡ of_number (number_of x) b → Comes (number_of x) (computed (number_of x) s a b) x by_zero)
 Combines s v w Mixed = alike (some (number_of v)) (some (number_of w)) ≡ none
 
 -- ---- places in the job
@@ -101,13 +101,13 @@ bits_at long s at = number8 s at
 bits_at double s at = number8 s at
 
 -- so many parts, one after the other: whether all of them are expressions
-unfoldable pub andMore : Parser Bool → Option Expression → Parser Bool
-andMore more none = return false
-andMore more (some e) = more
+unfoldable pub and_more : Parser Bool → Option Expression → Parser Bool
+and_more more none = return false
+and_more more (some e) = more
 
 unfoldable pub parts : ℕ → ℕ → Parser Bool
 parts fuel zero = return true
-parts fuel (suc n) = expression fuel >>= andMore (parts fuel n)
+parts fuel (suc n) = expression fuel >>= and_more (parts fuel n)
 
 pub record Onward (s : List ℕ) (at left next more : ℕ) : Type 0 where
   pub same : parts (length s) left (drop at s) ≡ parts (length s) more (drop next s)
@@ -123,14 +123,14 @@ Steps s at left (step.Bad next) = (parts (length s) left (drop at s) ≡ some (f
 -- an expression stands at a place, and ends at another
 pub record Ends (s : List ℕ) (at next : ℕ) : Type 0 where
   pub what : Expression
-  pub read : readExpression (drop at s) ≡ some (some what, drop next s)
+  pub read : read_expression (drop at s) ≡ some (some what, drop next s)
   pub past : at < next
   pub within : next ≤ length s
 
 abbrev pub Spans : List ℕ → ℕ → Span → Type 0
 Spans s at (span.To next) = Ends s at next
-Spans s at span.Cut = readExpression (drop at s) ≡ none
-Spans s at (span.Bad next) = (readExpression (drop at s) ≡ some (none, drop next s)) × (at < next) × (next ≤ length s)
+Spans s at span.Cut = read_expression (drop at s) ≡ none
+Spans s at (span.Bad next) = (read_expression (drop at s) ≡ some (none, drop next s)) × (at < next) × (next ≤ length s)
 
 -- ---- folding
 
@@ -140,19 +140,19 @@ pub record Reads (s : List ℕ) (at : ℕ) : Type 0 where
   pub rest : List ℕ
   pub read : expression fuel (drop at s) ≡ some (some what, rest)
 
-unfoldable pub joinedAs : Combined → ℕ → Bool → Bool → Folded
-joinedAs (Of v byZero) next y z = fold.To v next (y || z || byZero)
-joinedAs Mixed next y z = fold.Refused
+unfoldable pub joined_as : Combined → ℕ → Bool → Bool → Folded
+joined_as (Of v by_zero) next y z = fold.To v next (y || z || by_zero)
+joined_as Mixed next y z = fold.Refused
 
-pub record FoldedTo (s : List ℕ) (deep : ℕ) (e : Expression) (rest : List ℕ) (v : Value) (next : ℕ) (byZero : Bool) : Type 0 where
-  pub kind : kindWithin deep e ≡ some (number_of v)
-  pub comes : Comes (number_of v) (value (number_of v) e) v byZero
+pub record FoldedTo (s : List ℕ) (deep : ℕ) (e : Expression) (rest : List ℕ) (v : Value) (next : ℕ) (by_zero : Bool) : Type 0 where
+  pub kind : kind_within deep e ≡ some (number_of v)
+  pub comes : Comes (number_of v) (value (number_of v) e) v by_zero
   pub behind : drop next s ≡ rest
   pub within : next ≤ length s
 
 abbrev pub FoldsTo : List ℕ → ℕ → Expression → List ℕ → Folded → Type 0
-FoldsTo s deep e rest (fold.To v next byZero) = FoldedTo s deep e rest v next byZero
-FoldsTo s deep e rest fold.Refused = kindWithin deep e ≡ none
+FoldsTo s deep e rest (fold.To v next by_zero) = FoldedTo s deep e rest v next by_zero
+FoldsTo s deep e rest fold.Refused = kind_within deep e ≡ none
 
 abbrev pub Folds : List ℕ → ℕ → ℕ → Folded → Type 0
 Folds s at deep r = (fuel : ℕ) (e : Expression) (rest : List ℕ) → expression fuel (drop at s) ≡ some (some e, rest) → FoldsTo s deep e rest r
@@ -164,9 +164,9 @@ bits_of (Float x) = to_bits binary32 x
 bits_of (Long n) = n
 bits_of (Double x) = to_bits binary64 x
 
-unfoldable pub constantAs : Result ℕ (Number × ℕ) → Constant
-constantAs (good r) = constant.Of (tag_of r.0) r.1
-constantAs (bad code) = constant.Refused code
+unfoldable pub constant_as : Result ℕ (Number × ℕ) → Constant
+constant_as (good r) = constant.Of (tag_of r.0) r.1
+constant_as (bad code) = constant.Refused code
 
 -- ---- its kind alone
 
@@ -177,7 +177,7 @@ pub record OfKind (s : List ℕ) (at : ℕ) (kind : Number) : Type 0 where
   pub what : Expression
   pub rest : List ℕ
   pub read : expression fuel (drop at s) ≡ some (some what, rest)
-  pub within : kindWithin deep what ≡ some kind
+  pub within : kind_within deep what ≡ some kind
 
 abbrev pub HasKind : List ℕ → ℕ → Type 0
 HasKind s at = (kind : Number) × OfKind s at kind

@@ -4,9 +4,9 @@ ghost use Rattle.std.proofs.Math.Option.{Option, none, some};
 ghost use Rattle.std.specs.Float.{binary32, binary64};
 ghost use Rattle.std.specs.Float.Ieee.{of_bits, to_bits};
 ghost use Rattle.definition.specs.Basics.{good, lookup};
-ghost use Rattle.definition.specs.Expression.{Expression, expression, readExpression, openings};
-ghost use Rattle.definition.specs.Value.{folded, constantIn, negative, negated, magnitude, quotient, integer, operation};
-ghost use Rattle.folding.specs.Folding.{opens, kind_of, sign_of, asWhole, WholeWithin, combinedInt, combinedLong, number_of, ofNumber, Combines, size_of, bits_at, Steps, Spans, joinedAs, Reads, Folds, bits_of, constantAs, HasKind, TellsKind};
+ghost use Rattle.definition.specs.Expression.{Expression, expression, read_expression, openings};
+ghost use Rattle.definition.specs.Value.{folded, constant_in, negative, negated, magnitude, quotient, integer, operation};
+ghost use Rattle.folding.specs.Folding.{opens, kind_of, sign_of, as_whole, WholeWithin, combined_int, combined_long, number_of, of_number, Combines, size_of, bits_at, Steps, Spans, joined_as, Reads, Folds, bits_of, constant_as, HasKind, TellsKind};
 
 // A number with its kind. An Int's and a Long's bits are two's complement.
 #[derive(Drop)]
@@ -178,7 +178,7 @@ fn quotient_of(last: u64, a: u64, b: u64) -> u64
 
 fn whole_of(sign: Sign, root: u64, last: u64, a: u64, b: u64) -> Whole
     requires { (a ≤ last) × (b ≤ last) × (root * root ≡ last + 1) × ((last + 1) % 2 ≡ 0) }
-    ensures { result ≡ asWhole (integer (last + 1) (sign_of sign) a b) }
+    ensures { result ≡ as_whole (integer (last + 1) (sign_of sign) a b) }
 {
     match sign {
         Sign::Plus => Whole::Of(sum_of(last, a, b)),
@@ -256,7 +256,7 @@ fn double_op(sign: Sign, a: f64, b: f64) -> f64
 
 fn int_value(n: Whole) -> Combined
     requires { WholeWithin (2 ^ 32) n }
-    ensures { result ≡ combinedInt n }
+    ensures { result ≡ combined_int n }
 {
     match n {
         Whole::Of(n) => Combined::Of {
@@ -271,7 +271,7 @@ fn int_value(n: Whole) -> Combined
 }
 
 fn long_value(n: Whole) -> Combined
-    ensures { result ≡ combinedLong n }
+    ensures { result ≡ combined_long n }
 {
     match n {
         Whole::Of(n) => Combined::Of {
@@ -360,7 +360,7 @@ fn size_of(kind: Number) -> usize
 // The number in a leaf's bits.
 fn leaf_at(job: &[u8], at: usize, kind: Number) -> Value
     requires { at + size_of (kind_of kind) ≤ length job.now }
-    ensures { result ≡ ofNumber (kind_of kind) (bits_at (kind_of kind) job.now at) }
+    ensures { result ≡ of_number (kind_of kind) (bits_at (kind_of kind) job.now at) }
 {
     match kind {
         Number::Int => Value::Int(writer::get_u32(job, at)),
@@ -423,7 +423,7 @@ pub fn end_of(job: &[u8], start: usize) -> Span
 
 // What two parts come to; y and z tell whether a division by zero stands in them.
 fn join(c: Combined, next: usize, y: bool, z: bool) -> Folded
-    ensures { result ≡ joinedAs c next y z }
+    ensures { result ≡ joined_as c next y z }
 {
     match c {
         Combined::Mixed => Folded::Refused,
@@ -471,7 +471,7 @@ fn fold(job: &[u8], at: usize, deep: usize) -> Folded
 // A lone leaf keeps its bits, a NaN's too.
 fn lone_at(job: &[u8], at: usize, kind: Number) -> Constant
     requires { at + size_of (kind_of kind) ≤ length job.now }
-    ensures { result ≡ constantAs (good (kind_of kind, bits_at (kind_of kind) job.now at)) }
+    ensures { result ≡ constant_as (good (kind_of kind, bits_at (kind_of kind) job.now at)) }
 {
     match kind {
         Number::Int => Constant::Of {
@@ -494,7 +494,7 @@ fn lone_at(job: &[u8], at: usize, kind: Number) -> Constant
 }
 
 fn constant_of(v: Value) -> Constant
-    ensures { result ≡ constantAs (good (number_of v, bits_of v)) }
+    ensures { result ≡ constant_as (good (number_of v, bits_of v)) }
 {
     match v {
         Value::Int(n) => Constant::Of {
@@ -516,7 +516,7 @@ fn constant_of(v: Value) -> Constant
 // The constant that an expression comes to: 22, then 23.
 fn folded_at(job: &[u8], at: usize) -> Constant
     requires { Reads job.now at }
-    ensures { (fuel : ℕ) (e : Expression) (rest : List ℕ) → expression fuel (drop at job.now) ≡ some (some e, rest) → result ≡ constantAs (folded (some e)) }
+    ensures { (fuel : ℕ) (e : Expression) (rest : List ℕ) → expression fuel (drop at job.now) ≡ some (some e, rest) → result ≡ constant_as (folded (some e)) }
 {
     match fold(job, at, 32) {
         Folded::To {
@@ -540,7 +540,7 @@ fn folded_at(job: &[u8], at: usize) -> Constant
 // The constant that the expression at a place comes to: 3 if it is cut, then 22, then 23.
 pub fn constant_at(job: &[u8], at: usize) -> Constant
     requires { at ≤ length job.now }
-    ensures { result ≡ constantAs (constantIn (readExpression (drop at job.now))) }
+    ensures { result ≡ constant_as (constant_in (read_expression (drop at job.now))) }
 {
     match end_of(job, at) {
         Span::To(_) => folded_at(job, at),

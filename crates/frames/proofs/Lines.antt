@@ -9,7 +9,7 @@ use borrow.Author.Tests.{le-leb, lt-leb}
 use Rattle.definition.specs.Basics.{concat}
 use Rattle.definition.specs.Ascii.{hex}
 use Rattle.printing.specs.Printed.{Printed}
-use Rattle.printing.specs.Numbers.{hexOf}
+use Rattle.printing.specs.Numbers.{hex_of}
 use Rattle.frames.specs.Line.{put}
 
 -- a word that fits is copied
@@ -34,6 +34,6 @@ put-past text at word after r is h =
     omega (arith, ap (λ l. length l.0) line, ap (λ l. l.1) line)
 
 -- two hex digits in a text of two bytes are all of it
-pub two_digits : (b : ℕ) (after : List ℕ) (r : ℕ) → Printed (0 ∷ 0 ∷ []) 2 0 (hexOf 2 b) after r → after ≡ hex (b ∷ [])
-unfolding hex hexOf concat
+pub two_digits : (b : ℕ) (after : List ℕ) (r : ℕ) → Printed (0 ∷ 0 ∷ []) 2 0 (hex_of 2 b) after r → after ≡ hex (b ∷ [])
+unfolding hex hex_of concat
 two_digits b after r p = p.out (omega arith)

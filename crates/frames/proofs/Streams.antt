@@ -10,7 +10,7 @@ use lib.ListN.{length, take, drop}
 use lib.Seq.{drop_at, length-take-le}
 use borrow.Author.Tests.{eq-eqb}
 use Rattle.facts.proofs.Lists.{order, true≢false}
-use Rattle.frames.specs.Stream.{no_more, cut, tooLong, PartRead, BlockRead}
+use Rattle.frames.specs.Stream.{no_more, cut, too_long_lem, PartRead, BlockRead}
 
 -- there are fewer bytes than are to be read
 pub too_few : (s : List ℕ) (n : ℕ) → length s < n → PartRead s n s false
@@ -33,8 +33,8 @@ pub no_block : (s : List ℕ) (r : ℕ) → no_more ≤ r → r ≤ cut → Bloc
 no_block s r low high = record { whole = λ h. absurd (omega arith); ended = λ _. refl; most = high }
 
 -- all of a block came
-pub all-block : (s t : List ℕ) (n : ℕ) (all : Bool) → n < no_more → PartRead s n t all → all ≡ true → BlockRead s t n
-all-block s t n all low part came =
+pub all_block : (s t : List ℕ) (n : ℕ) (all : Bool) → n < no_more → PartRead s n t all → all ≡ true → BlockRead s t n
+all_block s t n all low part came =
     let fits : n ≤ length s = elim (order (length s) n) [ inl h ↦ true≢false (sym came ∙ (part.fewer h).0) | inr h ↦ h ] in
     record { whole = λ _. (fits, part.behind); ended = λ e. absurd (omega arith); most = omega arith }
 
@@ -43,5 +43,5 @@ pub cut-block : (s t : List ℕ) → BlockRead s t cut
 cut-block s t = record { whole = λ h. absurd (omega arith); ended = λ e. absurd (omega arith); most = omega arith }
 
 -- a block that is skipped, whole or cut
-pub late-block : (s t : List ℕ) (r : ℕ) → cut ≤ r → r < tooLong → BlockRead s t r
-late-block s t r low high = record { whole = λ h. absurd (omega arith); ended = λ e. absurd (omega arith); most = omega arith }
+pub late_block : (s t : List ℕ) (r : ℕ) → cut ≤ r → r < too_long_lem → BlockRead s t r
+late_block s t r low high = record { whole = λ h. absurd (omega arith); ended = λ e. absurd (omega arith); most = omega arith }

@@ -16,5 +16,5 @@ put (text, at) word =
     ]
 
 -- a space, and a number's decimal digits
-abbrev pub putNumber : Line → ℕ → Line
-putNumber line n = put (put line (ascii " ")) (decimal n)
+abbrev pub put_number : Line → ℕ → Line
+put_number line n = put (put line (ascii " ")) (decimal n)

@@ -10,16 +10,16 @@ abbrev pub cut : ℕ
 cut = 4294967297
 
 -- what it is where the block is longer than its room and was skipped
-abbrev pub tooLong : ℕ
-tooLong = 4294967298
+abbrev pub too_long_lem : ℕ
+too_long_lem = 4294967298
 
 -- how a frame ends, by whether its line was written: the stream goes on (0), or the output failed (3)
-abbrev pub afterLine : Bool → ℕ
-afterLine written = elim written [ true ↦ 0 | false ↦ 3 ]
+abbrev pub after_line : Bool → ℕ
+after_line written = elim written [ true ↦ 0 | false ↦ 3 ]
 
 -- how a frame ends, by the length of its first block, which isn't there: the stream ends (1), or is cut (2)
-unfoldable pub withoutBlock : ℕ → ℕ
-withoutBlock size = elim (eqb size no_more) [ true ↦ 1 | false ↦ 2 ]
+unfoldable pub without_block : ℕ → ℕ
+without_block size = elim (eqb size no_more) [ true ↦ 1 | false ↦ 2 ]
 
 -- whether all of the first n bytes came that were to be read: no other byte changed, and none where there are fewer; of no bytes all come
 pub record PartRead (before : List ℕ) (n : ℕ) (after : List ℕ) (all : Bool) : Type 0 where

@@ -3,8 +3,8 @@
 // as at the input's end; `tell` finds out which it was.
 ghost use Rattle.std.specs.Prelude.{false, [], ◌∷◌, ◌≡◌, ◌≤◌, ◌<◌, length};
 ghost use Rattle.definition.specs.Ascii.{ascii, decimal, hex};
-ghost use Rattle.frames.specs.Line.{put, putNumber};
-ghost use Rattle.frames.specs.Stream.{no_more, cut, tooLong, afterLine, withoutBlock, PartRead, BlockRead};
+ghost use Rattle.frames.specs.Line.{put, put_number};
+ghost use Rattle.frames.specs.Stream.{no_more, cut, too_long_lem, after_line, without_block, PartRead, BlockRead};
 
 use libc::{STDERR_FILENO, STDIN_FILENO, STDOUT_FILENO};
 
@@ -29,14 +29,14 @@ pub const WRITE_FAILED: u8 = 3;
 const READ_FAILED: u8 = 4;
 
 pub fn after(written: bool) -> u8
-    ensures { result ≡ afterLine written }
+    ensures { result ≡ after_line written }
 {
     if written { GO_ON } else { WRITE_FAILED }
 }
 
 // How a frame ends whose first block isn't there.
 pub fn without(size: usize) -> u8
-    ensures { result ≡ withoutBlock size }
+    ensures { result ≡ without_block size }
 {
     if size == NO_MORE {
         STREAM_ENDS
@@ -80,7 +80,7 @@ fn read_block(s: &mut [u8], n: usize) -> usize
 // Reads n bytes in parts through s and keeps none of them; the length that stands for such a block.
 fn skip(s: &mut [u8], n: usize) -> usize
     requires { 0 < length s.old }
-    ensures { (cut ≤ result) × (result ≤ tooLong) }
+    ensures { (cut ≤ result) × (result ≤ too_long_lem) }
 {
     let room = s.len();
     let mut left = n;
@@ -107,8 +107,8 @@ pub fn next_block(s: &mut [u8]) -> usize
 // As next_block, but a block that is longer than s is skipped, so that the stream goes on behind it.
 pub fn next_or_skipped(s: &mut [u8]) -> usize
     requires { 0 < length s.old }
-    ensures upper_bound { result ≤ tooLong }
-    ensures block_read { result < tooLong → BlockRead s.old s.new result }
+    ensures upper_bound { result ≤ too_long_lem }
+    ensures block_read { result < too_long_lem → BlockRead s.old s.new result }
 {
     let n = next_length();
     if NO_MORE <= n {
@@ -193,14 +193,14 @@ pub fn put_hex(text: &mut [u8], at: usize, b: u8) -> usize
 
 // A number's decimal digits, behind a space.
 pub fn put_number(text: &mut [u8], at: usize, n: usize) -> usize
-    ensures { (text.new, result) ≡ putNumber (text.old, at) n }
+    ensures { (text.new, result) ≡ put_number (text.old, at) n }
 {
     let digits = put_word(text, at, b" ");
     put_decimal(text, digits, n)
 }
 
 pub fn put_refusal(text: &mut [u8], code: u32) -> usize
-    ensures { (text.new, result) ≡ putNumber (put (text.old, 0) (ascii "refused")) code }
+    ensures { (text.new, result) ≡ put_number (put (text.old, 0) (ascii "refused")) code }
 {
     let word = put_word(text, 0, b"refused");
     put_number(text, word, code as usize)

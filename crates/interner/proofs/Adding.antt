@@ -10,58 +10,58 @@ use lib.ListN.{length, get_or, set, take}
 use lib.Seq.{get_or-set_same, get_or-set_other, take-suc-set}
 use borrow.Author.Tests.{lt-ltb, le-ltb}
 use Rattle.definition.specs.Basics.{position}
-use Rattle.definition.specs.Resolving.{Node, sameNode, intern}
+use Rattle.definition.specs.Resolving.{Node, same_node, intern}
 use Rattle.facts.proofs.Lists.{equal, order}
-use Rattle.laws.proofs.resolving.Interning.{sameNode-equal, intern-old, intern-new}
+use Rattle.laws.proofs.Resolving.Interning.{same_node-equal, intern-old, intern-new}
 use Rattle.store.specs.Store.{Store, size, store, put}
-use Rattle.store.specs.JobIn.{countsIn, entriesIn}
+use Rattle.store.specs.JobIn.{counts_in, entries_in}
 use Rattle.store.specs.Chains.{head_of, Sought, linked}
-use Rattle.store.specs.Regions.{COUNTS, NODE-HEADS, NODE-LINKS, FIRSTS, SIZES, CHILDREN, NODES, NODE-COUNT, entriesOf, Work}
-use Rattle.store.proofs.Hashing.{head-lt}
+use Rattle.store.specs.Regions.{COUNTS, NODE-HEADS, NODE-LINKS, FIRSTS, SIZES, CHILDREN, NODES, NODE-COUNT, entries_of, Work}
+use Rattle.store.proofs.Hashing.{head_lt}
 use Rattle.store.proofs.Keeping.{kept_put}
 use Rattle.store.proofs.Laying.{work-sizes, entries-counted}
 use Rattle.store.proofs.Stores.{length-store}
-use Rattle.store.proofs.Walking.{chains-more}
-use Rattle.interner.specs.Nodes.{hashAt, nodeAt, Nodes, NodesIn, nodeCount, EnteredIn, nodeIn, hashIn, nodesIn, Lowers, Interned}
-use Rattle.interner.proofs.Alike.{node-same}
-use Rattle.interner.proofs.Finding.{entry-keyed}
-use Rattle.interner.proofs.Lowering.{list-stays, nodes-stay}
+use Rattle.store.proofs.Walking.{chains_more}
+use Rattle.interner.specs.Nodes.{hash_at, node_at_lem, Nodes, NodesIn, node_count, EnteredIn, node_in_lem, hash_in, nodes_in, Lowers, Interned}
+use Rattle.interner.proofs.Alike.{node_same}
+use Rattle.interner.proofs.Finding.{entry_keyed}
+use Rattle.interner.proofs.Lowering.{list_stays, nodes_stay}
 use Rattle.interner.proofs.Listed.{Is, list_length, position-old, position-new}
-use Rattle.interner.proofs.Reading.{node-heads, counter-there}
+use Rattle.interner.proofs.Reading.{node_heads, counter_there}
 
 -- THE NODES with one more
 
 module _ (h : ℕ) (s firsts sizes children nodes heads links : List ℕ) (n e : ℕ) (g : Nodes h s firsts sizes children nodes heads links n) (room : n ≤ length nodes) where
   abbrev list : List Node
-  list = map (nodeAt s firsts sizes children) (take n nodes)
+  list = map (node_at_lem s firsts sizes children) (take n nodes)
 
   abbrev new : Node
-  new = nodeAt s firsts sizes children e
+  new = node_at_lem s firsts sizes children e
 
   abbrev at : ℕ → Node
-  at i = nodeAt s firsts sizes children (get_or nodes i 0)
+  at i = node_at_lem s firsts sizes children (get_or nodes i 0)
 
   long : length list ≡ n
   long = list_length h s firsts sizes children nodes heads links n new g room
 
-  is-old : (r : ℕ) → Sought (Is s firsts sizes children nodes new) n r → 0 < r → r - 1 ≡ position (sameNode new) list
-  is-old = position-old h s firsts sizes children nodes heads links n new g room
+  is_old : (r : ℕ) → Sought (Is s firsts sizes children nodes new) n r → 0 < r → r - 1 ≡ position (same_node new) list
+  is_old = position-old h s firsts sizes children nodes heads links n new g room
 
-  is-new : Sought (Is s firsts sizes children nodes new) n 0 → n ≡ position (sameNode new) list
-  is-new = position-new h s firsts sizes children nodes heads links n new g room
+  is_new : Sought (Is s firsts sizes children nodes new) n 0 → n ≡ position (same_node new) list
+  is_new = position-new h s firsts sizes children nodes heads links n new g room
 
-  pub interned-old : (r : ℕ) → Sought (Is s firsts sizes children nodes new) n r → 0 < r → list ≡ intern new list
-  interned-old r sought pos =
-      sym (intern-old new list (lt-ltb (position (sameNode new) list) (length list) (omega (arith, is-old r sought pos, long, sought.low))))
+  pub interned_old : (r : ℕ) → Sought (Is s firsts sizes children nodes new) n r → 0 < r → list ≡ intern new list
+  interned_old r sought pos =
+      sym (intern-old new list (lt-ltb (position (same_node new) list) (length list) (omega (arith, is_old r sought pos, long, sought.low))))
 
   -- ONE MORE
 
-  module _ (inside : e < entriesIn s) (few : n < entriesIn s) (space : n < length nodes) (miss : Sought (Is s firsts sizes children nodes new) n 0) where
-    pub list-more : map (nodeAt s firsts sizes children) (take (n + 1) (set nodes n e)) ≡ intern new list
-    list-more =
+  module _ (inside : e < entries_in s) (few : n < entries_in s) (space : n < length nodes) (miss : Sought (Is s firsts sizes children nodes new) n 0) where
+    pub list_more : map (node_at_lem s firsts sizes children) (take (n + 1) (set nodes n e)) ≡ intern new list
+    list_more =
         rw (add-one n, take-suc-set nodes n e space)
-        (map-append (nodeAt s firsts sizes children) (take n nodes) (e ∷ [])
-        ∙ sym (intern-new new list (le-ltb (position (sameNode new) list) (length list) (omega (arith, is-new miss, long)))))
+        (map-append (node_at_lem s firsts sizes children) (take n nodes) (e ∷ [])
+        ∙ sym (intern-new new list (le-ltb (position (same_node new) list) (length list) (omega (arith, is_new miss, long)))))
 
     entry_new : get_or (set nodes n e) n 0 ≡ e
     entry_new = get_or-set_same nodes n e 0 space
@@ -80,30 +80,30 @@ module _ (h : ℕ) (s firsts sizes children nodes heads links : List ℕ) (n e :
         (order i n)
 
     -- the new one is none of the old
-    new-unlike : (i : ℕ) → i < n → sameNode (at i) new ≡ false
-    new-unlike i less = ways (sameNode (at i) new) refl
+    new_unlike : (i : ℕ) → i < n → same_node (at i) new ≡ false
+    new_unlike i less = ways (same_node (at i) new) refl
       where
-        ways : (b : Bool) → sameNode (at i) new ≡ b → b ≡ false
-        ways true q = absurd (miss.miss refl i less (rw (sameNode-equal (at i) new q) (node-same new)))
+        ways : (b : Bool) → same_node (at i) new ≡ b → b ≡ false
+        ways true q = absurd (miss.miss refl i less (rw (same_node-equal (at i) new q) (node_same new)))
         ways false q = refl
 
-    module _ (head : ℕ) (is : head ≡ head_of h (hashAt s firsts sizes children e)) (there : head < length heads) (link : n < length links) where
-      pub nodes-more : Nodes h s firsts sizes children (set nodes n e) (set heads head (n + 1)) (set links n (get_or heads head 0)) (n + 1)
-      nodes-more =
+    module _ (head : ℕ) (is : head ≡ head_of h (hash_at s firsts sizes children e)) (there : head < length heads) (link : n < length links) where
+      pub nodes_more : Nodes h s firsts sizes children (set nodes n e) (set heads head (n + 1)) (set links n (get_or heads head 0)) (n + 1)
+      nodes_more =
           record {
             few = omega arith;
             inside = λ i less. ⊎_elim (λ l. rw l.1 (g.inside i l.0)) (λ l. rw l.1 inside) (entries-more i less);
             chains =
-                chains-more
-                (λ i. head_of h (hashAt s firsts sizes children (get_or nodes i 0)))
-                (λ i. head_of h (hashAt s firsts sizes children (get_or (set nodes n e) i 0)))
+                chains_more
+                (λ i. head_of h (hash_at s firsts sizes children (get_or nodes i 0)))
+                (λ i. head_of h (hash_at s firsts sizes children (get_or (set nodes n e) i 0)))
                 heads
                 links
                 n
                 head
                 g.chains
-                (ap (λ x. head_of h (hashAt s firsts sizes children x)) entry_new ∙ sym is)
-                (λ i less. ap (λ x. head_of h (hashAt s firsts sizes children x)) (entry_old i less))
+                (ap (λ x. head_of h (hash_at s firsts sizes children x)) entry_new ∙ sym is)
+                (λ i less. ap (λ x. head_of h (hash_at s firsts sizes children x)) (entry_old i less))
                 there
                 link;
             unlike =
@@ -112,32 +112,32 @@ module _ (h : ℕ) (s firsts sizes children nodes heads links : List ℕ) (n e :
                 (λ (l : j < n). rw (entry_old i (omega arith), entry_old j l) (g.unlike i j less l))
                 (λ (l : n ≤ j).
                 let z : j ≡ n = omega arith in
-                rw (z, entry_new, entry_old i (omega arith)) (new-unlike i (omega arith)))
+                rw (z, entry_new, entry_old i (omega arith)) (new_unlike i (omega arith)))
                 (order j n);
           }
 
 -- INTERNED, over the store
 
-module _ (h : ℕ) (s : List ℕ) (t : Store) (e : ℕ) (g : NodesIn h s t) (room : entriesIn s ≤ length (t NODES)) where
-  fits : nodeCount t ≤ length (t NODES)
+module _ (h : ℕ) (s : List ℕ) (t : Store) (e : ℕ) (g : NodesIn h s t) (room : entries_in s ≤ length (t NODES)) where
+  fits : node_count t ≤ length (t NODES)
   fits = omega (arith, g.few)
 
   -- AN OLD ONE, kept as its entry or as e
-  module _ (r : ℕ) (sought : Sought (Is s (t FIRSTS) (t SIZES) (t CHILDREN) (t NODES) (nodeIn s t e)) (nodeCount t) r) (pos : 0 < r) where
-    is-node : r - 1 ≡ position (sameNode (nodeIn s t e)) (nodesIn s t)
-    is-node = position-old h s (t FIRSTS) (t SIZES) (t CHILDREN) (t NODES) (t NODE-HEADS) (t NODE-LINKS) (nodeCount t) (nodeIn s t e) g fits r sought pos
+  module _ (r : ℕ) (sought : Sought (Is s (t FIRSTS) (t SIZES) (t CHILDREN) (t NODES) (node_in_lem s t e)) (node_count t) r) (pos : 0 < r) where
+    is_node_lem : r - 1 ≡ position (same_node (node_in_lem s t e)) (nodes_in s t)
+    is_node_lem = position-old h s (t FIRSTS) (t SIZES) (t CHILDREN) (t NODES) (t NODE-HEADS) (t NODE-LINKS) (node_count t) (node_in_lem s t e) g fits r sought pos
 
-    is-list : nodesIn s t ≡ intern (nodeIn s t e) (nodesIn s t)
-    is-list = interned-old h s (t FIRSTS) (t SIZES) (t CHILDREN) (t NODES) (t NODE-HEADS) (t NODE-LINKS) (nodeCount t) e g fits r sought pos
+    is_list : nodes_in s t ≡ intern (node_in_lem s t e) (nodes_in s t)
+    is_list = interned_old h s (t FIRSTS) (t SIZES) (t CHILDREN) (t NODES) (t NODE-HEADS) (t NODE-LINKS) (node_count t) e g fits r sought pos
 
-    low-node : r - 1 < nodeCount t
+    low-node : r - 1 < node_count t
     low-node = omega (arith, sought.low)
 
     became-old : get_or (t NODES) (r - 1) 0 ≤ e → Interned h s t t e (r - 1)
     became-old below =
         record {
-          node = is-node;
-          nodes = is-list;
+          node = is_node_lem;
+          nodes = is_list;
           again = g;
           low = low-node;
           count = omega arith;
@@ -146,19 +146,19 @@ module _ (h : ℕ) (s : List ℕ) (t : Store) (e : ℕ) (g : NodesIn h s t) (roo
           kept = λ k other. refl;
         }
 
-    module _ (all : EnteredIn s t) (inside : e < entriesIn s) where
-      same : nodeIn s t e ≡ nodeIn s t (get_or (t NODES) (r - 1) 0)
-      same = sameNode-equal (nodeIn s t e) (nodeIn s t (get_or (t NODES) (r - 1) 0)) (sought.hit pos)
+    module _ (all : EnteredIn s t) (inside : e < entries_in s) where
+      same : node_in_lem s t e ≡ node_in_lem s t (get_or (t NODES) (r - 1) 0)
+      same = same_node-equal (node_in_lem s t e) (node_in_lem s t (get_or (t NODES) (r - 1) 0)) (sought.hit pos)
 
-      hash : hashIn s t e ≡ hashIn s t (get_or (t NODES) (r - 1) 0)
-      hash = sym (entry-keyed h s t e all inside g (r - 1) low-node (sought.hit pos))
+      hash : hash_in s t e ≡ hash_in s t (get_or (t NODES) (r - 1) 0)
+      hash = sym (entry_keyed h s t e all inside g (r - 1) low-node (sought.hit pos))
 
       became-lower : e < get_or (t NODES) (r - 1) 0 → Interned h s t (put t NODES (r - 1) e) e (r - 1)
       became-lower below =
           record {
-            node = is-node;
-            nodes = list-stays h s (t FIRSTS) (t SIZES) (t CHILDREN) (t NODES) (t NODE-HEADS) (t NODE-LINKS) (nodeCount t) (r - 1) e g fits low-node inside same hash ∙ is-list;
-            again = nodes-stay h s (t FIRSTS) (t SIZES) (t CHILDREN) (t NODES) (t NODE-HEADS) (t NODE-LINKS) (nodeCount t) (r - 1) e g fits low-node inside same hash;
+            node = is_node_lem;
+            nodes = list_stays h s (t FIRSTS) (t SIZES) (t CHILDREN) (t NODES) (t NODE-HEADS) (t NODE-LINKS) (node_count t) (r - 1) e g fits low-node inside same hash ∙ is_list;
+            again = nodes_stay h s (t FIRSTS) (t SIZES) (t CHILDREN) (t NODES) (t NODE-HEADS) (t NODE-LINKS) (node_count t) (r - 1) e g fits low-node inside same hash;
             low = low-node;
             count = omega arith;
             made =
@@ -176,40 +176,40 @@ module _ (h : ℕ) (s : List ℕ) (t : Store) (e : ℕ) (g : NodesIn h s t) (roo
       became-one u (inr (q, below)) = rw q (became-old below)
 
   module _
-      (p : List ℕ) (heads : h ≡ size p NODE-HEADS) (two : 1 < h) (all : length (t NODE-HEADS) ≡ h) (links : entriesIn s ≤ length (t NODE-LINKS))
-      (counter : NODE-COUNT < length (t COUNTS)) (inside : e < entriesIn s) (few : nodeCount t < entriesIn s)
-      (miss : Sought (Is s (t FIRSTS) (t SIZES) (t CHILDREN) (t NODES) (nodeIn s t e)) (nodeCount t) 0) where
+      (p : List ℕ) (heads : h ≡ size p NODE-HEADS) (two : 1 < h) (all : length (t NODE-HEADS) ≡ h) (links : entries_in s ≤ length (t NODE-LINKS))
+      (counter : NODE-COUNT < length (t COUNTS)) (inside : e < entries_in s) (few : node_count t < entries_in s)
+      (miss : Sought (Is s (t FIRSTS) (t SIZES) (t CHILDREN) (t NODES) (node_in_lem s t e)) (node_count t) 0) where
     abbrev after : Store
-    after = linked (put (put t COUNTS NODE-COUNT (nodeCount t + 1)) NODES (nodeCount t) e) p NODE-HEADS (hashIn s t e) (nodeCount t)
+    after = linked (put (put t COUNTS NODE-COUNT (node_count t + 1)) NODES (node_count t) e) p NODE-HEADS (hash_in s t e) (node_count t)
 
-    counted : nodeCount after ≡ nodeCount t + 1
-    counted = get_or-set_same (t COUNTS) NODE-COUNT (nodeCount t + 1) 0 counter
+    counted : node_count after ≡ node_count t + 1
+    counted = get_or-set_same (t COUNTS) NODE-COUNT (node_count t + 1) 0 counter
 
     again : NodesIn h s after
     again =
         rw (counted, ← heads)
-        (nodes-more h s (t FIRSTS) (t SIZES) (t CHILDREN) (t NODES) (t NODE-HEADS) (t NODE-LINKS) (nodeCount t) e g fits inside few (omega arith) miss
-        (head_of h (hashIn s t e))
+        (nodes_more h s (t FIRSTS) (t SIZES) (t CHILDREN) (t NODES) (t NODE-HEADS) (t NODE-LINKS) (node_count t) e g fits inside few (omega arith) miss
+        (head_of h (hash_in s t e))
         refl
-        (omega (arith, head-lt h (hashIn s t e) two))
+        (omega (arith, head_lt h (hash_in s t e) two))
         (omega arith))
 
-    became-after : Interned h s t after e (nodeCount t)
+    became-after : Interned h s t after e (node_count t)
     became-after =
         record {
-          node = position-new h s (t FIRSTS) (t SIZES) (t CHILDREN) (t NODES) (t NODE-HEADS) (t NODE-LINKS) (nodeCount t) (nodeIn s t e) g fits miss;
+          node = position-new h s (t FIRSTS) (t SIZES) (t CHILDREN) (t NODES) (t NODE-HEADS) (t NODE-LINKS) (node_count t) (node_in_lem s t e) g fits miss;
           nodes =
               rw counted
-              (list-more h s (t FIRSTS) (t SIZES) (t CHILDREN) (t NODES) (t NODE-HEADS) (t NODE-LINKS) (nodeCount t) e g fits inside few (omega arith) miss);
+              (list_more h s (t FIRSTS) (t SIZES) (t CHILDREN) (t NODES) (t NODE-HEADS) (t NODE-LINKS) (node_count t) e g fits inside few (omega arith) miss);
           again = again;
           low = omega (arith, counted);
           count = omega (arith, counted);
           made =
               λ i less.
-              entries-more h s (t FIRSTS) (t SIZES) (t CHILDREN) (t NODES) (t NODE-HEADS) (t NODE-LINKS) (nodeCount t) e g fits inside few (omega arith) miss
+              entries-more h s (t FIRSTS) (t SIZES) (t CHILDREN) (t NODES) (t NODE-HEADS) (t NODE-LINKS) (node_count t) e g fits inside few (omega arith) miss
               i
               (omega (arith, counted));
-          counters = λ c other. get_or-set_other (t COUNTS) NODE-COUNT c (nodeCount t + 1) 0 other;
+          counters = λ c other. get_or-set_other (t COUNTS) NODE-COUNT c (node_count t + 1) 0 other;
           kept =
               kept_put written t _ NODE-HEADS _ _ refl
               (kept_put written t _ NODE-LINKS _ _ refl
@@ -222,34 +222,34 @@ module _ (h : ℕ) (s : List ℕ) (t : Store) (e : ℕ) (g : NodesIn h s t) (roo
 
     -- as the code has it
     pub became-new :
-        (hash k : ℕ) → hash ≡ hashIn s t e → k ≡ nodeCount t →
+        (hash k : ℕ) → hash ≡ hash_in s t e → k ≡ node_count t →
         Interned h s t (linked (put (put t COUNTS NODE-COUNT (k + 1)) NODES k e) p NODE-HEADS hash k) e k
     became-new hash k q z = rw (q, z) became-after
 
 -- IN THE WORK of a job
 
 module _ (s p w : List ℕ) (e : ℕ) (work : Work s p) (g : NodesIn (size p NODE-HEADS) s (store p w)) (r : ℕ)
-    (sought : Sought (λ i. sameNode (nodeIn s (store p w) e) (nodeIn s (store p w) (get_or (store p w NODES) i 0)) ≡ true) (nodeCount (store p w)) r) where
+    (sought : Sought (λ i. same_node (node_in_lem s (store p w) e) (node_in_lem s (store p w) (get_or (store p w NODES) i 0)) ≡ true) (node_count (store p w)) r) where
   -- a region of entries has room for all
-  wide : (k : ℕ) → size p k ≡ entriesOf (countsIn s) → entriesIn s ≤ length (store p w k)
+  wide : (k : ℕ) → size p k ≡ entries_of (counts_in s) → entries_in s ≤ length (store p w k)
   wide k q = omega (arith, length-store p w k, entries-counted s)
 
-  pub found-low : 0 < r → r - 1 < entriesIn s
-  found-low pos = omega (arith, sought.low, g.few)
+  pub found_low : 0 < r → r - 1 < entries_in s
+  found_low pos = omega (arith, sought.low, g.few)
 
-  pub interned-found : 0 < r → EnteredIn s (store p w) → e < entriesIn s → (u : Store) → Lowers (store p w) u (r - 1) e → Interned (size p NODE-HEADS) s (store p w) u e (r - 1)
-  interned-found = became-one (size p NODE-HEADS) s (store p w) e g (wide NODES (work-sizes s p work).nodes) r sought
+  pub interned_found : 0 < r → EnteredIn s (store p w) → e < entries_in s → (u : Store) → Lowers (store p w) u (r - 1) e → Interned (size p NODE-HEADS) s (store p w) u e (r - 1)
+  interned_found = became-one (size p NODE-HEADS) s (store p w) e g (wide NODES (work-sizes s p work).nodes) r sought
 
-  pub interned-made :
-      r ≤ 0 → e < entriesIn s → nodeCount (store p w) < entriesIn s → (hash k : ℕ) → hash ≡ hashIn s (store p w) e → k ≡ nodeCount (store p w) →
+  pub interned_made :
+      r ≤ 0 → e < entries_in s → node_count (store p w) < entries_in s → (hash k : ℕ) → hash ≡ hash_in s (store p w) e → k ≡ node_count (store p w) →
       Interned (size p NODE-HEADS) s (store p w) (linked (put (put (store p w) COUNTS NODE-COUNT (k + 1)) NODES k e) p NODE-HEADS hash k) e k
-  interned-made end inside few =
+  interned_made end inside few =
       let z : r ≡ 0 = omega arith in
       became-new (size p NODE-HEADS) s (store p w) e g (wide NODES (work-sizes s p work).nodes) p refl
-      (node-heads s p work).two
+      (node_heads s p work).two
       (length-store p w NODE-HEADS)
-      (wide NODE-LINKS (work-sizes s p work).node-links)
-      (omega (arith, length-store p w COUNTS, counter-there s p work))
+      (wide NODE-LINKS (work-sizes s p work).node_links)
+      (omega (arith, length-store p w COUNTS, counter_there s p work))
       inside
       few
       (rw z at sought)

@@ -8,167 +8,167 @@ use native.Mathlib.Omega.{arith}
 use lib.ListN.{length, get_or}
 use Rattle.definition.specs.Ascii.{ascii}
 use Rattle.definition.specs.Basics.{same, position, from}
-use Rattle.definition.specs.Shapes.{withKids, withLiteral}
-use Rattle.definition.specs.Numbering.{Literal, sameLiteral, attributeName, literals, number_of, numberedEntry, entries}
-use Rattle.definition.specs.Resolving.{Node, sameNode}
-use Rattle.definition.specs.Building.{attributeText}
+use Rattle.definition.specs.Shapes.{with_kids, with_literal}
+use Rattle.definition.specs.Numbering.{Literal, same_literal, attribute_name, literals, number_of, numbered_entry, entries}
+use Rattle.definition.specs.Resolving.{Node, same_node}
+use Rattle.definition.specs.Building.{attribute_text}
 use Rattle.facts.specs.Lists.{Among}
 use Rattle.facts.proofs.Lists.{tests_agree, position_here}
-use Rattle.laws.proofs.numbering.Numbering.{sameLiteral-true, sameLiteral-refl, numberOf-inj}
-use Rattle.laws.proofs.resolving.Interning.{sameNode-equal}
-use Rattle.laws.proofs.form.EmptyLiterals.{lit_of}
+use Rattle.laws.proofs.Numbering.Numbering.{same_literal-true, same_literal-refl, number_of-inj}
+use Rattle.laws.proofs.Resolving.Interning.{same_node-equal}
+use Rattle.laws.proofs.Form.EmptyLiterals.{lit_of}
 use Rattle.job.specs.declared.Stretch.{Stretch}
 use Rattle.job.specs.Stored.{Spans, WhatEntry}
 use Rattle.store.specs.Store.{Store, size, store}
-use Rattle.store.specs.JobIn.{jobIn, entriesIn}
+use Rattle.store.specs.JobIn.{job_in, entries_in}
 use Rattle.store.specs.Chains.{Sought}
 use Rattle.store.specs.Regions.{NODE-HEADS, NODE-LINKS, OFFSETS, FIRSTS, SIZES, CHILDREN, NODES, Work}
 use Rattle.store.specs.Words.{cut}
 use Rattle.store.proofs.Laying.{work-sizes, entries-counted}
 use Rattle.store.proofs.Stores.{length-store}
-use Rattle.interner.specs.Nodes.{hashBytes, hashNode, hashAt, nodeAt, nodeIn, nodesIn, nodeCount, EnteredIn, NodesIn}
-use Rattle.interner.proofs.Runs.{run, spans-long}
-use Rattle.interner.proofs.Shaped.{Known, known, node-is, hash-is}
-use Rattle.interner.proofs.Alike.{node-same, stands_at}
+use Rattle.interner.specs.Nodes.{hash_bytes, hash_node, hash_at, node_at_lem, node_in_lem, nodes_in, node_count, EnteredIn, NodesIn}
+use Rattle.interner.proofs.Runs.{run, spans_long}
+use Rattle.interner.proofs.Shaped.{Known, known, node_is, hash_is}
+use Rattle.interner.proofs.Alike.{node_same, stands_at}
 use Rattle.interner.proofs.Listed.{position-old, position-new}
 use Rattle.interner.proofs.Finding.{Is, Keyed}
 
-abbrev nameLiteral : Literal
-nameLiteral = (1, attributeName)
+abbrev name_literal : Literal
+name_literal = (1, attribute_name)
 
-name-length : length attributeName ≡ 16
-unfolding attributeName ascii
-name-length = refl
+name_length : length attribute_name ≡ 16
+unfolding attribute_name ascii
+name_length = refl
 
 -- all of it, as the code passes it
-name-run : run attributeName 0 16 ≡ attributeName
-unfolding attributeName ascii
-name-run = refl
+name_run : run attribute_name 0 16 ≡ attribute_name
+unfolding attribute_name ascii
+name_run = refl
 
 -- what the code hashes
-pub name-hash : (name : List ℕ) (r : ℕ) → name ≡ attributeName → r ≡ hashBytes 1 (run name 0 16) → r ≡ hashBytes 1 attributeName
-name-hash name r e q = q ∙ rw (e, name-run)
+pub name_hash : (name : List ℕ) (r : ℕ) → name ≡ attribute_name → r ≡ hash_bytes 1 (run name 0 16) → r ≡ hash_bytes 1 attribute_name
+name_hash name r e q = q ∙ rw (e, name_run)
 
-pub name-fits : (name : List ℕ) → name ≡ attributeName → 16 ≤ length name
-name-fits name e = omega (arith, ap length e, name-length)
+pub name_fits : (name : List ℕ) → name ≡ attribute_name → 16 ≤ length name
+name_fits name e = omega (arith, ap length e, name_length)
 
 -- THE CODE'S COMPARISON at an entry
 
 module _ (tag : ℕ) (x : List ℕ) where
-  other : (tag ≡ 1 → x ≡ attributeName → ⊥) → false ≡ sameLiteral (tag, x) nameLiteral
-  other f = ways (sameLiteral (tag, x) nameLiteral) refl
+  other : (tag ≡ 1 → x ≡ attribute_name → ⊥) → false ≡ same_literal (tag, x) name_literal
+  other f = ways (same_literal (tag, x) name_literal) refl
     where
-      ways : (b : Bool) → sameLiteral (tag, x) nameLiteral ≡ b → false ≡ b
-      ways true h = let e = sameLiteral-true (tag, x) nameLiteral h in absurd (f (ap (λ (l : Literal). l.0) e) (ap (λ (l : Literal). l.1) e))
+      ways : (b : Bool) → same_literal (tag, x) name_literal ≡ b → false ≡ b
+      ways true h = let e = same_literal-true (tag, x) name_literal h in absurd (f (ap (λ (l : Literal). l.0) e) (ap (λ (l : Literal). l.1) e))
       ways false h = refl
 
-  pub other_tag : (u : ℕ) → u ≡ tag → (u ≡ 1 → ⊥) → false ≡ sameLiteral (tag, x) nameLiteral
+  pub other_tag : (u : ℕ) → u ≡ tag → (u ≡ 1 → ⊥) → false ≡ same_literal (tag, x) name_literal
   other_tag u is f = other (λ t e. f (is ∙ t))
 
   module _ (s : List ℕ) (a : Stretch) (there : Spans s a x) where
-    pub other_length : (a.end - a.start ≡ 16 → ⊥) → false ≡ sameLiteral (tag, x) nameLiteral
-    other_length f = other (λ t e. f (sym (spans-long s a x there) ∙ ap length e ∙ name-length))
+    pub other_length : (a.end - a.start ≡ 16 → ⊥) → false ≡ same_literal (tag, x) name_literal
+    other_length f = other (λ t e. f (sym (spans_long s a x there) ∙ ap length e ∙ name_length))
 
     pub by_bytes :
-        (u : ℕ) → u ≡ tag → u ≡ 1 → a.end - a.start ≡ 16 → (name : List ℕ) → name ≡ attributeName →
-        (r : Bool) → r ≡ same (run s a.start 16) (run name 0 16) → r ≡ sameLiteral (tag, x) nameLiteral
-    unfolding sameLiteral
+        (u : ℕ) → u ≡ tag → u ≡ 1 → a.end - a.start ≡ 16 → (name : List ℕ) → name ≡ attribute_name →
+        (r : Bool) → r ≡ same (run s a.start 16) (run name 0 16) → r ≡ same_literal (tag, x) name_literal
+    unfolding same_literal
     by_bytes u is one long name e r q =
         let h : run s a.start 16 ≡ x = rw long at there.are in
         let t : tag ≡ 1 = sym is ∙ one in
-        q ∙ rw (e, name-run, h, t)
+        q ∙ rw (e, name_run, h, t)
 
 -- AN ENTRY'S NODE
 
 module _ (s offsets firsts sizes children : List ℕ) (e : ℕ) (k : Known s offsets firsts sizes e) where
   abbrev all : List Literal
-  all = literals (jobIn s)
+  all = literals (job_in s)
 
   abbrev kids : List ℕ
   kids = cut children (get_or firsts e 0) (get_or sizes e 0)
 
-  first-among : Among nameLiteral all
+  first_among : Among name_literal all
   unfolding literals
-  first-among = (0, refl)
+  first_among = (0, refl)
 
-  first-number : number_of all nameLiteral ≡ 0
+  first_number : number_of all name_literal ≡ 0
   unfolding number_of literals
-  first-number =
-      position_here (sameLiteral nameLiteral) nameLiteral (map (λ e. (e.tag, e.literal)) (entries (jobIn s).definitions)) (sameLiteral-refl nameLiteral)
+  first_number =
+      position_here (same_literal name_literal) name_literal (map (λ e. (e.tag, e.literal)) (entries (job_in s).definitions)) (same_literal-refl name_literal)
 
   -- an entry with a literal has neither children nor a kind byte
-  bare : k.entry.literal ≡ attributeName → (get_or sizes e 0 ≡ 0) × (k.entry.byte ≡ 0)
+  bare : k.entry.literal ≡ attribute_name → (get_or sizes e 0 ≡ 0) × (k.entry.byte ≡ 0)
   bare q =
       ⊎_elim
       (λ l. (k.at.count ∙ l.0, l.1))
-      (λ l. absurd (omega (arith, ap length (sym q ∙ l.1), name-length)))
+      (λ l. absurd (omega (arith, ap length (sym q ∙ l.1), name_length)))
       k.shaped
 
-  to-text : lit_of k.entry ≡ nameLiteral → sameNode attributeText (nodeAt s firsts sizes children e) ≡ true
-  unfolding attributeText withKids withLiteral numberedEntry from
-  to-text h =
+  to_text : lit_of k.entry ≡ name_literal → same_node attribute_text (node_at_lem s firsts sizes children e) ≡ true
+  unfolding attribute_text with_kids with_literal numbered_entry from
+  to_text h =
       let (nil, byte) = bare (ap (λ (l : Literal). l.1) h) in
-      let number : number_of all (lit_of k.entry) ≡ 0 = ap (number_of all) h ∙ first-number in
+      let number : number_of all (lit_of k.entry) ≡ 0 = ap (number_of all) h ∙ first_number in
       let none : kids ≡ [] = rw nil in
-      let n : withKids kids (numberedEntry all k.entry) ≡ attributeText =
+      let n : with_kids kids (numbered_entry all k.entry) ≡ attribute_text =
       λ i. record { tag = (h i).0; literal = number i; byte = byte i; kids = none i }
       in
-      rw (node-is s offsets firsts sizes children e k, n) (node-same attributeText)
+      rw (node_is s offsets firsts sizes children e k, n) (node_same attribute_text)
 
-  from-text : sameNode attributeText (nodeAt s firsts sizes children e) ≡ true → (lit_of k.entry ≡ nameLiteral) × (kids ≡ [])
-  unfolding attributeText withKids withLiteral numberedEntry
+  from-text : same_node attribute_text (node_at_lem s firsts sizes children e) ≡ true → (lit_of k.entry ≡ name_literal) × (kids ≡ [])
+  unfolding attribute_text with_kids with_literal numbered_entry
   from-text h =
-      let n : attributeText ≡ withKids kids (numberedEntry all k.entry) =
-      sameNode-equal attributeText (nodeAt s firsts sizes children e) h ∙ node-is s offsets firsts sizes children e k
+      let n : attribute_text ≡ with_kids kids (numbered_entry all k.entry) =
+      same_node-equal attribute_text (node_at_lem s firsts sizes children e) h ∙ node_is s offsets firsts sizes children e k
       in (
-        numberOf-inj all (lit_of k.entry) nameLiteral k.among first-among (sym (ap (λ (n : Node). n.literal) n) ∙ sym first-number),
+        number_of-inj all (lit_of k.entry) name_literal k.among first_among (sym (ap (λ (n : Node). n.literal) n) ∙ sym first_number),
         sym (ap (λ (n : Node). n.kids) n),
       )
 
-  text-told : sameLiteral (lit_of k.entry) nameLiteral ≡ sameNode attributeText (nodeAt s firsts sizes children e)
-  text-told =
-      tests_agree (sameLiteral (lit_of k.entry) nameLiteral) (sameNode attributeText (nodeAt s firsts sizes children e))
-      (λ h. to-text (sameLiteral-true (lit_of k.entry) nameLiteral h))
-      (λ h. rw (from-text h).0 (sameLiteral-refl nameLiteral))
+  text_told : same_literal (lit_of k.entry) name_literal ≡ same_node attribute_text (node_at_lem s firsts sizes children e)
+  text_told =
+      tests_agree (same_literal (lit_of k.entry) name_literal) (same_node attribute_text (node_at_lem s firsts sizes children e))
+      (λ h. to_text (same_literal-true (lit_of k.entry) name_literal h))
+      (λ h. rw (from-text h).0 (same_literal-refl name_literal))
 
-  text-hash : sameNode attributeText (nodeAt s firsts sizes children e) ≡ true → hashAt s firsts sizes children e ≡ hashBytes 1 attributeName
-  unfolding hashNode
-  text-hash h =
+  text_hash : same_node attribute_text (node_at_lem s firsts sizes children e) ≡ true → hash_at s firsts sizes children e ≡ hash_bytes 1 attribute_name
+  unfolding hash_node
+  text_hash h =
       let (lit, none) = from-text h in
-      hash-is s offsets firsts sizes children e k
-      ∙ ap (hashNode k.entry) none
-      ∙ ap (λ (l : Literal). hashBytes l.0 l.1) lit
+      hash_is s offsets firsts sizes children e k
+      ∙ ap (hash_node k.entry) none
+      ∙ ap (λ (l : Literal). hash_bytes l.0 l.1) lit
 
 -- OVER THE STORE
 
-pub attribute-keyed : (h : ℕ) (s : List ℕ) (t : Store) → EnteredIn s t → NodesIn h s t → Keyed s t attributeText (hashBytes 1 attributeName)
+pub attribute-keyed : (h : ℕ) (s : List ℕ) (t : Store) → EnteredIn s t → NodesIn h s t → Keyed s t attribute_text (hash_bytes 1 attribute_name)
 attribute-keyed h s t all g i less =
     let x = get_or (t NODES) i 0 in
-    text-hash s (t OFFSETS) (t FIRSTS) (t SIZES) (t CHILDREN) x (known s (t OFFSETS) (t FIRSTS) (t SIZES) x all (g.inside i less))
+    text_hash s (t OFFSETS) (t FIRSTS) (t SIZES) (t CHILDREN) x (known s (t OFFSETS) (t FIRSTS) (t SIZES) x all (g.inside i less))
 
 pub attribute-told :
-    (s : List ℕ) (t : Store) (e : ℕ) → EnteredIn s t → e < entriesIn s → (at : ℕ) → at ≡ get_or (t OFFSETS) e 0 →
-    (r : Bool) → WhatEntry s at (λ x. r ≡ sameLiteral (x.tag, x.literal) nameLiteral) →
-    r ≡ sameNode attributeText (nodeIn s t e)
+    (s : List ℕ) (t : Store) (e : ℕ) → EnteredIn s t → e < entries_in s → (at : ℕ) → at ≡ get_or (t OFFSETS) e 0 →
+    (r : Bool) → WhatEntry s at (λ x. r ≡ same_literal (x.tag, x.literal) name_literal) →
+    r ≡ same_node attribute_text (node_in_lem s t e)
 attribute-told s t e all low at is r h =
     let k = known s (t OFFSETS) (t FIRSTS) (t SIZES) e all low in
     h k.entry k.at.next (stands_at s (t OFFSETS) (t FIRSTS) (t SIZES) (t CHILDREN) e k at is)
-    ∙ text-told s (t OFFSETS) (t FIRSTS) (t SIZES) (t CHILDREN) e k
+    ∙ text_told s (t OFFSETS) (t FIRSTS) (t SIZES) (t CHILDREN) e k
 
 module _ (s p w : List ℕ) (work : Work s p) (g : NodesIn (size p NODE-HEADS) s (store p w)) where
-  room : nodeCount (store p w) ≤ length (store p w NODES)
+  room : node_count (store p w) ≤ length (store p w NODES)
   room = omega (arith, g.few, length-store p w NODES, (work-sizes s p work).nodes, entries-counted s)
 
   pub attribute-found :
-      (link : ℕ) → Sought (Is s (store p w) attributeText) (nodeCount (store p w)) link → 0 < link →
-      link - 1 ≡ position (sameNode attributeText) (nodesIn s (store p w))
+      (link : ℕ) → Sought (Is s (store p w) attribute_text) (node_count (store p w)) link → 0 < link →
+      link - 1 ≡ position (same_node attribute_text) (nodes_in s (store p w))
   attribute-found =
       let t = store p w in
-      position-old (size p NODE-HEADS) s (t FIRSTS) (t SIZES) (t CHILDREN) (t NODES) (t NODE-HEADS) (t NODE-LINKS) (nodeCount t) attributeText g room
+      position-old (size p NODE-HEADS) s (t FIRSTS) (t SIZES) (t CHILDREN) (t NODES) (t NODE-HEADS) (t NODE-LINKS) (node_count t) attribute_text g room
 
   pub attribute-missing :
-      Sought (Is s (store p w) attributeText) (nodeCount (store p w)) 0 → (r : ℕ) → r ≡ nodeCount (store p w) →
-      r ≡ position (sameNode attributeText) (nodesIn s (store p w))
+      Sought (Is s (store p w) attribute_text) (node_count (store p w)) 0 → (r : ℕ) → r ≡ node_count (store p w) →
+      r ≡ position (same_node attribute_text) (nodes_in s (store p w))
   attribute-missing miss r q =
       let t = store p w in
-      q ∙ position-new (size p NODE-HEADS) s (t FIRSTS) (t SIZES) (t CHILDREN) (t NODES) (t NODE-HEADS) (t NODE-LINKS) (nodeCount t) attributeText g room miss
+      q ∙ position-new (size p NODE-HEADS) s (t FIRSTS) (t SIZES) (t CHILDREN) (t NODES) (t NODE-HEADS) (t NODE-LINKS) (node_count t) attribute_text g room miss

@@ -16,7 +16,7 @@ use Rattle.job.specs.Stored.{Spans}
 use Rattle.store.specs.Store.{IsWord}
 use Rattle.writer.specs.Numbers.{number4}
 use Rattle.store.specs.Chains.{mixed}
-use Rattle.interner.specs.Nodes.{hashRest, hashBytes}
+use Rattle.interner.specs.Nodes.{hash_rest, hash_bytes}
 
 -- n bytes from a place on
 abbrev pub run : List ℕ → ℕ → ℕ → List ℕ
@@ -49,58 +49,58 @@ run-four s at n next less e f h l =
 
 -- HASHES
 
-rest-one : (hash a : ℕ) (l : List ℕ) → length l < 3 → hashRest hash (a ∷ l) ≡ hashRest (mixed hash a) l
-unfolding hashRest
-rest-one hash a [] h = refl
-rest-one hash a (b ∷ []) h = refl
-rest-one hash a (b ∷ c ∷ []) h = refl
-rest-one hash a (b ∷ c ∷ d ∷ l) h = absurd (omega arith)
+rest_one : (hash a : ℕ) (l : List ℕ) → length l < 3 → hash_rest hash (a ∷ l) ≡ hash_rest (mixed hash a) l
+unfolding hash_rest
+rest_one hash a [] h = refl
+rest_one hash a (b ∷ []) h = refl
+rest_one hash a (b ∷ c ∷ []) h = refl
+rest_one hash a (b ∷ c ∷ d ∷ l) h = absurd (omega arith)
 
-rest-four : (hash a b c d : ℕ) (l : List ℕ) → hashRest hash (a ∷ b ∷ c ∷ d ∷ l) ≡ hashRest (mixed hash (65536 * (256 * a + b) + (256 * c + d))) l
-unfolding hashRest
-rest-four hash a b c d l = refl
+rest_four : (hash a b c d : ℕ) (l : List ℕ) → hash_rest hash (a ∷ b ∷ c ∷ d ∷ l) ≡ hash_rest (mixed hash (65536 * (256 * a + b) + (256 * c + d))) l
+unfolding hash_rest
+rest_four hash a b c d l = refl
 
 -- what the loop keeps: the bytes that are left make the hash into that of all
 pub record Hashing (s : List ℕ) (start n seed hash i : ℕ) : Type 0 where
   pub low : i ≤ n
   pub small : IsWord hash
-  pub rest : hashRest hash (run s (start + i) (n - i)) ≡ hashBytes seed (run s start n)
+  pub rest : hash_rest hash (run s (start + i) (n - i)) ≡ hash_bytes seed (run s start n)
 
 module _ (s : List ℕ) (start n seed : ℕ) (fits : start + n ≤ length s) where
-  pub hashing-begin : (hash : ℕ) → hash ≡ mixed seed n → IsWord hash → Hashing s start n seed hash 0
-  unfolding hashBytes
-  hashing-begin hash e small =
+  pub hashing_begin : (hash : ℕ) → hash ≡ mixed seed n → IsWord hash → Hashing s start n seed hash 0
+  unfolding hash_bytes
+  hashing_begin hash e small =
       let a : start + 0 ≡ start = omega arith in
       let b : n - 0 ≡ n = omega arith in
       record { low = omega arith; small = small; rest = rw (a, b, e, run_length s start n fits) }
 
-  pub hashing-one :
+  pub hashing_one :
       (hash i : ℕ) → Hashing s start n seed hash i → i < n → n - i < 4 → (new : ℕ) → new ≡ mixed hash (get_or s (start + i) 0) → IsWord new →
       Hashing s start n seed new (i + 1)
-  hashing-one hash i h l few new e small =
-      record { low = omega arith; small = small; rest = rw (e, ← one) (sym (ap (hashRest hash) cons) ∙ h.rest) }
+  hashing_one hash i h l few new e small =
+      record { low = omega arith; small = small; rest = rw (e, ← one) (sym (ap (hash_rest hash) cons) ∙ h.rest) }
     where
       cons : run s (start + i) (n - i) ≡ get_or s (start + i) 0 ∷ run s (start + (i + 1)) (n - (i + 1))
       cons = run-one s (start + i) (n - i) (start + (i + 1)) (n - (i + 1)) (omega arith) (omega arith) (omega arith) (omega arith)
 
-      one : hashRest hash (get_or s (start + i) 0 ∷ run s (start + (i + 1)) (n - (i + 1))) ≡ hashRest (mixed hash (get_or s (start + i) 0)) (run s (start + (i + 1)) (n - (i + 1)))
-      one = rest-one hash (get_or s (start + i) 0) (run s (start + (i + 1)) (n - (i + 1))) (omega (arith, run_length s (start + (i + 1)) (n - (i + 1)) (omega arith)))
+      one : hash_rest hash (get_or s (start + i) 0 ∷ run s (start + (i + 1)) (n - (i + 1))) ≡ hash_rest (mixed hash (get_or s (start + i) 0)) (run s (start + (i + 1)) (n - (i + 1)))
+      one = rest_one hash (get_or s (start + i) 0) (run s (start + (i + 1)) (n - (i + 1))) (omega (arith, run_length s (start + (i + 1)) (n - (i + 1)) (omega arith)))
 
-  pub hashing-four :
+  pub hashing_four :
       (hash i : ℕ) → Hashing s start n seed hash i → i < n → 4 ≤ n - i → (new : ℕ) → new ≡ mixed hash (number4 s (start + i)) → IsWord new →
       Hashing s start n seed new (i + 4)
-  hashing-four hash i h l many new e small =
+  hashing_four hash i h l many new e small =
       let at = start + i in
       let rest = run s (start + (i + 4)) (n - (i + 4)) in
-      let four : hashRest hash (run s at (n - i)) ≡ hashRest (mixed hash (number4 s at)) rest =
-      ap (hashRest hash) (run-four s at (n - i) (start + (i + 4)) (n - (i + 4)) (omega arith) (omega arith) (omega arith) (omega arith))
-      ∙ rest-four hash (get_or s at 0) (get_or s (at + 1) 0) (get_or s (at + 2) 0) (get_or s (at + 2 + 1) 0) rest
+      let four : hash_rest hash (run s at (n - i)) ≡ hash_rest (mixed hash (number4 s at)) rest =
+      ap (hash_rest hash) (run-four s at (n - i) (start + (i + 4)) (n - (i + 4)) (omega arith) (omega arith) (omega arith) (omega arith))
+      ∙ rest_four hash (get_or s at 0) (get_or s (at + 1) 0) (get_or s (at + 2) 0) (get_or s (at + 2 + 1) 0) rest
       in
       record { low = omega arith; small = small; rest = rw e (sym four ∙ h.rest) }
 
-  pub hashing-end : (hash i : ℕ) → Hashing s start n seed hash i → n ≤ i → (hash ≡ hashBytes seed (run s start n)) × IsWord hash
-  unfolding hashRest
-  hashing-end hash i h l = let e : n - i ≡ 0 = omega arith in (rw e at h.rest, h.small)
+  pub hashing_end : (hash i : ℕ) → Hashing s start n seed hash i → n ≤ i → (hash ≡ hash_bytes seed (run s start n)) × IsWord hash
+  unfolding hash_rest
+  hashing_end hash i h l = let e : n - i ≡ 0 = omega arith in (rw e at h.rest, h.small)
 
 -- COMPARISONS
 
@@ -110,8 +110,8 @@ pub record Comparing (s t : List ℕ) (a b n i : ℕ) : Type 0 where
   pub rest : same (run s (a + i) (n - i)) (run t (b + i) (n - i)) ≡ same (run s a n) (run t b n)
 
 module _ (s t : List ℕ) (a b n : ℕ) where
-  pub comparing-begin : Comparing s t a b n 0
-  comparing-begin =
+  pub comparing_begin : Comparing s t a b n 0
+  comparing_begin =
       let e : a + 0 ≡ a = omega arith in
       let f : b + 0 ≡ b = omega arith in
       let g : n - 0 ≡ n = omega arith in
@@ -126,33 +126,33 @@ module _ (s t : List ℕ) (a b n : ℕ) where
           run-one t (b + i) (n - i) (b + (i + 1)) (n - (i + 1)) (omega arith) (omega arith) (omega arith) (omega arith),
         )
 
-    pub comparing-next : Comparing s t a b n i → get_or s (a + i) 0 ≡ get_or t (b + i) 0 → Comparing s t a b n (i + 1)
-    comparing-next h e = record { low = omega arith; rest = sym (rw (eq-eqb (get_or s (a + i) 0) (get_or t (b + i) 0) e) at one) ∙ h.rest }
+    pub comparing_next : Comparing s t a b n i → get_or s (a + i) 0 ≡ get_or t (b + i) 0 → Comparing s t a b n (i + 1)
+    comparing_next h e = record { low = omega arith; rest = sym (rw (eq-eqb (get_or s (a + i) 0) (get_or t (b + i) 0) e) at one) ∙ h.rest }
 
-    pub comparing-not : Comparing s t a b n i → (get_or s (a + i) 0 ≡ get_or t (b + i) 0 → ⊥) → false ≡ same (run s a n) (run t b n)
-    comparing-not h e = sym (rw (ne_eqb (get_or s (a + i) 0) (get_or t (b + i) 0) e) at one) ∙ h.rest
+    pub comparing_not : Comparing s t a b n i → (get_or s (a + i) 0 ≡ get_or t (b + i) 0 → ⊥) → false ≡ same (run s a n) (run t b n)
+    comparing_not h e = sym (rw (ne_eqb (get_or s (a + i) 0) (get_or t (b + i) 0) e) at one) ∙ h.rest
 
-  pub comparing-end : (i : ℕ) → Comparing s t a b n i → n ≤ i → true ≡ same (run s a n) (run t b n)
+  pub comparing_end : (i : ℕ) → Comparing s t a b n i → n ≤ i → true ≡ same (run s a n) (run t b n)
   unfolding same
-  comparing-end i h l = let e : n - i ≡ 0 = omega arith in rw e at h.rest
+  comparing_end i h l = let e : n - i ≡ 0 = omega arith in rw e at h.rest
 
 -- LITERALS at stretches of the job
 
-pub spans-long : (s : List ℕ) (t : Stretch) (l : List ℕ) → Spans s t l → length l ≡ t.end - t.start
-spans-long s t l h = sym (ap length h.are) ∙ run_length s t.start (t.end - t.start) (omega (arith, h.rising, h.within))
+pub spans_long : (s : List ℕ) (t : Stretch) (l : List ℕ) → Spans s t l → length l ≡ t.end - t.start
+spans_long s t l h = sym (ap length h.are) ∙ run_length s t.start (t.end - t.start) (omega (arith, h.rising, h.within))
 
 module _ (s : List ℕ) (a b : Stretch) (x y : List ℕ) (there : Spans s a x) (other : Spans s b y) where
   pub spans_fit : (b.end - b.start ≡ a.end - a.start) → (a.start + (a.end - a.start) ≤ length s) × (b.start + (a.end - a.start) ≤ length s)
   spans_fit e = (omega (arith, there.rising, there.within), omega (arith, other.rising, other.within))
 
-  pub spans-differ : (b.end - b.start ≡ a.end - a.start → ⊥) → false ≡ same x y
-  spans-differ e = ways (same x y) refl
+  pub spans_differ : (b.end - b.start ≡ a.end - a.start → ⊥) → false ≡ same x y
+  spans_differ e = ways (same x y) refl
     where
       ways : (t : Bool) → same x y ≡ t → false ≡ t
-      ways true h = absurd (e (sym (spans-long s b y other) ∙ sym (ap length (same_true x y h)) ∙ spans-long s a x there))
+      ways true h = absurd (e (sym (spans_long s b y other) ∙ sym (ap length (same_true x y h)) ∙ spans_long s a x there))
       ways false h = refl
 
-  pub spans-same :
+  pub spans_same :
       (b.end - b.start ≡ a.end - a.start) →
       same (run s a.start (a.end - a.start)) (run s b.start (a.end - a.start)) ≡ same x y
-  spans-same e = rw (there.are, ← e, other.are)
+  spans_same e = rw (there.are, ← e, other.are)

@@ -18,15 +18,15 @@ use Rattle.laws.specs.Statements.{IsBytes}
 use Rattle.writer.specs.Numbers.{number4}
 use Rattle.writer.proofs.Laws.{be4-number}
 use Rattle.job.specs.declared.Stretch.{Stretch}
-use Rattle.job.specs.Stored.{Found, Spans, EntryStands, WhatEntry, anyDefinition, isWorked}
+use Rattle.job.specs.Stored.{Found, Spans, EntryStands, WhatEntry, any_definition, is_worked}
 use Rattle.store.specs.Store.{IsWord}
 use Rattle.store.specs.Chains.{mixed}
 use Rattle.store.specs.Entries.{WordsAt}
-use Rattle.store.specs.Words.{numberBytes}
-use Rattle.job.proofs.Standing.{text-plain as text-there}
+use Rattle.store.specs.Words.{number_bytes}
+use Rattle.job.proofs.Standing.{text_plain as text_there}
 use Rattle.store.proofs.Worked.{worked-wide, worked_narrow}
-use Rattle.interner.specs.Nodes.{hashRest, hashBytes}
-use Rattle.interner.proofs.Runs.{spans-long}
+use Rattle.interner.specs.Nodes.{hash_rest, hash_bytes}
+use Rattle.interner.proofs.Runs.{spans_long}
 
 -- BYTES OF WORDS
 
@@ -43,20 +43,20 @@ word_back a h =
     let all : 65536 * (a / 65536) + a % 65536 ≡ a = omega arith in
     rw (first, third, fourth) at (ap (λ n. 65536 * n + (256 * (a % 65536 / 256 % 256) + a % 65536 % 256)) high ∙ ap (λ n. 65536 * (a / 65536) + n) low ∙ all)
 
-words-equal : (a b : ℕ) → IsWord a → IsWord b → be4 a ≡ be4 b → a ≡ b
+words_equal : (a b : ℕ) → IsWord a → IsWord b → be4 a ≡ be4 b → a ≡ b
 unfolding be4
-words-equal a b h g e =
+words_equal a b h g e =
     sym (word_back a h)
     ∙ ap (λ l. 65536 * (256 * get_or l 0 0 + get_or l 1 0) + (256 * get_or l 2 0 + get_or l 3 0)) e
     ∙ word_back b g
 
-hash-narrow : (seed a : ℕ) → IsWord a → hashBytes seed (be4 a) ≡ mixed (mixed seed 4) a
-unfolding hashBytes hashRest be4
-hash-narrow seed a h = ap (mixed (mixed seed 4)) (word_back a h)
+hash_narrow : (seed a : ℕ) → IsWord a → hash_bytes seed (be4 a) ≡ mixed (mixed seed 4) a
+unfolding hash_bytes hash_rest be4
+hash_narrow seed a h = ap (mixed (mixed seed 4)) (word_back a h)
 
-hash-wide : (seed a b : ℕ) → IsWord a → IsWord b → hashBytes seed (be4 a ++ be4 b) ≡ mixed (mixed (mixed seed 8) a) b
-unfolding hashBytes hashRest be4
-hash-wide seed a b h g = ap (mixed (mixed (mixed seed 8) (65536 * (256 * (a / 16777216 % 256) + a / 65536 % 256) + (256 * (a / 256 % 256) + a % 256)))) (word_back b g) ∙ ap (λ n. mixed (mixed (mixed seed 8) n) b) (word_back a h)
+hash_wide : (seed a b : ℕ) → IsWord a → IsWord b → hash_bytes seed (be4 a ++ be4 b) ≡ mixed (mixed (mixed seed 8) a) b
+unfolding hash_bytes hash_rest be4
+hash_wide seed a b h g = ap (mixed (mixed (mixed seed 8) (65536 * (256 * (a / 16777216 % 256) + a / 65536 % 256) + (256 * (a / 256 % 256) + a % 256)))) (word_back b g) ∙ ap (λ n. mixed (mixed (mixed seed 8) n) b) (word_back a h)
 
 -- four bytes of a literal, behind i times four
 abbrev pub part : List ℕ → ℕ → List ℕ
@@ -79,19 +79,19 @@ whole-eight (a ∷ b ∷ c ∷ []) h = absurd (omega arith)
 
 -- THE COMPARISON
 
-sizes-unlike : (x y : List ℕ) → (length y ≡ length x → ⊥) → false ≡ same x y
-sizes-unlike x y f = ways (same x y) refl
+sizes_unlike : (x y : List ℕ) → (length y ≡ length x → ⊥) → false ≡ same x y
+sizes_unlike x y f = ways (same x y) refl
   where
     ways : (t : Bool) → same x y ≡ t → false ≡ t
     ways true h = absurd (f (ap length (sym (same_true x y h))))
     ways false h = refl
 
 module _ (x y : List ℕ) (a b : ℕ) (first : part x 0 ≡ be4 a) (first' : part y 0 ≡ be4 b) (sa : IsWord a) (sb : IsWord b) where
-  firsts-unlike : (a ≡ b → ⊥) → false ≡ same x y
-  firsts-unlike f = ways (same x y) refl
+  firsts_unlike : (a ≡ b → ⊥) → false ≡ same x y
+  firsts_unlike f = ways (same x y) refl
     where
       ways : (t : Bool) → same x y ≡ t → false ≡ t
-      ways true h = absurd (f (words-equal a b sa sb (sym first ∙ ap (λ l. part l 0) (same_true x y h) ∙ first')))
+      ways true h = absurd (f (words_equal a b sa sb (sym first ∙ ap (λ l. part l 0) (same_true x y h) ∙ first')))
       ways false h = refl
 
   four-alike : length x ≡ 4 → length y ≡ 4 → a ≡ b → true ≡ same x y
@@ -106,22 +106,22 @@ module _ (x y : List ℕ) (a b : ℕ) (first : part x 0 ≡ be4 a) (first' : par
       let q : c ≡ d = eqb-true c d h in
       let z : x ≡ y = sym (whole-eight x l) ∙ ap (λ n. n ++ part x 1) (first ∙ ap be4 e ∙ sym first') ∙ ap (λ n. part y 0 ++ n) (second ∙ ap be4 q ∙ sym second') ∙ whole-eight y m in
       rw z (same_refl y))
-      (λ h. eq-eqb c d (words-equal c d sc sd (sym second ∙ ap (λ l. part l 1) (same_true x y h) ∙ second')))
+      (λ h. eq-eqb c d (words_equal c d sc sd (sym second ∙ ap (λ l. part l 1) (same_true x y h) ∙ second')))
 
 pub same-sym : (x y : List ℕ) → same x y ≡ same y x
 same-sym x y = tests_agree (same x y) (same y x) (λ h. rw (same_true x y h) (same_refl y)) (λ h. rw (same_true y x h) (same_refl x))
 
 -- AT A PLACE
 
-pub stands-inside : (s : List ℕ) (at : ℕ) → EntryStands s at → at < length s
-stands-inside s at h = omega (arith, h.2.past, h.2.within)
+pub stands_inside : (s : List ℕ) (at : ℕ) → EntryStands s at → at < length s
+stands_inside s at h = omega (arith, h.2.past, h.2.within)
 
 -- a text was not worked out
-pub text-plain : (s : List ℕ) (at tag : ℕ) → WhatEntry s at (λ x. tag ≡ x.tag) → EntryStands s at → tag ≡ 1 → isWorked s at ≡ false
-text-plain s at tag is h text = text-there s at h.0 h.1 h.2 (sym (is h.0 h.1 h.2) ∙ text)
+pub text_plain : (s : List ℕ) (at tag : ℕ) → WhatEntry s at (λ x. tag ≡ x.tag) → EntryStands s at → tag ≡ 1 → is_worked s at ≡ false
+text_plain s at tag is h text = text_there s at h.0 h.1 h.2 (sym (is h.0 h.1 h.2) ∙ text)
 
 -- the size of a literal that was worked out, as the code asks
-module _ (s : List ℕ) (at tag : ℕ) (is : WhatEntry s at (λ x. tag ≡ x.tag)) (worked : isWorked s at ≡ true) where
+module _ (s : List ℕ) (at tag : ℕ) (is : WhatEntry s at (λ x. tag ≡ x.tag)) (worked : is_worked s at ≡ true) where
   pub size-wide : is_wide tag ≡ true → WhatEntry s at (λ x. 8 ≡ length x.literal)
   size-wide wide x next f = sym (worked-wide s at x next f worked (ap is_wide (sym (is x next f)) ∙ wide))
 
@@ -130,21 +130,21 @@ module _ (s : List ℕ) (at tag : ℕ) (is : WhatEntry s at (λ x. tag ≡ x.tag
 
   -- its hash
   module _ (values : List ℕ) (words : WordsAt s values at) (a : ℕ) (first : a ≡ get_or values (at / 3) 0) (sa : IsWord a) where
-    pub hash-two :
+    pub hash_two :
         is_wide tag ≡ true → (b : ℕ) → b ≡ get_or values (at / 3 + 1) 0 → IsWord b → (r : ℕ) → r ≡ mixed (mixed (mixed tag 8) a) b →
-        WhatEntry s at (λ x. r ≡ hashBytes x.tag x.literal)
-    unfolding numberBytes
-    hash-two wide b second sb r e x next f =
+        WhatEntry s at (λ x. r ≡ hash_bytes x.tag x.literal)
+    unfolding number_bytes
+    hash_two wide b second sb r e x next f =
         let w : is_wide x.tag ≡ true = ap is_wide (sym (is x next f)) ∙ wide in
-        let l : be4 a ++ be4 b ≡ x.literal = rw (first, second) (rw (w, numberBytes) at (words worked x next f)) in
-        e ∙ sym (hash-wide tag a b sa sb) ∙ ap (λ l. hashBytes tag l) l ∙ ap (λ k. hashBytes k x.literal) (is x next f)
+        let l : be4 a ++ be4 b ≡ x.literal = rw (first, second) (rw (w, number_bytes) at (words worked x next f)) in
+        e ∙ sym (hash_wide tag a b sa sb) ∙ ap (λ l. hash_bytes tag l) l ∙ ap (λ k. hash_bytes k x.literal) (is x next f)
 
-    pub hash-one : is_wide tag ≡ false → (r : ℕ) → r ≡ mixed (mixed tag 4) a → WhatEntry s at (λ x. r ≡ hashBytes x.tag x.literal)
-    unfolding numberBytes
-    hash-one narrow r e x next f =
+    pub hash_one : is_wide tag ≡ false → (r : ℕ) → r ≡ mixed (mixed tag 4) a → WhatEntry s at (λ x. r ≡ hash_bytes x.tag x.literal)
+    unfolding number_bytes
+    hash_one narrow r e x next f =
         let w : is_wide x.tag ≡ false = ap is_wide (sym (is x next f)) ∙ narrow in
-        let l : be4 a ≡ x.literal = rw first (rw (w, numberBytes) at (words worked x next f)) in
-        e ∙ sym (hash-narrow tag a sa) ∙ ap (λ l. hashBytes tag l) l ∙ ap (λ k. hashBytes k x.literal) (is x next f)
+        let l : be4 a ≡ x.literal = rw first (rw (w, number_bytes) at (words worked x next f)) in
+        e ∙ sym (hash_narrow tag a sa) ∙ ap (λ l. hash_bytes tag l) l ∙ ap (λ k. hash_bytes k x.literal) (is x next f)
 
 -- a word of a literal: as it is kept, or as it is read
 four-first : (a : ℕ) (l : List ℕ) → part (be4 a ++ l) 0 ≡ be4 a
@@ -163,17 +163,17 @@ four-long : (a : ℕ) → length (be4 a) ≡ 4
 unfolding be4
 four-long a = refl
 
-part-run : (m n : ℕ) (l : List ℕ) → m + 4 ≤ n → take 4 (drop m (take n l)) ≡ take 4 (drop m l)
-part-run zero n l h = take-take 4 n l (omega arith)
-part-run (suc m) zero l h = absurd (omega arith)
-part-run (suc m) (suc n) [] h = refl
-part-run (suc m) (suc n) (x ∷ l) h = part-run m n l (omega arith)
+part_run : (m n : ℕ) (l : List ℕ) → m + 4 ≤ n → take 4 (drop m (take n l)) ≡ take 4 (drop m l)
+part_run zero n l h = take-take 4 n l (omega arith)
+part_run (suc m) zero l h = absurd (omega arith)
+part_run (suc m) (suc n) [] h = refl
+part_run (suc m) (suc n) (x ∷ l) h = part_run m n l (omega arith)
 
 module _ (s : List ℕ) (at i : ℕ) (low : i < 2) (room : WhatEntry s at (λ x. 4 * i + 4 ≤ length x.literal)) where
   pub kept_word :
-      (values : List ℕ) → WordsAt s values at → isWorked s at ≡ true → (r : ℕ) → r ≡ get_or values (at / 3 + i) 0 →
+      (values : List ℕ) → WordsAt s values at → is_worked s at ≡ true → (r : ℕ) → r ≡ get_or values (at / 3 + i) 0 →
       WhatEntry s at (λ x. part x.literal i ≡ be4 r)
-  unfolding numberBytes
+  unfolding number_bytes
   kept_word values words worked r e x next f = ways (is_wide x.tag) refl
     where
       first : i ≡ 0 → be4 (get_or values (at / 3) 0) ≡ be4 r
@@ -181,7 +181,7 @@ module _ (s : List ℕ) (at i : ℕ) (low : i < 2) (room : WhatEntry s at (λ x.
 
       ways : (b : Bool) → is_wide x.tag ≡ b → part x.literal i ≡ be4 r
       ways true w =
-          let l = rw (w, numberBytes) at (words worked x next f) in
+          let l = rw (w, number_bytes) at (words worked x next f) in
           ⊎_elim
           (λ (z : i ≡ 0). ap (λ j. part x.literal j) z ∙ ap (λ l. part l 0) (sym l) ∙ four-first _ _ ∙ first z)
           (λ (n : i ≡ 0 → ⊥).
@@ -189,29 +189,29 @@ module _ (s : List ℕ) (at i : ℕ) (low : i < 2) (room : WhatEntry s at (λ x.
           ap (λ j. part x.literal j) z ∙ ap (λ l. part l 1) (sym l) ∙ four-second _ _ ∙ ap be4 (ap (λ j. get_or values (at / 3 + j) 0) (sym z) ∙ sym e))
           (equal i 0)
       ways false w =
-          let l = rw (w, numberBytes) at (words worked x next f) in
+          let l = rw (w, number_bytes) at (words worked x next f) in
           let z : i ≡ 0 = omega (arith, room x next f, ap length l, four-long (get_or values (at / 3) 0)) in
           ap (λ j. part x.literal j) z ∙ ap (λ l. part l 0) (sym l) ∙ four-only _ ∙ first z
 
   module _ (a : Stretch) (there : WhatEntry s at (λ x. Spans s a x.literal)) where
-    pub read-room : EntryStands s at → a.start + 4 * i + 4 ≤ length s
-    read-room h =
+    pub read_room : EntryStands s at → a.start + 4 * i + 4 ≤ length s
+    read_room h =
         let a = there h.0 h.1 h.2 in
-        omega (arith, room h.0 h.1 h.2, spans-long s _ h.0.literal a, a.rising, a.within)
+        omega (arith, room h.0 h.1 h.2, spans_long s _ h.0.literal a, a.rising, a.within)
 
     pub read_word : IsBytes s → (r : ℕ) → r ≡ number4 s (a.start + 4 * i) → WhatEntry s at (λ x. part x.literal i ≡ be4 r)
     read_word bytes r e x next f =
         let h = there x next f in
         let n = a.end - a.start in
-        let l = spans-long s a x.literal h in
+        let l = spans_long s a x.literal h in
         ap (λ l. part l i) (sym h.are)
-        ∙ part-run (4 * i) n (drop a.start s) (omega (arith, room x next f))
+        ∙ part_run (4 * i) n (drop a.start s) (omega (arith, room x next f))
         ∙ ap (take 4) (drop-drop (4 * i) a.start s)
         ∙ be4-number s bytes (a.start + 4 * i) (omega (arith, room x next f, h.rising, h.within))
         ∙ ap be4 (sym e)
 
 -- a literal that was worked out has four bytes or eight
-module _ (s : List ℕ) (at n : ℕ) (size : WhatEntry s at (λ x. n ≡ length x.literal)) (h : EntryStands s at) (worked : isWorked s at ≡ true) where
+module _ (s : List ℕ) (at n : ℕ) (size : WhatEntry s at (λ x. n ≡ length x.literal)) (h : EntryStands s at) (worked : is_worked s at ≡ true) where
   long : (b : Bool) → is_wide h.0.tag ≡ b → n ≡ cond b 8 4
   long true w = size h.0 h.1 h.2 ∙ worked-wide s at h.0 h.1 h.2 worked w
   long false w = size h.0 h.1 h.2 ∙ worked_narrow s at h.0 h.1 h.2 worked w
@@ -232,12 +232,12 @@ module _ (s : List ℕ) (at n : ℕ) (size : WhatEntry s at (λ x. n ≡ length 
 
 -- two literals of which the first was worked out
 module _ (s : List ℕ) (at other m n : ℕ) (size : WhatEntry s at (λ x. n ≡ length x.literal)) (size' : WhatEntry s other (λ y. m ≡ length y.literal)) where
-  pub sizes-differ : (m ≡ n → ⊥) → WhatEntry s at (λ x. WhatEntry s other (λ y. false ≡ same x.literal y.literal))
-  sizes-differ f x next g y next' h = sizes-unlike x.literal y.literal (λ e. f (size' y next' h ∙ e ∙ sym (size x next g)))
+  pub sizes_differ : (m ≡ n → ⊥) → WhatEntry s at (λ x. WhatEntry s other (λ y. false ≡ same x.literal y.literal))
+  sizes_differ f x next g y next' h = sizes_unlike x.literal y.literal (λ e. f (size' y next' h ∙ e ∙ sym (size x next g)))
 
   module _ (a b : ℕ) (first : WhatEntry s at (λ x. part x.literal 0 ≡ be4 a)) (first' : WhatEntry s other (λ y. part y.literal 0 ≡ be4 b)) (sa : IsWord a) (sb : IsWord b) where
-    pub firsts-differ : (a ≡ b → ⊥) → WhatEntry s at (λ x. WhatEntry s other (λ y. false ≡ same x.literal y.literal))
-    firsts-differ f x next g y next' h = firsts-unlike x.literal y.literal a b (first x next g) (first' y next' h) sa sb f
+    pub firsts_differ : (a ≡ b → ⊥) → WhatEntry s at (λ x. WhatEntry s other (λ y. false ≡ same x.literal y.literal))
+    firsts_differ f x next g y next' h = firsts_unlike x.literal y.literal a b (first x next g) (first' y next' h) sa sb f
 
     module _ (even : m ≡ n) (one : a ≡ b) where
       pub one_same : n ≡ 4 → WhatEntry s at (λ x. WhatEntry s other (λ y. true ≡ same x.literal y.literal))

@@ -3,17 +3,17 @@
 ghost use Rattle.std.specs.Prelude.{true, ◌≡◌, ◌+◌, ◌*◌, ◌<◌, ◌≤◌, length, get_or, take, drop};
 ghost use Rattle.definition.specs.Basics.{same, position};
 ghost use Rattle.definition.specs.Bytes.{be4};
-ghost use Rattle.definition.specs.Numbering.{attributeName, sameLiteral};
-ghost use Rattle.definition.specs.Resolving.{sameNode};
-ghost use Rattle.definition.specs.Building.{attributeText};
-ghost use Rattle.job.specs.Stored.{EntryStands, WhatEntry, isWorked};
+ghost use Rattle.definition.specs.Numbering.{attribute_name, same_literal};
+ghost use Rattle.definition.specs.Resolving.{same_node};
+ghost use Rattle.definition.specs.Building.{attribute_text};
+ghost use Rattle.job.specs.Stored.{EntryStands, WhatEntry, is_worked};
 ghost use Rattle.store.specs.Store.{size, store, On, IsWord};
 ghost use Rattle.store.specs.Chains.{Sought};
-ghost use Rattle.store.specs.JobIn.{entriesIn};
+ghost use Rattle.store.specs.JobIn.{entries_in};
 ghost use Rattle.store.specs.Entries.{WordsAt};
 ghost use Rattle.store.specs.Regions.{NODE-HEADS, CHILDREN, NODES, VALUES, Work};
 ghost use Rattle.store.specs.Words.{cut};
-ghost use Rattle.interner.specs.Nodes.{hashBytes, hashWords, hashIn, nodeIn, nodeCount, nodesIn, EnteredIn, NodesIn, Lowers, Interned};
+ghost use Rattle.interner.specs.Nodes.{hash_bytes, hash_words, hash_in, node_in_lem, node_count, nodes_in, EnteredIn, NodesIn, Lowers, Interned};
 
 use store::{
     CHILDREN, COUNTS, FIRSTS, NODE_COUNT, NODE_HEADS, NODE_LINKS, NODES, OFFSETS, SIZES, VALUES,
@@ -23,7 +23,7 @@ use store::{
 // A hash of n bytes behind a seed, four at a time, then one at a time.
 pub fn hash_bytes(s: &[u8], start: usize, n: usize, seed: usize) -> usize
     requires { (start + n ≤ length s.now) × IsWord seed × IsWord n }
-    ensures { (result ≡ hashBytes seed (take n (drop start s.now))) × IsWord result }
+    ensures { (result ≡ hash_bytes seed (take n (drop start s.now))) × IsWord result }
 {
     let mut hash = mix(seed, n);
     let mut i = 0;
@@ -65,7 +65,7 @@ pub fn same_bytes(job: &[u8], a: usize, b: usize, n: usize) -> bool
 // A hash of the n children from a place on, behind a seed.
 fn hash_children(w: &[u32], p: &[usize], first: usize, n: usize, seed: usize) -> usize
     requires { On p.now (length w.now) × (first + n ≤ size p.now CHILDREN) × IsWord seed }
-    ensures { (result ≡ hashWords seed (cut (store p.now w.now CHILDREN) first n)) × IsWord result }
+    ensures { (result ≡ hash_words seed (cut (store p.now w.now CHILDREN) first n)) × IsWord result }
 {
     let mut hash = seed;
     let mut i = 0;
@@ -123,8 +123,8 @@ fn literal_word(job: &[u8], w: &[u32], p: &[usize], at: usize, i: usize) -> usiz
 
 // The hash of the literal of the entry at a place, which was worked out, its tag included: as `hash_bytes` has it.
 fn hash_worked(job: &[u8], w: &[u32], p: &[usize], at: usize) -> usize
-    requires { On p.now (length w.now) × Work job.now p.now × EntryStands job.now at × WordsAt job.now (store p.now w.now VALUES) at × (isWorked job.now at ≡ true) }
-    ensures { WhatEntry job.now at (λ x. result ≡ hashBytes x.tag x.literal) × IsWord result }
+    requires { On p.now (length w.now) × Work job.now p.now × EntryStands job.now at × WordsAt job.now (store p.now w.now VALUES) at × (is_worked job.now at ≡ true) }
+    ensures { WhatEntry job.now at (λ x. result ≡ hash_bytes x.tag x.literal) × IsWord result }
 {
     let tag = job::tag_at(job, at);
     let first = load(w, p, VALUES, at / 3);
@@ -138,7 +138,7 @@ fn hash_worked(job: &[u8], w: &[u32], p: &[usize], at: usize) -> usize
 // The hash of the literal of the entry at a place, its tag included.
 fn hash_literal(job: &[u8], w: &[u32], p: &[usize], at: usize) -> usize
     requires { On p.now (length w.now) × Work job.now p.now × EntryStands job.now at × WordsAt job.now (store p.now w.now VALUES) at }
-    ensures { WhatEntry job.now at (λ x. result ≡ hashBytes x.tag x.literal) × IsWord result }
+    ensures { WhatEntry job.now at (λ x. result ≡ hash_bytes x.tag x.literal) × IsWord result }
 {
     if job::is_worked(job, at) {
         return hash_worked(job, w, p, at);
@@ -150,7 +150,7 @@ fn hash_literal(job: &[u8], w: &[u32], p: &[usize], at: usize) -> usize
 
 // The literal of the entry at a place, which was worked out, is the same bytes as that of another.
 fn same_worked(job: &[u8], w: &[u32], p: &[usize], at: usize, other: usize) -> bool
-    requires { On p.now (length w.now) × Work job.now p.now × EntryStands job.now at × EntryStands job.now other × WordsAt job.now (store p.now w.now VALUES) at × WordsAt job.now (store p.now w.now VALUES) other × (isWorked job.now at ≡ true) }
+    requires { On p.now (length w.now) × Work job.now p.now × EntryStands job.now at × EntryStands job.now other × WordsAt job.now (store p.now w.now VALUES) at × WordsAt job.now (store p.now w.now VALUES) other × (is_worked job.now at ≡ true) }
     ensures { WhatEntry job.now at (λ x. WhatEntry job.now other (λ y. result ≡ same x.literal y.literal)) }
 {
     let n = literal_size(job, at);
@@ -188,8 +188,8 @@ fn same_literal(job: &[u8], w: &[u32], p: &[usize], at: usize, other: usize) -> 
 
 // The hash of an entry whose children are known: a function of what `same_entry` compares.
 fn hash_entry(job: &[u8], w: &[u32], p: &[usize], e: usize) -> usize
-    requires { On p.now (length w.now) × Work job.now p.now × EnteredIn job.now (store p.now w.now) × (e < entriesIn job.now) }
-    ensures { (result ≡ hashIn job.now (store p.now w.now) e) × IsWord result }
+    requires { On p.now (length w.now) × Work job.now p.now × EnteredIn job.now (store p.now w.now) × (e < entries_in job.now) }
+    ensures { (result ≡ hash_in job.now (store p.now w.now) e) × IsWord result }
 {
     let at = load(w, p, OFFSETS, e);
     let n = load(w, p, SIZES, e);
@@ -202,8 +202,8 @@ fn hash_entry(job: &[u8], w: &[u32], p: &[usize], e: usize) -> usize
 
 // Two entries whose children are known would be one node.
 fn same_entry(job: &[u8], w: &[u32], p: &[usize], a: usize, b: usize) -> bool
-    requires { On p.now (length w.now) × Work job.now p.now × EnteredIn job.now (store p.now w.now) × (a < entriesIn job.now) × (b < entriesIn job.now) }
-    ensures { result ≡ sameNode (nodeIn job.now (store p.now w.now) a) (nodeIn job.now (store p.now w.now) b) }
+    requires { On p.now (length w.now) × Work job.now p.now × EnteredIn job.now (store p.now w.now) × (a < entries_in job.now) × (b < entries_in job.now) }
+    ensures { result ≡ same_node (node_in_lem job.now (store p.now w.now) a) (node_in_lem job.now (store p.now w.now) b) }
 {
     let at = load(w, p, OFFSETS, a);
     let other = load(w, p, OFFSETS, b);
@@ -225,8 +225,8 @@ fn same_entry(job: &[u8], w: &[u32], p: &[usize], a: usize, b: usize) -> bool
 
 // 1 + the node that an entry with this hash would be, 0 if there is none.
 fn find_node(job: &[u8], w: &[u32], p: &[usize], e: usize, hash: usize) -> usize
-    requires { On p.now (length w.now) × Work job.now p.now × EnteredIn job.now (store p.now w.now) × NodesIn (size p.now NODE-HEADS) job.now (store p.now w.now) × (e < entriesIn job.now) × (hash ≡ hashIn job.now (store p.now w.now) e) × IsWord hash }
-    ensures { Sought (λ i. sameNode (nodeIn job.now (store p.now w.now) e) (nodeIn job.now (store p.now w.now) (get_or (store p.now w.now NODES) i 0)) ≡ true) (nodeCount (store p.now w.now)) result }
+    requires { On p.now (length w.now) × Work job.now p.now × EnteredIn job.now (store p.now w.now) × NodesIn (size p.now NODE-HEADS) job.now (store p.now w.now) × (e < entries_in job.now) × (hash ≡ hash_in job.now (store p.now w.now) e) × IsWord hash }
+    ensures { Sought (λ i. same_node (node_in_lem job.now (store p.now w.now) e) (node_in_lem job.now (store p.now w.now) (get_or (store p.now w.now NODES) i 0)) ≡ true) (node_count (store p.now w.now)) result }
 {
     let mut link = first_link(w, p, NODE_HEADS, hash);
     while 0 < link {
@@ -251,7 +251,7 @@ fn keep_lower(w: &mut [u32], p: &[usize], k: usize, e: usize)
 
 // The node of an entry whose children are known, a new one behind the others if there is no equal one.
 pub fn intern(job: &[u8], w: &mut [u32], p: &[usize], e: usize) -> usize
-    requires { On p.now (length w.old) × Work job.now p.now × EnteredIn job.now (store p.now w.old) × NodesIn (size p.now NODE-HEADS) job.now (store p.now w.old) × (e < entriesIn job.now) × (nodeCount (store p.now w.old) < entriesIn job.now) }
+    requires { On p.now (length w.old) × Work job.now p.now × EnteredIn job.now (store p.now w.old) × NodesIn (size p.now NODE-HEADS) job.now (store p.now w.old) × (e < entries_in job.now) × (node_count (store p.now w.old) < entries_in job.now) }
     ensures { Interned (size p.now NODE-HEADS) job.now (store p.now w.old) (store p.now w.new) e result }
 {
     let hash = hash_entry(job, w, p, e);
@@ -268,7 +268,7 @@ pub fn intern(job: &[u8], w: &mut [u32], p: &[usize], e: usize) -> usize
 
 // The text that the bootstrap attribute's name needs.
 pub fn attribute_name() -> [u8; 16]
-    ensures { result ≡ attributeName }
+    ensures { result ≡ attribute_name }
 {
     *b"BootstrapMethods"
 }
@@ -276,7 +276,7 @@ pub fn attribute_name() -> [u8; 16]
 // The entry at a place is the text "BootstrapMethods".
 fn is_attribute(job: &[u8], at: usize) -> bool
     requires { EntryStands job.now at }
-    ensures { WhatEntry job.now at (λ x. result ≡ sameLiteral (x.tag, x.literal) (1, attributeName)) }
+    ensures { WhatEntry job.now at (λ x. result ≡ same_literal (x.tag, x.literal) (1, attribute_name)) }
 {
     if job::tag_at(job, at) != 1 {
         return false;
@@ -293,7 +293,7 @@ fn is_attribute(job: &[u8], at: usize) -> bool
 // The node of the text "BootstrapMethods", the number of nodes if there is none.
 pub fn find_attribute(job: &[u8], w: &[u32], p: &[usize]) -> usize
     requires { On p.now (length w.now) × Work job.now p.now × EnteredIn job.now (store p.now w.now) × NodesIn (size p.now NODE-HEADS) job.now (store p.now w.now) }
-    ensures { result ≡ position (sameNode attributeText) (nodesIn job.now (store p.now w.now)) }
+    ensures { result ≡ position (same_node attribute_text) (nodes_in job.now (store p.now w.now)) }
 {
     let name = attribute_name();
     let hash = hash_bytes(&name, 0, 16, 1);

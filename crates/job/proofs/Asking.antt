@@ -10,35 +10,35 @@ use lib.Dec.{ltb}
 use lib.ListN.{length, get_or, drop, drop_of_length-le}
 use lib.Seq.{drop-cons}
 use borrow.Author.Tests.{ltb-true, ltb-false}
-use Rattle.definition.specs.Basics.{bad, atRecord, unless, lookup, only}
+use Rattle.definition.specs.Basics.{bad, at_record, unless, lookup, only}
 use Rattle.definition.specs.Bytes.{two}
 use Rattle.definition.specs.Shapes.{constant}
-use Rattle.definition.specs.Job.{slot, request, reference, asks, readRequest, classForm, nameForm, readBuild}
-use Rattle.definition.specs.Form.{Counts, cites, citesRequest, whole, formRequest, nothingBehind, formBuild}
-use Rattle.definition.specs.Numbering.{entries, constantsOf, bootstrapsOf}
+use Rattle.definition.specs.Job.{slot, request, reference, asks, read_request, class_form, name_form, read_build}
+use Rattle.definition.specs.Form.{Counts, cites, cites_request, whole, form_request, nothing_behind, form_build}
+use Rattle.definition.specs.Numbering.{entries, constants_of, bootstraps_of}
 use Rattle.job.specs.declared.JobCounts.{JobCounts}
 use Rattle.job.specs.declared.Formed.{Formed}
 use Rattle.job.specs.declared.Formed.TheVariants as formed
 use Rattle.job.specs.declared.Skipped.{Skipped}
 use Rattle.job.specs.declared.Skipped.TheVariants.{To, Cut}
-use Rattle.job.specs.Forms.{Read, Skips, referencesIn, versionFrom, highestFrom, more, Bounded, tablesIn, Moved, formedBuild}
+use Rattle.job.specs.Forms.{Read, Skips, references_in, version_from, highest_from, more, Bounded, tables_in, Moved, formed_build}
 use Rattle.job.proofs.Laws.{one_at, one-cut, mapped}
 use Rattle.facts.proofs.Tables.{NoKey, lookup-none}
 
 -- ---- a request
 
 module _ (n : Counts) (s : List ℕ) (at : ℕ) where
-  pub request-to :
+  pub request_to :
       (first : ℕ) (ldc : Bool) (r : Skipped) → lookup first asks ≡ some ldc → Skips (reference constant) (cites n) (λ _. 1) s at r →
-      Skips (readRequest (lookup first asks)) (λ q. cites n q.what) (λ _. 1) s at r
-  unfolding readRequest
-  request-to first ldc r e v =
+      Skips (read_request (lookup first asks)) (λ q. cites n q.what) (λ _. 1) s at r
+  unfolding read_request
+  request_to first ldc r e v =
       rw e
       (mapped (reference constant) (λ a. record { ldc = ldc; what = a }) (cites n) (λ _. 1) (λ q. cites n q.what) (λ _. 1) s at r (λ a. refl) (λ a. refl) v)
 
-  pub request-unknown : (first : ℕ) → NoKey first asks → readRequest (lookup first asks) (drop at s) ≡ none
-  unfolding readRequest
-  request-unknown first h = rw (lookup-none first asks h)
+  pub request_unknown : (first : ℕ) → NoKey first asks → read_request (lookup first asks) (drop at s) ≡ none
+  unfolding read_request
+  request_unknown first h = rw (lookup-none first asks h)
 
 -- one request more
 abbrev pub Requested : JobCounts → JobCounts
@@ -59,24 +59,24 @@ Requested c =
     }
 
 pub requested : (c : JobCounts) → more c [] 1 ≡ Requested c
-unfolding more constantsOf bootstrapsOf entries only referencesIn versionFrom highestFrom
+unfolding more constants_of bootstraps_of entries only references_in version_from highest_from
 requested c = simp add-zero
 
 module _ (c : JobCounts) (s : List ℕ) (at : ℕ) where
-  pub request-cut : readRequest (lookup (get_or s at 0) asks) (drop (at + 1) s) ≡ none → formRequest (tablesIn c) (get_or s at 0) (drop (at + 1) s) ≡ bad 3
-  unfolding formRequest whole
-  request-cut h = rw h
+  pub request_cut : read_request (lookup (get_or s at 0) asks) (drop (at + 1) s) ≡ none → form_request (tables_in c) (get_or s at 0) (drop (at + 1) s) ≡ bad 3
+  unfolding form_request whole
+  request_cut h = rw h
 
   module _
       (next : ℕ) (cited : Bool) (references : ℕ)
-      (v : Read (readRequest (lookup (get_or s at 0) asks)) (λ q. cites (tablesIn c) q.what) (λ _. 1) s (at + 1) next cited references) where
-    pub request-missing : cited ≡ false → formRequest (tablesIn c) (get_or s at 0) (drop (at + 1) s) ≡ bad 4
-    unfolding formRequest whole unless
-    request-missing missing = rw (v.read, ← v.cites, missing)
+      (v : Read (read_request (lookup (get_or s at 0) asks)) (λ q. cites (tables_in c) q.what) (λ _. 1) s (at + 1) next cited references) where
+    pub request_missing : cited ≡ false → form_request (tables_in c) (get_or s at 0) (drop (at + 1) s) ≡ bad 4
+    unfolding form_request whole unless
+    request_missing missing = rw (v.read, ← v.cites, missing)
 
-    pub request-good : cited ≡ true → Bounded at c → Moved (formRequest (tablesIn c)) (λ q. []) 1 s at c next (Requested c)
-    unfolding formRequest whole unless
-    request-good there bounded =
+    pub request_good : cited ≡ true → Bounded at c → Moved (form_request (tables_in c)) (λ q. []) 1 s at c next (Requested c)
+    unfolding form_request whole unless
+    request_good there bounded =
         record {
           value = v.value;
           read = rw (v.read, ← v.cites, there);
@@ -89,66 +89,66 @@ module _ (c : JobCounts) (s : List ℕ) (at : ℕ) where
 -- ---- 60
 
 -- the name byte
-pub name-good : (b : ℕ) (l : List ℕ) → b ≤ 2 → nameForm b l ≡ some (b, l)
-unfolding nameForm
-name-good zero l h = refl
-name-good (suc zero) l h = refl
-name-good (suc (suc zero)) l h = refl
-name-good (suc (suc (suc b))) l h = absurd (omega arith)
+pub name_good : (b : ℕ) (l : List ℕ) → b ≤ 2 → name_form b l ≡ some (b, l)
+unfolding name_form
+name_good zero l h = refl
+name_good (suc zero) l h = refl
+name_good (suc (suc zero)) l h = refl
+name_good (suc (suc (suc b))) l h = absurd (omega arith)
 
-pub name-bad : (b : ℕ) (l : List ℕ) → 2 < b → nameForm b l ≡ none
-unfolding nameForm
-name-bad zero l h = absurd (omega arith)
-name-bad (suc zero) l h = absurd (omega arith)
-name-bad (suc (suc zero)) l h = absurd (omega arith)
-name-bad (suc (suc (suc b))) l h = refl
+pub name_bad : (b : ℕ) (l : List ℕ) → 2 < b → name_form b l ≡ none
+unfolding name_form
+name_bad zero l h = absurd (omega arith)
+name_bad (suc zero) l h = absurd (omega arith)
+name_bad (suc (suc zero)) l h = absurd (omega arith)
+name_bad (suc (suc (suc b))) l h = refl
 
 -- the class slot behind its form byte
 module _ (s : List ℕ) (at requests : ℕ) (r : Skipped) where
-  pub class-slot : Skips two (λ _. true) (λ _. 0) s at r → Skips (classForm 0) (citesRequest requests) (λ _. 0) s at r
-  unfolding classForm citesRequest
-  class-slot v = mapped two slot (λ _. true) (λ _. 0) (citesRequest requests) (λ _. 0) s at r (λ m. refl) (λ m. refl) v
+  pub class_slot : Skips two (λ _. true) (λ _. 0) s at r → Skips (class_form 0) (cites_request requests) (λ _. 0) s at r
+  unfolding class_form cites_request
+  class_slot v = mapped two slot (λ _. true) (λ _. 0) (cites_request requests) (λ _. 0) s at r (λ m. refl) (λ m. refl) v
 
-  pub class-request : Skips two (λ m. ltb m requests) (λ _. 0) s at r → Skips (classForm 1) (citesRequest requests) (λ _. 0) s at r
-  unfolding classForm citesRequest
-  class-request v = mapped two request (λ m. ltb m requests) (λ _. 0) (citesRequest requests) (λ _. 0) s at r (λ m. refl) (λ m. refl) v
+  pub class_request : Skips two (λ m. ltb m requests) (λ _. 0) s at r → Skips (class_form 1) (cites_request requests) (λ _. 0) s at r
+  unfolding class_form cites_request
+  class_request v = mapped two request (λ m. ltb m requests) (λ _. 0) (cites_request requests) (λ _. 0) s at r (λ m. refl) (λ m. refl) v
 
-pub class-unknown : (form : ℕ) (l : List ℕ) → 1 < form → classForm form l ≡ none
-unfolding classForm
-class-unknown zero l h = absurd (omega arith)
-class-unknown (suc zero) l h = absurd (omega arith)
-class-unknown (suc (suc form)) l h = refl
+pub class_unknown : (form : ℕ) (l : List ℕ) → 1 < form → class_form form l ≡ none
+unfolding class_form
+class_unknown zero l h = absurd (omega arith)
+class_unknown (suc zero) l h = absurd (omega arith)
+class_unknown (suc (suc form)) l h = refl
 
 module _ (s : List ℕ) (at requests : ℕ) where
-  pub build-name : at < length s → 2 < get_or s at 0 → readBuild (drop at s) ≡ none
-  unfolding readBuild
-  build-name low h = rw (one_at s at low, name-bad (get_or s at 0) (drop (at + 1) s) h)
+  pub build-name : at < length s → 2 < get_or s at 0 → read_build (drop at s) ≡ none
+  unfolding read_build
+  build-name low h = rw (one_at s at low, name_bad (get_or s at 0) (drop (at + 1) s) h)
 
-  pub build-cut : length s - at < 2 → readBuild (drop at s) ≡ none
-  unfolding readBuild
+  pub build-cut : length s - at < 2 → read_build (drop at s) ≡ none
+  unfolding read_build
   build-cut h = ways (ltb at (length s)) refl
     where
-      named : at < length s → (b : Bool) → ltb 2 (get_or s at 0) ≡ b → readBuild (drop at s) ≡ none
+      named : at < length s → (b : Bool) → ltb 2 (get_or s at 0) ≡ b → read_build (drop at s) ≡ none
       named low true e = build-name low (ltb-true 2 (get_or s at 0) e)
       named low false e =
           let end : length s ≤ at + 1 = omega arith in
-          rw (one_at s at low, name-good (get_or s at 0) (drop (at + 1) s) (ltb-false 2 (get_or s at 0) e), one-cut s (at + 1) end)
+          rw (one_at s at low, name_good (get_or s at 0) (drop (at + 1) s) (ltb-false 2 (get_or s at 0) e), one-cut s (at + 1) end)
 
-      ways : (b : Bool) → ltb at (length s) ≡ b → readBuild (drop at s) ≡ none
+      ways : (b : Bool) → ltb at (length s) ≡ b → read_build (drop at s) ≡ none
       ways true e = named (ltb-true at (length s) e) (ltb 2 (get_or s at 0)) refl
       ways false e = rw (one-cut s at (ltb-false at (length s) e))
 
   pub build-to :
-      (r : Skipped) → at + 2 ≤ length s → get_or s at 0 ≤ 2 → Skips (classForm (get_or s (at + 1) 0)) (citesRequest requests) (λ _. 0) s (at + 2) r →
-      Skips readBuild (λ b. citesRequest requests b.class) (λ _. 0) s at r
-  unfolding readBuild
+      (r : Skipped) → at + 2 ≤ length s → get_or s at 0 ≤ 2 → Skips (class_form (get_or s (at + 1) 0)) (cites_request requests) (λ _. 0) s (at + 2) r →
+      Skips read_build (λ b. cites_request requests b.class) (λ _. 0) s at r
+  unfolding read_build
   build-to (To next cited references) h b v =
       let h₁ : at < length s = omega arith in
       let h₂ : at + 1 < length s = omega arith in
       let e : at + 1 + 1 ≡ at + 2 = omega arith in
       record {
-        value = record { nameByte = get_or s at 0; class = v.value };
-        read = rw (one_at s at h₁, name-good (get_or s at 0) (drop (at + 1) s) b, one_at s (at + 1) h₂, e, v.read);
+        value = record { name_byte = get_or s at 0; class = v.value };
+        read = rw (one_at s at h₁, name_good (get_or s at 0) (drop (at + 1) s) b, one_at s (at + 1) h₂, e, v.read);
         past = omega (arith, v.past);
         within = v.within;
         cites = v.cites;
@@ -158,37 +158,37 @@ module _ (s : List ℕ) (at requests : ℕ) where
       let h₁ : at < length s = omega arith in
       let h₂ : at + 1 < length s = omega arith in
       let e : at + 1 + 1 ≡ at + 2 = omega arith in
-      rw (one_at s at h₁, name-good (get_or s at 0) (drop (at + 1) s) b, one_at s (at + 1) h₂, e, v)
+      rw (one_at s at h₁, name_good (get_or s at 0) (drop (at + 1) s) b, one_at s (at + 1) h₂, e, v)
 
 -- ---- 60, and nothing behind it
 
-pub nothing_left : (s : List ℕ) (next : ℕ) → length s ≤ next → nothingBehind (drop next s) ≡ true
-unfolding nothingBehind
+pub nothing_left : (s : List ℕ) (next : ℕ) → length s ≤ next → nothing_behind (drop next s) ≡ true
+unfolding nothing_behind
 nothing_left s next h = rw (drop_of_length-le s h)
 
-pub something-left : (s : List ℕ) (next : ℕ) → next < length s → nothingBehind (drop next s) ≡ false
-unfolding nothingBehind
-something-left s next h = rw (drop-cons s next 0 h)
+pub something_left : (s : List ℕ) (next : ℕ) → next < length s → nothing_behind (drop next s) ≡ false
+unfolding nothing_behind
+something_left s next h = rw (drop-cons s next 0 h)
 
 module _ (c : JobCounts) (place : ℕ) (s : List ℕ) (at : ℕ) where
   abbrev pub Built : Formed
-  Built = formedBuild c (formBuild c.requests place (drop at s))
+  Built = formed_build c (form_build c.requests place (drop at s))
 
-  pub built-cut : readBuild (drop at s) ≡ none → Built ≡ formed.Refused 3 place
-  unfolding formedBuild formBuild whole atRecord
-  built-cut h = rw h
+  pub built_cut : read_build (drop at s) ≡ none → Built ≡ formed.Refused 3 place
+  unfolding formed_build form_build whole at_record
+  built_cut h = rw h
 
   module _
       (next : ℕ) (cited : Bool) (references : ℕ)
-      (v : Read readBuild (λ b. citesRequest c.requests b.class) (λ _. 0) s at next cited references) where
-    pub built-missing : cited ≡ false → Built ≡ formed.Refused 4 place
-    unfolding formedBuild formBuild whole atRecord unless
-    built-missing missing = rw (v.read, ← v.cites, missing)
+      (v : Read read_build (λ b. cites_request c.requests b.class) (λ _. 0) s at next cited references) where
+    pub built_missing : cited ≡ false → Built ≡ formed.Refused 4 place
+    unfolding formed_build form_build whole at_record unless
+    built_missing missing = rw (v.read, ← v.cites, missing)
 
-    pub built-behind : cited ≡ true → next < length s → Built ≡ formed.Refused 3 (suc place)
-    unfolding formedBuild formBuild whole atRecord unless
-    built-behind there more = rw (v.read, ← v.cites, there, something-left s next more)
+    pub built_behind : cited ≡ true → next < length s → Built ≡ formed.Refused 3 (suc place)
+    unfolding formed_build form_build whole at_record unless
+    built_behind there more = rw (v.read, ← v.cites, there, something_left s next more)
 
     pub built : cited ≡ true → length s ≤ next → Built ≡ formed.Counts c
-    unfolding formedBuild formBuild whole atRecord unless
+    unfolding formed_build form_build whole at_record unless
     built there end = rw (v.read, ← v.cites, there, nothing_left s next end)

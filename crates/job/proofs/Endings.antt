@@ -10,8 +10,8 @@ use lib.ListN.{length, get_or, drop}
 use Rattle.definition.specs.Basics.{lookup}
 use Rattle.definition.specs.Expression.{Number, int, float, long, double, tag_of}
 use Rattle.definition.specs.Settings.{version, texts, highest}
-use Rattle.definition.specs.Shapes.{Kind, constant, bootstrap, shapes, bootstrapShape, Entry, is_wide}
-use Rattle.definition.specs.Job.{Reference, Definition, define, named, Body, bodies, asConstant, reference, read_body, readDefinition, shortName}
+use Rattle.definition.specs.Shapes.{Kind, constant, bootstrap, shapes, bootstrap_shape, Entry, is_wide}
+use Rattle.definition.specs.Job.{Reference, Definition, define, named, Body, bodies, as_constant, reference, read_body, read_definition, short_name}
 use Rattle.definition.specs.Form.{kind_of}
 use borrow.Author.Tests.{eq-eqb}
 use Rattle.facts.proofs.Lists.{clash, true≢false, none≢some}
@@ -20,19 +20,19 @@ use Rattle.facts.proofs.Tables.{lookup-at}
 use Rattle.raw_const.specs.declared.Shape.TheVariants.{Text, Bits, One, Two, Dynamic, KindOne, Unknown}
 use Rattle.job.specs.declared.Opening.{Opening}
 use Rattle.job.specs.declared.Opening.TheVariants.{Constant, Bootstrap, NamedConstant, NamedBootstrap, RawConstant, RawBootstrap, Version, Texts, Highest, Expression}
-use Rattle.job.specs.Forms.{entryBody, body_of}
-use Rattle.job.specs.Stored.{Found, InTurn, anyDefinition, isWorked, firstKind, kindIn, kidKind, bytesBetween, KidsTurn, firstPlace}
+use Rattle.job.specs.Forms.{entry_body, body_of}
+use Rattle.job.specs.Stored.{Found, InTurn, any_definition, is_worked, first_kind_lem, kind_in, kid_kind, bytes_between, KidsTurn, first_place}
 use Rattle.job.proofs.Laws.{number}
-use Rattle.job.proofs.Standing.{Refers, EntryIs, NamingIs, PlacingIs, SettingIs, BareIs, DefinitionIs, definition-read, tag-there, entry-there, worked-there, definition-there}
+use Rattle.job.proofs.Standing.{Refers, EntryIs, NamingIs, PlacingIs, SettingIs, BareIs, DefinitionIs, definition_read, tag-there, entry_there, worked-there, definition_there}
 
 -- a Dynamic's first reference is to a bootstrap
-unfoldable pub kindIf : Bool → Kind
-kindIf true = bootstrap
-kindIf false = constant
+unfoldable pub kind_if : Bool → Kind
+kind_if true = bootstrap
+kind_if false = constant
 
 -- the place behind a literal: text, eight bytes or four
-unfoldable pub literalEnd : List ℕ → ℕ → ℕ → ℕ
-literalEnd s at tag =
+unfoldable pub literal_end : List ℕ → ℕ → ℕ → ℕ
+literal_end s at tag =
     elim (eqb tag 1) [
       | true ↦ at + 3 + number s (at + 1)
       | false ↦ elim (is_wide tag) [ true ↦ at + 9 | false ↦ at + 5 ]
@@ -62,10 +62,10 @@ Fit tag Highest = tag ≡ 0x49
 Fit tag Expression = tag ≡ 0x46
 
 abbrev Known : ℕ × Body → Type 0
-Known r = (o : Opening) × (body_of o ≡ some r.1) × Fit r.0 o × (kindIn (some r.1) ≡ kindIf (eqb r.0 17 || eqb r.0 18))
+Known r = (o : Opening) × (body_of o ≡ some r.1) × Fit r.0 o × (kind_in (some r.1) ≡ kind_if (eqb r.0 17 || eqb r.0 18))
 
 all_known : Each Known bodies
-unfolding bodies shapes body_of entryBody bootstrapShape kind_of is_wide bits_of kindIn firstKind kindIf
+unfolding bodies shapes body_of entry_body bootstrap_shape kind_of is_wide bits_of kind_in first_kind_lem kind_if
 all_known = (
   (Constant Text, refl, (refl, refl), refl),
   (
@@ -149,16 +149,16 @@ all_known = (
 module _ (s : List ℕ) (at : ℕ) where
   -- what stands at a place is what its first byte opens
   opened :
-      (d : Definition (List ℕ)) (next : ℕ) → Found anyDefinition s at d next →
+      (d : Definition (List ℕ)) (next : ℕ) → Found any_definition s at d next →
       (o : Opening) × (body_of o ≡ lookup (get_or s at 0) bodies) × Fit (get_or s at 0) o
-      × (kindIn (lookup (get_or s at 0) bodies) ≡ kindIf (eqb (get_or s at 0) 17 || eqb (get_or s at 0) 18))
-  unfolding readDefinition read_body
-  opened d next f = ways (lookup (get_or s at 0) bodies) refl (definition-read s at d next f).2
+      × (kind_in (lookup (get_or s at 0) bodies) ≡ kind_if (eqb (get_or s at 0) 17 || eqb (get_or s at 0) 18))
+  unfolding read_definition read_body
+  opened d next f = ways (lookup (get_or s at 0) bodies) refl (definition_read s at d next f).2
     where
       ways :
           (b : Option Body) → lookup (get_or s at 0) bodies ≡ b → read_body (get_or s at 0) b (drop (at + 1) s) ≡ some (d, drop next s) →
           (o : Opening) × (body_of o ≡ lookup (get_or s at 0) bodies) × Fit (get_or s at 0) o
-          × (kindIn (lookup (get_or s at 0) bodies) ≡ kindIf (eqb (get_or s at 0) 17 || eqb (get_or s at 0) 18))
+          × (kind_in (lookup (get_or s at 0) bodies) ≡ kind_if (eqb (get_or s at 0) 17 || eqb (get_or s at 0) 18))
       ways none e h = none≢some h
       ways (some body) e h =
           let a = lookup-at (get_or s at 0) body bodies e in
@@ -169,11 +169,11 @@ module _ (s : List ℕ) (at : ℕ) where
   pub record Names (kind : Kind) (l : List ℕ) (r : Reference) (next : ℕ) : Type 0 where
     pub byte : get_or s at 0 ≡ elim kind [ constant ↦ 0x41 | bootstrap ↦ 0x42 ]
     pub mid : ℕ
-    pub label : Found shortName s (at + 1) l mid
+    pub label : Found short_name s (at + 1) l mid
     pub target : Found (reference kind) s mid r next
 
-  pub naming-there : (kind : Kind) (l : List ℕ) (r : Reference) (next : ℕ) → Found anyDefinition s at (named kind l r) next → Names kind l r next
-  naming-there kind l r next f = let o = opened (named kind l r) next f in ways o.0 o.2 (definition-there s at (named kind l r) next o.0 f o.1)
+  pub naming_there : (kind : Kind) (l : List ℕ) (r : Reference) (next : ℕ) → Found any_definition s at (named kind l r) next → Names kind l r next
+  naming_there kind l r next f = let o = opened (named kind l r) next f in ways o.0 o.2 (definition_there s at (named kind l r) next o.0 f o.1)
     where
       by : (k : Kind) → get_or s at 0 ≡ elim k [ constant ↦ 0x41 | bootstrap ↦ 0x42 ] → NamingIs s at k (named kind l r) next → Names kind l r next
       by k first h =
@@ -195,34 +195,34 @@ module _ (s : List ℕ) (at : ℕ) where
       ways Expression fit h = clash (cc h.1)
 
   -- what stands at a place, by its first byte
-  module _ (d : Definition (List ℕ)) (next : ℕ) (f : Found anyDefinition s at d next) where
+  module _ (d : Definition (List ℕ)) (next : ℕ) (f : Found any_definition s at d next) where
     pub opens-name : (kind : Kind) → get_or s at 0 ≡ elim kind [ constant ↦ 0x41 | bootstrap ↦ 0x42 ] → NamingIs s at kind d next
     unfolding body_of bodies shapes lookup
-    opens-name constant e = definition-there s at d next NamedConstant f (rw e)
-    opens-name bootstrap e = definition-there s at d next NamedBootstrap f (rw e)
+    opens-name constant e = definition_there s at d next NamedConstant f (rw e)
+    opens-name bootstrap e = definition_there s at d next NamedBootstrap f (rw e)
 
     pub opens-raw : (kind : Kind) → get_or s at 0 ≡ elim kind [ constant ↦ 0x43 | bootstrap ↦ 0x44 ] → PlacingIs s at kind d next
     unfolding body_of bodies shapes lookup
-    opens-raw constant e = definition-there s at d next RawConstant f (rw e)
-    opens-raw bootstrap e = definition-there s at d next RawBootstrap f (rw e)
+    opens-raw constant e = definition_there s at d next RawConstant f (rw e)
+    opens-raw bootstrap e = definition_there s at d next RawBootstrap f (rw e)
 
     pub opens-version : get_or s at 0 ≡ 0x47 → SettingIs s at version d next
     unfolding body_of bodies shapes lookup
-    opens-version e = definition-there s at d next Version f (rw e)
+    opens-version e = definition_there s at d next Version f (rw e)
 
     pub opens-texts : get_or s at 0 ≡ 0x48 → BareIs s at texts d next
     unfolding body_of bodies shapes lookup
-    opens-texts e = definition-there s at d next Texts f (rw e)
+    opens-texts e = definition_there s at d next Texts f (rw e)
 
     pub opens-highest : get_or s at 0 ≡ 0x49 → SettingIs s at highest d next
     unfolding body_of bodies shapes lookup
-    opens-highest e = definition-there s at d next Highest f (rw e)
+    opens-highest e = definition_there s at d next Highest f (rw e)
 
     pub opens-entry :
         (get_or s at 0 ≡ 0x41 → ⊥) → (get_or s at 0 ≡ 0x42 → ⊥) → (get_or s at 0 ≡ 0x43 → ⊥) → (get_or s at 0 ≡ 0x44 → ⊥) →
         (get_or s at 0 ≡ 0x47 → ⊥) → (get_or s at 0 ≡ 0x48 → ⊥) → (get_or s at 0 ≡ 0x49 → ⊥) →
         (x : Entry (List ℕ) Reference) × (d ≡ define x)
-    opens-entry n1 n2 n3 n4 n7 n8 n9 = let o = opened d next f in ways o.0 o.2 (definition-there s at d next o.0 f o.1)
+    opens-entry n1 n2 n3 n4 n7 n8 n9 = let o = opened d next f in ways o.0 o.2 (definition_there s at d next o.0 f o.1)
       where
         ways : (o : Opening) → Fit (get_or s at 0) o → DefinitionIs s at o d next → (x : Entry (List ℕ) Reference) × (d ≡ define x)
         ways (Constant shape) fit h = h
@@ -237,68 +237,68 @@ module _ (s : List ℕ) (at : ℕ) where
         ways Expression fit h = h
 
   -- an entry: its references from the first on, or its literal, and the place behind it
-  module _ (x : Entry (List ℕ) Reference) (next : ℕ) (f : Found anyDefinition s at (define x) next) where
-    nothing-between : (kind : Kind) (i n : ℕ) → n ≡ n + bytesBetween kind (suc i)
-    unfolding bytesBetween
-    nothing-between constant i n = omega arith
-    nothing-between bootstrap i n = omega arith
+  module _ (x : Entry (List ℕ) Reference) (next : ℕ) (f : Found any_definition s at (define x) next) where
+    nothing_between : (kind : Kind) (i n : ℕ) → n ≡ n + bytes_between kind (suc i)
+    unfolding bytes_between
+    nothing_between constant i n = omega arith
+    nothing_between bootstrap i n = omega arith
 
     -- later references are to constants, with nothing between them
-    later-turn : (kids : List Reference) (i from : ℕ) → InTurn (reference constant) s from kids next → KidsTurn s x.tag (suc i) from kids next
-    unfolding kidKind
-    later-turn [] i from h = h
-    later-turn (r ∷ kids) i from h =
-        (h.0, h.1, subst (λ n. KidsTurn s x.tag (suc (suc i)) n kids next) (nothing-between (kind_of x.tag) i h.0) (later-turn kids (suc i) h.0 h.2))
+    later_turn : (kids : List Reference) (i from : ℕ) → InTurn (reference constant) s from kids next → KidsTurn s x.tag (suc i) from kids next
+    unfolding kid_kind
+    later_turn [] i from h = h
+    later_turn (r ∷ kids) i from h =
+        (h.0, h.1, subst (λ n. KidsTurn s x.tag (suc (suc i)) n kids next) (nothing_between (kind_of x.tag) i h.0) (later_turn kids (suc i) h.0 h.2))
 
-    refers-turn :
-        (kind : Kind) (first between : ℕ) → kidKind x.tag 0 ≡ kind → bytesBetween (kind_of x.tag) 0 ≡ between →
+    refers_turn :
+        (kind : Kind) (first between : ℕ) → kid_kind x.tag 0 ≡ kind → bytes_between (kind_of x.tag) 0 ≡ between →
         Refers s kind first between x.kids next → KidsTurn s x.tag 0 first x.kids next
-    refers-turn kind first between k g r = rw r.are (r.behind, rw k r.found, rw g (later-turn r.others 0 (r.behind + between) r.rest))
+    refers_turn kind first between k g r = rw r.are (r.behind, rw k r.found, rw g (later_turn r.others 0 (r.behind + between) r.rest))
 
     -- no tag of a number is a Dynamic's
-    number-first : (k : Number) → kidKind (tag_of k) 0 ≡ kindIf (eqb (tag_of k) 17 || eqb (tag_of k) 18)
-    unfolding kidKind kindIn firstKind kindIf tag_of lookup bodies shapes
+    number-first : (k : Number) → kid_kind (tag_of k) 0 ≡ kind_if (eqb (tag_of k) 17 || eqb (tag_of k) 18)
+    unfolding kid_kind kind_in first_kind_lem kind_if tag_of lookup bodies shapes
     number-first int = refl
     number-first float = refl
     number-first long = refl
     number-first double = refl
 
-    pub first_kind : kidKind x.tag 0 ≡ kindIf (eqb x.tag 17 || eqb x.tag 18)
-    unfolding kidKind asConstant
-    first_kind = ways (isWorked s at) refl
+    pub first_kind : kid_kind x.tag 0 ≡ kind_if (eqb x.tag 17 || eqb x.tag 18)
+    unfolding kid_kind as_constant
+    first_kind = ways (is_worked s at) refl
       where
-        ways : (b : Bool) → isWorked s at ≡ b → kidKind x.tag 0 ≡ kindIf (eqb x.tag 17 || eqb x.tag 18)
+        ways : (b : Bool) → is_worked s at ≡ b → kid_kind x.tag 0 ≡ kind_if (eqb x.tag 17 || eqb x.tag 18)
         ways true h = let w = worked-there s at x next f h in rw w.is (number-first w.number.0)
         ways false h = rw (tag-there s at x next f h) (opened (define x) next f).3
 
     -- what wasn't worked out is what its tag opens
-    tagged : isWorked s at ≡ false → (o : Opening) × (body_of o ≡ lookup x.tag bodies) × Fit x.tag o × EntryIs s at o x next
+    tagged : is_worked s at ≡ false → (o : Opening) × (body_of o ≡ lookup x.tag bodies) × Fit x.tag o × EntryIs s at o x next
     tagged plain =
         let o = opened (define x) next f in
         let tag = tag-there s at x next f plain in
-        (o.0, o.1 ∙ ap (λ k. lookup k bodies) (sym tag), subst (λ k. Fit k o.0) (sym tag) o.2, entry-there s at x next f o.0 o.1)
+        (o.0, o.1 ∙ ap (λ k. lookup k bodies) (sym tag), subst (λ k. Fit k o.0) (sym tag) o.2, entry_there s at x next f o.0 o.1)
 
-    pub kids-there : 0 < length x.kids → KidsTurn s x.tag 0 (firstPlace x.tag at) x.kids next
-    unfolding kidKind kindIn body_of entryBody firstKind bytesBetween bootstrapShape firstPlace asConstant
-    kids-there more = by (isWorked s at) refl
+    pub kids_there : 0 < length x.kids → KidsTurn s x.tag 0 (first_place x.tag at) x.kids next
+    unfolding kid_kind kind_in body_of entry_body first_kind_lem bytes_between bootstrap_shape first_place as_constant
+    kids_there more = by (is_worked s at) refl
       where
         none-there : {C : Type 0} → x.kids ≡ [] → C
         none-there e = absurd (omega (arith, ap length e))
 
-        turn : (kind : Kind) (first between : ℕ) → kidKind x.tag 0 ≡ kind → bytesBetween (kind_of x.tag) 0 ≡ between → firstPlace x.tag at ≡ first → Refers s kind first between x.kids next → KidsTurn s x.tag 0 (firstPlace x.tag at) x.kids next
-        turn kind first between k g e r = rw e (refers-turn kind first between k g r)
+        turn : (kind : Kind) (first between : ℕ) → kid_kind x.tag 0 ≡ kind → bytes_between (kind_of x.tag) 0 ≡ between → first_place x.tag at ≡ first → Refers s kind first between x.kids next → KidsTurn s x.tag 0 (first_place x.tag at) x.kids next
+        turn kind first between k g e r = rw e (refers_turn kind first between k g r)
 
-        ways : (o : Opening) → body_of o ≡ lookup x.tag bodies → Fit x.tag o → EntryIs s at o x next → KidsTurn s x.tag 0 (firstPlace x.tag at) x.kids next
-        ways (Constant Text) b fit h = none-there h.noKids
-        ways (Constant (Bits n)) b fit h = none-there h.noKids
-        ways (Constant One) b fit h = turn constant (at + 1) 0 (ap kindIn (sym b)) (ap (λ k. bytesBetween k 0) fit.0) (rw (fit.1, firstPlace)) h.refers
-        ways (Constant Two) b fit h = turn constant (at + 1) 0 (ap kindIn (sym b)) (ap (λ k. bytesBetween k 0) fit.0) (rw (fit.1, firstPlace)) h.refers
-        ways (Constant Dynamic) b fit h = turn bootstrap (at + 1) 0 (ap kindIn (sym b)) (ap (λ k. bytesBetween k 0) fit.0) (rw (fit.1, firstPlace)) h.refers
+        ways : (o : Opening) → body_of o ≡ lookup x.tag bodies → Fit x.tag o → EntryIs s at o x next → KidsTurn s x.tag 0 (first_place x.tag at) x.kids next
+        ways (Constant Text) b fit h = none-there h.no_kids_lem
+        ways (Constant (Bits n)) b fit h = none-there h.no_kids_lem
+        ways (Constant One) b fit h = turn constant (at + 1) 0 (ap kind_in (sym b)) (ap (λ k. bytes_between k 0) fit.0) (rw (fit.1, first_place)) h.refers
+        ways (Constant Two) b fit h = turn constant (at + 1) 0 (ap kind_in (sym b)) (ap (λ k. bytes_between k 0) fit.0) (rw (fit.1, first_place)) h.refers
+        ways (Constant Dynamic) b fit h = turn bootstrap (at + 1) 0 (ap kind_in (sym b)) (ap (λ k. bytes_between k 0) fit.0) (rw (fit.1, first_place)) h.refers
         ways (Constant KindOne) b fit h =
             let e : at + 2 ≡ at + 1 + 1 = omega arith in
-            turn constant (at + 1 + 1) 0 (ap kindIn (sym b)) (ap (λ k. bytesBetween k 0) fit.0) (rw (fit.1, firstPlace) e) h.1.refers
+            turn constant (at + 1 + 1) 0 (ap kind_in (sym b)) (ap (λ k. bytes_between k 0) fit.0) (rw (fit.1, first_place) e) h.1.refers
         ways (Constant Unknown) b fit h = absurd h
-        ways Bootstrap b fit h = turn constant (at + 1) 2 (ap kindIn (sym b)) (ap (λ k. bytesBetween k 0) fit.0) (rw (fit.1, firstPlace)) h.refers
+        ways Bootstrap b fit h = turn constant (at + 1) 2 (ap kind_in (sym b)) (ap (λ k. bytes_between k 0) fit.0) (rw (fit.1, first_place)) h.refers
         ways NamedConstant b fit h = absurd h
         ways NamedBootstrap b fit h = absurd h
         ways RawConstant b fit h = absurd h
@@ -308,13 +308,13 @@ module _ (s : List ℕ) (at : ℕ) where
         ways Highest b fit h = absurd h
         ways Expression b fit h = none-there (ap (λ (y : Entry (List ℕ) Reference). y.kids) h.is)
 
-        by : (b : Bool) → isWorked s at ≡ b → KidsTurn s x.tag 0 (firstPlace x.tag at) x.kids next
+        by : (b : Bool) → is_worked s at ≡ b → KidsTurn s x.tag 0 (first_place x.tag at) x.kids next
         by true h = none-there (ap (λ (y : Entry (List ℕ) Reference). y.kids) (worked-there s at x next f h).is)
         by false h = let o = tagged h in ways o.0 o.1 o.2 o.3
 
-    pub literal-there : isWorked s at ≡ false → length x.kids ≡ 0 → literalEnd s at x.tag ≡ next
-    unfolding literalEnd bits_of
-    literal-there plain bare = let o = tagged plain in ways o.0 o.2 o.3
+    pub literal_there : is_worked s at ≡ false → length x.kids ≡ 0 → literal_end s at x.tag ≡ next
+    unfolding literal_end bits_of
+    literal_there plain bare = let o = tagged plain in ways o.0 o.2 o.3
       where
         some-there : {C : Type 0} (n : ℕ) → length x.kids ≡ suc n → C
         some-there n e = absurd (omega arith)
@@ -323,9 +323,9 @@ module _ (s : List ℕ) (at : ℕ) where
         size true n e = omega arith
         size false n e = omega arith
 
-        ways : (o : Opening) → Fit x.tag o → EntryIs s at o x next → literalEnd s at x.tag ≡ next
-        ways (Constant Text) fit h = rw (fit.1, literalEnd) (omega (arith, h.end))
-        ways (Constant (Bits n)) fit h = rw (fit.1, literalEnd) (size (is_wide x.tag) n fit.2 ∙ h.end)
+        ways : (o : Opening) → Fit x.tag o → EntryIs s at o x next → literal_end s at x.tag ≡ next
+        ways (Constant Text) fit h = rw (fit.1, literal_end) (omega (arith, h.end))
+        ways (Constant (Bits n)) fit h = rw (fit.1, literal_end) (size (is_wide x.tag) n fit.2 ∙ h.end)
         ways (Constant One) fit h = some-there 0 h.count
         ways (Constant Two) fit h = some-there 1 h.count
         ways (Constant Dynamic) fit h = some-there 1 h.count

@@ -12,7 +12,7 @@ use lib.Seq.{drop-cons, drop-drop}
 use borrow.Author.Tests.{ltb-true, ltb-false}
 use Rattle.definition.specs.Bytes.{Parser, return, ◌>>=◌, one, two, many}
 use Rattle.definition.specs.Shapes.{Kind}
-use Rattle.definition.specs.Job.{raw, entry, name, shortName, referenceForm, reference}
+use Rattle.definition.specs.Job.{raw, entry, name, short_name, reference_form, reference}
 use Rattle.definition.specs.Form.{Counts, count_of, cites}
 use Rattle.job.specs.declared.Skipped.{Skipped}
 use Rattle.job.specs.declared.Skipped.TheVariants.{To, Cut}
@@ -48,8 +48,8 @@ module _ (s : List ℕ) (at : ℕ) where
 
   -- ---- bytes
 
-  pub skips-bytes : (n : ℕ) → at ≤ length s → n ≤ length s - at → Skips (many n one) (λ _. true) (λ _. 0) s at (To (at + n) true 0)
-  skips-bytes n low h =
+  pub skips_bytes : (n : ℕ) → at ≤ length s → n ≤ length s - at → Skips (many n one) (λ _. true) (λ _. 0) s at (To (at + n) true 0)
+  skips_bytes n low h =
       record {
         value = take n (drop at s);
         read = many-reads n (drop at s) (simp length-drop (omega arith)) ∙ rw (drop-drop n at s);
@@ -59,8 +59,8 @@ module _ (s : List ℕ) (at : ℕ) where
         count = refl;
       }
 
-  pub cuts-bytes : (n : ℕ) → length s - at < n → Skips (many n one) (λ _. true) (λ _. 0) s at Cut
-  cuts-bytes n h = many-cut n (drop at s) (simp length-drop (omega arith))
+  pub cuts_bytes : (n : ℕ) → length s - at < n → Skips (many n one) (λ _. true) (λ _. 0) s at Cut
+  cuts_bytes n h = many-cut n (drop at s) (simp length-drop (omega arith))
 
 pub two_at : (s : List ℕ) (at : ℕ) → at + 2 ≤ length s → two (drop at s) ≡ some (number s at, drop (at + 2) s)
 unfolding two
@@ -99,8 +99,8 @@ module _ {A : Type 0} (ok : A → Bool) (kids : A → ℕ) (s : List ℕ) (at : 
   none-one f h = rw (one-cut s at h)
 
   -- two bytes, and what their number leads to
-  pub then-two : (f : ℕ → Parser A) (r : Skipped) → at + 2 ≤ length s → Skips (f (number s at)) ok kids s (at + 2) r → Skips (two >>= f) ok kids s at r
-  then-two f (To next cited references) h v =
+  pub then_two : (f : ℕ → Parser A) (r : Skipped) → at + 2 ≤ length s → Skips (f (number s at)) ok kids s (at + 2) r → Skips (two >>= f) ok kids s at r
+  then_two f (To next cited references) h v =
       record {
         value = v.value;
         read = rw (two_at s at h) v.read;
@@ -109,7 +109,7 @@ module _ {A : Type 0} (ok : A → Bool) (kids : A → ℕ) (s : List ℕ) (at : 
         cites = v.cites;
         count = v.count;
       }
-  then-two f Cut h v = rw (two_at s at h) v
+  then_two f Cut h v = rw (two_at s at h) v
 
 -- ---- what was read, made into something else
 
@@ -133,28 +133,28 @@ mapped p g ok kids ok' kids' s at Cut same_ok same-kids v = rw v
 -- ---- a number of two bytes, and references
 
 module _ (s : List ℕ) (at : ℕ) where
-  pub skips-two : (ok : ℕ → Bool) → at + 2 ≤ length s → Skips two ok (λ _. 0) s at (To (at + 2) (ok (number s at)) 0)
-  skips-two ok h = record { value = number s at; read = two_at s at h; past = omega arith; within = h; cites = refl; count = refl }
+  pub skips_two : (ok : ℕ → Bool) → at + 2 ≤ length s → Skips two ok (λ _. 0) s at (To (at + 2) (ok (number s at)) 0)
+  skips_two ok h = record { value = number s at; read = two_at s at h; past = omega arith; within = h; cites = refl; count = refl }
 
   -- the forms, 0, 1 and 2, and none other
   module _ (kind : Kind) (n : Counts) (r : Skipped) where
     abbrev pub SkipsForm : ℕ → Type 0
-    SkipsForm form = Skips (referenceForm kind form) (cites n) (λ _. 0) s at r
+    SkipsForm form = Skips (reference_form kind form) (cites n) (λ _. 0) s at r
 
     pub form-raw : Skips two (λ _. true) (λ _. 0) s at r → SkipsForm 0
-    unfolding referenceForm cites
+    unfolding reference_form cites
     form-raw v = mapped two raw (λ _. true) (λ _. 0) (cites n) (λ _. 0) s at r (λ m. refl) (λ m. refl) v
 
     pub form-number : (entries : ℕ) → count_of kind n ≡ entries → Skips two (λ m. ltb m entries) (λ _. 0) s at r → SkipsForm 1
-    unfolding referenceForm cites
+    unfolding reference_form cites
     form-number entries e v = mapped two (entry kind) (λ m. ltb m entries) (λ _. 0) (cites n) (λ _. 0) s at r (λ m. rw e) (λ m. refl) v
 
-    pub form-name : Skips shortName (λ _. true) (λ _. 0) s at r → SkipsForm 2
-    unfolding referenceForm cites
-    form-name v = mapped shortName (name kind) (λ _. true) (λ _. 0) (cites n) (λ _. 0) s at r (λ m. refl) (λ m. refl) v
+    pub form-name : Skips short_name (λ _. true) (λ _. 0) s at r → SkipsForm 2
+    unfolding reference_form cites
+    form-name v = mapped short_name (name kind) (λ _. true) (λ _. 0) (cites n) (λ _. 0) s at r (λ m. refl) (λ m. refl) v
 
-  pub form-unknown : (kind : Kind) (form : ℕ) → 2 < form → referenceForm kind form (drop at s) ≡ none
-  unfolding referenceForm
+  pub form-unknown : (kind : Kind) (form : ℕ) → 2 < form → reference_form kind form (drop at s) ≡ none
+  unfolding reference_form
   form-unknown kind zero h = absurd (omega arith)
   form-unknown kind (suc zero) h = absurd (omega arith)
   form-unknown kind (suc (suc zero)) h = absurd (omega arith)
@@ -164,7 +164,7 @@ module _ (s : List ℕ) (at : ℕ) where
   pub reference-to :
       (kind : Kind) (n : Counts) (next : ℕ) (cited : Bool) (references : ℕ) →
       at < length s →
-      Read (referenceForm kind (get_or s at 0)) (cites n) (λ _. 0) s (at + 1) next cited references →
+      Read (reference_form kind (get_or s at 0)) (cites n) (λ _. 0) s (at + 1) next cited references →
       Read (reference kind) (cites n) (λ _. 1) s at next cited 1
   unfolding reference
   reference-to kind n next cited references h v =

@@ -21,15 +21,15 @@ abbrev pub prepend : {A : Type 0} → List A → Option (List A × List ℕ) →
 prepend l none = none
 prepend l (some r) = some (l ++ r.0, r.1)
 
-pub prepend-nil : {A : Type 0} (o : Option (List A × List ℕ)) → prepend [] o ≡ o
-prepend-nil none = refl
-prepend-nil (some r) = refl
+pub prepend_nil : {A : Type 0} (o : Option (List A × List ℕ)) → prepend [] o ≡ o
+prepend_nil none = refl
+prepend_nil (some r) = refl
 
-pub prepend-snoc :
+pub prepend_snoc :
     {A : Type 0} (l : List A) (a : A) (o : Option (List A × List ℕ)) →
     prepend l (and_then o (λ rest bytes. some (a ∷ rest, bytes))) ≡ prepend (l ++ a ∷ []) o
-prepend-snoc l a none = refl
-prepend-snoc l a (some r) = rw (append_snoc l a r.0)
+prepend_snoc l a none = refl
+prepend_snoc l a (some r) = rw (append_snoc l a r.0)
 
 -- i of n references are passed, and next is the place behind them
 pub record Passed (c : Counts) (s : List ℕ) (at n i next : ℕ) (cited : Bool) : Type 0 where
@@ -43,7 +43,7 @@ module _ (c : Counts) (s : List ℕ) (at n : ℕ) where
   unfolding every
   none_passed =
       let e : n - 0 ≡ n = omega arith in
-      record { list = []; size = refl; rest = rw e (sym (prepend-nil (many n (reference constant) (drop at s)))); cites = refl }
+      record { list = []; size = refl; rest = rw e (sym (prepend_nil (many n (reference constant) (drop at s)))); cites = refl }
 
   module _ (i next : ℕ) (cited : Bool) (before : Passed c s at n i next cited) where
     pub one-passed :
@@ -55,7 +55,7 @@ module _ (c : Counts) (s : List ℕ) (at n : ℕ) where
         record {
           list = before.list ++ v.value ∷ [];
           size = simp length-append (omega arith);
-          rest = before.rest ∙ rw (e, v.read) (prepend-snoc before.list v.value (many (n - (i + 1)) (reference constant) (drop behind s)));
+          rest = before.rest ∙ rw (e, v.read) (prepend_snoc before.list v.value (many (n - (i + 1)) (reference constant) (drop behind s)));
           cites = rw (before.cites, v.cites) (sym (every-snoc (cites c) before.list v.value));
         }
 
@@ -65,9 +65,9 @@ module _ (c : Counts) (s : List ℕ) (at n : ℕ) where
         let e : n - i ≡ suc (n - (i + 1)) = omega arith in
         before.rest ∙ rw (e, cut)
 
-    pub all-passed : i ≡ n → at + i ≤ next → next ≤ length s → Skips (many n (reference constant)) (every (cites c)) length s at (To next cited n)
+    pub all_passed : i ≡ n → at + i ≤ next → next ≤ length s → Skips (many n (reference constant)) (every (cites c)) length s at (To next cited n)
     unfolding many
-    all-passed h past within =
+    all_passed h past within =
         let e : n - i ≡ 0 = omega arith in
         record {
           value = before.list;

@@ -12,16 +12,16 @@ use contract.Lifetimes.{Lfts}
 use Rattle.definition.specs.Job.{define}
 use Rattle.job.specs.declared.Stretch.{Stretch}
 use Rattle.job.specs.Stored.{Spans}
-use Rattle.job.proofs.name_at.Reads as name-at
+use Rattle.job.proofs.name_at.Reads as name_at
 use Rattle.job.proofs.after_reference.Reads as after-reference
 use Rattle.job.proofs.tag_at.Reads as tag_at
-use Rattle.job.proofs.kind_byte.Reads as kind-byte
+use Rattle.job.proofs.kind_byte.Reads as kind_byte_lem
 use Rattle.job.proofs.reference_count.Reads as reference-count
 use Rattle.job.proofs.is_worked.Reads as is-worked
 use Rattle.job.proofs.after_worked.Reads as after-worked
 
-span-length : (s : List ℕ) (r : Stretch) (l : List ℕ) → Spans s r l → r.end - r.start ≡ length l
-span-length s r l h =
+span_length : (s : List ℕ) (r : Stretch) (l : List ℕ) → Spans s r l → r.end - r.start ≡ length l
+span_length s r l h =
     sym (length-take-le (r.end - r.start) (drop r.start s) (rw (length-drop r.start s) (omega (arith, h.rising, h.within))))
     ∙ ap length h.are
 
@@ -31,14 +31,14 @@ one-stretch :
     Spans s r l × (r.end ≡ next) → Spans s r' l × (r'.end ≡ next) →
     r ≡ r'
 one-stretch s l next r r' h h' =
-    let n = span-length s r l h.0 in
-    let n' = span-length s r' l h'.0 in
+    let n = span_length s r l h.0 in
+    let n' = span_length s r' l h'.0 in
     let start : r.start ≡ r'.start = omega (arith, n, n', h.0.rising, h'.0.rising, h.1, h'.1) in
     λ i. record { start = start i; end = (h.1 ∙ sym h'.1) i }
 
 pub one_name :
     (κs : Lfts 1) (a : _) (r r' : Stretch) (s s' : _) →
-    name-at.Asked κs a → name-at.Learnt κs a r s → name-at.Learnt κs a r' s' →
+    name_at.Asked κs a → name_at.Learnt κs a r s → name_at.Learnt κs a r' s' →
     r ≡ r'
 one_name κs a r r' s s' (l, next, f) h h' = one-stretch _ l next r r' (h l next f) (h' l next f)
 
@@ -54,11 +54,11 @@ pub one_tag :
     r ≡ r'
 one_tag κs a r r' s s' (e, next, f) h h' = h e next f ∙ sym (h' e next f)
 
-pub one-kind-byte :
+pub one_kind-byte :
     (κs : Lfts 1) (a : _) (r r' : ℕ) (s s' : _) →
-    kind-byte.Asked κs a → kind-byte.Learnt κs a r s → kind-byte.Learnt κs a r' s' →
+    kind_byte_lem.Asked κs a → kind_byte_lem.Learnt κs a r s → kind_byte_lem.Learnt κs a r' s' →
     r ≡ r'
-one-kind-byte κs a r r' s s' (e, next, f) h h' = h e next f ∙ sym (h' e next f)
+one_kind-byte κs a r r' s s' (e, next, f) h h' = h e next f ∙ sym (h' e next f)
 
 pub one-reference-count :
     (κs : Lfts 1) (a : _) (r r' : ℕ) (s s' : _) →
@@ -66,11 +66,11 @@ pub one-reference-count :
     r ≡ r'
 one-reference-count κs a r r' s s' (e, next, f) h h' = h e next f ∙ sym (h' e next f)
 
-pub one-is-worked :
+pub one-is_worked :
     (κs : Lfts 1) (a : _) (r r' : Bool) (s s' : _) →
     is-worked.Learnt κs a r s → is-worked.Learnt κs a r' s' →
     r ≡ r'
-one-is-worked κs a r r' s s' h h' = h ∙ sym h'
+one-is_worked κs a r r' s s' h h' = h ∙ sym h'
 
 pub one-behind-worked :
     (κs : Lfts 1) (a : _) (r r' : ℕ) (s s' : _) →

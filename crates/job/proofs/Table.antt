@@ -7,13 +7,13 @@ use lib.Dec.{eqb}
 use borrow.Author.Tests.{ne_eqb}
 use Rattle.definition.specs.Basics.{lookup}
 use Rattle.definition.specs.Shapes.{Field, shapes}
-use Rattle.definition.specs.Job.{Body, ofEntry, bodies}
+use Rattle.definition.specs.Job.{Body, of_entry, bodies}
 use Rattle.definition.specs.Form.{kind_of}
 use Rattle.raw_const.specs.Entries.{fields_of}
 use Rattle.raw_const.specs.declared.Shape.{Shape}
 use Rattle.job.specs.declared.Opening.{Opening}
 use Rattle.job.specs.declared.Opening.TheVariants.{Constant}
-use Rattle.job.specs.Forms.{entryBody, body_of, table_of}
+use Rattle.job.specs.Forms.{entry_body, body_of, table_of}
 use Rattle.facts.proofs.Tables.{NoKey, lookup-none}
 
 -- a first byte opens this
@@ -21,17 +21,17 @@ abbrev pub Right : ℕ → Opening → Type 0
 Right x opening = (body_of opening ≡ lookup x bodies) × (table_of opening ≡ kind_of x)
 
 -- what is no key of the kinds behind the tags is found among the tags, or not at all
-tags-first :
+tags_first :
     (x : ℕ) (t : List (ℕ × List Field)) (kinds : List (ℕ × Body)) →
     NoKey x kinds →
-    entryBody (lookup x t) ≡ lookup x (map (λ s. (s.0, ofEntry s.1)) t ++ kinds)
-unfolding lookup entryBody
-tags-first x [] kinds h = sym (lookup-none x kinds h)
-tags-first x (r ∷ t) kinds h = ways (eqb x r.0) refl (tags-first x t kinds h)
+    entry_body (lookup x t) ≡ lookup x (map (λ s. (s.0, of_entry s.1)) t ++ kinds)
+unfolding lookup entry_body
+tags_first x [] kinds h = sym (lookup-none x kinds h)
+tags_first x (r ∷ t) kinds h = ways (eqb x r.0) refl (tags_first x t kinds h)
   where
     ways :
-        (b : Bool) → eqb x r.0 ≡ b → entryBody (lookup x t) ≡ lookup x (map (λ s. (s.0, ofEntry s.1)) t ++ kinds) →
-        entryBody (lookup x (r ∷ t)) ≡ lookup x (map (λ s. (s.0, ofEntry s.1)) (r ∷ t) ++ kinds)
+        (b : Bool) → eqb x r.0 ≡ b → entry_body (lookup x t) ≡ lookup x (map (λ s. (s.0, of_entry s.1)) t ++ kinds) →
+        entry_body (lookup x (r ∷ t)) ≡ lookup x (map (λ s. (s.0, of_entry s.1)) (r ∷ t) ++ kinds)
     ways true e later = rw (e, lookup)
     ways false e later = rw (e, lookup) later
 
@@ -41,6 +41,6 @@ pub tag-right :
     Right x (Constant shape)
 unfolding body_of table_of kind_of bodies
 tag-right x shape told h₀ h₁ h₂ h₃ h₄ h₇ h₈ h₉ h₆ = (
-  ap entryBody told ∙ tags-first x shapes _ (h₀, (h₁, (h₂, (h₃, (h₄, (h₆, (h₇, (h₈, (h₉, tt))))))))),
+  ap entry_body told ∙ tags_first x shapes _ (h₀, (h₁, (h₂, (h₃, (h₄, (h₆, (h₇, (h₈, (h₉, tt))))))))),
   sym (rw (ne_eqb x 0x40 h₀, kind_of)),
 )

@@ -3,13 +3,13 @@ use Rattle.std.specs.Prelude.{Bool, true, false, ◌&&◌, ◌||◌, not, List, 
 use Rattle.std.proofs.Math.Option.{Option, none, some}
 use Rattle.definition.specs.Basics.{Result, good, bad, Refusal, every, lookup, only}
 use Rattle.definition.specs.Bytes.{Parser}
-use Rattle.definition.specs.Settings.{version, texts, highest, isSlot, highestOf, newest}
-use Rattle.definition.specs.Shapes.{Kind, constant, bootstrap, Field, bootstrapShape, read_entry}
-use Rattle.definition.specs.Texts.{isText}
-use Rattle.definition.specs.Job.{Definition, define, named, placed, setting, Build, Job, Body, ofEntry, ofName, ofRaw, ofExpression, ofNumber, ofNothing, bodies, reference, read_body}
-use Rattle.definition.specs.Form.{Counts, count_of, kind_of, withBroken, cites, citesEarlier, tableSize, Definitions, Requests}
-use Rattle.definition.specs.Numbering.{constantsOf, bootstrapsOf, settings}
-use Rattle.definition.specs.Definitions.{sameKind}
+use Rattle.definition.specs.Settings.{version, texts, highest, is_slot, highest_of, newest}
+use Rattle.definition.specs.Shapes.{Kind, constant, bootstrap, Field, bootstrap_shape, read_entry}
+use Rattle.definition.specs.Texts.{is_text}
+use Rattle.definition.specs.Job.{Definition, define, named, placed, setting, Build, Job, Body, of_entry, of_name, of_raw, of_expression, of_number, of_nothing, bodies, reference, read_body}
+use Rattle.definition.specs.Form.{Counts, count_of, kind_of, with_broken, cites, cites_earlier, table_size, Definitions, Requests}
+use Rattle.definition.specs.Numbering.{constants_of, bootstraps_of, settings}
+use Rattle.definition.specs.Definitions.{same_kind_lem}
 use Rattle.raw_const.specs.Entries.{fields_of}
 use Rattle.job.specs.declared.Opening.{Opening}
 use Rattle.job.specs.declared.Opening.TheVariants.{Constant, Bootstrap, NamedConstant, NamedBootstrap, RawConstant, RawBootstrap, Version, Texts, Highest, Expression}
@@ -26,22 +26,22 @@ use Rattle.job.specs.declared.Skipped.TheVariants as skipped
 -- ---- what a first byte opens
 
 -- what follows an entry's first byte, if it has these fields
-unfoldable pub entryBody : Option (List Field) → Option Body
-entryBody none = none
-entryBody (some fields) = some (ofEntry fields)
+unfoldable pub entry_body : Option (List Field) → Option Body
+entry_body none = none
+entry_body (some fields) = some (of_entry fields)
 
 -- what follows a definition's first byte
 unfoldable pub body_of : Opening → Option Body
-body_of (Constant shape) = entryBody (fields_of shape)
-body_of Bootstrap = some (ofEntry bootstrapShape)
-body_of NamedConstant = some (ofName constant)
-body_of NamedBootstrap = some (ofName bootstrap)
-body_of RawConstant = some (ofRaw constant)
-body_of RawBootstrap = some (ofRaw bootstrap)
-body_of Version = some (ofNumber version)
-body_of Texts = some (ofNothing texts)
-body_of Highest = some (ofNumber highest)
-body_of Expression = some ofExpression
+body_of (Constant shape) = entry_body (fields_of shape)
+body_of Bootstrap = some (of_entry bootstrap_shape)
+body_of NamedConstant = some (of_name constant)
+body_of NamedBootstrap = some (of_name bootstrap)
+body_of RawConstant = some (of_raw constant)
+body_of RawBootstrap = some (of_raw bootstrap)
+body_of Version = some (of_number version)
+body_of Texts = some (of_nothing texts)
+body_of Highest = some (of_number highest)
+body_of Expression = some of_expression
 
 -- the table that an entry goes into: as kind_of has it, the first for all but 40 hex
 unfoldable pub table_of : Opening → Kind
@@ -56,17 +56,17 @@ table_of Texts = constant
 table_of Highest = constant
 table_of Expression = constant
 
-unfoldable pub isSetting : Opening → Bool
-isSetting (Constant shape) = false
-isSetting Bootstrap = false
-isSetting NamedConstant = false
-isSetting NamedBootstrap = false
-isSetting RawConstant = false
-isSetting RawBootstrap = false
-isSetting Version = true
-isSetting Texts = true
-isSetting Highest = true
-isSetting Expression = false
+unfoldable pub is_setting : Opening → Bool
+is_setting (Constant shape) = false
+is_setting Bootstrap = false
+is_setting NamedConstant = false
+is_setting NamedBootstrap = false
+is_setting RawConstant = false
+is_setting RawBootstrap = false
+is_setting Version = true
+is_setting Texts = true
+is_setting Highest = true
+is_setting Expression = false
 
 -- neither a setting nor an expression
 unfoldable pub is_plain : Opening → Bool
@@ -110,15 +110,15 @@ abbrev pub SkipsEntry : Counts → List Field → List ℕ → ℕ → Skipped �
 SkipsEntry n fields s at r = (tag : ℕ) → Skips (read_entry reference tag fields) (λ e. every (cites n) e.kids) (λ e. length e.kids) s at r
 
 -- how many references a definition's entry has
-unfoldable pub kidsIn : Definition (List ℕ) → ℕ
-kidsIn (define e) = length e.kids
-kidsIn (named kind s r) = 0
-kidsIn (placed kind at number) = 0
-kidsIn (setting s) = 0
+unfoldable pub kids_in : Definition (List ℕ) → ℕ
+kids_in (define e) = length e.kids
+kids_in (named kind s r) = 0
+kids_in (placed kind at number) = 0
+kids_in (setting s) = 0
 
 -- a definition behind its first byte, where so many entries stand earlier
 abbrev pub SkipsDefinition : Counts → Option Body → List ℕ → ℕ → Skipped → Type 0
-SkipsDefinition n body s at r = (first : ℕ) → Skips (read_body first body) (citesEarlier n) kidsIn s at r
+SkipsDefinition n body s at r = (first : ℕ) → Skips (read_body first body) (cites_earlier n) kids_in s at r
 
 -- the same, where the tables have so many entries
 abbrev pub SkipsAfter : ℕ → ℕ → Option Body → List ℕ → ℕ → Skipped → Type 0
@@ -137,17 +137,17 @@ NumberRoom Texts s at = Unit {0}
 NumberRoom Highest s at = at + 2 ≤ length s
 NumberRoom Expression s at = Unit {0}
 
-unfoldable pub numberOpened : Opening → List ℕ → ℕ → ℕ
-numberOpened (Constant shape) s at = 0
-numberOpened Bootstrap s at = 0
-numberOpened NamedConstant s at = 0
-numberOpened NamedBootstrap s at = 0
-numberOpened RawConstant s at = 0
-numberOpened RawBootstrap s at = 0
-numberOpened Version s at = 256 * get_or s at 0 + get_or s (at + 1) 0
-numberOpened Texts s at = 0
-numberOpened Highest s at = 256 * get_or s at 0 + get_or s (at + 1) 0
-numberOpened Expression s at = 0
+unfoldable pub number_opened : Opening → List ℕ → ℕ → ℕ
+number_opened (Constant shape) s at = 0
+number_opened Bootstrap s at = 0
+number_opened NamedConstant s at = 0
+number_opened NamedBootstrap s at = 0
+number_opened RawConstant s at = 0
+number_opened RawBootstrap s at = 0
+number_opened Version s at = 256 * get_or s at 0 + get_or s (at + 1) 0
+number_opened Texts s at = 0
+number_opened Highest s at = 256 * get_or s at 0 + get_or s (at + 1) 0
+number_opened Expression s at = 0
 
 -- the number of a setting
 unfoldable pub number_in : Definition (List ℕ) → ℕ
@@ -161,122 +161,122 @@ number_in (setting (highest n)) = n
 -- ---- texts
 
 -- a text that isn't one, by the bytes from one place to another, and by the definition
-unfoldable pub brokenAt : List ℕ → ℕ → ℕ → Bool
-brokenAt s at next = eqb (get_or s at 0) 1 && not (isText (take (next - (at + 3)) (drop (at + 3) s)))
+unfoldable pub broken_at : List ℕ → ℕ → ℕ → Bool
+broken_at s at next = eqb (get_or s at 0) 1 && not (is_text (take (next - (at + 3)) (drop (at + 3) s)))
 
-unfoldable pub isBroken : Definition (List ℕ) → Bool
-isBroken (define e) = eqb e.tag 1 && not (isText e.literal)
-isBroken (named kind s r) = false
-isBroken (placed kind at number) = false
-isBroken (setting s) = false
+unfoldable pub is_broken : Definition (List ℕ) → Bool
+is_broken (define e) = eqb e.tag 1 && not (is_text e.literal)
+is_broken (named kind s r) = false
+is_broken (placed kind at number) = false
+is_broken (setting s) = false
 
 -- one more than the record of the first such text, with one record more; 0: there is none
-unfoldable pub brokenWith : ℕ → Bool → ℕ → ℕ
-brokenWith place broken zero = elim broken [ true ↦ suc place | false ↦ 0 ]
-brokenWith place broken (suc earlier) = suc earlier
+unfoldable pub broken_with : ℕ → Bool → ℕ → ℕ
+broken_with place broken zero = elim broken [ true ↦ suc place | false ↦ 0 ]
+broken_with place broken (suc earlier) = suc earlier
 
-unfoldable pub asBroken : ℕ → Option ℕ
-asBroken zero = none
-asBroken (suc place) = some place
+unfoldable pub as_broken : ℕ → Option ℕ
+as_broken zero = none
+as_broken (suc place) = some place
 
 -- ---- counting
 
-unfoldable pub isNaming : Definition (List ℕ) → Bool
-isNaming (define e) = false
-isNaming (named kind s r) = true
-isNaming (placed kind at number) = false
-isNaming (setting s) = false
+unfoldable pub is_naming : Definition (List ℕ) → Bool
+is_naming (define e) = false
+is_naming (named kind s r) = true
+is_naming (placed kind at number) = false
+is_naming (setting s) = false
 
-unfoldable pub isPlacing : Kind → Definition (List ℕ) → Bool
-isPlacing kind (define e) = false
-isPlacing kind (named other s r) = false
-isPlacing kind (placed other at number) = sameKind kind other
-isPlacing kind (setting s) = false
+unfoldable pub is_placing : Kind → Definition (List ℕ) → Bool
+is_placing kind (define e) = false
+is_placing kind (named other s r) = false
+is_placing kind (placed other at number) = same_kind_lem kind other
+is_placing kind (setting s) = false
 
-unfoldable pub isVersion : Definition (List ℕ) → Bool
-isVersion (define e) = false
-isVersion (named kind s r) = false
-isVersion (placed kind at number) = false
-isVersion (setting (version v)) = true
-isVersion (setting texts) = false
-isVersion (setting (highest n)) = false
+unfoldable pub is_version : Definition (List ℕ) → Bool
+is_version (define e) = false
+is_version (named kind s r) = false
+is_version (placed kind at number) = false
+is_version (setting (version v)) = true
+is_version (setting texts) = false
+is_version (setting (highest n)) = false
 
-unfoldable pub isHolding : Definition (List ℕ) → Bool
-isHolding (define e) = false
-isHolding (named kind s r) = false
-isHolding (placed kind at number) = false
-isHolding (setting (version v)) = false
-isHolding (setting texts) = true
-isHolding (setting (highest n)) = false
+unfoldable pub is_holding : Definition (List ℕ) → Bool
+is_holding (define e) = false
+is_holding (named kind s r) = false
+is_holding (placed kind at number) = false
+is_holding (setting (version v)) = false
+is_holding (setting texts) = true
+is_holding (setting (highest n)) = false
 
-unfoldable pub referencesIn : List (Definition (List ℕ)) → ℕ
-referencesIn [] = 0
-referencesIn (d ∷ rest) = kidsIn d + referencesIn rest
+unfoldable pub references_in : List (Definition (List ℕ)) → ℕ
+references_in [] = 0
+references_in (d ∷ rest) = kids_in d + references_in rest
 
 -- the version and the highest slot behind a definition, and behind several
-unfoldable pub versionWith : Definition (List ℕ) → ℕ → ℕ
-versionWith (define e) v = v
-versionWith (named kind s r) v = v
-versionWith (placed kind at number) v = v
-versionWith (setting (version w)) v = w
-versionWith (setting texts) v = v
-versionWith (setting (highest n)) v = v
+unfoldable pub version_with : Definition (List ℕ) → ℕ → ℕ
+version_with (define e) v = v
+version_with (named kind s r) v = v
+version_with (placed kind at number) v = v
+version_with (setting (version w)) v = w
+version_with (setting texts) v = v
+version_with (setting (highest n)) v = v
 
-unfoldable pub versionFrom : ℕ → List (Definition (List ℕ)) → ℕ
-versionFrom v [] = v
-versionFrom v (d ∷ rest) = versionFrom (versionWith d v) rest
+unfoldable pub version_from : ℕ → List (Definition (List ℕ)) → ℕ
+version_from v [] = v
+version_from v (d ∷ rest) = version_from (version_with d v) rest
 
-unfoldable pub highestWith : Definition (List ℕ) → ℕ → ℕ
-highestWith (define e) top = top
-highestWith (named kind s r) top = top
-highestWith (placed kind at number) top = top
-highestWith (setting (version v)) top = top
-highestWith (setting texts) top = top
-highestWith (setting (highest n)) top = n
+unfoldable pub highest_with : Definition (List ℕ) → ℕ → ℕ
+highest_with (define e) top = top
+highest_with (named kind s r) top = top
+highest_with (placed kind at number) top = top
+highest_with (setting (version v)) top = top
+highest_with (setting texts) top = top
+highest_with (setting (highest n)) top = n
 
-unfoldable pub highestFrom : ℕ → List (Definition (List ℕ)) → ℕ
-highestFrom top [] = top
-highestFrom top (d ∷ rest) = highestFrom (highestWith d top) rest
+unfoldable pub highest_from : ℕ → List (Definition (List ℕ)) → ℕ
+highest_from top [] = top
+highest_from top (d ∷ rest) = highest_from (highest_with d top) rest
 
 -- what a job with these definitions and so many requests counts
-unfoldable pub countsOf : List (Definition (List ℕ)) → ℕ → JobCounts
-countsOf list requests =
+unfoldable pub counts_of : List (Definition (List ℕ)) → ℕ → JobCounts
+counts_of list requests =
     record {
       definitions = length list;
-      constants = length (constantsOf list);
-      bootstraps = length (bootstrapsOf list);
-      references = referencesIn list;
-      names = length (only isNaming list);
-      raw_constants = length (only (isPlacing constant) list);
-      raw_bootstraps = length (only (isPlacing bootstrap) list);
+      constants = length (constants_of list);
+      bootstraps = length (bootstraps_of list);
+      references = references_in list;
+      names = length (only is_naming list);
+      raw_constants = length (only (is_placing constant) list);
+      raw_bootstraps = length (only (is_placing bootstrap) list);
       requests = requests;
-      versions = length (only isVersion list);
-      version = versionFrom newest list;
-      texts = length (only isHolding list);
-      highest = highestOf (settings list);
+      versions = length (only is_version list);
+      version = version_from newest list;
+      texts = length (only is_holding list);
+      highest = highest_of (settings list);
     }
 
 -- what the form pass returns
-unfoldable pub formedOf : Result Refusal (Job (List ℕ)) → Formed
-formedOf (good job) = formed.Counts (countsOf job.definitions (length job.requests))
-formedOf (bad refusal) = formed.Refused refusal.code refusal.place
+unfoldable pub formed_of : Result Refusal (Job (List ℕ)) → Formed
+formed_of (good job) = formed.Counts (counts_of job.definitions (length job.requests))
+formed_of (bad refusal) = formed.Refused refusal.code refusal.place
 
 -- counts, and those of definitions and requests behind them
 unfoldable pub more : JobCounts → List (Definition (List ℕ)) → ℕ → JobCounts
 more c list requests =
     record {
       definitions = c.definitions + length list;
-      constants = c.constants + length (constantsOf list);
-      bootstraps = c.bootstraps + length (bootstrapsOf list);
-      references = c.references + referencesIn list;
-      names = c.names + length (only isNaming list);
-      raw_constants = c.raw_constants + length (only (isPlacing constant) list);
-      raw_bootstraps = c.raw_bootstraps + length (only (isPlacing bootstrap) list);
+      constants = c.constants + length (constants_of list);
+      bootstraps = c.bootstraps + length (bootstraps_of list);
+      references = c.references + references_in list;
+      names = c.names + length (only is_naming list);
+      raw_constants = c.raw_constants + length (only (is_placing constant) list);
+      raw_bootstraps = c.raw_bootstraps + length (only (is_placing bootstrap) list);
       requests = c.requests + requests;
-      versions = c.versions + length (only isVersion list);
-      version = versionFrom c.version list;
-      texts = c.texts + length (only isHolding list);
-      highest = highestFrom c.highest list;
+      versions = c.versions + length (only is_version list);
+      version = version_from c.version list;
+      texts = c.texts + length (only is_holding list);
+      highest = highest_from c.highest list;
     }
 
 -- one definition more, which is so many constants, bootstraps, names and so on
@@ -298,17 +298,17 @@ grown constants bootstraps references names raws indexes versions holding major 
     }
 
 -- the counts with one definition so opened, with so many references, and this number if it is a setting
-unfoldable pub countedAs : Opening → ℕ → ℕ → JobCounts → JobCounts
-countedAs (Constant shape) k number c = grown 1 0 k 0 0 0 0 0 c.version c.highest c
-countedAs Bootstrap k number c = grown 0 1 k 0 0 0 0 0 c.version c.highest c
-countedAs NamedConstant k number c = grown 0 0 k 1 0 0 0 0 c.version c.highest c
-countedAs NamedBootstrap k number c = grown 0 0 k 1 0 0 0 0 c.version c.highest c
-countedAs RawConstant k number c = grown 0 0 k 0 1 0 0 0 c.version c.highest c
-countedAs RawBootstrap k number c = grown 0 0 k 0 0 1 0 0 c.version c.highest c
-countedAs Version k number c = grown 0 0 k 0 0 0 1 0 number c.highest c
-countedAs Texts k number c = grown 0 0 k 0 0 0 0 1 c.version c.highest c
-countedAs Highest k number c = grown 0 0 k 0 0 0 0 0 c.version number c
-countedAs Expression k number c = grown 1 0 k 0 0 0 0 0 c.version c.highest c
+unfoldable pub counted_as : Opening → ℕ → ℕ → JobCounts → JobCounts
+counted_as (Constant shape) k number c = grown 1 0 k 0 0 0 0 0 c.version c.highest c
+counted_as Bootstrap k number c = grown 0 1 k 0 0 0 0 0 c.version c.highest c
+counted_as NamedConstant k number c = grown 0 0 k 1 0 0 0 0 c.version c.highest c
+counted_as NamedBootstrap k number c = grown 0 0 k 1 0 0 0 0 c.version c.highest c
+counted_as RawConstant k number c = grown 0 0 k 0 1 0 0 0 c.version c.highest c
+counted_as RawBootstrap k number c = grown 0 0 k 0 0 1 0 0 c.version c.highest c
+counted_as Version k number c = grown 0 0 k 0 0 0 1 0 number c.highest c
+counted_as Texts k number c = grown 0 0 k 0 0 0 0 1 c.version c.highest c
+counted_as Highest k number c = grown 0 0 k 0 0 0 0 0 c.version number c
+counted_as Expression k number c = grown 1 0 k 0 0 0 0 0 c.version c.highest c
 
 -- no count is above m, nor are definitions and requests together
 pub record Bounded (m : ℕ) (c : JobCounts) : Type 0 where
@@ -317,8 +317,8 @@ pub record Bounded (m : ℕ) (c : JobCounts) : Type 0 where
   pub bootstraps : c.bootstraps ≤ m
   pub references : c.references ≤ m
   pub names : c.names ≤ m
-  pub constants-placed : c.raw_constants ≤ m
-  pub bootstraps-placed : c.raw_bootstraps ≤ m
+  pub constants_placed : c.raw_constants ≤ m
+  pub bootstraps_placed : c.raw_bootstraps ≤ m
   pub versions : c.versions ≤ m
   pub texts : c.texts ≤ m
 
@@ -330,8 +330,8 @@ pub record Room (c : JobCounts) (references : ℕ) : Type 0 where
 
 -- the table that a definition goes into isn't full
 unfoldable pub room_for : Opening → ℕ → ℕ → Bool
-room_for (Constant shape) constants bootstraps = ltb constants tableSize
-room_for Bootstrap constants bootstraps = ltb bootstraps tableSize
+room_for (Constant shape) constants bootstraps = ltb constants table_size
+room_for Bootstrap constants bootstraps = ltb bootstraps table_size
 room_for NamedConstant constants bootstraps = true
 room_for NamedBootstrap constants bootstraps = true
 room_for RawConstant constants bootstraps = true
@@ -339,36 +339,36 @@ room_for RawBootstrap constants bootstraps = true
 room_for Version constants bootstraps = true
 room_for Texts constants bootstraps = true
 room_for Highest constants bootstraps = true
-room_for Expression constants bootstraps = ltb constants tableSize
+room_for Expression constants bootstraps = ltb constants table_size
 
 -- a setting that mayn't stand behind what was counted: 3, then 26; else 0
-unfoldable pub onceFault : ℕ → ℕ
-onceFault earlier = elim (eqb earlier 0) [ true ↦ 0 | false ↦ 3 ]
+unfoldable pub once_fault : ℕ → ℕ
+once_fault earlier = elim (eqb earlier 0) [ true ↦ 0 | false ↦ 3 ]
 
-unfoldable pub highestFault : ℕ → ℕ → ℕ
-highestFault records number = elim (eqb records 0) [ true ↦ elim (isSlot number) [ true ↦ 0 | false ↦ 26 ] | false ↦ 3 ]
+unfoldable pub highest_fault : ℕ → ℕ → ℕ
+highest_fault records number = elim (eqb records 0) [ true ↦ elim (is_slot number) [ true ↦ 0 | false ↦ 26 ] | false ↦ 3 ]
 
-unfoldable pub settingFault : Opening → ℕ → JobCounts → ℕ
-settingFault (Constant shape) number c = 0
-settingFault Bootstrap number c = 0
-settingFault NamedConstant number c = 0
-settingFault NamedBootstrap number c = 0
-settingFault RawConstant number c = 0
-settingFault RawBootstrap number c = 0
-settingFault Version number c = onceFault c.versions
-settingFault Texts number c = onceFault c.texts
-settingFault Highest number c = highestFault c.definitions number
-settingFault Expression number c = 0
+unfoldable pub setting_fault : Opening → ℕ → JobCounts → ℕ
+setting_fault (Constant shape) number c = 0
+setting_fault Bootstrap number c = 0
+setting_fault NamedConstant number c = 0
+setting_fault NamedBootstrap number c = 0
+setting_fault RawConstant number c = 0
+setting_fault RawBootstrap number c = 0
+setting_fault Version number c = once_fault c.versions
+setting_fault Texts number c = once_fault c.texts
+setting_fault Highest number c = highest_fault c.definitions number
+setting_fault Expression number c = 0
 
 -- no record 48 stands with a text that isn't one, where there are so many, and one more than the record of the first such text is this
-unfoldable pub textsHold : ℕ → ℕ → Bool
-textsHold holding broken = eqb broken 0 || eqb holding 0
+unfoldable pub texts_hold : ℕ → ℕ → Bool
+texts_hold holding broken = eqb broken 0 || eqb holding 0
 
 -- ---- a record, and all of them
 
--- what was counted, without the first text that isn't one: only textsHeld asks for it
-abbrev pub tablesIn : JobCounts → Counts
-tablesIn c =
+-- what was counted, without the first text that isn't one: only texts_held asks for it
+abbrev pub tables_in : JobCounts → Counts
+tables_in c =
     record {
       constants = c.constants;
       bootstraps = c.bootstraps;
@@ -395,26 +395,26 @@ Steps f list requests s at c (step.Refused code) = f (get_or s at 0) (drop (at +
 -- what is seen of all definitions: what they count, beside what was counted before them, the entries, and the bytes behind 50; not the
 -- first text that isn't one
 unfoldable pub tallied : JobCounts → Result Refusal Definitions → Result Refusal (JobCounts × Counts × List ℕ)
-tallied c (good d) = good (more c d.list 0, withBroken none d.counts, d.rest)
+tallied c (good d) = good (more c d.list 0, with_broken none d.counts, d.rest)
 tallied c (bad refusal) = bad refusal
 
-abbrev pub definedAs : List ℕ → Defined → Result Refusal (JobCounts × Counts × List ℕ)
-definedAs s (defined.To next counts) = good (counts, tablesIn counts, drop next s)
-definedAs s (defined.Refused code place) = bad (record { code = code; place = place })
+abbrev pub defined_as : List ℕ → Defined → Result Refusal (JobCounts × Counts × List ℕ)
+defined_as s (defined.To next counts) = good (counts, tables_in counts, drop next s)
+defined_as s (defined.Refused code place) = bad (record { code = code; place = place })
 
 abbrev pub Within : List ℕ → Defined → Type 0
 Within s (defined.To next counts) = (next ≤ length s) × Bounded next counts
 Within s (defined.Refused code place) = Unit {0}
 
 -- the record in turn, behind the definitions, 50 and the requests so far
-abbrev pub placeOf : JobCounts → ℕ
-placeOf c = suc (c.definitions + c.requests)
+abbrev pub place_of : JobCounts → ℕ
+place_of c = suc (c.definitions + c.requests)
 
 -- what the requests and 60 lead to, after what was counted before them
-unfoldable pub formedRequests : JobCounts → Result Refusal Requests → Formed
-formedRequests c (good r) = formed.Counts (more c [] (length r.list))
-formedRequests c (bad refusal) = formed.Refused refusal.code refusal.place
+unfoldable pub formed_requests : JobCounts → Result Refusal Requests → Formed
+formed_requests c (good r) = formed.Counts (more c [] (length r.list))
+formed_requests c (bad refusal) = formed.Refused refusal.code refusal.place
 
-unfoldable pub formedBuild : JobCounts → Result Refusal Build → Formed
-formedBuild c (good b) = formed.Counts c
-formedBuild c (bad refusal) = formed.Refused refusal.code refusal.place
+unfoldable pub formed_build : JobCounts → Result Refusal Build → Formed
+formed_build c (good b) = formed.Counts c
+formed_build c (bad refusal) = formed.Refused refusal.code refusal.place

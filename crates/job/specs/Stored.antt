@@ -4,9 +4,9 @@ use Rattle.std.proofs.Math.Option.{Option, none, some}
 use Rattle.std.proofs.Math.ListN.{get_elem?}
 use Rattle.definition.specs.Basics.{good, bad, lookup}
 use Rattle.definition.specs.Bytes.{Parser, ◌>>=◌, one, be4}
-use Rattle.definition.specs.Shapes.{Kind, constant, bootstrap, Field, text, bits, byte, to, toMany, Entry, is_wide}
-use Rattle.definition.specs.Job.{Reference, raw, entry, name, Definition, define, Request, Job, Body, ofEntry, ofName, ofRaw, ofExpression, ofNumber, ofNothing, bodies, reference, readDefinition, asks, readRequest, readBuild}
-use Rattle.definition.specs.Form.{kind_of, comesOut}
+use Rattle.definition.specs.Shapes.{Kind, constant, bootstrap, Field, text, bits, byte, to, to_many, Entry, is_wide}
+use Rattle.definition.specs.Job.{Reference, raw, entry, name, Definition, define, Request, Job, Body, of_entry, of_name, of_raw, of_expression, of_number, of_nothing, bodies, reference, read_definition, asks, read_request, read_build}
+use Rattle.definition.specs.Form.{kind_of, comes_out}
 use Rattle.job.specs.declared.Stretch.{Stretch}
 use Rattle.job.specs.declared.RefType.{RefType}
 use Rattle.job.specs.declared.RefType.TheVariants as refType
@@ -23,15 +23,15 @@ InTurn p s at [] end = at ≡ end
 InTurn p s at (x ∷ xs) end = (next : ℕ) × Found p s at x next × InTurn p s next xs end
 
 -- a definition behind its first byte, as the form pass leaves it: a 46 that comes to no constant is none
-unfoldable pub formedDefinition : ℕ → Parser (Definition (List ℕ))
-formedDefinition first bytes = elim (comesOut first bytes) [ good u ↦ readDefinition first bytes | bad code ↦ none ]
+unfoldable pub formed_definition : ℕ → Parser (Definition (List ℕ))
+formed_definition first bytes = elim (comes_out first bytes) [ good u ↦ read_definition first bytes | bad code ↦ none ]
 
 -- a definition and a request, first byte included
-abbrev pub anyDefinition : Parser (Definition (List ℕ))
-anyDefinition = one >>= formedDefinition
+abbrev pub any_definition : Parser (Definition (List ℕ))
+any_definition = one >>= formed_definition
 
-abbrev pub anyRequest : Parser Request
-anyRequest = one >>= λ first. readRequest (lookup first asks)
+abbrev pub any_request : Parser Request
+any_request = one >>= λ first. read_request (lookup first asks)
 
 -- these bytes stand from start to end
 pub record Spans (s : List ℕ) (stretch : Stretch) (bytes : List ℕ) : Type 0 where
@@ -55,18 +55,18 @@ WhatReference s at P = (kind : Kind) → WhatStands (reference kind) s at (P kin
 
 -- an entry
 abbrev pub EntryStands : List ℕ → ℕ → Type 0
-EntryStands s at = (e : Entry (List ℕ) Reference) × (next : ℕ) × Found anyDefinition s at (define e) next
+EntryStands s at = (e : Entry (List ℕ) Reference) × (next : ℕ) × Found any_definition s at (define e) next
 
 abbrev pub WhatEntry : List ℕ → ℕ → (Entry (List ℕ) Reference → Type 0) → Type 0
-WhatEntry s at P = (e : Entry (List ℕ) Reference) (next : ℕ) → Found anyDefinition s at (define e) next → P e
+WhatEntry s at P = (e : Entry (List ℕ) Reference) (next : ℕ) → Found any_definition s at (define e) next → P e
 
 -- an entry at a place is a constant worked out
-abbrev pub isWorked : List ℕ → ℕ → Bool
-isWorked s at = eqb (get_or s at 0) 0x46
+abbrev pub is_worked : List ℕ → ℕ → Bool
+is_worked s at = eqb (get_or s at 0) 0x46
 
 -- the bytes of a number with this tag, by its words
-unfoldable pub wordsBytes : ℕ → ℕ → ℕ → List ℕ
-wordsBytes tag high low = elim (is_wide tag) [ true ↦ be4 high ++ be4 low | false ↦ be4 low ]
+unfoldable pub words_bytes : ℕ → ℕ → ℕ → List ℕ
+words_bytes tag high low = elim (is_wide tag) [ true ↦ be4 high ++ be4 low | false ↦ be4 low ]
 
 -- what a reference at a place of s says
 unfoldable pub Tells : List ℕ → Kind → Reference → RefType → Type 0
@@ -75,34 +75,34 @@ Tells s kind r (refType.Index number) = r ≡ entry kind number
 Tells s kind r (refType.Sym stretch) = (l : List ℕ) × Spans s stretch l × (r ≡ name kind l)
 
 -- the table that an entry's first reference leads to, by the entry's fields: a Dynamic's cites a bootstrap
-unfoldable pub firstKind : List Field → Kind
-firstKind [] = constant
-firstKind (text ∷ fields) = firstKind fields
-firstKind (bits size ∷ fields) = firstKind fields
-firstKind (byte ∷ fields) = firstKind fields
-firstKind (to kind ∷ fields) = kind
-firstKind (toMany ∷ fields) = constant
+unfoldable pub first_kind_lem : List Field → Kind
+first_kind_lem [] = constant
+first_kind_lem (text ∷ fields) = first_kind_lem fields
+first_kind_lem (bits size ∷ fields) = first_kind_lem fields
+first_kind_lem (byte ∷ fields) = first_kind_lem fields
+first_kind_lem (to kind ∷ fields) = kind
+first_kind_lem (to_many ∷ fields) = constant
 
-unfoldable pub kindIn : Option Body → Kind
-kindIn none = constant
-kindIn (some (ofEntry fields)) = firstKind fields
-kindIn (some (ofName kind)) = constant
-kindIn (some (ofRaw kind)) = constant
-kindIn (some ofExpression) = constant
-kindIn (some (ofNumber rule)) = constant
-kindIn (some (ofNothing rule)) = constant
+unfoldable pub kind_in : Option Body → Kind
+kind_in none = constant
+kind_in (some (of_entry fields)) = first_kind_lem fields
+kind_in (some (of_name kind)) = constant
+kind_in (some (of_raw kind)) = constant
+kind_in (some of_expression) = constant
+kind_in (some (of_number rule)) = constant
+kind_in (some (of_nothing rule)) = constant
 
 -- the table that an entry's i-th reference leads to, by the entry's tag
-unfoldable pub kidKind : ℕ → ℕ → Kind
-kidKind tag zero = kindIn (lookup tag bodies)
-kidKind tag (suc i) = constant
+unfoldable pub kid_kind : ℕ → ℕ → Kind
+kid_kind tag zero = kind_in (lookup tag bodies)
+kid_kind tag (suc i) = constant
 
 -- how many bytes stand between an entry's i-th reference and the next: a bootstrap's count behind its first
-unfoldable pub bytesBetween : Kind → ℕ → ℕ
-bytesBetween constant zero = 0
-bytesBetween constant (suc i) = 0
-bytesBetween bootstrap zero = 2
-bytesBetween bootstrap (suc i) = 0
+unfoldable pub bytes_between : Kind → ℕ → ℕ
+bytes_between constant zero = 0
+bytes_between constant (suc i) = 0
+bytes_between bootstrap zero = 2
+bytes_between bootstrap (suc i) = 0
 
 -- the i-th reference of an entry stands at a place, and the later ones in turn behind it
 pub record KidAt (s : List ℕ) (e : Entry (List ℕ) Reference) (i place : ℕ) : Type 0 where
@@ -110,26 +110,26 @@ pub record KidAt (s : List ℕ) (e : Entry (List ℕ) Reference) (i place : ℕ)
   pub later : List Reference
   pub kids : drop i e.kids ≡ kid ∷ later
   pub behind : ℕ
-  pub found : Found (reference (kidKind e.tag i)) s place kid behind
+  pub found : Found (reference (kid_kind e.tag i)) s place kid behind
   pub end : ℕ
-  pub rest : InTurn (reference constant) s (behind + bytesBetween (kind_of e.tag) i) later end
+  pub rest : InTurn (reference constant) s (behind + bytes_between (kind_of e.tag) i) later end
 
 -- the first reference of an entry with this tag stands behind the tag, or behind a method handle's kind
-unfoldable pub firstPlace : ℕ → ℕ → ℕ
-firstPlace tag at = elim (eqb tag 15) [ true ↦ at + 2 | false ↦ at + 1 ]
+unfoldable pub first_place : ℕ → ℕ → ℕ
+first_place tag at = elim (eqb tag 15) [ true ↦ at + 2 | false ↦ at + 1 ]
 
 -- references from the i-th of an entry with this tag on stand one behind the other, from a place to another
 abbrev pub KidsTurn : List ℕ → ℕ → ℕ → ℕ → List Reference → ℕ → Type 0
 KidsTurn s tag i at [] end = at ≡ end
 KidsTurn s tag i at (r ∷ rest) end =
-    (behind : ℕ) × Found (reference (kidKind tag i)) s at r behind × KidsTurn s tag (suc i) (behind + bytesBetween (kind_of tag) i) rest end
+    (behind : ℕ) × Found (reference (kid_kind tag i)) s at r behind × KidsTurn s tag (suc i) (behind + bytes_between (kind_of tag) i) rest end
 
 -- where the records of a job stand: the definitions from the start to 50, then the requests to 60, then 60's fields, and nothing more
 pub record Laid (s : List ℕ) (job : Job (List ℕ)) : Type 0 where
   pub fifty : ℕ
-  pub definitions : InTurn anyDefinition s 0 job.definitions fifty
-  pub isFifty : get_elem? s fifty ≡ some 0x50
+  pub definitions : InTurn any_definition s 0 job.definitions fifty
+  pub is_fifty : get_elem? s fifty ≡ some 0x50
   pub sixty : ℕ
-  pub requests : InTurn anyRequest s (fifty + 1) job.requests sixty
-  pub isSixty : get_elem? s sixty ≡ some 0x60
-  pub build : readBuild (drop (sixty + 1) s) ≡ some (job.build, [])
+  pub requests : InTurn any_request s (fifty + 1) job.requests sixty
+  pub is_sixty : get_elem? s sixty ≡ some 0x60
+  pub build : read_build (drop (sixty + 1) s) ≡ some (job.build, [])

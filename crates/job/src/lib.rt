@@ -4,14 +4,14 @@ ghost use Rattle.std.specs.Prelude.{◌≡◌, true, false, List, [], ◌∷◌,
 ghost use Rattle.std.proofs.Math.Option.{some};
 ghost use Rattle.definition.specs.Basics.{every, lookup};
 ghost use Rattle.definition.specs.Bytes.{one, two, many};
-ghost use Rattle.definition.specs.Expression.{readExpression};
-ghost use Rattle.definition.specs.Shapes.{Kind, Entry, constant, text, byte, to, bootstrapShape};
-ghost use Rattle.definition.specs.Job.{Reference, define, shortName, referenceForm, reference, bodies, ofName, ofRaw, asks, readRequest, readBuild};
-ghost use Rattle.definition.specs.Form.{Counts, nothingYet, count_of, cites, kind_of, citesRequest, formDefinition, formDefinitions, formRequest, formBuild, formRequests, form};
+ghost use Rattle.definition.specs.Expression.{read_expression};
+ghost use Rattle.definition.specs.Shapes.{Kind, Entry, constant, text, byte, to, bootstrap_shape};
+ghost use Rattle.definition.specs.Job.{Reference, define, short_name, reference_form, reference, bodies, of_name, of_raw, asks, read_request, read_build};
+ghost use Rattle.definition.specs.Form.{Counts, nothing_yet, count_of, cites, kind_of, cites_request, form_definition, form_definitions, form_request, form_build, form_requests, form};
 ghost use Rattle.raw_const.specs.Entries.{fields_of};
-ghost use Rattle.job.specs.Forms.{Skips, SkipsReference, SkipsEntry, SkipsDefinition, SkipsAfter, entryBody, body_of, table_of, is_plain, isSetting, Opens, room_for, NumberRoom, numberOpened, onceFault, highestFault, settingFault, brokenAt, brokenWith, textsHold, Bounded, Room, countedAs, countsOf, tablesIn, Steps, tallied, definedAs, Within, placeOf, formedBuild, formedRequests, formedOf};
+ghost use Rattle.job.specs.Forms.{Skips, SkipsReference, SkipsEntry, SkipsDefinition, SkipsAfter, entry_body, body_of, table_of, is_plain, is_setting, Opens, room_for, NumberRoom, number_opened, once_fault, highest_fault, setting_fault, broken_at, broken_with, texts_hold, Bounded, Room, counted_as, counts_of, tables_in, Steps, tallied, defined_as, Within, place_of, formed_build, formed_requests, formed_of};
 ghost use Rattle.job.specs.declared.Opening.TheVariants.{Expression};
-ghost use Rattle.job.specs.Stored.{Found, Stands, WhatStands, ReferenceStands, WhatReference, EntryStands, WhatEntry, Spans, Tells, anyDefinition, isWorked, wordsBytes, KidAt};
+ghost use Rattle.job.specs.Stored.{Found, Stands, WhatStands, ReferenceStands, WhatReference, EntryStands, WhatEntry, Spans, Tells, any_definition, is_worked, words_bytes, KidAt};
 
 use folding::{Constant, Span};
 use raw_const::Shape;
@@ -133,7 +133,7 @@ fn skip_bytes(job: &[u8], at: usize, n: usize) -> Skipped
 // A name: one byte of length, then its bytes.
 fn skip_name(job: &[u8], at: usize) -> Skipped
     requires { at ≤ length job.now }
-    ensures { Skips shortName (λ _. true) (λ _. 0) job.now at result }
+    ensures { Skips short_name (λ _. true) (λ _. 0) job.now at result }
 {
     if job.len() == at {
         return Skipped::Cut;
@@ -175,7 +175,7 @@ fn skip_number(job: &[u8], at: usize, entries: usize) -> Skipped
 // What stands behind a reference's form byte; `entries` is how many entries its table has yet.
 fn skip_form(job: &[u8], at: usize, form: u8, entries: usize) -> Skipped
     requires { at ≤ length job.now }
-    ensures { (kind : Kind) (n : Counts) → count_of kind n ≡ entries → Skips (referenceForm kind form) (cites n) (λ _. 0) job.now at result }
+    ensures { (kind : Kind) (n : Counts) → count_of kind n ≡ entries → Skips (reference_form kind form) (cites n) (λ _. 0) job.now at result }
 {
     match form {
         0 => skip_raw_slot(job, at),
@@ -290,7 +290,7 @@ fn skip_references(job: &[u8], at: usize, n: usize, entries: usize) -> Skipped
 // A bootstrap: a handle's reference, two bytes of count, then as many references.
 fn skip_bootstrap(job: &[u8], at: usize, entries: usize) -> Skipped
     requires { at ≤ length job.now }
-    ensures { (n : Counts) → n.constants ≡ entries → SkipsEntry n bootstrapShape job.now at result }
+    ensures { (n : Counts) → n.constants ≡ entries → SkipsEntry n bootstrap_shape job.now at result }
 {
     let Skipped::To {
         next,
@@ -326,7 +326,7 @@ fn skip_constant(
     bootstraps: usize,
 ) -> Skipped
     requires { at ≤ length job.now }
-    ensures { SkipsAfter constants bootstraps (entryBody (fields_of shape)) job.now at result }
+    ensures { SkipsAfter constants bootstraps (entry_body (fields_of shape)) job.now at result }
 {
     match shape {
         Shape::Text => skip_text(job, at),
@@ -342,7 +342,7 @@ fn skip_constant(
 // A name, and the reference that it stands for.
 fn skip_naming(job: &[u8], at: usize, entries: usize) -> Skipped
     requires { at ≤ length job.now }
-    ensures { (kind : Kind) (n : Counts) → count_of kind n ≡ entries → SkipsDefinition n (some (ofName kind)) job.now at result }
+    ensures { (kind : Kind) (n : Counts) → count_of kind n ≡ entries → SkipsDefinition n (some (of_name kind)) job.now at result }
 {
     let Skipped::To {
         next,
@@ -369,7 +369,7 @@ fn skip_naming(job: &[u8], at: usize, entries: usize) -> Skipped
 // A slot or an index, and the number of the entry that goes there.
 fn skip_placing(job: &[u8], at: usize, entries: usize) -> Skipped
     requires { at ≤ length job.now }
-    ensures { (kind : Kind) (n : Counts) → count_of kind n ≡ entries → SkipsDefinition n (some (ofRaw kind)) job.now at result }
+    ensures { (kind : Kind) (n : Counts) → count_of kind n ≡ entries → SkipsDefinition n (some (of_raw kind)) job.now at result }
 {
     if job.len() - at < 2 {
         return Skipped::Cut;
@@ -380,7 +380,7 @@ fn skip_placing(job: &[u8], at: usize, entries: usize) -> Skipped
 // An expression; a byte that is neither leaf tag nor sign ends it and doesn't cut it.
 fn skip_expression(job: &[u8], at: usize) -> Skipped
     requires { at ≤ length job.now }
-    ensures { Skips readExpression (λ _. true) (λ _. 0) job.now at result }
+    ensures { Skips read_expression (λ _. true) (λ _. 0) job.now at result }
 {
     match folding::end_of(job, at) {
         Span::To(next) => Skipped::To {
@@ -429,7 +429,7 @@ fn skip_definition(
 // The number of a setting that has one, behind its first byte; 0 for any other definition.
 fn setting_number(job: &[u8], at: usize, opening: Opening) -> usize
     requires { NumberRoom opening job.now at }
-    ensures { result ≡ numberOpened opening job.now at }
+    ensures { result ≡ number_opened opening job.now at }
 {
     match opening {
         Opening::Version => writer::get_u16(job, at) as usize,
@@ -441,7 +441,7 @@ fn setting_number(job: &[u8], at: usize, opening: Opening) -> usize
 // A setting so opened, with this number, may stand behind these records: 3 if it mayn't (47 and 48 come once each, 49 is the first
 // record), 26 if a highest slot is none, else 0.
 fn setting_fault(opening: Opening, number: usize, counts: JobCounts) -> u32
-    ensures { result ≡ settingFault opening number counts }
+    ensures { result ≡ setting_fault opening number counts }
 {
     match opening {
         Opening::Version => once(counts.versions),
@@ -453,14 +453,14 @@ fn setting_fault(opening: Opening, number: usize, counts: JobCounts) -> u32
 
 // 3 where there was one.
 fn once(earlier: usize) -> u32
-    ensures { result ≡ onceFault earlier }
+    ensures { result ≡ once_fault earlier }
 {
     if earlier == 0 { 0 } else { 3 }
 }
 
 // 49 behind so many records, with this number: 3, then 26.
 fn highest_fault(records: usize, number: usize) -> u32
-    ensures { result ≡ highestFault records number }
+    ensures { result ≡ highest_fault records number }
 {
     if records != 0 {
         return 3;
@@ -487,7 +487,7 @@ fn has_room(opening: Opening, constants: usize, bootstraps: usize) -> bool
 // The definition from one place to another is a text that isn't one.
 fn is_broken(job: &[u8], at: usize, next: usize) -> bool
     requires { (at < length job.now) × (next ≤ length job.now) × (get_or job.now at 0 ≡ 1 → at + 3 ≤ next) }
-    ensures { result ≡ brokenAt job.now at next }
+    ensures { result ≡ broken_at job.now at next }
 {
     if writer::get_u8(job, at) == 1 {
         !texts::is_text(&job[at + 3..next])
@@ -499,7 +499,7 @@ fn is_broken(job: &[u8], at: usize, next: usize) -> bool
 // One more than the record of the first text that isn't one, with this record, which is one or not; `earlier` without it.
 fn first_broken(earlier: usize, place: usize, broken: bool) -> usize
     requires { place + 1 < 2 ^ 64 }
-    ensures { result ≡ brokenWith place broken earlier }
+    ensures { result ≡ broken_with place broken earlier }
 {
     if (earlier == 0) & broken {
         place + 1
@@ -511,7 +511,7 @@ fn first_broken(earlier: usize, place: usize, broken: bool) -> usize
 // The counts with a definition so opened, which has so many references, and this number if it is a setting.
 fn counted(counts: JobCounts, opening: Opening, references: usize, number: usize) -> JobCounts
     requires { Room counts references }
-    ensures { result ≡ countedAs opening references number counts }
+    ensures { result ≡ counted_as opening references number counts }
 {
     let mut c = counts;
     c.definitions += 1;
@@ -563,7 +563,7 @@ fn counted(counts: JobCounts, opening: Opening, references: usize, number: usize
 
 // No record 48 stands with a text that isn't one.
 fn texts_hold(texts: usize, broken: usize) -> bool
-    ensures { result ≡ textsHold texts broken }
+    ensures { result ≡ texts_hold texts broken }
 {
     (broken == 0) | (texts == 0)
 }
@@ -584,7 +584,7 @@ fn is_plain(opening: Opening) -> bool
 // A definition so opened that is neither setting nor expression: 3 if it is cut or unknown, then 5 if its table is full, then 4 if it cites what isn't there.
 fn form_entry(job: &[u8], at: usize, opening: Opening, counts: JobCounts) -> Step
     requires { (at < length job.now) × Bounded at counts × Opens job.now at opening × (is_plain opening ≡ true) }
-    ensures { Steps (formDefinition (tablesIn counts)) (λ d. d ∷ []) 0 job.now at counts result }
+    ensures { Steps (form_definition (tables_in counts)) (λ d. d ∷ []) 0 job.now at counts result }
 {
     let constants = counts.constants;
     let bootstraps = counts.bootstraps;
@@ -611,8 +611,8 @@ fn form_entry(job: &[u8], at: usize, opening: Opening, counts: JobCounts) -> Ste
 
 // A setting so opened: 3 if it is cut, then 3 or 26 if it mayn't stand there.
 fn form_setting(job: &[u8], at: usize, opening: Opening, counts: JobCounts) -> Step
-    requires { (at < length job.now) × Bounded at counts × Opens job.now at opening × (isSetting opening ≡ true) }
-    ensures { Steps (formDefinition (tablesIn counts)) (λ d. d ∷ []) 0 job.now at counts result }
+    requires { (at < length job.now) × Bounded at counts × Opens job.now at opening × (is_setting opening ≡ true) }
+    ensures { Steps (form_definition (tables_in counts)) (λ d. d ∷ []) 0 job.now at counts result }
 {
     let constants = counts.constants;
     let bootstraps = counts.bootstraps;
@@ -639,7 +639,7 @@ fn form_setting(job: &[u8], at: usize, opening: Opening, counts: JobCounts) -> S
 // A 46: 3 if it is cut, then 5 if the constants are full, then 22 or 23 if it comes to none. It cites nothing.
 fn form_worked(job: &[u8], at: usize, counts: JobCounts) -> Step
     requires { (at < length job.now) × Bounded at counts × Opens job.now at Expression }
-    ensures { Steps (formDefinition (tablesIn counts)) (λ d. d ∷ []) 0 job.now at counts result }
+    ensures { Steps (form_definition (tables_in counts)) (λ d. d ∷ []) 0 job.now at counts result }
 {
     let opening = Opening::Expression;
     let constants = counts.constants;
@@ -667,7 +667,7 @@ fn form_worked(job: &[u8], at: usize, counts: JobCounts) -> Step
 // One definition: most jobs have neither setting nor expression, so that what only those need stands apart.
 fn form_definition(job: &[u8], at: usize, counts: JobCounts) -> Step
     requires { (at < length job.now) × Bounded at counts }
-    ensures { Steps (formDefinition (tablesIn counts)) (λ d. d ∷ []) 0 job.now at counts result }
+    ensures { Steps (form_definition (tables_in counts)) (λ d. d ∷ []) 0 job.now at counts result }
 {
     let opening = opening_of(writer::get_u8(job, at));
     if is_plain(opening) {
@@ -680,7 +680,7 @@ fn form_definition(job: &[u8], at: usize, counts: JobCounts) -> Step
 }
 
 fn nothing_yet() -> JobCounts
-    ensures { result ≡ countsOf [] 0 }
+    ensures { result ≡ counts_of [] 0 }
 {
     JobCounts {
         definitions: 0,
@@ -700,7 +700,7 @@ fn nothing_yet() -> JobCounts
 
 // The definitions and 50 of a job with a record 48; 25 as soon as it and a text that isn't one stand, at that text.
 fn form_held(job: &[u8]) -> Defined
-    ensures job_value { tallied (countsOf [] 0) (formDefinitions (length job.now) nothingYet 0 job.now) ≡ definedAs job.now result }
+    ensures job_value { tallied (counts_of [] 0) (form_definitions (length job.now) nothing_yet 0 job.now) ≡ defined_as job.now result }
     ensures within { Within job.now result }
 {
     let mut at = 0;
@@ -742,7 +742,7 @@ fn form_held(job: &[u8]) -> Defined
 
 // The definitions and 50. No text is tested before a record 48 stands: then the job is read from its start again.
 fn form_definitions(job: &[u8]) -> Defined
-    ensures job_value { tallied (countsOf [] 0) (formDefinitions (length job.now) nothingYet 0 job.now) ≡ definedAs job.now result }
+    ensures job_value { tallied (counts_of [] 0) (form_definitions (length job.now) nothing_yet 0 job.now) ≡ defined_as job.now result }
     ensures within { Within job.now result }
 {
     let mut at = 0;
@@ -779,7 +779,7 @@ fn form_definitions(job: &[u8]) -> Defined
 // A request behind its first byte.
 fn skip_request(job: &[u8], at: usize, first: u8, constants: usize) -> Skipped
     requires { at ≤ length job.now }
-    ensures { (n : Counts) → n.constants ≡ constants → Skips (readRequest (lookup first asks)) (λ q. cites n q.what) (λ _. 1) job.now at result }
+    ensures { (n : Counts) → n.constants ≡ constants → Skips (read_request (lookup first asks)) (λ q. cites n q.what) (λ _. 1) job.now at result }
 {
     match first {
         0x51 | 0x52 => skip_reference(job, at, constants),
@@ -790,7 +790,7 @@ fn skip_request(job: &[u8], at: usize, first: u8, constants: usize) -> Skipped
 // One request: 3 if it is cut or unknown, then 4 if it cites what isn't there.
 fn form_request(job: &[u8], at: usize, counts: JobCounts) -> Step
     requires { (at < length job.now) × Bounded at counts }
-    ensures { Steps (formRequest (tablesIn counts)) (λ _. []) 1 job.now at counts result }
+    ensures { Steps (form_request (tables_in counts)) (λ _. []) 1 job.now at counts result }
 {
     let constants = counts.constants;
     let first = writer::get_u8(job, at);
@@ -814,7 +814,7 @@ fn form_request(job: &[u8], at: usize, counts: JobCounts) -> Step
 // 60 behind its first byte, after so many requests.
 fn skip_build(job: &[u8], at: usize, requests: usize) -> Skipped
     requires { at ≤ length job.now }
-    ensures { Skips readBuild (λ b. citesRequest requests b.class) (λ _. 0) job.now at result }
+    ensures { Skips read_build (λ b. cites_request requests b.class) (λ _. 0) job.now at result }
 {
     if job.len() - at < 2 {
         return Skipped::Cut;
@@ -832,7 +832,7 @@ fn skip_build(job: &[u8], at: usize, requests: usize) -> Skipped
 // The number of the record in turn, after the definitions, 50 and the requests so far.
 fn place_of(counts: JobCounts) -> usize
     requires { counts.definitions + counts.requests + 1 < 2 ^ 64 }
-    ensures { result ≡ placeOf counts }
+    ensures { result ≡ place_of counts }
 {
     counts.definitions + counts.requests + 1
 }
@@ -840,7 +840,7 @@ fn place_of(counts: JobCounts) -> usize
 // 60, and nothing behind it: 3 or 4 at its own record, then 3 at the next.
 fn form_build(job: &[u8], at: usize, counts: JobCounts) -> Formed
     requires { (at ≤ length job.now) × Bounded at counts }
-    ensures { result ≡ formedBuild counts (formBuild counts.requests (placeOf counts) (drop at job.now)) }
+    ensures { result ≡ formed_build counts (form_build counts.requests (place_of counts) (drop at job.now)) }
 {
     let place = place_of(counts);
     let requests = counts.requests;
@@ -868,7 +868,7 @@ fn form_build(job: &[u8], at: usize, counts: JobCounts) -> Formed
 // The requests and 60, from a place on.
 fn form_requests(job: &[u8], start: usize, defined: JobCounts) -> Formed
     requires { (start ≤ length job.now) × Bounded start defined }
-    ensures { result ≡ formedRequests defined (formRequests (length job.now - defined.requests) (tablesIn defined) defined.requests (placeOf defined) (drop start job.now)) }
+    ensures { result ≡ formed_requests defined (form_requests (length job.now - defined.requests) (tables_in defined) defined.requests (place_of defined) (drop start job.now)) }
 {
     let mut at = start;
     let mut counts = defined;
@@ -897,7 +897,7 @@ fn form_requests(job: &[u8], start: usize, defined: JobCounts) -> Formed
 
 // The form pass over a whole job: refusal 3, 26, 5, 25, 4, 22 or 23 at a record, or what the job counts.
 pub fn form(job: &[u8]) -> Formed
-    ensures { result ≡ formedOf (form job.now) }
+    ensures { result ≡ formed_of (form job.now) }
 {
     match form_definitions(job) {
         Defined::To { next, counts } => form_requests(job, next, counts),
@@ -924,8 +924,8 @@ pub enum RefType {
 
 // The name at a place.
 pub fn name_at(job: &[u8], at: usize) -> Stretch
-    requires { Stands shortName job.now at }
-    ensures { WhatStands shortName job.now at (λ l next. Spans job.now result l × (result.end ≡ next)) }
+    requires { Stands short_name job.now at }
+    ensures { WhatStands short_name job.now at (λ l next. Spans job.now result l × (result.end ≡ next)) }
 {
     let start = at + 1;
     let n = writer::get_u8(job, at) as usize;
@@ -974,7 +974,7 @@ pub fn tag_at(job: &[u8], at: usize) -> u8
 // The entry at a place is a constant worked out: its literal doesn't stand in the job.
 pub fn is_worked(job: &[u8], at: usize) -> bool
     requires { at < length job.now }
-    ensures { result ≡ isWorked job.now at }
+    ensures { result ≡ is_worked job.now at }
 {
     writer::get_u8(job, at) == 0x46
 }
@@ -988,8 +988,8 @@ pub struct Worked {
 
 // What the entry at a place was worked out to. It came out in the form pass.
 pub fn worked_at(job: &[u8], at: usize) -> Worked
-    requires { EntryStands job.now at × (isWorked job.now at ≡ true) }
-    ensures { WhatEntry job.now at (λ e. wordsBytes e.tag result.high result.low ≡ e.literal) }
+    requires { EntryStands job.now at × (is_worked job.now at ≡ true) }
+    ensures { WhatEntry job.now at (λ e. words_bytes e.tag result.high result.low ≡ e.literal) }
 {
     match folding::constant_at(job, at + 1) {
         Constant::Of { tag: _, bits } => Worked {
@@ -1002,8 +1002,8 @@ pub fn worked_at(job: &[u8], at: usize) -> Worked
 
 // The place behind the entry at a place, which was worked out.
 pub fn after_worked(job: &[u8], at: usize) -> usize
-    requires { EntryStands job.now at × (isWorked job.now at ≡ true) }
-    ensures { WhatStands anyDefinition job.now at (λ d next. result ≡ next) }
+    requires { EntryStands job.now at × (is_worked job.now at ≡ true) }
+    ensures { WhatStands any_definition job.now at (λ d next. result ≡ next) }
 {
     match folding::end_of(job, at + 1) {
         Span::To(next) => next,
@@ -1014,7 +1014,7 @@ pub fn after_worked(job: &[u8], at: usize) -> usize
 
 // The literal of the entry at a place, which was not worked out: no bytes if it has none.
 pub fn literal_at(job: &[u8], at: usize) -> Stretch
-    requires { EntryStands job.now at × (isWorked job.now at ≡ false) }
+    requires { EntryStands job.now at × (is_worked job.now at ≡ false) }
     ensures { WhatEntry job.now at (λ e. Spans job.now result e.literal) }
 {
     let Opening::Constant(shape) = opening_of(tag_at(job, at)) else {
@@ -1087,7 +1087,7 @@ pub fn first_reference(job: &[u8], at: usize) -> usize
 
 // Where reference i + 1 of the entry at a place stands, if reference i stands at `from`; a bootstrap's count stands behind its first.
 pub fn next_reference(job: &[u8], at: usize, i: usize, from: usize) -> usize
-    requires { (e : Entry (List ℕ) Reference) × (next : ℕ) × Found anyDefinition job.now at (define e) next × KidAt job.now e i from × (i + 1 < length e.kids) }
+    requires { (e : Entry (List ℕ) Reference) × (next : ℕ) × Found any_definition job.now at (define e) next × KidAt job.now e i from × (i + 1 < length e.kids) }
     ensures { WhatEntry job.now at (λ e. KidAt job.now e i from → i + 1 < length e.kids → KidAt job.now e (i + 1) result) }
 {
     let behind = after_reference(job, from);

@@ -4,7 +4,7 @@ use mathlib.Core.Option.{Option, none, some}
 use mathlib.Core.Path.{◌≡◌, refl}
 use Prim.Native.Nat.{ℕ}
 use lib.ListN.{replicate}
-use Rattle.jvms.specs.Pool.{Constant, Utf8, Integer, Float, Long, Double, Class, String, Fieldref, Methodref, InterfaceMethodref, NameAndType, MethodHandle, MethodType, Dynamic, InvokeDynamic, Module, Package, Slot, usable, unusable, BootstrapMethod, u1, u2, u4, array, structures, structure, cp-info, takes_two, slots, constant-pool, wholly, read-pool, bootstrap-method, read-bootstrap-methods}
+use Rattle.jvms.specs.Pool.{Constant, Utf8, Integer, Float, Long, Double, Class, String, Fieldref, Methodref, InterfaceMethodref, NameAndType, MethodHandle, MethodType, Dynamic, InvokeDynamic, Module, Package, Slot, usable, unusable, BootstrapMethod, u1, u2, u4, array, structures, structure, cp_info_lem, takes_two, slots, constant_pool, wholly, read_pool_lem, bootstrap_method, read_bootstrap_methods}
 use Rattle.jvms.specs.Written.{each_of}
 
 -- an entry's bytes, put together by hand, and what they are
@@ -29,8 +29,8 @@ entries =
     ∷ []
 
 -- and of those that take two indexes
-abbrev wideEntries : List (List ℕ × Constant)
-wideEntries =
+abbrev wide_entries : List (List ℕ × Constant)
+wide_entries =
     (5 ∷ 1 ∷ 2 ∷ 3 ∷ 4 ∷ 5 ∷ 6 ∷ 7 ∷ 8 ∷ [], Long 0x1020304 0x5060708)
     ∷ (6 ∷ 0x40 ∷ 9 ∷ 0x21 ∷ 0xfb ∷ 0x54 ∷ 0x44 ∷ 0x2d ∷ 0x18 ∷ [], Double 0x400921fb 0x54442d18)
     ∷ []
@@ -40,16 +40,16 @@ abbrev alone : ℕ → List ℕ → List ℕ
 alone count bytes = 0 ∷ count ∷ bytes
 
 -- all seventeen tags: 16 constants of one index and two of two, so constant_pool_count is 21; the Double has the last two indexes
-pub seventeenTags :
-    read-pool (0 ∷ 21 ∷ each_of (λ (e : List ℕ × Constant). e.0) (entries ++ wideEntries))
+pub seventeen_tags :
+    read_pool_lem (0 ∷ 21 ∷ each_of (λ (e : List ℕ × Constant). e.0) (entries ++ wide_entries))
     ≡ some (map (λ e. usable e.1) entries ++ usable (Long 0x1020304 0x5060708) ∷ unusable ∷ usable (Double 0x400921fb 0x54442d18) ∷ unusable ∷ [])
-unfolding u1 u2 u4 array structures structure cp-info takes_two slots constant-pool wholly read-pool each_of
-seventeenTags = refl
+unfolding u1 u2 u4 array structures structure cp_info_lem takes_two slots constant_pool wholly read_pool_lem each_of
+seventeen_tags = refl
 
 -- the empty pool, whose count is 1, is one
-pub emptyPool : read-pool (0 ∷ 1 ∷ []) ≡ some []
-unfolding u1 u2 u4 array structures structure cp-info takes_two slots constant-pool wholly read-pool
-emptyPool = refl
+pub empty_pool : read_pool_lem (0 ∷ 1 ∷ []) ≡ some []
+unfolding u1 u2 u4 array structures structure cp_info_lem takes_two slots constant_pool wholly read_pool_lem
+empty_pool = refl
 
 -- each constant is a pool by itself, and with its last byte cut off none
 abbrev cut : List ℕ → List ℕ
@@ -57,34 +57,34 @@ cut [] = []
 cut (b ∷ []) = []
 cut (b ∷ c ∷ bytes) = b ∷ cut (c ∷ bytes)
 
-pub eachAlone :
-    (map (λ (e : List ℕ × Constant). read-pool (alone 2 e.0)) entries ≡ map (λ (e : List ℕ × Constant). some (usable e.1 ∷ [])) entries)
-    × (map (λ (e : List ℕ × Constant). read-pool (alone 3 e.0)) wideEntries ≡ map (λ (e : List ℕ × Constant). some (usable e.1 ∷ unusable ∷ [])) wideEntries)
-unfolding u1 u2 u4 array structures structure cp-info takes_two slots constant-pool wholly read-pool
-eachAlone = (refl, refl)
+pub each_alone :
+    (map (λ (e : List ℕ × Constant). read_pool_lem (alone 2 e.0)) entries ≡ map (λ (e : List ℕ × Constant). some (usable e.1 ∷ [])) entries)
+    × (map (λ (e : List ℕ × Constant). read_pool_lem (alone 3 e.0)) wide_entries ≡ map (λ (e : List ℕ × Constant). some (usable e.1 ∷ unusable ∷ [])) wide_entries)
+unfolding u1 u2 u4 array structures structure cp_info_lem takes_two slots constant_pool wholly read_pool_lem
+each_alone = (refl, refl)
 
-pub eachCut :
-    (map (λ (e : List ℕ × Constant). read-pool (alone 2 (cut e.0))) entries ≡ replicate 16 none)
-    × (map (λ (e : List ℕ × Constant). read-pool (alone 3 (cut e.0))) wideEntries ≡ replicate 2 none)
-unfolding u1 u2 u4 array structures structure cp-info takes_two slots constant-pool wholly read-pool
-eachCut = (refl, refl)
+pub each_cut :
+    (map (λ (e : List ℕ × Constant). read_pool_lem (alone 2 (cut e.0))) entries ≡ replicate 16 none)
+    × (map (λ (e : List ℕ × Constant). read_pool_lem (alone 3 (cut e.0))) wide_entries ≡ replicate 2 none)
+unfolding u1 u2 u4 array structures structure cp_info_lem takes_two slots constant_pool wholly read_pool_lem
+each_cut = (refl, refl)
 
 -- bytes left over, of each
-pub eachLonger :
-    (map (λ (e : List ℕ × Constant). read-pool (alone 2 (e.0 ++ 0 ∷ []))) entries ≡ replicate 16 none)
-    × (map (λ (e : List ℕ × Constant). read-pool (alone 3 (e.0 ++ 0 ∷ []))) wideEntries ≡ replicate 2 none)
-unfolding u1 u2 u4 array structures structure cp-info takes_two slots constant-pool wholly read-pool
-eachLonger = (refl, refl)
+pub each_longer :
+    (map (λ (e : List ℕ × Constant). read_pool_lem (alone 2 (e.0 ++ 0 ∷ []))) entries ≡ replicate 16 none)
+    × (map (λ (e : List ℕ × Constant). read_pool_lem (alone 3 (e.0 ++ 0 ∷ []))) wide_entries ≡ replicate 2 none)
+unfolding u1 u2 u4 array structures structure cp_info_lem takes_two slots constant_pool wholly read_pool_lem
+each_longer = (refl, refl)
 
 -- a constant that takes two indexes, in the last one
-pub eachTooWide : map (λ (e : List ℕ × Constant). read-pool (alone 2 e.0)) wideEntries ≡ replicate 2 none
-unfolding u1 u2 u4 array structures structure cp-info takes_two slots constant-pool wholly read-pool
-eachTooWide = refl
+pub each_too_wide : map (λ (e : List ℕ × Constant). read_pool_lem (alone 2 e.0)) wide_entries ≡ replicate 2 none
+unfolding u1 u2 u4 array structures structure cp_info_lem takes_two slots constant_pool wholly read_pool_lem
+each_too_wide = refl
 
 -- no pool: no count, half a count, the count 0 with nothing and with a constant behind it, a constant too few
-pub noPool :
+pub no_pool :
     map
-    read-pool
+    read_pool_lem
     ([]
     ∷ (0 ∷ [])
     ∷ (0 ∷ 0 ∷ [])
@@ -92,32 +92,32 @@ pub noPool :
     ∷ (0 ∷ 3 ∷ 7 ∷ 0 ∷ 1 ∷ [])
     ∷ [])
     ≡ replicate 5 none
-unfolding u1 u2 u4 array structures structure cp-info takes_two slots constant-pool wholly read-pool
-noPool = refl
+unfolding u1 u2 u4 array structures structure cp_info_lem takes_two slots constant_pool wholly read_pool_lem
+no_pool = refl
 
 -- tags that no constant has, each with eight bytes behind it to read from
-pub unknownTags :
-    map (λ tag. cp-info (tag ∷ 0 ∷ 1 ∷ 0 ∷ 1 ∷ 0 ∷ 1 ∷ 0 ∷ 1 ∷ [])) (0 ∷ 2 ∷ 13 ∷ 14 ∷ 21 ∷ 255 ∷ []) ≡ replicate 6 none
-unfolding u1 u2 u4 array structures structure cp-info takes_two slots constant-pool wholly read-pool
-unknownTags = refl
+pub unknown_tags :
+    map (λ tag. cp_info_lem (tag ∷ 0 ∷ 1 ∷ 0 ∷ 1 ∷ 0 ∷ 1 ∷ 0 ∷ 1 ∷ [])) (0 ∷ 2 ∷ 13 ∷ 14 ∷ 21 ∷ 255 ∷ []) ≡ replicate 6 none
+unfolding u1 u2 u4 array structures structure cp_info_lem takes_two slots constant_pool wholly read_pool_lem
+unknown_tags = refl
 
 -- bootstrap methods with none, one and two arguments
 abbrev rows : List ℕ
 rows = 0 ∷ 9 ∷ 0 ∷ 0 ∷ 1 ∷ 2 ∷ 0 ∷ 1 ∷ 3 ∷ 4 ∷ 0 ∷ 5 ∷ 0 ∷ 2 ∷ 0 ∷ 6 ∷ 7 ∷ 8 ∷ []
 
-pub bootstrapMethods :
-    read-bootstrap-methods 3 rows
-    ≡ some (record { bootstrap-method-ref = 9; bootstrap-arguments = [] }
-    ∷ record { bootstrap-method-ref = 0x102; bootstrap-arguments = 0x304 ∷ [] }
-    ∷ record { bootstrap-method-ref = 5; bootstrap-arguments = 6 ∷ 0x708 ∷ [] }
+pub bootstrap_methods :
+    read_bootstrap_methods 3 rows
+    ≡ some (record { bootstrap_method_ref = 9; bootstrap_arguments = [] }
+    ∷ record { bootstrap_method_ref = 0x102; bootstrap_arguments = 0x304 ∷ [] }
+    ∷ record { bootstrap_method_ref = 5; bootstrap_arguments = 6 ∷ 0x708 ∷ [] }
     ∷ [])
-unfolding u1 u2 array wholly bootstrap-method read-bootstrap-methods
-bootstrapMethods = refl
+unfolding u1 u2 array wholly bootstrap_method read_bootstrap_methods
+bootstrap_methods = refl
 
 -- no bootstrap methods, and of those above one too few and too many, a byte left over and one cut off
-pub noBootstrapMethods :
-    (read-bootstrap-methods 0 [] ≡ some [])
-    × (map (λ n. read-bootstrap-methods n rows) (2 ∷ 4 ∷ []) ≡ replicate 2 none)
-    × (map (read-bootstrap-methods 3) ((rows ++ 0 ∷ []) ∷ cut rows ∷ []) ≡ replicate 2 none)
-unfolding u1 u2 array wholly bootstrap-method read-bootstrap-methods
-noBootstrapMethods = (refl, refl, refl)
+pub no_bootstrap_methods :
+    (read_bootstrap_methods 0 [] ≡ some [])
+    × (map (λ n. read_bootstrap_methods n rows) (2 ∷ 4 ∷ []) ≡ replicate 2 none)
+    × (map (read_bootstrap_methods 3) ((rows ++ 0 ∷ []) ∷ cut rows ∷ []) ≡ replicate 2 none)
+unfolding u1 u2 array wholly bootstrap_method read_bootstrap_methods
+no_bootstrap_methods = (refl, refl, refl)

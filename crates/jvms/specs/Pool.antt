@@ -102,8 +102,8 @@ structure tag [] = fail
 structure tag (s ∷ rest) = elim (eqb tag s.0) [ true ↦ s.1 | false ↦ structure tag rest ]
 
 -- 4.4: cp_info { u1 tag; u1 info[]; }
-unfoldable pub cp-info : Reader Constant
-cp-info = do
+unfoldable pub cp_info_lem : Reader Constant
+cp_info_lem = do
   tag ← u1
   structure tag structures
 
@@ -137,7 +137,7 @@ unfoldable pub slots : ℕ → Bool → Reader (List Slot)
 slots zero false = return []
 slots zero true = fail
 slots (suc n) false = do
-  c ← cp-info
+  c ← cp_info_lem
   rest ← slots n (takes_two c)
   return (usable c ∷ rest)
 slots (suc n) true = do
@@ -145,9 +145,9 @@ slots (suc n) true = do
   return (unusable ∷ rest)
 
 -- constant_pool is indexed from 1 to constant_pool_count - 1
-unfoldable pub constant-pool : ℕ → Reader (List Slot)
-constant-pool zero = fail
-constant-pool (suc n) = slots n false
+unfoldable pub constant_pool : ℕ → Reader (List Slot)
+constant_pool zero = fail
+constant_pool (suc n) = slots n false
 
 -- what was read, if no byte is left over
 unfoldable pub wholly : {A : Type 0} → Option (A × List ℕ) → Option A
@@ -157,21 +157,21 @@ wholly (some (a, b ∷ bytes)) = none
 
 -- 4.1: u2 constant_pool_count; cp_info constant_pool[constant_pool_count-1];
 -- what stands at the indexes from 1 on, or none where the bytes aren't a pool and nothing more
-unfoldable pub read-pool : List ℕ → Option (List Slot)
-read-pool bytes = wholly ((u2 >>= constant-pool) bytes)
+unfoldable pub read_pool_lem : List ℕ → Option (List Slot)
+read_pool_lem bytes = wholly ((u2 >>= constant_pool) bytes)
 
 -- 4.7.23: { u2 bootstrap_method_ref; u2 num_bootstrap_arguments; u2 bootstrap_arguments[num_bootstrap_arguments]; }
 pub record BootstrapMethod : Type 0 where
-  pub bootstrap-method-ref : ℕ
-  pub bootstrap-arguments : List ℕ
+  pub bootstrap_method_ref : ℕ
+  pub bootstrap_arguments : List ℕ
 
-unfoldable pub bootstrap-method : Reader BootstrapMethod
-bootstrap-method = do
-  bootstrap-method-ref ← u2
+unfoldable pub bootstrap_method : Reader BootstrapMethod
+bootstrap_method = do
+  bootstrap_method_ref ← u2
   num-bootstrap-arguments ← u2
-  bootstrap-arguments ← array num-bootstrap-arguments u2
-  return (record { bootstrap-method-ref = bootstrap-method-ref; bootstrap-arguments = bootstrap-arguments })
+  bootstrap_arguments ← array num-bootstrap-arguments u2
+  return (record { bootstrap_method_ref = bootstrap_method_ref; bootstrap_arguments = bootstrap_arguments })
 
 -- bootstrap_methods[num_bootstrap_methods], and nothing more
-unfoldable pub read-bootstrap-methods : ℕ → List ℕ → Option (List BootstrapMethod)
-read-bootstrap-methods num-bootstrap-methods bytes = wholly (array num-bootstrap-methods bootstrap-method bytes)
+unfoldable pub read_bootstrap_methods : ℕ → List ℕ → Option (List BootstrapMethod)
+read_bootstrap_methods num-bootstrap-methods bytes = wholly (array num-bootstrap-methods bootstrap_method bytes)

@@ -16,36 +16,36 @@ each_of f [] = []
 each_of f (a ∷ l) = f a ++ each_of f l
 
 -- 4.4.1 to 4.4.12: the tag, then the items
-unfoldable pub constant-bytes : Constant → List ℕ
-constant-bytes (Utf8 bytes) = 1 ∷ (bytes2 (length bytes) ++ bytes)
-constant-bytes (Integer bytes) = 3 ∷ bytes4 bytes
-constant-bytes (Float bytes) = 4 ∷ bytes4 bytes
-constant-bytes (Long high-bytes low-bytes) = 5 ∷ (bytes4 high-bytes ++ bytes4 low-bytes)
-constant-bytes (Double high-bytes low-bytes) = 6 ∷ (bytes4 high-bytes ++ bytes4 low-bytes)
-constant-bytes (Class name-index) = 7 ∷ bytes2 name-index
-constant-bytes (String string-index) = 8 ∷ bytes2 string-index
-constant-bytes (Fieldref class-index name-and-type-index) = 9 ∷ (bytes2 class-index ++ bytes2 name-and-type-index)
-constant-bytes (Methodref class-index name-and-type-index) = 10 ∷ (bytes2 class-index ++ bytes2 name-and-type-index)
-constant-bytes (InterfaceMethodref class-index name-and-type-index) = 11 ∷ (bytes2 class-index ++ bytes2 name-and-type-index)
-constant-bytes (NameAndType name-index descriptor-index) = 12 ∷ (bytes2 name-index ++ bytes2 descriptor-index)
-constant-bytes (MethodHandle reference-kind reference-index) = 15 ∷ reference-kind ∷ bytes2 reference-index
-constant-bytes (MethodType descriptor-index) = 16 ∷ bytes2 descriptor-index
-constant-bytes (Dynamic bootstrap-method-attr-index name-and-type-index) = 17 ∷ (bytes2 bootstrap-method-attr-index ++ bytes2 name-and-type-index)
-constant-bytes (InvokeDynamic bootstrap-method-attr-index name-and-type-index) = 18 ∷ (bytes2 bootstrap-method-attr-index ++ bytes2 name-and-type-index)
-constant-bytes (Module name-index) = 19 ∷ bytes2 name-index
-constant-bytes (Package name-index) = 20 ∷ bytes2 name-index
+unfoldable pub constant_bytes : Constant → List ℕ
+constant_bytes (Utf8 bytes) = 1 ∷ (bytes2 (length bytes) ++ bytes)
+constant_bytes (Integer bytes) = 3 ∷ bytes4 bytes
+constant_bytes (Float bytes) = 4 ∷ bytes4 bytes
+constant_bytes (Long high-bytes low-bytes) = 5 ∷ (bytes4 high-bytes ++ bytes4 low-bytes)
+constant_bytes (Double high-bytes low-bytes) = 6 ∷ (bytes4 high-bytes ++ bytes4 low-bytes)
+constant_bytes (Class name-index) = 7 ∷ bytes2 name-index
+constant_bytes (String string-index) = 8 ∷ bytes2 string-index
+constant_bytes (Fieldref class-index name-and-type-index) = 9 ∷ (bytes2 class-index ++ bytes2 name-and-type-index)
+constant_bytes (Methodref class-index name-and-type-index) = 10 ∷ (bytes2 class-index ++ bytes2 name-and-type-index)
+constant_bytes (InterfaceMethodref class-index name-and-type-index) = 11 ∷ (bytes2 class-index ++ bytes2 name-and-type-index)
+constant_bytes (NameAndType name-index descriptor-index) = 12 ∷ (bytes2 name-index ++ bytes2 descriptor-index)
+constant_bytes (MethodHandle reference-kind reference-index) = 15 ∷ reference-kind ∷ bytes2 reference-index
+constant_bytes (MethodType descriptor-index) = 16 ∷ bytes2 descriptor-index
+constant_bytes (Dynamic bootstrap-method-attr-index name-and-type-index) = 17 ∷ (bytes2 bootstrap-method-attr-index ++ bytes2 name-and-type-index)
+constant_bytes (InvokeDynamic bootstrap-method-attr-index name-and-type-index) = 18 ∷ (bytes2 bootstrap-method-attr-index ++ bytes2 name-and-type-index)
+constant_bytes (Module name-index) = 19 ∷ bytes2 name-index
+constant_bytes (Package name-index) = 20 ∷ bytes2 name-index
 
 -- an unusable index has no bytes
-unfoldable pub slot-bytes : Slot → List ℕ
-slot-bytes (usable c) = constant-bytes c
-slot-bytes unusable = []
+unfoldable pub slot_bytes_lem : Slot → List ℕ
+slot_bytes_lem (usable c) = constant_bytes c
+slot_bytes_lem unusable = []
 
 -- the count is one more than the indexes (4.1)
-unfoldable pub pool-bytes : List Slot → List ℕ
-pool-bytes s = bytes2 (suc (length s)) ++ each_of slot-bytes s
+unfoldable pub pool_bytes : List Slot → List ℕ
+pool_bytes s = bytes2 (suc (length s)) ++ each_of slot_bytes_lem s
 
-unfoldable pub bootstrap-method-bytes : BootstrapMethod → List ℕ
-bootstrap-method-bytes m = bytes2 m.bootstrap-method-ref ++ bytes2 (length m.bootstrap-arguments) ++ each_of bytes2 m.bootstrap-arguments
+unfoldable pub bootstrap_method_bytes : BootstrapMethod → List ℕ
+bootstrap_method_bytes m = bytes2 m.bootstrap_method_ref ++ bytes2 (length m.bootstrap_arguments) ++ each_of bytes2 m.bootstrap_arguments
 
 -- numbers that one, two and four bytes hold
 abbrev pub Is1 : ℕ → Type 0
@@ -96,4 +96,4 @@ abbrev pub IsPool : List Slot → Type 0
 IsPool s = Is2 (suc (length s)) × InOrder false s
 
 abbrev pub IsBootstrapMethod : BootstrapMethod → Type 0
-IsBootstrapMethod m = Is2 m.bootstrap-method-ref × Is2 (length m.bootstrap-arguments) × All Is2 m.bootstrap-arguments
+IsBootstrapMethod m = Is2 m.bootstrap_method_ref × Is2 (length m.bootstrap_arguments) × All Is2 m.bootstrap_arguments

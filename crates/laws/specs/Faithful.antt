@@ -3,20 +3,20 @@
 use Rattle.std.specs.Prelude.{List, [], ◌∷◌, map, ◌⊎◌, ◌≡◌, ℕ, suc, ◌+◌, ◌<◌, length}
 use Rattle.std.proofs.Math.Option.{some}
 use Rattle.std.proofs.Math.ListN.{get_elem?}
-use Rattle.definition.specs.Shapes.{Entry, withKids}
-use Rattle.definition.specs.Resolving.{Goal, rawNumber, tableEntry, refusal, Mark, fresh, underway, done, Resolved, Item, enter, leave, childOf}
+use Rattle.definition.specs.Shapes.{Entry, with_kids}
+use Rattle.definition.specs.Resolving.{Goal, raw_number, table_entry, refusal, Mark, fresh, underway, done, Resolved, Item, enter, leave, child_of}
 use Rattle.facts.specs.Lists.{Among}
 
 -- a goal is settled: a raw number, or an entry that has become a node
 abbrev pub Settled : List Mark → Goal → Type 0
-Settled marks (rawNumber n) = Unit {0}
-Settled marks (tableEntry e) = (k : ℕ) × (get_elem? marks e ≡ some (done k))
+Settled marks (raw_number n) = Unit {0}
+Settled marks (table_entry e) = (k : ℕ) × (get_elem? marks e ≡ some (done k))
 Settled marks (refusal code) = ⊥
 
 -- a goal cites an entry of a table of this size, if it cites one
 abbrev pub InTable : ℕ → Goal → Type 0
-InTable size (rawNumber n) = Unit {0}
-InTable size (tableEntry e) = e < size
+InTable size (raw_number n) = Unit {0}
+InTable size (table_entry e) = e < size
 InTable size (refusal code) = Unit {0}
 
 -- every child of every entry does
@@ -28,23 +28,23 @@ abbrev pub IsNode : List (Entry ℕ Goal) → Resolved → ℕ → ℕ → Type 
 IsNode table s e k =
     (x : Entry ℕ Goal)
     × (get_elem? table e ≡ some x)
-    × (get_elem? s.nodes k ≡ some (withKids (map (childOf s.marks) x.kids) x))
+    × (get_elem? s.nodes k ≡ some (with_kids (map (child_of s.marks) x.kids) x))
     × ((g : Goal) → Among g x.kids → Settled s.marks g)
 
 pub record Faithful (table : List (Entry ℕ Goal)) (s : Resolved) : Type 0 where
-  pub marksLength : length s.marks ≡ length table
+  pub marks_length : length s.marks ≡ length table
   -- an entry that became node k is it
   pub node_of : (e k : ℕ) → get_elem? s.marks e ≡ some (done k) → IsNode table s e k
   -- every node came from an entry
-  pub fromEntry : (k : ℕ) → k < length s.nodes → (e : ℕ) × (get_elem? s.marks e ≡ some (done k))
+  pub from_entry : (k : ℕ) → k < length s.nodes → (e : ℕ) × (get_elem? s.marks e ≡ some (done k))
   -- nothing is left half done
-  pub noneUnderway : (e : ℕ) → get_elem? s.marks e ≡ some underway → ⊥
+  pub none_underway : (e : ℕ) → get_elem? s.marks e ≡ some underway → ⊥
 
 -- while work is under way: what holds of the marks and nodes
 pub record Partial (table : List (Entry ℕ Goal)) (s : Resolved) : Type 0 where
-  pub marksLength : length s.marks ≡ length table
+  pub marks_length : length s.marks ≡ length table
   pub node_of : (e k : ℕ) → get_elem? s.marks e ≡ some (done k) → IsNode table s e k
-  pub fromEntry : (k : ℕ) → k < length s.nodes → (e : ℕ) × (get_elem? s.marks e ≡ some (done k))
+  pub from_entry : (k : ℕ) → k < length s.nodes → (e : ℕ) × (get_elem? s.marks e ≡ some (done k))
 
 -- an entry is still being resolved
 abbrev pub Underway : List Mark → ℕ → Type 0
@@ -58,7 +58,7 @@ Stacked table goal U P (enter g ∷ rest) = InTable (length table) g × Stacked 
 Stacked table goal U P (leave e ∷ rest) =
     U e
     × ((x : Entry ℕ Goal) → get_elem? table e ≡ some x → (g : Goal) → Among g x.kids → P g)
-    × Stacked table goal (λ d. U d × (d ≡ e → ⊥)) (λ h. P h ⊎ (h ≡ tableEntry e)) rest
+    × Stacked table goal (λ d. U d × (d ≡ e → ⊥)) (λ h. P h ⊎ (h ≡ table_entry e)) rest
 
 -- the stack with these marks
 abbrev pub Now : List (Entry ℕ Goal) → Goal → Resolved → List Item → Type 0

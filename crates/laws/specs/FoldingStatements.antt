@@ -22,10 +22,10 @@ signed false n = pos n
 signed true n = neg_ℤ (pos n)
 
 -- the fraction z / c, rounded to nearest with ties to even; a zero's sign is given
-unfoldable pub roundedOnce : Format → Bool → ℤ → ℕ → Float
-roundedOnce f sign (pos zero) c = round f sign zero c
-roundedOnce f sign (pos (suc n)) c = round f false (suc n) c
-roundedOnce f sign (negsuc n) c = round f true (suc n) c
+unfoldable pub rounded_once : Format → Bool → ℤ → ℕ → Float
+rounded_once f sign (pos zero) c = round f sign zero c
+rounded_once f sign (pos (suc n)) c = round f false (suc n) c
+rounded_once f sign (negsuc n) c = round f true (suc n) c
 
 -- ONE ROUNDING: what the signs make of ±m * 2 ^ e and ±n * 2 ^ d, where 2 ^ e is up e / down e, is worked out exactly, as an integer over
 -- a natural number, and rounded once; a quotient's divisor isn't 0
@@ -36,10 +36,10 @@ OneRounding =
     let y = fin t n d in
     let a = m * up e * down d in
     let b = n * up d * down e in
-    (operation plus f x y ≡ roundedOnce f (s && t) (signed s a +ℤ signed t b) (down e * down d))
-    × (operation minus f x y ≡ roundedOnce f (s && not t) (signed s a -ℤ signed t b) (down e * down d))
-    × (operation times f x y ≡ roundedOnce f (unlike s t) (signed s (m * up e) *ℤ signed t (n * up d)) (down e * down d))
-    × ((n ≡ 0 → ⊥) → operation over f x y ≡ roundedOnce f (unlike s t) (signed (unlike s t) a) b)
+    (operation plus f x y ≡ rounded_once f (s && t) (signed s a +ℤ signed t b) (down e * down d))
+    × (operation minus f x y ≡ rounded_once f (s && not t) (signed s a -ℤ signed t b) (down e * down d))
+    × (operation times f x y ≡ rounded_once f (unlike s t) (signed s (m * up e) *ℤ signed t (n * up d)) (down e * down d))
+    × ((n ≡ 0 → ⊥) → operation over f x y ≡ rounded_once f (unlike s t) (signed (unlike s t) a) b)
 
 -- ONE NAN: a NaN that is computed has one pattern
 abbrev pub OneNan : Type 0

@@ -10,8 +10,8 @@ use Rattle.definition.specs.Numbering.{literals}
 use Rattle.definition.specs.Layout.{Layout}
 use Rattle.definition.specs.Run.{Built, render, Lent, run}
 use Rattle.definition.specs.Jvms.{Shown}
-use Rattle.jvms.specs.Pool.{Slot, read-pool}
-use Rattle.laws.specs.AsEntries.{asShown}
+use Rattle.jvms.specs.Pool.{Slot, read_pool_lem}
+use Rattle.laws.specs.AsEntries.{as_shown}
 use Rattle.laws.specs.Statements.{IsBytes, Alike}
 
 -- what two constants of a tag show for a literal: each its own job's, from one place of the two lists of literals (which have one for
@@ -31,8 +31,8 @@ SlotsAlike j₁ j₂ (some y₁) (some y₂) =
 -- so do two pools, slot by slot, as JVMS reads them
 abbrev pub PoolsAlike : Job (List ℕ) → Job (List ℕ) → List ℕ → List ℕ → Type 0
 PoolsAlike j₁ j₂ bytes₁ bytes₂ =
-    (pool₁ : List Slot) × (pool₂ : List Slot) × (read-pool bytes₁ ≡ some pool₁) × (read-pool bytes₂ ≡ some pool₂) × (length pool₁ ≡ length pool₂)
-    × ((i : ℕ) (s₁ s₂ : Slot) → get_elem? pool₁ i ≡ some s₁ → get_elem? pool₂ i ≡ some s₂ → SlotsAlike j₁ j₂ (asShown s₁) (asShown s₂))
+    (pool₁ : List Slot) × (pool₂ : List Slot) × (read_pool_lem bytes₁ ≡ some pool₁) × (read_pool_lem bytes₂ ≡ some pool₂) × (length pool₁ ≡ length pool₂)
+    × ((i : ℕ) (s₁ s₂ : Slot) → get_elem? pool₁ i ≡ some s₁ → get_elem? pool₂ i ≡ some s₂ → SlotsAlike j₁ j₂ (as_shown s₁) (as_shown s₂))
 
 -- and two class names: there is none in both, or each is its own job's text
 unfoldable pub ClassesAlike : Job (List ℕ) → Job (List ℕ) → Option (List ℕ) → Option (List ℕ) → Type 0
@@ -53,5 +53,5 @@ Shape =
     ⊎ ((l : Layout) × (b₁ : Built) × (b₂ : Built) × (run lent₁ bytes₁ ≡ good b₁) × (run lent₂ bytes₂ ≡ good b₂)
     × (b₁ ≡ render (literals j₁) l) × (b₂ ≡ render (literals j₂) l) × (b₁.answers ≡ b₂.answers) × (b₁.marks ≡ b₂.marks)
     × (take 2 b₁.pool ≡ take 2 b₂.pool)
-    × (b₁.bootstrapCount ≡ b₂.bootstrapCount) × (b₁.bootstraps ≡ b₂.bootstraps) × (b₁.name ≡ b₂.name) × (b₁.visits ≡ b₂.visits)
+    × (b₁.bootstrap_count ≡ b₂.bootstrap_count) × (b₁.bootstraps ≡ b₂.bootstraps) × (b₁.name ≡ b₂.name) × (b₁.visits ≡ b₂.visits)
     × (IsBytes bytes₁ → IsBytes bytes₂ → PoolsAlike j₁ j₂ b₁.pool b₂.pool × ClassesAlike j₁ j₂ b₁.class b₂.class))

@@ -9,36 +9,36 @@ use borrow.Author.Tests.{eq-eqb, ne_eqb}
 use Rattle.definition.specs.Basics.{lookup}
 use Rattle.definition.specs.Ascii.{ascii, decimal}
 use Rattle.facts.proofs.Lists.{none≢some, some_inj, read_found, place_out}
-use Rattle.jvms.specs.Pool.{Reader, return, and_then, ◌>>=◌, array, wholly, read-bootstrap-methods, Slot, usable, unusable, BootstrapMethod, bootstrap-method}
+use Rattle.jvms.specs.Pool.{Reader, return, and_then, ◌>>=◌, array, wholly, read_bootstrap_methods, Slot, usable, unusable, BootstrapMethod, bootstrap_method}
 use Rattle.writer.specs.Numbers.{number2}
 use Rattle.places.specs.Standing.{tag, slot_of}
 use Rattle.places.proofs.Finding.{MethodStands}
-use Rattle.places.proofs.Found.{constant-stands, at_place, no_place, method-stands}
-use Rattle.listing.specs.Listing.{Opening, slot, method, Finished, kinds, orDecimal, kind, held, named, within, applied, arguments, atSlot, atMethod, bracketed, opened}
+use Rattle.places.proofs.Found.{constant_stands, at_place, no_place, method_stands}
+use Rattle.listing.specs.Listing.{Opening, slot, method, Finished, kinds, or_decimal, kind, held, named, within, applied, arguments, at_slot, at_method, bracketed, opened}
 use Rattle.listing.specs.Views.{finished, Views}
-use Rattle.listing.specs.Opening.{held_at, numbersAt, argumentsAt}
-use Rattle.listing.proofs.Arguments.{as-numbers}
+use Rattle.listing.specs.Opening.{held_at, numbers_at, arguments_at}
+use Rattle.listing.proofs.Arguments.{as_numbers}
 
 -- with no level left, and with one
 pub closed : (f : Finished) (levels n : ℕ) → levels ≡ 0 → (bracketed n ≡ opened f levels (slot n)) × (bracketed n ≡ opened f levels (method n))
 unfolding opened
 closed f levels n none' = (sym (ap (λ l. opened f l (slot n)) none'), sym (ap (λ l. opened f l (method n)) none'))
 
-open-slot :
-    (f : Finished) (levels n : ℕ) → (levels ≡ 0 → ⊥) → atSlot (opened f (levels - 1)) n (slot_of f.slots n) ≡ opened f levels (slot n)
+open_slot :
+    (f : Finished) (levels n : ℕ) → (levels ≡ 0 → ⊥) → at_slot (opened f (levels - 1)) n (slot_of f.slots n) ≡ opened f levels (slot n)
 unfolding opened
-open-slot f zero n some' = absurd (some' refl)
-open-slot f (suc left) n some' =
+open_slot f zero n some' = absurd (some' refl)
+open_slot f (suc left) n some' =
     let one_less : suc left - 1 ≡ left = omega arith in
-    ap (λ l. atSlot (opened f l) n (slot_of f.slots n)) one_less
+    ap (λ l. at_slot (opened f l) n (slot_of f.slots n)) one_less
 
-open-method :
-    (f : Finished) (levels n : ℕ) → (levels ≡ 0 → ⊥) → atMethod (opened f (levels - 1)) n (get_elem? f.methods n) ≡ opened f levels (method n)
+open_method :
+    (f : Finished) (levels n : ℕ) → (levels ≡ 0 → ⊥) → at_method (opened f (levels - 1)) n (get_elem? f.methods n) ≡ opened f levels (method n)
 unfolding opened
-open-method f zero n some' = absurd (some' refl)
-open-method f (suc left) n some' =
+open_method f zero n some' = absurd (some' refl)
+open_method f (suc left) n some' =
     let one_less : suc left - 1 ≡ left = omega arith in
-    ap (λ l. atMethod (opened f l) n (get_elem? f.methods n)) one_less
+    ap (λ l. at_method (opened f l) n (get_elem? f.methods n)) one_less
 
 -- as many are read as the count says
 abbrev Sizes : {A : Type 0} → ℕ → Option (List A × List ℕ) → Type 0
@@ -59,9 +59,9 @@ array_size {A} (suc n) item bytes l rest e = one (λ b. array_size n item b) (it
     one sizes none e = none≢some e
     one sizes (some r) e = others r.0 (array n item r.1) (sizes r.1) e
 
-methods-size : (count : ℕ) (bytes : List ℕ) (l : List BootstrapMethod) → read-bootstrap-methods count bytes ≡ some l → length l ≡ count
-unfolding read-bootstrap-methods wholly
-methods-size count bytes l e = go (array count bootstrap-method bytes) (array_size count bootstrap-method bytes) e
+methods_size : (count : ℕ) (bytes : List ℕ) (l : List BootstrapMethod) → read_bootstrap_methods count bytes ≡ some l → length l ≡ count
+unfolding read_bootstrap_methods wholly
+methods_size count bytes l e = go (array count bootstrap_method bytes) (array_size count bootstrap_method bytes) e
   where
     go : (o : Option (List BootstrapMethod × List ℕ)) → Sizes count o → wholly o ≡ some l → length l ≡ count
     go none sizes e = none≢some e
@@ -71,13 +71,13 @@ methods-size count bytes l e = go (array count bootstrap-method bytes) (array_si
 -- a bootstrap method's text, by its bytes
 applied-at :
     (show : Opening) (s : List ℕ) (p e : ℕ) (m : BootstrapMethod) → MethodStands s p m e
-    → (show (slot (number2 s p)) ++ ascii " (" ++ argumentsAt show s p ++ ascii ")" ≡ applied show m)
+    → (show (slot (number2 s p)) ++ ascii " (" ++ arguments_at show s p ++ ascii ")" ≡ applied show m)
     × (p + 4 + 2 * number2 s (p + 2) ≤ length s)
-unfolding applied argumentsAt
+unfolding applied arguments_at
 applied-at show s p e m is =
-    let l = m.bootstrap-arguments in
-    let all : numbersAt s (p + 4) (number2 s (p + 2)) ≡ l =
-    sym (as-numbers l s (p + 4) is.argument ∙ ap (numbersAt s (p + 4)) is.count) in
+    let l = m.bootstrap_arguments in
+    let all : numbers_at s (p + 4) (number2 s (p + 2)) ≡ l =
+    sym (as_numbers l s (p + 4) is.argument ∙ ap (numbers_at s (p + 4)) is.count) in
     (λ i. show (slot (sym is.handle i)) ++ ascii " (" ++ arguments show (all i) ++ ascii ")", omega (arith, is.count, is.room))
 
 -- the tag of a constant that begins at a slot is there
@@ -86,73 +86,73 @@ pub slot-inside :
     → get_or places n 0 < length pool
 slot-inside {pool} {places} v n any =
     let (c, stands, there) = at_place v.noted n any in
-    (constant-stands pool (get_or places n 0) c there).inside
+    (constant_stands pool (get_or places n 0) c there).inside
 
 module _ {pool places methods table : List ℕ} {count : ℕ} (v : Views pool places count methods table) (levels n : ℕ) (some' : levels ≡ 0 → ⊥) where
   -- no constant begins at a slot
-  pub bare-slot : get_or places n 0 ≡ 0 → decimal n ≡ opened (finished pool count methods) levels (slot n)
-  unfolding atSlot
-  bare-slot none' = go (slot_of (finished pool count methods).slots n) refl ∙ open-slot (finished pool count methods) levels n some'
+  pub bare_slot : get_or places n 0 ≡ 0 → decimal n ≡ opened (finished pool count methods) levels (slot n)
+  unfolding at_slot
+  bare_slot none' = go (slot_of (finished pool count methods).slots n) refl ∙ open_slot (finished pool count methods) levels n some'
     where
       go :
           (o : Option Slot) → slot_of (finished pool count methods).slots n ≡ o
-          → decimal n ≡ atSlot (opened (finished pool count methods) (levels - 1)) n (slot_of (finished pool count methods).slots n)
-      go none e = sym (ap (atSlot _ n) e)
+          → decimal n ≡ at_slot (opened (finished pool count methods) (levels - 1)) n (slot_of (finished pool count methods).slots n)
+      go none e = sym (ap (at_slot _ n) e)
       go (some (usable c)) e = absurd (no_place v.noted n none' c e)
-      go (some unusable) e = sym (ap (atSlot _ n) e)
+      go (some unusable) e = sym (ap (at_slot _ n) e)
 
   -- a text's, and any other constant's
-  pub text-slot :
+  pub text_slot :
       0 < get_or places n 0 → get_or pool (get_or places n 0) 0 ≡ 1
       → held_at (opened (finished pool count methods) (levels - 1)) (slot_of (finished pool count methods).slots n)
       ≡ opened (finished pool count methods) levels (slot n)
-  unfolding held_at atSlot within
-  text-slot any is =
+  unfolding held_at at_slot within
+  text_slot any is =
       let show = opened (finished pool count methods) (levels - 1) in
       let (c, stands, there) = at_place v.noted n any in
-      let first = (constant-stands pool (get_or places n 0) c there).first in
+      let first = (constant_stands pool (get_or places n 0) c there).first in
       let text : held show c ≡ within show c = rw (eq-eqb (tag c) 1 (sym first ∙ is), within) refl in
-      ap (held_at show) stands ∙ text ∙ sym (ap (atSlot show n) stands) ∙ open-slot (finished pool count methods) levels n some'
+      ap (held_at show) stands ∙ text ∙ sym (ap (at_slot show n) stands) ∙ open_slot (finished pool count methods) levels n some'
 
   pub named-slot :
       0 < get_or places n 0 → (get_or pool (get_or places n 0) 0 ≡ 1 → ⊥)
-      → orDecimal (get_or pool (get_or places n 0) 0) (lookup (get_or pool (get_or places n 0) 0) kinds)
+      → or_decimal (get_or pool (get_or places n 0) 0) (lookup (get_or pool (get_or places n 0) 0) kinds)
       ++ 0x20 ∷ held_at (opened (finished pool count methods) (levels - 1)) (slot_of (finished pool count methods).slots n)
       ≡ opened (finished pool count methods) levels (slot n)
-  unfolding held_at atSlot within named kind
+  unfolding held_at at_slot within named kind
   named-slot any other =
       let show = opened (finished pool count methods) (levels - 1) in
       let (c, stands, there) = at_place v.noted n any in
-      let first = (constant-stands pool (get_or places n 0) c there).first in
+      let first = (constant_stands pool (get_or places n 0) c there).first in
       let text : named show c ≡ within show c = rw (ne_eqb (tag c) 1 (λ is. other (first ∙ is)), within) refl in
-      (λ i. orDecimal (first i) (lookup (first i) kinds) ++ 0x20 ∷ held_at show (stands i))
+      (λ i. or_decimal (first i) (lookup (first i) kinds) ++ 0x20 ∷ held_at show (stands i))
       ∙ text
-      ∙ sym (ap (atSlot show n) stands)
-      ∙ open-slot (finished pool count methods) levels n some'
+      ∙ sym (ap (at_slot show n) stands)
+      ∙ open_slot (finished pool count methods) levels n some'
 
   -- no bootstrap method has an index
-  pub bare-method : count ≤ n → decimal n ≡ opened (finished pool count methods) levels (method n)
-  unfolding atMethod
-  bare-method none' =
+  pub bare_method : count ≤ n → decimal n ≡ opened (finished pool count methods) levels (method n)
+  unfolding at_method
+  bare_method none' =
       let f = finished pool count methods in
-      let past = place_out f.methods n (omega (arith, methods-size count methods f.methods v.methods-read)) in
-      sym (ap (atMethod (opened f (levels - 1)) n) past) ∙ open-method f levels n some'
+      let past = place_out f.methods n (omega (arith, methods_size count methods f.methods v.methods_read)) in
+      sym (ap (at_method (opened f (levels - 1)) n) past) ∙ open_method f levels n some'
 
   -- one has, and begins at its place
   pub open_at :
       n < count
       → (opened (finished pool count methods) (levels - 1) (slot (number2 methods (get_or table n 0)))
       ++ ascii " ("
-      ++ argumentsAt (opened (finished pool count methods) (levels - 1)) methods (get_or table n 0)
+      ++ arguments_at (opened (finished pool count methods) (levels - 1)) methods (get_or table n 0)
       ++ ascii ")"
       ≡ opened (finished pool count methods) levels (method n))
       × (get_or table n 0 + 4 + 2 * number2 methods (get_or table n 0 + 2) ≤ length methods)
-  unfolding atMethod
+  unfolding at_method
   open_at inside =
       let f = finished pool count methods in
       let show = opened f (levels - 1) in
       let p = get_or table n 0 in
-      let m = get_or f.methods n (record { bootstrap-method-ref = 0; bootstrap-arguments = [] }) in
-      let found = read_found f.methods n (record { bootstrap-method-ref = 0; bootstrap-arguments = [] }) (omega (arith, methods-size count methods f.methods v.methods-read)) in
-      let (text, room) = applied-at show methods p _ m (method-stands methods p m (v.methods-noted.begins n m found)) in
-      (text ∙ sym (ap (atMethod show n) found) ∙ open-method f levels n some', room)
+      let m = get_or f.methods n (record { bootstrap_method_ref = 0; bootstrap_arguments = [] }) in
+      let found = read_found f.methods n (record { bootstrap_method_ref = 0; bootstrap_arguments = [] }) (omega (arith, methods_size count methods f.methods v.methods_read)) in
+      let (text, room) = applied-at show methods p _ m (method_stands methods p m (v.methods_noted.begins n m found)) in
+      (text ∙ sym (ap (at_method show n) found) ∙ open_method f levels n some', room)

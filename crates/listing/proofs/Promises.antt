@@ -11,15 +11,15 @@ use lib.ListN.{length, take, drop, length-append, length-drop}
 use lib.Seq.{take-append_seam, drop-append_seam}
 use borrow.Author.Tests.{leb-true}
 use Rattle.definition.specs.Basics.{Result, good, bad}
-use Rattle.facts.proofs.Results.{bad≢good, good-inj, bad-inj}
-use Rattle.jvms.specs.Pool.{Slot, BootstrapMethod, read-pool, read-bootstrap-methods}
+use Rattle.facts.proofs.Results.{bad≢good, good_inj, bad_inj}
+use Rattle.jvms.specs.Pool.{Slot, BootstrapMethod, read_pool_lem, read_bootstrap_methods}
 use Rattle.listing.specs.Listing.{Finished, lines, fitting, listed, listing}
 use Rattle.listing.specs.Lists.{Answers, Lists}
 use Rattle.listing.specs.declared.Listed.{Listed}
 use Rattle.listing.specs.declared.Listed.TheVariants.{Text, Refused}
-use Rattle.listing.specs.Promises.{lineEnds, entries, LineForEach, PrefixOnly, Untouched, Unread, ReadAlike}
+use Rattle.listing.specs.Promises.{line_ends, entries, LineForEach, PrefixOnly, Untouched, Unread, ReadAlike}
 use Rattle.listing.proofs.Answered.{unread}
-use Rattle.listing.proofs.OneLine.{line-for-each}
+use Rattle.listing.proofs.OneLine.{line-for_each}
 
 -- ---- what an answer tells
 
@@ -29,15 +29,15 @@ record Listing (res : Result ℕ (List ℕ)) (before after : List ℕ) (n : ℕ)
   size : n ≡ length text
   out : after ≡ text ++ drop (length text) before
 
-text-answer : (res : Result ℕ (List ℕ)) (before after : List ℕ) (n : ℕ) → Answers res before after (Text n) → Listing res before after n
+text_answer : (res : Result ℕ (List ℕ)) (before after : List ℕ) (n : ℕ) → Answers res before after (Text n) → Listing res before after n
 unfolding Answers
-text-answer (bad code) before after n (e, _) = let z : ◌≡◌ {A = ℕ} 0 1 = cc in absurd (omega arith)
-text-answer (good text) before after n (e, out) = record { text = text; is = refl; size = cc; out = out }
+text_answer (bad code) before after n (e, _) = let z : ◌≡◌ {A = ℕ} 0 1 = cc in absurd (omega arith)
+text_answer (good text) before after n (e, out) = record { text = text; is = refl; size = cc; out = out }
 
-refused-answer : (res : Result ℕ (List ℕ)) (before after : List ℕ) (code : ℕ) → Answers res before after (Refused code) → (res ≡ bad code) × (after ≡ before)
+refused_answer : (res : Result ℕ (List ℕ)) (before after : List ℕ) (code : ℕ) → Answers res before after (Refused code) → (res ≡ bad code) × (after ≡ before)
 unfolding Answers
-refused-answer (bad code') before after code (e, same) = (ap bad cc, same)
-refused-answer (good text) before after code (e, _) = let z : ◌≡◌ {A = ℕ} 0 1 = cc in absurd (omega arith)
+refused_answer (bad code') before after code (e, same) = (ap bad cc, same)
+refused_answer (good text) before after code (e, _) = let z : ◌≡◌ {A = ℕ} 0 1 = cc in absurd (omega arith)
 
 -- ---- what a listing tells of what was read
 
@@ -48,7 +48,7 @@ fitting-good room lines' text e = ways (leb (length lines') room) refl e
     ways :
         (b : Bool) → leb (length lines') room ≡ b → ◌≡◌ {A = Result ℕ (List ℕ)} (elim b [ true ↦ good lines' | false ↦ bad 18 ]) (good text) →
         (lines' ≡ text) × (length lines' ≤ room)
-    ways true t h = (good-inj h, leb-true (length lines') room t)
+    ways true t h = (good_inj h, leb-true (length lines') room t)
     ways false t h = bad≢good h
 
 fitting-bad : (room : ℕ) (text : List ℕ) (code : ℕ) → fitting room text ≡ bad code → code ≡ 18
@@ -57,42 +57,42 @@ fitting-bad room text code e = ways (leb (length text) room) e
   where
     ways : (b : Bool) → ◌≡◌ {A = Result ℕ (List ℕ)} (elim b [ true ↦ good text | false ↦ bad 18 ]) (bad code) → code ≡ 18
     ways true h = bad≢good (sym h)
-    ways false h = sym (bad-inj h)
+    ways false h = sym (bad_inj h)
 
 listed-good :
     (room : ℕ) (pool : Option (List Slot)) (methods : Option (List BootstrapMethod)) (text : List ℕ) → listed room pool methods ≡ good text →
-    (slots : List Slot) × (pool ≡ some slots) × (lineEnds text ≡ entries slots) × (length text ≤ room)
+    (slots : List Slot) × (pool ≡ some slots) × (line_ends text ≡ entries slots) × (length text ≤ room)
 unfolding listed
 listed-good room none methods text e = bad≢good e
 listed-good room (some slots) none text e = bad≢good e
 listed-good room (some slots) (some methods) text e =
     let f : Finished = record { slots = slots; methods = methods } in
     let (same, low) = fitting-good room (lines f) text e in
-    (slots, refl, ap lineEnds (sym same) ∙ line-for-each f, rw same at low)
+    (slots, refl, ap line_ends (sym same) ∙ line-for_each f, rw same at low)
 
 listed-bad :
     (room : ℕ) (pool : Option (List Slot)) (methods : Option (List BootstrapMethod)) (code : ℕ) → listed room pool methods ≡ bad code →
     ((code ≡ 21) × ((pool ≡ none) ⊎ (methods ≡ none))) ⊎ (code ≡ 18)
 unfolding listed
-listed-bad room none methods code e = inl (sym (bad-inj e), inl refl)
-listed-bad room (some slots) none code e = inl (sym (bad-inj e), inr refl)
+listed-bad room none methods code e = inl (sym (bad_inj e), inl refl)
+listed-bad room (some slots) none code e = inl (sym (bad_inj e), inr refl)
 listed-bad room (some slots) (some methods) code e = inr (fitting-bad room (lines (record { slots = slots; methods = methods })) code e)
 
 -- ---- the promises
 
-pub lineForEach : LineForEach
+pub line_for_each : LineForEach
 unfolding Lists listing
-lineForEach pool count methods before after n h =
-    let a = text-answer (listing (length before) pool count methods) before after n h in
-    let (slots, read, many, low) = listed-good (length before) (read-pool pool) (read-bootstrap-methods count methods) a.text a.is in
+line_for_each pool count methods before after n h =
+    let a = text_answer (listing (length before) pool count methods) before after n h in
+    let (slots, read, many, low) = listed-good (length before) (read_pool_lem pool) (read_bootstrap_methods count methods) a.text a.is in
     let front : take n after ≡ a.text = (λ i. take (a.size i) (a.out i)) ∙ take-append_seam a.text (drop (length a.text) before) in
-    (slots, read, ap lineEnds front ∙ many)
+    (slots, read, ap line_ends front ∙ many)
 
-pub prefixOnly : PrefixOnly
+pub prefix_only : PrefixOnly
 unfolding Lists listing
-prefixOnly pool count methods before after n h =
-    let a = text-answer (listing (length before) pool count methods) before after n h in
-    let (slots, read, many, low) = listed-good (length before) (read-pool pool) (read-bootstrap-methods count methods) a.text a.is in
+prefix_only pool count methods before after n h =
+    let a = text_answer (listing (length before) pool count methods) before after n h in
+    let (slots, read, many, low) = listed-good (length before) (read_pool_lem pool) (read_bootstrap_methods count methods) a.text a.is in
     let rest = drop (length a.text) before in
     let all : length (a.text ++ rest) ≡ length before = omega (arith, length-append a.text rest, length-drop (length a.text) before) in
     (omega (arith, a.size), ap length a.out ∙ all, (λ i. drop (a.size i) (a.out i)) ∙ drop-append_seam a.text rest ∙ ap (λ k. drop k before) (sym a.size))
@@ -100,20 +100,20 @@ prefixOnly pool count methods before after n h =
 pub untouched : Untouched
 unfolding Lists listing
 untouched pool count methods before after code h =
-    let (is, same) = refused-answer (listing (length before) pool count methods) before after code h in
-    (ways (listed-bad (length before) (read-pool pool) (read-bootstrap-methods count methods) code is), same)
+    let (is, same) = refused_answer (listing (length before) pool count methods) before after code h in
+    (ways (listed-bad (length before) (read_pool_lem pool) (read_bootstrap_methods count methods) code is), same)
   where
     ways : {A : Type 0} → ((code ≡ 21) × A) ⊎ (code ≡ 18) → (code ≡ 21) ⊎ (code ≡ 18)
     ways (inl p) = inl p.0
     ways (inr e) = inr e
 
-pub unreadOnly : Unread
+pub unread_only : Unread
 unfolding Lists Answers listing
-unreadOnly pool count methods before after r h = (
+unread_only pool count methods before after r h = (
   λ e.
-      let (is, same) = refused-answer res before after 21 (subst (Answers res before after) e h) in
-      ways (listed-bad (length before) (read-pool pool) (read-bootstrap-methods count methods) 21 is),
-  λ w. told (subst (λ res. Answers res before after r) (unread (length before) (read-pool pool) (read-bootstrap-methods count methods) w) h),
+      let (is, same) = refused_answer res before after 21 (subst (Answers res before after) e h) in
+      ways (listed-bad (length before) (read_pool_lem pool) (read_bootstrap_methods count methods) 21 is),
+  λ w. told (subst (λ res. Answers res before after r) (unread (length before) (read_pool_lem pool) (read_bootstrap_methods count methods) w) h),
 )
   where
     res : Result ℕ (List ℕ)
@@ -138,8 +138,8 @@ alike (good text) before before' after after' r r' (e, out) (e', out') = (
       rw (size, out, out') (take-append_seam text (drop (length text) before) ∙ sym (take-append_seam text (drop (length text) before'))),
 )
 
-pub readAlike : ReadAlike
+pub read_alike_lem : ReadAlike
 unfolding Lists listing
-readAlike pool pool' count count' methods methods' before before' after after' r r' p m room h h' =
+read_alike_lem pool pool' count count' methods methods' before before' after after' r r' p m room h h' =
     let same : listing (length before) pool count methods ≡ listing (length before') pool' count' methods' = λ i. listed (room i) (p i) (m i) in
     alike (listing (length before') pool' count' methods') before before' after after' r r' (subst (λ res. Answers res before after r) same h) h'

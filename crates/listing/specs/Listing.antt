@@ -8,12 +8,12 @@ use Rattle.std.proofs.Math.ListN.{get_elem?}
 use Rattle.definition.specs.Basics.{lookup, Result, good, bad}
 use Rattle.definition.specs.Ascii.{ascii, decimal}
 use Rattle.places.specs.Standing.{tag, slot_of}
-use Rattle.printing.specs.Numbers.{quoted, signed, hexOf, float, double}
-use Rattle.jvms.specs.Pool.{Constant, Utf8, Integer, Float, Long, Double, Class, String, Fieldref, Methodref, InterfaceMethodref, NameAndType, MethodHandle, MethodType, Dynamic, InvokeDynamic, Module, Package, Slot, usable, unusable, BootstrapMethod, read-pool, read-bootstrap-methods}
+use Rattle.printing.specs.Numbers.{quoted, signed, hex_of, float, double}
+use Rattle.jvms.specs.Pool.{Constant, Utf8, Integer, Float, Long, Double, Class, String, Fieldref, Methodref, InterfaceMethodref, NameAndType, MethodHandle, MethodType, Dynamic, InvokeDynamic, Module, Package, Slot, usable, unusable, BootstrapMethod, read_pool_lem, read_bootstrap_methods}
 
 -- JVMS table 5.4.3.5-A; any other kind byte is shown as it is
-unfoldable pub referenceKinds : List (ℕ × List ℕ)
-referenceKinds =
+unfoldable pub reference_kinds : List (ℕ × List ℕ)
+reference_kinds =
     (1, ascii "REF_getField")
     ∷ (2, ascii "REF_getStatic")
     ∷ (3, ascii "REF_putField")
@@ -25,12 +25,12 @@ referenceKinds =
     ∷ (9, ascii "REF_invokeInterface")
     ∷ []
 
-unfoldable pub orDecimal : ℕ → Option (List ℕ) → List ℕ
-orDecimal n none = decimal n
-orDecimal n (some text) = text
+unfoldable pub or_decimal : ℕ → Option (List ℕ) → List ℕ
+or_decimal n none = decimal n
+or_decimal n (some text) = text
 
-unfoldable pub referenceKind : ℕ → List ℕ
-referenceKind n = orDecimal n (lookup n referenceKinds)
+unfoldable pub reference_kind : ℕ → List ℕ
+reference_kind n = or_decimal n (lookup n reference_kinds)
 
 -- ---- a constant, where `show` opens what it refers to
 
@@ -64,7 +64,7 @@ kinds =
     ∷ []
 
 unfoldable pub kind : Constant → List ℕ
-kind c = orDecimal (tag c) (lookup (tag c) kinds)
+kind c = or_decimal (tag c) (lookup (tag c) kinds)
 
 unfoldable pub both : Opening → ℕ → List ℕ → Cited → List ℕ
 both show first between second = show (slot first) ++ between ++ show second
@@ -72,16 +72,16 @@ both show first between second = show (slot first) ++ between ++ show second
 unfoldable pub held : Opening → Constant → List ℕ
 held show (Utf8 bytes) = quoted bytes
 held show (Integer bytes) = signed 2147483648 bytes
-held show (Float bytes) = hexOf 8 bytes ++ 0x20 ∷ float bytes
+held show (Float bytes) = hex_of 8 bytes ++ 0x20 ∷ float bytes
 held show (Long high-bytes low-bytes) = signed 9223372036854775808 (4294967296 * high-bytes + low-bytes)
-held show (Double high-bytes low-bytes) = hexOf 8 high-bytes ++ hexOf 8 low-bytes ++ 0x20 ∷ double (4294967296 * high-bytes + low-bytes)
+held show (Double high-bytes low-bytes) = hex_of 8 high-bytes ++ hex_of 8 low-bytes ++ 0x20 ∷ double (4294967296 * high-bytes + low-bytes)
 held show (Class name-index) = show (slot name-index)
 held show (String string-index) = show (slot string-index)
 held show (Fieldref class-index name-and-type-index) = both show class-index (ascii " . ") (slot name-and-type-index)
 held show (Methodref class-index name-and-type-index) = both show class-index (ascii " . ") (slot name-and-type-index)
 held show (InterfaceMethodref class-index name-and-type-index) = both show class-index (ascii " . ") (slot name-and-type-index)
 held show (NameAndType name-index descriptor-index) = both show name-index (ascii " : ") (slot descriptor-index)
-held show (MethodHandle reference-kind reference-index) = referenceKind reference-kind ++ 0x20 ∷ show (slot reference-index)
+held show (MethodHandle reference-kind reference-index) = reference_kind reference-kind ++ 0x20 ∷ show (slot reference-index)
 held show (MethodType descriptor-index) = show (slot descriptor-index)
 held show (Dynamic bootstrap-method-attr-index name-and-type-index) = both show name-and-type-index (ascii " by ") (method bootstrap-method-attr-index)
 held show (InvokeDynamic bootstrap-method-attr-index name-and-type-index) = both show name-and-type-index (ascii " by ") (method bootstrap-method-attr-index)
@@ -102,7 +102,7 @@ arguments show (a ∷ []) = show (slot a)
 arguments show (a ∷ b ∷ l) = show (slot a) ++ ascii ", " ++ arguments show (b ∷ l)
 
 unfoldable pub applied : Opening → BootstrapMethod → List ℕ
-applied show m = show (slot m.bootstrap-method-ref) ++ ascii " (" ++ arguments show m.bootstrap-arguments ++ ascii ")"
+applied show m = show (slot m.bootstrap_method_ref) ++ ascii " (" ++ arguments show m.bootstrap_arguments ++ ascii ")"
 
 -- ---- opening, and the whole listing
 
@@ -112,14 +112,14 @@ pub record Finished : Type 0 where
   pub methods : List BootstrapMethod
 
 -- a number that leads nowhere is shown bare: no constant begins there, or there is no such bootstrap method
-unfoldable pub atSlot : Opening → ℕ → Option Slot → List ℕ
-atSlot show n none = decimal n
-atSlot show n (some unusable) = decimal n
-atSlot show n (some (usable c)) = within show c
+unfoldable pub at_slot : Opening → ℕ → Option Slot → List ℕ
+at_slot show n none = decimal n
+at_slot show n (some unusable) = decimal n
+at_slot show n (some (usable c)) = within show c
 
-unfoldable pub atMethod : Opening → ℕ → Option BootstrapMethod → List ℕ
-atMethod show n none = decimal n
-atMethod show n (some m) = applied show m
+unfoldable pub at_method : Opening → ℕ → Option BootstrapMethod → List ℕ
+at_method show n none = decimal n
+at_method show n (some m) = applied show m
 
 unfoldable pub bracketed : ℕ → List ℕ
 bracketed n = 0x5b ∷ (decimal n ++ 0x5d ∷ [])
@@ -128,8 +128,8 @@ bracketed n = 0x5b ∷ (decimal n ++ 0x5d ∷ [])
 unfoldable pub opened : Finished → ℕ → Opening
 opened f zero (slot n) = bracketed n
 opened f zero (method n) = bracketed n
-opened f (suc levels) (slot n) = atSlot (opened f levels) n (slot_of f.slots n)
-opened f (suc levels) (method n) = atMethod (opened f levels) n (get_elem? f.methods n)
+opened f (suc levels) (slot n) = at_slot (opened f levels) n (slot_of f.slots n)
+opened f (suc levels) (method n) = at_method (opened f levels) n (get_elem? f.methods n)
 
 -- a constant stands eight levels above the numbers that are not opened any more, so what it refers to has seven left
 unfoldable pub line : Finished → ℕ → Slot → List ℕ
@@ -153,4 +153,4 @@ listed room (some slots) none = bad 21
 listed room (some slots) (some methods) = fitting room (lines (record { slots = slots; methods = methods }))
 
 unfoldable pub listing : ℕ → List ℕ → ℕ → List ℕ → Result ℕ (List ℕ)
-listing room pool count bootstraps = listed room (read-pool pool) (read-bootstrap-methods count bootstraps)
+listing room pool count bootstraps = listed room (read_pool_lem pool) (read_bootstrap_methods count bootstraps)

@@ -5,9 +5,9 @@ use Rattle.definition.specs.Basics.{lookup}
 use Rattle.definition.specs.Ascii.{ascii}
 use Rattle.jvms.specs.Pool.{Slot, usable, unusable}
 use Rattle.writer.specs.Numbers.{number2, number4, number8}
-use Rattle.printing.specs.Numbers.{signed, hexOf, float, double}
-use Rattle.listing.specs.Listing.{Opening, slot, method, held, referenceKind, arguments}
-use Rattle.listing.specs.Views.{orNone, between}
+use Rattle.printing.specs.Numbers.{signed, hex_of, float, double}
+use Rattle.listing.specs.Listing.{Opening, slot, method, held, reference_kind, arguments}
+use Rattle.listing.specs.Views.{or_none, between}
 
 -- what the constant at a slot holds, and nothing where none begins
 unfoldable pub held_at : Opening → Option Slot → List ℕ
@@ -19,36 +19,36 @@ held_at show (some (usable c)) = held show c
 unfoldable pub numbers : List ℕ → ℕ → List (ℕ × List ℕ)
 numbers bytes at =
     (3, signed 2147483648 (number4 bytes at))
-    ∷ (4, hexOf 8 (number4 bytes at) ++ 0x20 ∷ float (number4 bytes at))
+    ∷ (4, hex_of 8 (number4 bytes at) ++ 0x20 ∷ float (number4 bytes at))
     ∷ (5, signed 9223372036854775808 (number8 bytes at))
-    ∷ (6, hexOf 8 (number4 bytes at) ++ hexOf 8 (number4 bytes (at + 4)) ++ 0x20 ∷ double (number8 bytes at))
+    ∷ (6, hex_of 8 (number4 bytes at) ++ hex_of 8 (number4 bytes (at + 4)) ++ 0x20 ∷ double (number8 bytes at))
     ∷ []
 
 unfoldable pub number_at : List ℕ → ℕ → List ℕ
-number_at bytes at = orNone (lookup (get_or bytes at 0) (numbers bytes (at + 1)))
+number_at bytes at = or_none (lookup (get_or bytes at 0) (numbers bytes (at + 1)))
 
 -- the tag of a number, and so many bytes of one are there
 abbrev pub Sized : List ℕ → ℕ → Type 0
 Sized bytes at = (2 < get_or bytes at 0) × (get_or bytes at 0 < 7) × (at + 5 ≤ length bytes) × (4 < get_or bytes at 0 → at + 9 ≤ length bytes)
 
 -- two references, a dynamic constant and a method handle, by the place of the tag
-unfoldable pub twoAt : Opening → List ℕ → ℕ → List ℕ
-twoAt show bytes at = show (slot (number2 bytes (at + 1))) ++ between (get_or bytes at 0) ++ show (slot (number2 bytes (at + 3)))
+unfoldable pub two_at_lem : Opening → List ℕ → ℕ → List ℕ
+two_at_lem show bytes at = show (slot (number2 bytes (at + 1))) ++ between (get_or bytes at 0) ++ show (slot (number2 bytes (at + 3)))
 
-unfoldable pub dynamicAt : Opening → List ℕ → ℕ → List ℕ
-dynamicAt show bytes at = show (slot (number2 bytes (at + 3))) ++ between (get_or bytes at 0) ++ show (method (number2 bytes (at + 1)))
+unfoldable pub dynamic_at : Opening → List ℕ → ℕ → List ℕ
+dynamic_at show bytes at = show (slot (number2 bytes (at + 3))) ++ between (get_or bytes at 0) ++ show (method (number2 bytes (at + 1)))
 
-unfoldable pub handleAt : Opening → List ℕ → ℕ → List ℕ
-handleAt show bytes at = referenceKind (get_or bytes (at + 1) 0) ++ 0x20 ∷ show (slot (number2 bytes (at + 2)))
+unfoldable pub handle_at : Opening → List ℕ → ℕ → List ℕ
+handle_at show bytes at = reference_kind (get_or bytes (at + 1) 0) ++ 0x20 ∷ show (slot (number2 bytes (at + 2)))
 
 -- so many numbers of two bytes
-unfoldable pub numbersAt : List ℕ → ℕ → ℕ → List ℕ
-numbersAt bytes at zero = []
-numbersAt bytes at (suc n) = number2 bytes at ∷ numbersAt bytes (at + 2) n
+unfoldable pub numbers_at : List ℕ → ℕ → ℕ → List ℕ
+numbers_at bytes at zero = []
+numbers_at bytes at (suc n) = number2 bytes at ∷ numbers_at bytes (at + 2) n
 
 -- the arguments of the bootstrap method that begins at a place
-unfoldable pub argumentsAt : Opening → List ℕ → ℕ → List ℕ
-argumentsAt show bytes at = arguments show (numbersAt bytes (at + 4) (number2 bytes (at + 2)))
+unfoldable pub arguments_at : Opening → List ℕ → ℕ → List ℕ
+arguments_at show bytes at = arguments show (numbers_at bytes (at + 4) (number2 bytes (at + 2)))
 
 -- what stands before an argument, by its index
 unfoldable pub comma : ℕ → List ℕ

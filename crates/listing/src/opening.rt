@@ -8,7 +8,7 @@ ghost use Rattle.places.specs.Standing.{slot_of};
 ghost use Rattle.printing.specs.Printed.{CanPut, Printed};
 ghost use Rattle.listing.specs.Listing.{slot, method, opened};
 ghost use Rattle.listing.specs.Views.{Views, finished};
-ghost use Rattle.listing.specs.Opening.{held_at, Sized, number_at, twoAt, dynamicAt, handleAt, argumentsAt, comma};
+ghost use Rattle.listing.specs.Opening.{held_at, Sized, number_at, two_at_lem, dynamic_at, handle_at, arguments_at, comma};
 
 use super::words::{put_between, put_bracketed, put_comma, put_kind, put_reference_kind};
 use raw_const::Shape;
@@ -119,7 +119,7 @@ fn put_two(
     requires views { Views pool.now places.now count methods.now table.now }
     requires can_put { CanPut out.old room at }
     requires p_in_bounds { p + 5 ≤ length pool.now }
-    ensures { Printed out.old room at (twoAt (opened (finished pool.now count methods.now) left) pool.now p) out.new result }
+    ensures { Printed out.old room at (two_at_lem (opened (finished pool.now count methods.now) left) pool.now p) out.new result }
 {
     let i = writer::get_u16(pool, p + 1);
     let end = put_slot(pool, places, count, methods, table, out, room, at, left, i);
@@ -145,7 +145,7 @@ fn put_dynamic(
     requires views { Views pool.now places.now count methods.now table.now }
     requires can_put { CanPut out.old room at }
     requires p_in_bounds { p + 5 ≤ length pool.now }
-    ensures { Printed out.old room at (dynamicAt (opened (finished pool.now count methods.now) left) pool.now p) out.new result }
+    ensures { Printed out.old room at (dynamic_at (opened (finished pool.now count methods.now) left) pool.now p) out.new result }
 {
     let i = writer::get_u16(pool, p + 3);
     let end = put_slot(pool, places, count, methods, table, out, room, at, left, i);
@@ -171,7 +171,7 @@ fn put_handle(
     requires views { Views pool.now places.now count methods.now table.now }
     requires can_put { CanPut out.old room at }
     requires p_in_bounds { p + 4 ≤ length pool.now }
-    ensures { Printed out.old room at (handleAt (opened (finished pool.now count methods.now) left) pool.now p) out.new result }
+    ensures { Printed out.old room at (handle_at (opened (finished pool.now count methods.now) left) pool.now p) out.new result }
 {
     let space = put_reference_kind(out, room, at, pool[p + 1]);
     let to = printing::put(out, room, space, b' ');
@@ -232,7 +232,7 @@ fn put_arguments(
     requires views { Views pool.now places.now count methods.now table.now }
     requires can_put { CanPut out.old room start }
     requires p_in_bounds { p + 4 + 2 * number2 methods.now (p + 2) ≤ length methods.now }
-    ensures { Printed out.old room start (argumentsAt (opened (finished pool.now count methods.now) left) methods.now p) out.new result }
+    ensures { Printed out.old room start (arguments_at (opened (finished pool.now count methods.now) left) methods.now p) out.new result }
 {
     let size = writer::get_u16(methods, p + 2) as usize;
     let mut at = start;

@@ -2,13 +2,13 @@
 ghost use Rattle.definition.specs.Basics.{lookup};
 ghost use Rattle.definition.specs.Ascii.{ascii};
 ghost use Rattle.printing.specs.Printed.{CanPut, Printed};
-ghost use Rattle.listing.specs.Listing.{orDecimal, referenceKind, kinds, bracketed};
+ghost use Rattle.listing.specs.Listing.{or_decimal, reference_kind, kinds, bracketed};
 ghost use Rattle.listing.specs.Views.{between};
 
 // The name of a tag.
 pub(crate) fn put_kind(out: &mut [u8], room: usize, at: usize, tag: u8) -> usize
     requires { CanPut out.old room at }
-    ensures { Printed out.old room at (orDecimal tag (lookup tag kinds)) out.new result }
+    ensures { Printed out.old room at (or_decimal tag (lookup tag kinds)) out.new result }
 {
     match tag {
         1 => printing::put_word(out, room, at, b"Utf8"),
@@ -34,7 +34,7 @@ pub(crate) fn put_kind(out: &mut [u8], room: usize, at: usize, tag: u8) -> usize
 
 pub(crate) fn put_reference_kind(out: &mut [u8], room: usize, at: usize, n: u8) -> usize
     requires { CanPut out.old room at }
-    ensures { Printed out.old room at (referenceKind n) out.new result }
+    ensures { Printed out.old room at (reference_kind n) out.new result }
 {
     match n {
         1 => printing::put_word(out, room, at, b"REF_getField"),

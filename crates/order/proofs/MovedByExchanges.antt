@@ -13,11 +13,11 @@ use Rattle.facts.proofs.Each.{Each}
 use Rattle.order.specs.OrderStatement.{moves, Moved}
 
 -- a definition 41 to 44
-unfoldable pub mayMove : {L : Type 0} → Definition L → Bool
-mayMove (define e) = false
-mayMove (named kind s r) = true
-mayMove (placed kind at number) = true
-mayMove (setting rule) = false
+unfoldable pub may_move : {L : Type 0} → Definition L → Bool
+may_move (define e) = false
+may_move (named kind s r) = true
+may_move (placed kind at number) = true
+may_move (setting rule) = false
 
 -- one that may move changes places with its neighbour, over and over
 pub data Exchanged {X : Type 0} (may : X → Bool) : List X → List X → Type 0 where
@@ -44,15 +44,15 @@ module _ {X : Type 0} (may : X → Bool) where
       exchanged [] (before ++ after) x y (y ∷ before ++ x ∷ after) h.0 (behind y (x ∷ before ++ after) (before ++ x ∷ after) (past x before after h.1))
 
   -- what every one has, it has after an exchange
-  each-turned : (P : X → Type 0) (before after : List X) (x y : X) → Each P (before ++ x ∷ y ∷ after) → P x × P y × Each P (before ++ y ∷ x ∷ after)
-  each-turned P [] after x y h = (h.0, h.1.0, (h.1.0, (h.0, h.1.1)))
-  each-turned P (z ∷ before) after x y h =
-      let (px, py, rest) = each-turned P before after x y h.1 in
+  each_turned : (P : X → Type 0) (before after : List X) (x y : X) → Each P (before ++ x ∷ y ∷ after) → P x × P y × Each P (before ++ y ∷ x ∷ after)
+  each_turned P [] after x y h = (h.0, h.1.0, (h.1.0, (h.0, h.1.1)))
+  each_turned P (z ∷ before) after x y h =
+      let (px, py, rest) = each_turned P before after x y h.1 in
       (px, py, (h.0, rest))
 
-  pub each-exchanged : (P : X → Type 0) (k l : List X) → Exchanged may k l → Each P k → Each P l
-  each-exchanged P k l (unmoved l') h = h
-  each-exchanged P k l (exchanged before after x y l' m p) h = each-exchanged P (before ++ y ∷ x ∷ after) l p (each-turned P before after x y h).2
+  pub each_exchanged : (P : X → Type 0) (k l : List X) → Exchanged may k l → Each P k → Each P l
+  each_exchanged P k l (unmoved l') h = h
+  each_exchanged P k l (exchanged before after x y l' m p) h = each_exchanged P (before ++ y ∷ x ∷ after) l p (each_turned P before after x y h).2
 
   -- and there are as many
   length-turned : (before after : List X) (x y : X) → length (before ++ x ∷ y ∷ after) ≡ length (before ++ y ∷ x ∷ after)
@@ -71,7 +71,7 @@ pub map-exchanged :
     Exchanged may' (map f k) (map f l)
 map-exchanged may may' f k l each (unmoved l') = unmoved (map f l)
 map-exchanged may may' f k l each (exchanged before after x y l' h p) =
-    let (mx, my, rest) = each-turned may (λ x. may' (f x) ≡ may x) before after x y each in
+    let (mx, my, rest) = each_turned may (λ x. may' (f x) ≡ may x) before after x y each in
     let there = map-exchanged may may' f (before ++ y ∷ x ∷ after) l rest p in
     rw (map-append f before (x ∷ y ∷ after))
     (exchanged (map f before) (map f after) (f x) (f y) (map f l) ((λ i. mx i || my i) ∙ h) (rw (map-append f before (y ∷ x ∷ after)) at there))
@@ -125,20 +125,20 @@ find x (y ∷ rs) h = go (same x y) refl (find x rs)
         }
 
 -- a record among others counts as in front of them
-count-inside : (p : List ℕ → Bool) (x : List ℕ) (before after : List (List ℕ)) → length (only p (before ++ x ∷ after)) ≡ length (only p (x ∷ before ++ after))
-count-inside p x [] after = refl
-count-inside p x (y ∷ before) after =
+count_inside : (p : List ℕ → Bool) (x : List ℕ) (before after : List (List ℕ)) → length (only p (before ++ x ∷ after)) ≡ length (only p (x ∷ before ++ after))
+count_inside p x [] after = refl
+count_inside p x (y ∷ before) after =
     let a = only-more p y (before ++ x ∷ after) in
     let b = only-more p x (y ∷ before ++ after) in
     let c = only-more p y (before ++ after) in
     let d = only-more p x (before ++ after) in
-    let e = count-inside p x before after in
+    let e = count_inside p x before after in
     omega arith
 
 -- one that moves isn't among those that stay
-stays-without : (x : List ℕ) (before after : List (List ℕ)) → stays x ≡ false → only stays (before ++ x ∷ after) ≡ only stays (before ++ after)
-stays-without x [] after h = only-later stays x after h
-stays-without x (y ∷ before) after h = go (stays y) refl (stays-without x before after h)
+stays_without : (x : List ℕ) (before after : List (List ℕ)) → stays x ≡ false → only stays (before ++ x ∷ after) ≡ only stays (before ++ after)
+stays_without x [] after h = only-later stays x after h
+stays_without x (y ∷ before) after h = go (stays y) refl (stays_without x before after h)
   where
     go : (b : Bool) → stays y ≡ b → only stays (before ++ x ∷ after) ≡ only stays (before ++ after) → only stays (y ∷ before ++ x ∷ after) ≡ only stays (y ∷ before ++ after)
     go true e rest = only_here stays y (before ++ x ∷ after) e ∙ ap (λ l. y ∷ l) rest ∙ sym (only_here stays y (before ++ after) e)
@@ -179,20 +179,20 @@ moves_before x (y ∷ before) after t h f e = go (stays y) refl (moves_before x 
         stayed false q = true≢false (sym (ap not q) ∙ s)
 
 -- THE SAME RECORDS with those that aren't 41 to 44 in their old order come of such exchanges
-pub moved-exchanged : (rs₁ rs₂ : List (List ℕ)) → Moved rs₁ rs₂ → Exchanged moves rs₁ rs₂
+pub moved_exchanged : (rs₁ rs₂ : List (List ℕ)) → Moved rs₁ rs₂ → Exchanged moves rs₁ rs₂
 unfolding only
-moved-exchanged [] [] m = unmoved []
-moved-exchanged [] (y ∷ rs) m =
-    let none = m.sameRecords y in
+moved_exchanged [] [] m = unmoved []
+moved_exchanged [] (y ∷ rs) m =
+    let none = m.same_records y in
     let some = only_here (same y) y rs (same_refl y) in
     let many = ap (λ (l : List (List ℕ)). length l) some in
     absurd (omega arith)
-moved-exchanged (x ∷ rs₁) rs₂ m = go (moves x) refl (moved-exchanged rs₁)
+moved_exchanged (x ∷ rs₁) rs₂ m = go (moves x) refl (moved_exchanged rs₁)
   where
     f : First x rs₂
     f =
         let here = ap (λ (l : List (List ℕ)). length l) (only_here (same x) x rs₁ (same_refl x)) in
-        find x rs₂ (rw (← m.sameRecords x) (omega arith))
+        find x rs₂ (rw (← m.same_records x) (omega arith))
 
     left : List (List ℕ)
     left = f.before ++ f.after
@@ -201,20 +201,20 @@ moved-exchanged (x ∷ rs₁) rs₂ m = go (moves x) refl (moved-exchanged rs₁
     counts r =
         let a = only-more (same r) x rs₁ in
         let b = only-more (same r) x left in
-        let c = count-inside (same r) x f.before f.after in
-        let d = m.sameRecords r in
+        let c = count_inside (same r) x f.before f.after in
+        let d = m.same_records r in
         let e = ap (count r) f.split in
         omega arith
 
     order : only stays (x ∷ rs₁) ≡ only stays (f.before ++ x ∷ f.after)
-    order = m.oldOrder ∙ ap (only stays) f.split
+    order = m.old_order ∙ ap (only stays) f.split
 
     all : (b : Bool) (l : List (List ℕ)) → moves x ≡ b → Each (λ y. (b || moves y) ≡ true) l → Each (λ y. (moves x || moves y) ≡ true) l
     all b l e h = rw e h
 
-    each-true : (l : List (List ℕ)) → Each (λ y. (true || moves y) ≡ true) l
-    each-true [] = tt
-    each-true (y ∷ l) = (refl, each-true l)
+    each_true : (l : List (List ℕ)) → Each (λ y. (true || moves y) ≡ true) l
+    each_true [] = tt
+    each_true (y ∷ l) = (refl, each_true l)
 
     end : Moved rs₁ left → Each (λ y. (moves x || moves y) ≡ true) f.before → ((l : List (List ℕ)) → Moved rs₁ l → Exchanged moves rs₁ l) → Exchanged moves (x ∷ rs₁) rs₂
     end m' may rest =
@@ -223,39 +223,39 @@ moved-exchanged (x ∷ rs₁) rs₂ m = go (moves x) refl (moved-exchanged rs₁
 
     go : (b : Bool) → moves x ≡ b → ((l : List (List ℕ)) → Moved rs₁ l → Exchanged moves rs₁ l) → Exchanged moves (x ∷ rs₁) rs₂
     go true e rest =
-        let still = sym (only-later stays x rs₁ (ap not e)) ∙ order ∙ stays-without x f.before f.after (ap not e) in
-        end (record { sameRecords = counts; oldOrder = still }) (all true f.before e (each-true f.before)) rest
+        let still = sym (only-later stays x rs₁ (ap not e)) ∙ order ∙ stays_without x f.before f.after (ap not e) in
+        end (record { same_records = counts; old_order = still }) (all true f.before e (each_true f.before)) rest
     go false e rest =
         let (may, now) = moves_before x f.before f.after (only stays rs₁) (ap not e) f.first (sym order ∙ only_here stays x rs₁ (ap not e)) in
-        end (record { sameRecords = counts; oldOrder = sym now }) (all false f.before e may) rest
+        end (record { same_records = counts; old_order = sym now }) (all false f.before e may) rest
 
 -- ---- and such exchanges leave the same records, with those that aren't 41 to 44 in their old order
 
-counts-turned :
+counts_turned :
     (p : List ℕ → Bool) (before after : List (List ℕ)) (x y : List ℕ) → length (only p (before ++ x ∷ y ∷ after)) ≡ length (only p (before ++ y ∷ x ∷ after))
-counts-turned p [] after x y =
+counts_turned p [] after x y =
     let a = only-more p x (y ∷ after) in
     let b = only-more p y after in
     let c = only-more p y (x ∷ after) in
     let d = only-more p x after in
     omega arith
-counts-turned p (z ∷ before) after x y =
+counts_turned p (z ∷ before) after x y =
     let a = only-more p z (before ++ x ∷ y ∷ after) in
     let b = only-more p z (before ++ y ∷ x ∷ after) in
-    let c = counts-turned p before after x y in
+    let c = counts_turned p before after x y in
     omega arith
 
-stays-turned :
+stays_turned :
     (before after : List (List ℕ)) (x y : List ℕ) →
     (moves x || moves y) ≡ true →
     only stays (before ++ x ∷ y ∷ after) ≡ only stays (before ++ y ∷ x ∷ after)
-stays-turned [] after x y h = go (moves x) (moves y) refl refl h
+stays_turned [] after x y h = go (moves x) (moves y) refl refl h
   where
     go : (a b : Bool) → moves x ≡ a → moves y ≡ b → (a || b) ≡ true → only stays (x ∷ y ∷ after) ≡ only stays (y ∷ x ∷ after)
-    go true b e f h = stays-without x [] (y ∷ after) (ap not e) ∙ sym (stays-without x (y ∷ []) after (ap not e))
-    go false true e f h = stays-without y (x ∷ []) after (ap not f) ∙ sym (stays-without y [] (x ∷ after) (ap not f))
+    go true b e f h = stays_without x [] (y ∷ after) (ap not e) ∙ sym (stays_without x (y ∷ []) after (ap not e))
+    go false true e f h = stays_without y (x ∷ []) after (ap not f) ∙ sym (stays_without y [] (x ∷ after) (ap not f))
     go false false e f h = true≢false (sym h)
-stays-turned (z ∷ before) after x y h = go (stays z) refl (stays-turned before after x y h)
+stays_turned (z ∷ before) after x y h = go (stays z) refl (stays_turned before after x y h)
   where
     go :
         (b : Bool) →
@@ -265,11 +265,11 @@ stays-turned (z ∷ before) after x y h = go (stays z) refl (stays-turned before
     go true e rest = only_here stays z (before ++ x ∷ y ∷ after) e ∙ ap (λ l. z ∷ l) rest ∙ sym (only_here stays z (before ++ y ∷ x ∷ after) e)
     go false e rest = only-later stays z (before ++ x ∷ y ∷ after) e ∙ rest ∙ sym (only-later stays z (before ++ y ∷ x ∷ after) e)
 
-pub exchanged-moved : (rs₁ rs₂ : List (List ℕ)) → Exchanged moves rs₁ rs₂ → Moved rs₁ rs₂
-exchanged-moved rs₁ rs₂ (unmoved rs) = record { sameRecords = λ _. refl; oldOrder = refl }
-exchanged-moved rs₁ rs₂ (exchanged before after x y rs h p) =
-    let m = exchanged-moved (before ++ y ∷ x ∷ after) rs₂ p in
+pub exchanged_moved : (rs₁ rs₂ : List (List ℕ)) → Exchanged moves rs₁ rs₂ → Moved rs₁ rs₂
+exchanged_moved rs₁ rs₂ (unmoved rs) = record { same_records = λ _. refl; old_order = refl }
+exchanged_moved rs₁ rs₂ (exchanged before after x y rs h p) =
+    let m = exchanged_moved (before ++ y ∷ x ∷ after) rs₂ p in
     record {
-      sameRecords = λ r. counts-turned (same r) before after x y ∙ m.sameRecords r;
-      oldOrder = stays-turned before after x y h ∙ m.oldOrder;
+      same_records = λ r. counts_turned (same r) before after x y ∙ m.same_records r;
+      old_order = stays_turned before after x y h ∙ m.old_order;
     }

@@ -7,9 +7,9 @@ use native.Mathlib.Omega.{arith}
 use lib.ListN.{length, length-append}
 use Rattle.definition.specs.Basics.{lookup}
 use Rattle.definition.specs.Bytes.{Parser, return, fail, and_then, one, two, many, ◌>>=◌}
-use Rattle.definition.specs.Expression.{Number, int, float, long, double, Sign, Expression, leaf, four, eight, bits as readBits, Opening, ofLeaf, ofSign, openings, joined, secondPart, openedPart, expression, readExpression}
-use Rattle.definition.specs.Shapes.{Kind, constant, Field, text, bits, byte, to, toMany, Entry, withLiteral, withByte, withKids, readFields, read_entry}
-use Rattle.definition.specs.Job.{Reference, raw, entry, name, define, named, placed, setting, Body, ofEntry, ofName, ofRaw, ofExpression, ofNumber, ofNothing, bodies, shortName, referenceForm, reference, workedOut, read_body, readDefinition}
+use Rattle.definition.specs.Expression.{Number, int, float, long, double, Sign, Expression, leaf, four, eight, bits as readBits, Opening, of_leaf, of_sign, openings, joined, second_part, opened_part, expression, read_expression}
+use Rattle.definition.specs.Shapes.{Kind, constant, Field, text, bits, byte, to, to_many, Entry, with_literal, with_byte, with_kids, read_fields, read_entry}
+use Rattle.definition.specs.Job.{Reference, raw, entry, name, define, named, placed, setting, Body, of_entry, of_name, of_raw, of_expression, of_number, of_nothing, bodies, short_name, reference_form, reference, worked_out, read_body, read_definition}
 use Rattle.definition.specs.Value.{folded}
 use Rattle.facts.proofs.Lists.{none≢some, some_inj}
 
@@ -23,11 +23,11 @@ record Took {A : Type 0} (p : ℕ → Parser A) (bytes rest : List ℕ) (a : A) 
 abbrev TakesAt : {A : Type 0} → ℕ → (ℕ → Parser A) → Type 0
 TakesAt deep p = (bytes rest : List ℕ) (a : _) → p deep bytes ≡ some (a, rest) → Took p bytes rest a
 
-takes-fail : {A : Type 0} (deep : ℕ) → TakesAt {A = A} deep (λ _. fail)
-takes-fail deep bytes rest a e = none≢some e
+takes_fail : {A : Type 0} (deep : ℕ) → TakesAt {A = A} deep (λ _. fail)
+takes_fail deep bytes rest a e = none≢some e
 
-takes-return : {A : Type 0} (deep : ℕ) (a : A) → TakesAt deep (λ _. return a)
-takes-return {A} deep a bytes rest a' e =
+takes_return : {A : Type 0} (deep : ℕ) (a : A) → TakesAt deep (λ _. return a)
+takes_return {A} deep a bytes rest a' e =
     let same : ◌≡◌ {A = A × List ℕ} (a, bytes) (a', rest) = some_inj e in
     record {
       taken = [];
@@ -36,12 +36,12 @@ takes-return {A} deep a bytes rest a' e =
     }
 
 -- one after the other
-takes-bind :
+takes_bind :
     {A B : Type 0} (deep : ℕ) (p : ℕ → Parser A) (f : ℕ → A → Parser B) →
     TakesAt deep p →
     ((a : A) → TakesAt deep (λ n. f n a)) →
     TakesAt deep (λ n. p n >>= f n)
-takes-bind {A} {B} deep p f tp tf bytes rest b e = go (p deep bytes) refl e
+takes_bind {A} {B} deep p f tp tf bytes rest b e = go (p deep bytes) refl e
   where
     go : (o : Option (A × List ℕ)) → p deep bytes ≡ o → and_then o (f deep) ≡ some (b, rest) → Took (λ n. p n >>= f n) bytes rest b
     go none e h = none≢some h
@@ -74,82 +74,82 @@ takes_one deep (b ∷ bytes) rest a e =
 takes_two : (deep : ℕ) → TakesAt deep (λ _. two)
 unfolding two
 takes_two deep =
-    takes-bind deep (λ _. one) _ (takes_one deep) λ a. takes-bind deep (λ _. one) _ (takes_one deep) λ b. takes-return deep (256 * a + b)
+    takes_bind deep (λ _. one) _ (takes_one deep) λ a. takes_bind deep (λ _. one) _ (takes_one deep) λ b. takes_return deep (256 * a + b)
 
-takes-many : {A : Type 0} (deep n : ℕ) (p : Parser A) → TakesAt deep (λ _. p) → TakesAt deep (λ _. many n p)
+takes_many : {A : Type 0} (deep n : ℕ) (p : Parser A) → TakesAt deep (λ _. p) → TakesAt deep (λ _. many n p)
 unfolding many
-takes-many deep zero p t = takes-return deep []
-takes-many deep (suc n) p t =
-    takes-bind deep (λ _. p) _ t λ a. takes-bind deep (λ _. many n p) _ (takes-many deep n p t) λ l. takes-return deep (a ∷ l)
+takes_many deep zero p t = takes_return deep []
+takes_many deep (suc n) p t =
+    takes_bind deep (λ _. p) _ t λ a. takes_bind deep (λ _. many n p) _ (takes_many deep n p t) λ l. takes_return deep (a ∷ l)
 
-takes-name : (deep : ℕ) → TakesAt deep (λ _. shortName)
-unfolding shortName
-takes-name deep = takes-bind deep (λ _. one) _ (takes_one deep) λ size. takes-many deep size one (takes_one deep)
+takes_name : (deep : ℕ) → TakesAt deep (λ _. short_name)
+unfolding short_name
+takes_name deep = takes_bind deep (λ _. one) _ (takes_one deep) λ size. takes_many deep size one (takes_one deep)
 
-takes-form : (deep : ℕ) (kind : Kind) (n : ℕ) → TakesAt deep (λ _. referenceForm kind n)
-unfolding referenceForm
-takes-form deep kind zero = takes-bind deep (λ _. two) _ (takes_two deep) λ n. takes-return deep (raw n)
-takes-form deep kind (suc zero) = takes-bind deep (λ _. two) _ (takes_two deep) λ n. takes-return deep (entry kind n)
-takes-form deep kind (suc (suc zero)) = takes-bind deep (λ _. shortName) _ (takes-name deep) λ s. takes-return deep (name kind s)
-takes-form deep kind (suc (suc (suc n))) = takes-fail deep
+takes_form : (deep : ℕ) (kind : Kind) (n : ℕ) → TakesAt deep (λ _. reference_form kind n)
+unfolding reference_form
+takes_form deep kind zero = takes_bind deep (λ _. two) _ (takes_two deep) λ n. takes_return deep (raw n)
+takes_form deep kind (suc zero) = takes_bind deep (λ _. two) _ (takes_two deep) λ n. takes_return deep (entry kind n)
+takes_form deep kind (suc (suc zero)) = takes_bind deep (λ _. short_name) _ (takes_name deep) λ s. takes_return deep (name kind s)
+takes_form deep kind (suc (suc (suc n))) = takes_fail deep
 
-takes-reference : (deep : ℕ) (kind : Kind) → TakesAt deep (λ _. reference kind)
+takes_reference : (deep : ℕ) (kind : Kind) → TakesAt deep (λ _. reference kind)
 unfolding reference
-takes-reference deep kind = takes-bind deep (λ _. one) _ (takes_one deep) λ n. takes-form deep kind n
+takes_reference deep kind = takes_bind deep (λ _. one) _ (takes_one deep) λ n. takes_form deep kind n
 
-takes-fields : (deep : ℕ) (fields : List Field) (e : Entry (List ℕ) Reference) → TakesAt deep (λ _. readFields reference fields e)
-unfolding readFields
-takes-fields deep [] e = takes-return deep e
-takes-fields deep (text ∷ fields) e =
-    takes-bind deep (λ _. two) _ (takes_two deep) λ size.
-    takes-bind deep (λ _. many size one) _ (takes-many deep size one (takes_one deep)) λ s.
-    takes-fields deep fields (withLiteral s e)
-takes-fields deep (bits size ∷ fields) e =
-    takes-bind deep (λ _. many size one) _ (takes-many deep size one (takes_one deep)) λ s. takes-fields deep fields (withLiteral s e)
-takes-fields deep (byte ∷ fields) e = takes-bind deep (λ _. one) _ (takes_one deep) λ b. takes-fields deep fields (withByte b e)
-takes-fields deep (to kind ∷ fields) e =
-    takes-bind deep (λ _. reference kind) _ (takes-reference deep kind) λ r. takes-fields deep fields (withKids (e.kids ++ r ∷ []) e)
-takes-fields deep (toMany ∷ fields) e =
-    takes-bind deep (λ _. two) _ (takes_two deep) λ size.
-    takes-bind deep (λ _. many size (reference constant)) _ (takes-many deep size (reference constant) (takes-reference deep constant)) λ rs.
-    takes-fields deep fields (withKids (e.kids ++ rs) e)
+takes_fields : (deep : ℕ) (fields : List Field) (e : Entry (List ℕ) Reference) → TakesAt deep (λ _. read_fields reference fields e)
+unfolding read_fields
+takes_fields deep [] e = takes_return deep e
+takes_fields deep (text ∷ fields) e =
+    takes_bind deep (λ _. two) _ (takes_two deep) λ size.
+    takes_bind deep (λ _. many size one) _ (takes_many deep size one (takes_one deep)) λ s.
+    takes_fields deep fields (with_literal s e)
+takes_fields deep (bits size ∷ fields) e =
+    takes_bind deep (λ _. many size one) _ (takes_many deep size one (takes_one deep)) λ s. takes_fields deep fields (with_literal s e)
+takes_fields deep (byte ∷ fields) e = takes_bind deep (λ _. one) _ (takes_one deep) λ b. takes_fields deep fields (with_byte b e)
+takes_fields deep (to kind ∷ fields) e =
+    takes_bind deep (λ _. reference kind) _ (takes_reference deep kind) λ r. takes_fields deep fields (with_kids (e.kids ++ r ∷ []) e)
+takes_fields deep (to_many ∷ fields) e =
+    takes_bind deep (λ _. two) _ (takes_two deep) λ size.
+    takes_bind deep (λ _. many size (reference constant)) _ (takes_many deep size (reference constant) (takes_reference deep constant)) λ rs.
+    takes_fields deep fields (with_kids (e.kids ++ rs) e)
 
 -- ---- expressions: no deeper than the bytes that they take
 
-takes-four : (deep : ℕ) → TakesAt deep (λ _. four)
+takes_four : (deep : ℕ) → TakesAt deep (λ _. four)
 unfolding four
-takes-four deep =
-    takes-bind deep (λ _. two) _ (takes_two deep) λ a. takes-bind deep (λ _. two) _ (takes_two deep) λ b. takes-return deep (65536 * a + b)
+takes_four deep =
+    takes_bind deep (λ _. two) _ (takes_two deep) λ a. takes_bind deep (λ _. two) _ (takes_two deep) λ b. takes_return deep (65536 * a + b)
 
-takes-eight : (deep : ℕ) → TakesAt deep (λ _. eight)
+takes_eight : (deep : ℕ) → TakesAt deep (λ _. eight)
 unfolding eight
-takes-eight deep =
-    takes-bind deep (λ _. four) _ (takes-four deep) λ a. takes-bind deep (λ _. four) _ (takes-four deep) λ b. takes-return deep (4294967296 * a + b)
+takes_eight deep =
+    takes_bind deep (λ _. four) _ (takes_four deep) λ a. takes_bind deep (λ _. four) _ (takes_four deep) λ b. takes_return deep (4294967296 * a + b)
 
-takes-bits : (deep : ℕ) (kind : Number) → TakesAt deep (λ _. readBits kind)
+takes_bits : (deep : ℕ) (kind : Number) → TakesAt deep (λ _. readBits kind)
 unfolding readBits
-takes-bits deep int = takes-four deep
-takes-bits deep float = takes-four deep
-takes-bits deep long = takes-eight deep
-takes-bits deep double = takes-eight deep
+takes_bits deep int = takes_four deep
+takes_bits deep float = takes_four deep
+takes_bits deep long = takes_eight deep
+takes_bits deep double = takes_eight deep
 
-takes-second : (deep : ℕ) (s : Sign) (a : Option Expression) → TakesAt deep expression → TakesAt deep (λ n. secondPart (expression n) s a)
-unfolding secondPart
-takes-second deep s none t = takes-return deep none
-takes-second deep s (some a) t = takes-bind deep expression _ t λ b. takes-return deep (joined s a b)
+takes_second : (deep : ℕ) (s : Sign) (a : Option Expression) → TakesAt deep expression → TakesAt deep (λ n. second_part (expression n) s a)
+unfolding second_part
+takes_second deep s none t = takes_return deep none
+takes_second deep s (some a) t = takes_bind deep expression _ t λ b. takes_return deep (joined s a b)
 
-takes_part : (deep : ℕ) (o : Option Opening) → TakesAt deep expression → TakesAt deep (λ n. openedPart (expression n) o)
-unfolding openedPart
-takes_part deep none t = takes-return deep none
-takes_part deep (some (ofLeaf kind)) t = takes-bind deep (λ _. readBits kind) _ (takes-bits deep kind) λ b. takes-return deep (some (leaf kind b))
-takes_part deep (some (ofSign s)) t = takes-bind deep expression _ t λ a. takes-second deep s a t
+takes_part : (deep : ℕ) (o : Option Opening) → TakesAt deep expression → TakesAt deep (λ n. opened_part (expression n) o)
+unfolding opened_part
+takes_part deep none t = takes_return deep none
+takes_part deep (some (of_leaf kind)) t = takes_bind deep (λ _. readBits kind) _ (takes_bits deep kind) λ b. takes_return deep (some (leaf kind b))
+takes_part deep (some (of_sign s)) t = takes_bind deep expression _ t λ a. takes_second deep s a t
 
-takes-deep : (deep : ℕ) → TakesAt deep expression
+takes_deep : (deep : ℕ) → TakesAt deep expression
 unfolding expression one
-takes-deep zero bytes rest x e = none≢some e
-takes-deep (suc deep) [] rest x e = none≢some e
-takes-deep (suc deep) (b ∷ bytes) rest x e =
-    let part = takes_part deep (lookup b openings) (takes-deep deep) bytes rest x e in
+takes_deep zero bytes rest x e = none≢some e
+takes_deep (suc deep) [] rest x e = none≢some e
+takes_deep (suc deep) (b ∷ bytes) rest x e =
+    let part = takes_part deep (lookup b openings) (takes_deep deep) bytes rest x e in
     record {
       taken = b ∷ part.taken;
       split = ap (λ l. b ∷ l) part.split;
@@ -158,17 +158,17 @@ takes-deep (suc deep) (b ∷ bytes) rest x e =
   where
     go :
         (taken : List ℕ) →
-        ((fuel : ℕ) (more : List ℕ) → length taken ≤ fuel → openedPart (expression fuel) (lookup b openings) (taken ++ more) ≡ some (x, more)) →
+        ((fuel : ℕ) (more : List ℕ) → length taken ≤ fuel → opened_part (expression fuel) (lookup b openings) (taken ++ more) ≡ some (x, more)) →
         (fuel : ℕ) (more : List ℕ) →
         suc (length taken) ≤ fuel →
         expression fuel (b ∷ taken ++ more) ≡ some (x, more)
     go taken again zero more enough = absurd (omega arith)
     go taken again (suc fuel) more enough = again fuel more (omega arith)
 
-takes-expression : (deep : ℕ) → TakesAt deep (λ _. readExpression)
-unfolding readExpression
-takes-expression deep bytes rest x e =
-    let t = takes-deep (length bytes) bytes rest x e in
+takes_expression : (deep : ℕ) → TakesAt deep (λ _. read_expression)
+unfolding read_expression
+takes_expression deep bytes rest x e =
+    let t = takes_deep (length bytes) bytes rest x e in
     record {
       taken = t.taken;
       split = t.split;
@@ -179,22 +179,22 @@ takes-expression deep bytes rest x e =
 
 -- ---- definitions
 
-takes-body : (deep first : ℕ) (body : Option Body) → TakesAt deep (λ _. read_body first body)
+takes_body : (deep first : ℕ) (body : Option Body) → TakesAt deep (λ _. read_body first body)
 unfolding read_body read_entry
-takes-body deep first none = takes-fail deep
-takes-body deep first (some (ofEntry fields)) =
-    takes-bind deep (λ _. read_entry reference first fields) _ (takes-fields deep fields (record { tag = first; literal = []; byte = 0; kids = [] })) λ e.
-    takes-return deep (define e)
-takes-body deep first (some (ofName kind)) =
-    takes-bind deep (λ _. shortName) _ (takes-name deep) λ s.
-    takes-bind deep (λ _. reference kind) _ (takes-reference deep kind) λ r. takes-return deep (named kind s r)
-takes-body deep first (some (ofRaw kind)) =
-    takes-bind deep (λ _. two) _ (takes_two deep) λ at.
-    takes-bind deep (λ _. two) _ (takes_two deep) λ number. takes-return deep (placed kind at number)
-takes-body deep first (some ofExpression) =
-    takes-bind deep (λ _. readExpression) _ (takes-expression deep) λ x. takes-return deep (define (workedOut (folded x)))
-takes-body deep first (some (ofNumber rule)) = takes-bind deep (λ _. two) _ (takes_two deep) λ n. takes-return deep (setting (rule n))
-takes-body deep first (some (ofNothing rule)) = takes-return deep (setting rule)
+takes_body deep first none = takes_fail deep
+takes_body deep first (some (of_entry fields)) =
+    takes_bind deep (λ _. read_entry reference first fields) _ (takes_fields deep fields (record { tag = first; literal = []; byte = 0; kids = [] })) λ e.
+    takes_return deep (define e)
+takes_body deep first (some (of_name kind)) =
+    takes_bind deep (λ _. short_name) _ (takes_name deep) λ s.
+    takes_bind deep (λ _. reference kind) _ (takes_reference deep kind) λ r. takes_return deep (named kind s r)
+takes_body deep first (some (of_raw kind)) =
+    takes_bind deep (λ _. two) _ (takes_two deep) λ at.
+    takes_bind deep (λ _. two) _ (takes_two deep) λ number. takes_return deep (placed kind at number)
+takes_body deep first (some of_expression) =
+    takes_bind deep (λ _. read_expression) _ (takes_expression deep) λ x. takes_return deep (define (worked_out (folded x)))
+takes_body deep first (some (of_number rule)) = takes_bind deep (λ _. two) _ (takes_two deep) λ n. takes_return deep (setting (rule n))
+takes_body deep first (some (of_nothing rule)) = takes_return deep (setting rule)
 
 -- ---- without fuel
 
@@ -217,13 +217,13 @@ module _ {A : Type 0} (p : Parser A) (t : TakesAt 0 (λ _. p)) where
       let h = t bytes rest a e in
       (h.taken, h.split, ap p (sym (append-nil h.taken)) ∙ h.again (length h.taken) [] (omega arith))
 
-pub expression-extends : Extends readExpression
-expression-extends = extends readExpression (takes-expression 0)
+pub expression-extends : Extends read_expression
+expression-extends = extends read_expression (takes_expression 0)
 
-pub definition-extends : (first : ℕ) → Extends (readDefinition first)
-unfolding readDefinition
-definition-extends first = extends (readDefinition first) (takes-body 0 first (lookup first bodies))
+pub definition_extends : (first : ℕ) → Extends (read_definition first)
+unfolding read_definition
+definition_extends first = extends (read_definition first) (takes_body 0 first (lookup first bodies))
 
-pub definition-cuts : (first : ℕ) → Cuts (readDefinition first)
-unfolding readDefinition
-definition-cuts first = cuts (readDefinition first) (takes-body 0 first (lookup first bodies))
+pub definition_cuts : (first : ℕ) → Cuts (read_definition first)
+unfolding read_definition
+definition_cuts first = cuts (read_definition first) (takes_body 0 first (lookup first bodies))

@@ -9,16 +9,16 @@ use lib.ListN.{length, length-append}
 use lib.Seq.{paste, take-length}
 use Rattle.definition.specs.Basics.{from, concat}
 use Rattle.definition.specs.Bytes.{be2}
-use Rattle.definition.specs.Run.{slotBytes, overwrite}
+use Rattle.definition.specs.Run.{slot_bytes, overwrite}
 use Rattle.raw_const.specs.Entries.{Wrote}
-use Rattle.raw_const.proofs.Writes.{wrote_then, wrote-short}
+use Rattle.raw_const.proofs.Writes.{wrote_then, wrote_short}
 use Rattle.store.specs.Store.{Store}
 use Rattle.store.specs.Regions.{Work}
 use Rattle.store.proofs.Laying.{work-sizes}
 use Rattle.store.proofs.Bounds.{work-small}
-use Rattle.raws.specs.Raws.{heldCount}
-use Rattle.output.specs.Contents.{shownIn, wideIn, ownerIn, wideAt, contentIn, slotIn, poolCount, poolIn, IsContent, heldIn, HeldOrder, Sweep, Finished}
-use Rattle.output.proofs.Holding.{owner-is, wide-same, content-owner, wide-first, wide-later, sweep-begin, sweep-next, sweep-stay}
+use Rattle.raws.specs.Raws.{held_count}
+use Rattle.output.specs.Contents.{shown_in, wide_in, owner_in, wide_at, content_in, slot_in, pool_count, pool_in, IsContent, held_in_lem, HeldOrder, Sweep, Finished}
+use Rattle.output.proofs.Holding.{owner_is, wide_same, content_owner, wide_first, wide_later, sweep_begin, sweep_next, sweep_stay}
 
 -- LISTS JOINED
 
@@ -45,17 +45,17 @@ below_more f n h =
     let b : 1 + (n - 1) ≡ n = omega arith in
     rw a (joined-on f 1 (n - 1) ∙ ap (λ k. below f n ++ f k) b)
 
-below-le : (f : ℕ → List ℕ) (n d : ℕ) → 1 ≤ n → length (below f n) ≤ length (below f (n + d))
-below-le f n zero h = let z : n + 0 ≡ n = omega arith in rw z (omega arith)
-below-le f n (suc d) h =
+below_le : (f : ℕ → List ℕ) (n d : ℕ) → 1 ≤ n → length (below f n) ≤ length (below f (n + d))
+below_le f n zero h = let z : n + 0 ≡ n = omega arith in rw z (omega arith)
+below_le f n (suc d) h =
     let a : n + suc d ≡ n + d + 1 = omega arith in
-    rw (a, below_more f (n + d) (omega arith), length-append (below f (n + d)) (f (n + d))) (omega (arith, below-le f n d h))
+    rw (a, below_more f (n + d) (omega arith), length-append (below f (n + d)) (f (n + d))) (omega (arith, below_le f n d h))
 
 -- one more has room where all have
-pub below-room : (f : ℕ → List ℕ) (n m : ℕ) → 1 ≤ n → n < m → length (below f n) + length (f n) ≤ length (below f m)
-below-room f n m h l =
+pub below_room : (f : ℕ → List ℕ) (n m : ℕ) → 1 ≤ n → n < m → length (below f n) + length (f n) ≤ length (below f m)
+below_room f n m h l =
     let a : n + 1 + (m - (n + 1)) ≡ m = omega arith in
-    let up = below-le f (n + 1) (m - (n + 1)) (omega arith) in
+    let up = below_le f (n + 1) (m - (n + 1)) (omega arith) in
     let more = below_more f n h in
     subst (λ x. length (below f n) + length (f n) ≤ length (below f x)) a (omega (arith, up, ap length more, length-append (below f n) (f n)))
 
@@ -68,30 +68,30 @@ paste-first d l = let z : 0 + length l ≡ length l = omega arith in rw (z, take
 
 pub record Walked (s : List ℕ) (t : Store) (slot raws held : ℕ) (wide : Bool) : Type 0 where
   pub low : 1 ≤ slot
-  pub high : slot ≤ poolCount t
+  pub high : slot ≤ pool_count t
   pub sweep : Sweep t slot raws held
-  pub before : wide ≡ wideAt (ownerIn t) (wideIn s t) (slot - 1)
+  pub before : wide ≡ wide_at (owner_in t) (wide_in s t) (slot - 1)
 
 module _ (s p : List ℕ) (t : Store) (done : Finished s p t) where
-  pub walked-begin : (held : ℕ) → held ≡ heldIn t 0 → Walked s t 1 0 held false
-  walked-begin held is =
-      record { low = omega arith; high = done.low; sweep = sweep-begin p t done.order held is; before = sym (wide-first s t 0 refl) }
+  pub walked_begin : (held : ℕ) → held ≡ held_in_lem t 0 → Walked s t 1 0 held false
+  walked_begin held is =
+      record { low = omega arith; high = done.low; sweep = sweep_begin p t done.order held is; before = sym (wide_first s t 0 refl) }
 
-  module _ (work : Work s p) (slot raws held : ℕ) (wide : Bool) (w : Walked s t slot raws held wide) (inside : slot < poolCount t) where
-    pub walked-slot : slot < 65536
-    walked-slot = omega (arith, done.high)
+  module _ (work : Work s p) (slot raws held : ℕ) (wide : Bool) (w : Walked s t slot raws held wide) (inside : slot < pool_count t) where
+    pub walked_slot : slot < 65536
+    walked_slot = omega (arith, done.high)
 
-    module _ (content : ℕ) (is : content ≡ ownerIn t slot wide) where
-      pub content-here : content ≡ contentIn s t slot
-      content-here = is ∙ ap (ownerIn t slot) w.before ∙ sym (content-owner s t slot w.low)
+    module _ (content : ℕ) (is : content ≡ owner_in t slot wide) where
+      pub content_here : content ≡ content_in s t slot
+      content_here = is ∙ ap (owner_in t slot) w.before ∙ sym (content_owner s t slot w.low)
 
-      pub content-good : IsContent s t content
-      content-good = rw is (owner-is s p t work done.sought done.owned slot wide w.low)
+      pub content_good : IsContent s t content
+      content_good = rw is (owner_is s p t work done.sought done.owned slot wide w.low)
 
-      pub bytes-here : slotBytes (shownIn s t content) ≡ slotIn s t slot
-      bytes-here = ap (λ c. slotBytes (shownIn s t c)) content-here
+      pub bytes-here : slot_bytes (shown_in s t content) ≡ slot_in s t slot
+      bytes-here = ap (λ c. slot_bytes (shown_in s t c)) content_here
 
-      pub walked_next : (raws' held' : ℕ) (wide' : Bool) → wide' ≡ wideIn s t content → Sweep t (slot + 1) raws' held' → Walked s t (slot + 1) raws' held' wide'
+      pub walked_next : (raws' held' : ℕ) (wide' : Bool) → wide' ≡ wide_in s t content → Sweep t (slot + 1) raws' held' → Walked s t (slot + 1) raws' held' wide'
       walked_next raws' held' wide' q sweep =
           let e : slot + 1 - 1 ≡ slot = omega arith in
           record {
@@ -100,57 +100,57 @@ module _ (s p : List ℕ) (t : Store) (done : Finished s p t) where
             sweep = sweep;
             before =
                 rw e
-                (q ∙ ap (wideIn s t) is ∙ sym (wide-later s t slot w.low ∙ wide-same s p t work done.sought done.owned slot wide));
+                (q ∙ ap (wide_in s t) is ∙ sym (wide_later s t slot w.low ∙ wide_same s p t work done.sought done.owned slot wide));
           }
 
       -- measured
-      pub size-next : (sum n : ℕ) → sum ≡ 2 + length (below (slotIn s t) slot) → n ≡ length (slotBytes (shownIn s t content)) → sum + n ≡ 2 + length (below (slotIn s t) (slot + 1))
+      pub size-next : (sum n : ℕ) → sum ≡ 2 + length (below (slot_in s t) slot) → n ≡ length (slot_bytes (shown_in s t content)) → sum + n ≡ 2 + length (below (slot_in s t) (slot + 1))
       size-next sum n a b =
-          let m = ap length (below_more (slotIn s t) slot w.low) ∙ length-append (below (slotIn s t) slot) (slotIn s t slot) in
+          let m = ap length (below_more (slot_in s t) slot w.low) ∙ length-append (below (slot_in s t) slot) (slot_in s t slot) in
           omega (arith, a, b, ap length bytes-here, m)
 
       -- and written
-      pub content-room : (at : ℕ) → at ≡ 2 + length (below (slotIn s t) slot) → at + length (slotBytes (shownIn s t content)) ≤ length (poolIn s t)
+      pub content_room : (at : ℕ) → at ≡ 2 + length (below (slot_in s t) slot) → at + length (slot_bytes (shown_in s t content)) ≤ length (pool_in s t)
       unfolding be2
-      content-room at a =
-          let r = below-room (slotIn s t) slot (poolCount t) w.low inside in
-          omega (arith, ap length bytes-here, r, length-append (be2 (poolCount t)) (below (slotIn s t) (poolCount t)))
+      content_room at a =
+          let r = below_room (slot_in s t) slot (pool_count t) w.low inside in
+          omega (arith, ap length bytes-here, r, length-append (be2 (pool_count t)) (below (slot_in s t) (pool_count t)))
 
-      pub pool-next :
-          {d₀ d d₁ : List ℕ} {at r : ℕ} → 2 + length (below (slotIn s t) slot) ≤ length d₀ →
-          Wrote d₀ 2 (below (slotIn s t) slot) d at → Wrote d at (slotBytes (shownIn s t content)) d₁ r → Wrote d₀ 2 (below (slotIn s t) (slot + 1)) d₁ r
-      pool-next room a b = rw (below_more (slotIn s t) slot w.low) (wrote_then a room (rw bytes-here at b))
+      pub pool_next :
+          {d₀ d d₁ : List ℕ} {at r : ℕ} → 2 + length (below (slot_in s t) slot) ≤ length d₀ →
+          Wrote d₀ 2 (below (slot_in s t) slot) d at → Wrote d at (slot_bytes (shown_in s t content)) d₁ r → Wrote d₀ 2 (below (slot_in s t) (slot + 1)) d₁ r
+      pool_next room a b = rw (below_more (slot_in s t) slot w.low) (wrote_then a room (rw bytes-here at b))
 
-    pub sweep-hit-on : slot ≡ held → (raws' held' next : ℕ) → raws' ≡ raws + 1 → held' ≡ next → next ≡ heldIn t (raws + 1) → Sweep t (slot + 1) raws' held'
-    sweep-hit-on h raws' held' next a b q = rw (a, b) (sweep-next p t done.order slot raws held w.sweep h walked-slot next q)
+    pub sweep_hit_on : slot ≡ held → (raws' held' next : ℕ) → raws' ≡ raws + 1 → held' ≡ next → next ≡ held_in_lem t (raws + 1) → Sweep t (slot + 1) raws' held'
+    sweep_hit_on h raws' held' next a b q = rw (a, b) (sweep_next p t done.order slot raws held w.sweep h walked_slot next q)
 
-    pub sweep-miss-on : (slot ≡ held → ⊥) → (raws' held' : ℕ) → raws' ≡ raws → held' ≡ held → Sweep t (slot + 1) raws' held'
-    sweep-miss-on h raws' held' a b = rw (a, b) (sweep-stay p t done.order slot raws held w.sweep h walked-slot)
+    pub sweep_miss-on : (slot ≡ held → ⊥) → (raws' held' : ℕ) → raws' ≡ raws → held' ≡ held → Sweep t (slot + 1) raws' held'
+    sweep_miss-on h raws' held' a b = rw (a, b) (sweep_stay p t done.order slot raws held w.sweep h walked_slot)
 
-  module _ (slot raws held : ℕ) (wide : Bool) (w : Walked s t slot raws held wide) (past : poolCount t ≤ slot) where
-    at-end : slot ≡ poolCount t
-    at-end = omega (arith, w.high)
+  module _ (slot raws held : ℕ) (wide : Bool) (w : Walked s t slot raws held wide) (past : pool_count t ≤ slot) where
+    at_end_lem : slot ≡ pool_count t
+    at_end_lem = omega (arith, w.high)
 
-    pub size-end : (sum : ℕ) → sum ≡ 2 + length (below (slotIn s t) slot) → sum ≡ length (poolIn s t)
+    pub size-end : (sum : ℕ) → sum ≡ 2 + length (below (slot_in s t) slot) → sum ≡ length (pool_in s t)
     unfolding be2
     size-end sum a =
-        a ∙ ap (λ n. 2 + length (below (slotIn s t) n)) at-end ∙ sym (length-append (be2 (poolCount t)) (below (slotIn s t) (poolCount t)))
+        a ∙ ap (λ n. 2 + length (below (slot_in s t) n)) at_end_lem ∙ sym (length-append (be2 (pool_count t)) (below (slot_in s t) (pool_count t)))
 
-    pub pool-end :
-        (d d₀ d₁ : List ℕ) (end at : ℕ) → end ≡ poolCount t → d₀ ≡ paste d 0 (be2 end) 2 → 2 ≤ length d → Wrote d₀ 2 (below (slotIn s t) slot) d₁ at →
-        d₁ ≡ overwrite (poolIn s t) d
+    pub pool_end :
+        (d d₀ d₁ : List ℕ) (end at : ℕ) → end ≡ pool_count t → d₀ ≡ paste d 0 (be2 end) 2 → 2 ≤ length d → Wrote d₀ 2 (below (slot_in s t) slot) d₁ at →
+        d₁ ≡ overwrite (pool_in s t) d
     unfolding be2
-    pool-end d d₀ d₁ end at e first room second =
-        let all = wrote_then (wrote-short d 0 end first) room second in
-        all.out ∙ paste-first d (be2 end ++ below (slotIn s t) slot) ∙ rw (e, at-end)
+    pool_end d d₀ d₁ end at e first room second =
+        let all = wrote_then (wrote_short d 0 end first) room second in
+        all.out ∙ paste-first d (be2 end ++ below (slot_in s t) slot) ∙ rw (e, at_end_lem)
 
-pub pool-begins : (s : List ℕ) (t : Store) → 2 ≤ length (poolIn s t)
+pub pool_begins : (s : List ℕ) (t : Store) → 2 ≤ length (pool_in s t)
 unfolding be2
-pool-begins s t = omega (arith, length-append (be2 (poolCount t)) (below (slotIn s t) (poolCount t)))
+pool_begins s t = omega (arith, length-append (be2 (pool_count t)) (below (slot_in s t) (pool_count t)))
 
 -- raw slots are few
-pub held-few : (s p : List ℕ) (t : Store) → Work s p → HeldOrder p t → heldCount t < 4294967295
+pub held-few : (s p : List ℕ) (t : Store) → Work s p → HeldOrder p t → held_count t < 4294967295
 held-few s p t work o =
     let z = work-sizes s p work in
     let b = work-small s p work in
-    omega (arith, o.room, z.order, b.raw-constants, b.raw-bootstraps)
+    omega (arith, o.room, z.order, b.raw_constants, b.raw_bootstraps)

@@ -2,15 +2,15 @@
 use Rattle.std.specs.Prelude.{true, false, List, [], ◌≡◌, ℕ, ◌+◌, ◌≤◌, ◌<◌, eqb, length, get_or, take, drop}
 use Rattle.std.proofs.Math.Option.{Option, none, some}
 use Rattle.definition.specs.Shapes.{Entry}
-use Rattle.definition.specs.Job.{request, readBuild}
-use Rattle.definition.specs.Numbering.{attributeName}
-use Rattle.definition.specs.Layout.{classSlotOf}
+use Rattle.definition.specs.Job.{request, read_build}
+use Rattle.definition.specs.Numbering.{attribute_name}
+use Rattle.definition.specs.Layout.{class_slot_of}
 use Rattle.store.specs.Store.{Store, size}
-use Rattle.store.specs.JobIn.{jobIn}
+use Rattle.store.specs.JobIn.{job_in}
 use Rattle.store.specs.Regions.{COUNTS, ANSWERS, AT}
 use Rattle.output.specs.declared.ClassName.{ClassName}
-use Rattle.output.specs.declared.ClassName.TheVariants as className
-use Rattle.output.specs.Contents.{shownIn, contentIn}
+use Rattle.output.specs.declared.ClassName.TheVariants as class_name
+use Rattle.output.specs.Contents.{shown_in, content_in}
 
 -- the text that a slot shows, if it shows one
 unfoldable pub text_of : Option (Entry (List ℕ) ℕ) → Option (List ℕ)
@@ -23,24 +23,24 @@ class_of shown none = none
 class_of shown (some e) = elim (eqb e.tag 7) [ true ↦ text_of (shown (get_or e.kids 0 0)) | false ↦ none ]
 
 -- what a slot shows
-abbrev pub shownAt : List ℕ → Store → ℕ → Option (Entry (List ℕ) ℕ)
-shownAt s t slot = shownIn s t (contentIn s t slot)
+abbrev pub shown_at : List ℕ → Store → ℕ → Option (Entry (List ℕ) ℕ)
+shown_at s t slot = shown_in s t (content_in s t slot)
 
 -- the class slot of record 60, and the name of the Class there
-abbrev pub classSlotIn : List ℕ → Store → ℕ
-classSlotIn s t = classSlotOf (t ANSWERS) (jobIn s).build.class
+abbrev pub class_slot_in : List ℕ → Store → ℕ
+class_slot_in s t = class_slot_of (t ANSWERS) (job_in s).build.class
 
-abbrev pub classIn : List ℕ → Store → Option (List ℕ)
-classIn s t = class_of (shownAt s t) (shownAt s t (classSlotIn s t))
+abbrev pub class_in : List ℕ → Store → Option (List ℕ)
+class_in s t = class_of (shown_at s t) (shown_at s t (class_slot_in s t))
 
 -- the code's class name is this one: bytes of the job, or the text "BootstrapMethods"
 abbrev pub NameIs : List ℕ → ClassName → Option (List ℕ) → Type 0
-NameIs s className.None o = o ≡ none
-NameIs s (className.Bytes start size) o = (start + size ≤ length s) × (o ≡ some (take size (drop start s)))
-NameIs s className.Attribute o = o ≡ some attributeName
+NameIs s class_name.None o = o ≡ none
+NameIs s (class_name.Bytes start size) o = (start + size ≤ length s) × (o ≡ some (take size (drop start s)))
+NameIs s class_name.Attribute o = o ≡ some attribute_name
 
 -- record 60 stands at the counter AT, and the request that it cites has an answer
 pub record ClassAt (s p : List ℕ) (t : Store) : Type 0 where
   pub counted : AT < size p COUNTS
-  pub build : readBuild (drop (get_or (t COUNTS) AT 0 + 1) s) ≡ some ((jobIn s).build, [])
-  pub asked : (n : ℕ) → (jobIn s).build.class ≡ request n → n < size p ANSWERS
+  pub build : read_build (drop (get_or (t COUNTS) AT 0 + 1) s) ≡ some ((job_in s).build, [])
+  pub asked : (n : ℕ) → (job_in s).build.class ≡ request n → n < size p ANSWERS

@@ -6,19 +6,19 @@ ghost use Rattle.definition.specs.Basics.{concat};
 ghost use Rattle.definition.specs.Bytes.{be2};
 ghost use Rattle.definition.specs.Shapes.{Entry, is_wide};
 ghost use Rattle.definition.specs.Job.{Reference, define};
-ghost use Rattle.definition.specs.Numbering.{attributeName};
-ghost use Rattle.definition.specs.Run.{entryBytes, slotBytes, rowBytes, classOut, overwrite};
+ghost use Rattle.definition.specs.Numbering.{attribute_name};
+ghost use Rattle.definition.specs.Run.{entry_bytes, slot_bytes, row_bytes, class_out, overwrite};
 ghost use Rattle.raw_const.specs.Entries.{Wrote};
-ghost use Rattle.job.specs.Stored.{Found, WhatEntry, anyDefinition, isWorked};
+ghost use Rattle.job.specs.Stored.{Found, WhatEntry, any_definition, is_worked};
 ghost use Rattle.store.specs.Store.{size, store, On, IsWord, Read};
 ghost use Rattle.store.specs.Regions.{COUNTS, MARKS, GIVEN, INDEXES, OWNER-HEADS, OWNER-LINKS, OFFSETS, FIRSTS, SIZES, CHILDREN, NODES, ANSWERS, ORIGINS, VALUES, NODE-COUNT, Work};
 ghost use Rattle.store.specs.Chains.{Heads};
-ghost use Rattle.store.specs.Words.{ENTRY, HALF, cut, childSlot};
+ghost use Rattle.store.specs.Words.{ENTRY, HALF, cut, child_slot};
 ghost use Rattle.store.specs.Entries.{WordsAt};
-ghost use Rattle.interner.specs.Nodes.{nodeCount};
-ghost use Rattle.output.specs.Contents.{NOTHING, ATTRIBUTE, childNumber, ChildThere, childCount, finishedIn, Made, KidsNumbered, ShortChild, textEntry, shownIn, wideIn, IsContent, rawWord, linkWord, link_of, NoneAbove, ownerIn, nameSlot, wideAt, contentIn, Searched, Owned, heldIn, HeldOrder, Sweep, OwnersMade, poolIn, Finished};
-ghost use Rattle.output.specs.Names.{text_of, classSlotIn, classIn, NameIs, ClassAt};
-ghost use Rattle.output.specs.Rows.{slotsFrom, row_in, Slotted, RowReady, rawRows, rawIndexIn, inlineIndexIn, rawNodeIn, rowCountIn, reachedAt, passed, rowNodeIn, rowsIn, constantsFor, RowsReady};
+ghost use Rattle.interner.specs.Nodes.{node_count};
+ghost use Rattle.output.specs.Contents.{NOTHING, ATTRIBUTE, child_number, ChildThere, child_count, finished_in, Made, KidsNumbered, ShortChild, text_entry, shown_in, wide_in, IsContent, raw_word_lem, link_word, link_of, NoneAbove, owner_in, name_slot, wide_at, content_in, Searched, Owned, held_in_lem, HeldOrder, Sweep, OwnersMade, pool_in, Finished};
+ghost use Rattle.output.specs.Names.{text_of, class_slot_in, class_in, NameIs, ClassAt};
+ghost use Rattle.output.specs.Rows.{slots_from, row_in, Slotted, RowReady, raw_rows, raw_index_in, inline_index_in, raw_node_in, row_count_in, reached_at, passed, row_node_in, rows_in, constants_for, RowsReady};
 
 use store::{
     ANSWERS, AT, CHILDREN, COUNTS, ENTRY, FIRSTS, GIVEN, HALF, HELD_COUNT, INDEXES, INLINE,
@@ -72,7 +72,7 @@ fn first_child(w: &[u32], p: &[usize], k: usize) -> usize
 // The slot of a child that has one: `slot_of`.
 fn child_slot(w: &[u32], p: &[usize], child: usize) -> usize
     requires { On p.now (length w.now) × (child < ENTRY + size p.now GIVEN) }
-    ensures { result ≡ childSlot (store p.now w.now GIVEN) child }
+    ensures { result ≡ child_slot (store p.now w.now GIVEN) child }
 {
     if child < ENTRY {
         return child;
@@ -88,10 +88,10 @@ fn index_of(w: &[u32], p: &[usize], e: usize, first: usize) -> usize
     load(w, p, INDEXES, e - first) - 1
 }
 
-// The number of a child that has one: `childNumber`.
+// The number of a child that has one: `child_number`.
 fn child_number(w: &[u32], p: &[usize], child: usize) -> usize
     requires { On p.now (length w.now) × ChildThere p.now (store p.now w.now NODES) (store p.now w.now INDEXES) child }
-    ensures { result ≡ childNumber (size p.now MARKS - size p.now INDEXES) (store p.now w.now GIVEN) (store p.now w.now INDEXES) (store p.now w.now NODES) child }
+    ensures { result ≡ child_number (size p.now MARKS - size p.now INDEXES) (store p.now w.now GIVEN) (store p.now w.now INDEXES) (store p.now w.now NODES) child }
 {
     if child < ENTRY {
         return child;
@@ -106,16 +106,16 @@ fn child_number(w: &[u32], p: &[usize], child: usize) -> usize
 
 // The tag of a node is that of a wide constant.
 fn node_is_wide(job: &[u8], w: &[u32], p: &[usize], k: usize) -> bool
-    requires { On p.now (length w.now) × Work job.now p.now × Made job.now (store p.now w.now) × (k < nodeCount (store p.now w.now)) }
-    ensures { result ≡ is_wide (finishedIn job.now (store p.now w.now) k).tag }
+    requires { On p.now (length w.now) × Work job.now p.now × Made job.now (store p.now w.now) × (k < node_count (store p.now w.now)) }
+    ensures { result ≡ is_wide (finished_in job.now (store p.now w.now) k).tag }
 {
     raw_const::is_long(job::tag_at(job, node_at(w, p, k)))
 }
 
-// How many bytes a node's entry takes: `length (entryBytes ..)`.
+// How many bytes a node's entry takes: `length (entry_bytes ..)`.
 fn node_length(job: &[u8], w: &[u32], p: &[usize], k: usize) -> usize
-    requires { On p.now (length w.now) × Work job.now p.now × Made job.now (store p.now w.now) × (k < nodeCount (store p.now w.now)) }
-    ensures { result ≡ length (entryBytes (finishedIn job.now (store p.now w.now) k)) }
+    requires { On p.now (length w.now) × Work job.now p.now × Made job.now (store p.now w.now) × (k < node_count (store p.now w.now)) }
+    ensures { result ≡ length (entry_bytes (finished_in job.now (store p.now w.now) k)) }
 {
     let at = node_at(w, p, k);
     let tag = job::tag_at(job, at);
@@ -125,17 +125,17 @@ fn node_length(job: &[u8], w: &[u32], p: &[usize], k: usize) -> usize
     raw_const::entry_length(tag, interner::literal_size(job, at))
 }
 
-// The text that the bootstrap attribute's name needs: `attributeName`.
+// The text that the bootstrap attribute's name needs: `attribute_name`.
 fn attribute_name() -> [u8; 16]
-    ensures { result ≡ attributeName }
+    ensures { result ≡ attribute_name }
 {
     *b"BootstrapMethods"
 }
 
-// How many bytes a content takes: `length (slotBytes ..)`.
+// How many bytes a content takes: `length (slot_bytes ..)`.
 fn content_length(job: &[u8], w: &[u32], p: &[usize], content: usize) -> usize
     requires { On p.now (length w.now) × Work job.now p.now × Made job.now (store p.now w.now) × IsContent job.now (store p.now w.now) content }
-    ensures { result ≡ length (slotBytes (shownIn job.now (store p.now w.now) content)) }
+    ensures { result ≡ length (slot_bytes (shown_in job.now (store p.now w.now) content)) }
 {
     if content < NOTHING {
         return node_length(job, w, p, content);
@@ -152,7 +152,7 @@ fn content_length(job: &[u8], w: &[u32], p: &[usize], content: usize) -> usize
 // The number of child i of n that stand from `first` on; 0 where there is none.
 fn number_at(w: &[u32], p: &[usize], first: usize, n: usize, i: usize) -> u16
     requires { On p.now (length w.now) × (first + n ≤ size p.now CHILDREN) × (i < n → ShortChild p.now (store p.now w.now) (get_or (store p.now w.now CHILDREN) (first + i) 0)) }
-    ensures { result ≡ get_or (map (childNumber (size p.now MARKS - size p.now INDEXES) (store p.now w.now GIVEN) (store p.now w.now INDEXES) (store p.now w.now NODES)) (cut (store p.now w.now CHILDREN) first n)) i 0 }
+    ensures { result ≡ get_or (map (child_number (size p.now MARKS - size p.now INDEXES) (store p.now w.now GIVEN) (store p.now w.now INDEXES) (store p.now w.now NODES)) (cut (store p.now w.now CHILDREN) first n)) i 0 }
 {
     if i < n {
         return child_number(w, p, load(w, p, CHILDREN, first + i)) as u16;
@@ -160,7 +160,7 @@ fn number_at(w: &[u32], p: &[usize], first: usize, n: usize, i: usize) -> u16
     0
 }
 
-// Writes the entry of node k, which has n children; the place behind it: `entryBytes`.
+// Writes the entry of node k, which has n children; the place behind it: `entry_bytes`.
 fn write_references(
     pool: &mut [u8],
     at: usize,
@@ -170,8 +170,8 @@ fn write_references(
     k: usize,
     n: usize,
 ) -> usize
-    requires { On p.now (length w.now) × Work job.now p.now × Made job.now (store p.now w.now) × (k < nodeCount (store p.now w.now)) × KidsNumbered job.now (store p.now w.now) k × (n ≡ childCount (store p.now w.now SIZES) (store p.now w.now NODES) k) × (0 < n) × (at + length (entryBytes (finishedIn job.now (store p.now w.now) k)) ≤ length pool.old) }
-    ensures { Wrote pool.old at (entryBytes (finishedIn job.now (store p.now w.now) k)) pool.new result }
+    requires { On p.now (length w.now) × Work job.now p.now × Made job.now (store p.now w.now) × (k < node_count (store p.now w.now)) × KidsNumbered job.now (store p.now w.now) k × (n ≡ child_count (store p.now w.now SIZES) (store p.now w.now NODES) k) × (0 < n) × (at + length (entry_bytes (finished_in job.now (store p.now w.now) k)) ≤ length pool.old) }
+    ensures { Wrote pool.old at (entry_bytes (finished_in job.now (store p.now w.now) k)) pool.new result }
 {
     let from = node_at(w, p, k);
     let tag = job::tag_at(job, from);
@@ -191,7 +191,7 @@ fn write_worked(
     p: &[usize],
     from: usize,
 ) -> usize
-    requires { On p.now (length w.now) × Work job.now p.now × WordsAt job.now (store p.now w.now VALUES) from × (isWorked job.now from ≡ true) × ((x : Entry (List ℕ) Reference) × (next : ℕ) × Found anyDefinition job.now from (define x) next × (at + 1 + length x.literal ≤ length pool.old)) }
+    requires { On p.now (length w.now) × Work job.now p.now × WordsAt job.now (store p.now w.now VALUES) from × (is_worked job.now from ≡ true) × ((x : Entry (List ℕ) Reference) × (next : ℕ) × Found any_definition job.now from (define x) next × (at + 1 + length x.literal ≤ length pool.old)) }
     ensures { WhatEntry job.now from (λ x. Wrote pool.old at (x.tag ∷ x.literal) pool.new result) }
 {
     let tag = job::tag_at(job, from);
@@ -204,10 +204,10 @@ fn write_worked(
     at + 5
 }
 
-// Writes a node's entry; the place behind it: `entryBytes`.
+// Writes a node's entry; the place behind it: `entry_bytes`.
 fn write_node(pool: &mut [u8], at: usize, job: &[u8], w: &[u32], p: &[usize], k: usize) -> usize
-    requires { On p.now (length w.now) × Work job.now p.now × Made job.now (store p.now w.now) × (k < nodeCount (store p.now w.now)) × KidsNumbered job.now (store p.now w.now) k × (at + length (entryBytes (finishedIn job.now (store p.now w.now) k)) ≤ length pool.old) }
-    ensures { Wrote pool.old at (entryBytes (finishedIn job.now (store p.now w.now) k)) pool.new result }
+    requires { On p.now (length w.now) × Work job.now p.now × Made job.now (store p.now w.now) × (k < node_count (store p.now w.now)) × KidsNumbered job.now (store p.now w.now) k × (at + length (entry_bytes (finished_in job.now (store p.now w.now) k)) ≤ length pool.old) }
+    ensures { Wrote pool.old at (entry_bytes (finished_in job.now (store p.now w.now) k)) pool.new result }
 {
     let n = child_count(w, p, k);
     if 0 < n {
@@ -223,17 +223,17 @@ fn write_node(pool: &mut [u8], at: usize, job: &[u8], w: &[u32], p: &[usize], k:
     raw_const::write_entry(pool, at, tag, 0, job, start, s.end - start, 0, 0)
 }
 
-// Writes the empty text; the place behind it: `entryBytes`. It fills most slots of a sparse pool, so it doesn't go by the table of fields.
+// Writes the empty text; the place behind it: `entry_bytes`. It fills most slots of a sparse pool, so it doesn't go by the table of fields.
 fn write_empty(pool: &mut [u8], at: usize) -> usize
     requires { at + 3 ≤ length pool.old }
-    ensures { Wrote pool.old at (entryBytes (textEntry [])) pool.new result }
+    ensures { Wrote pool.old at (entry_bytes (text_entry [])) pool.new result }
 {
     writer::put_u8(pool, at, 1);
     writer::put_u16(pool, at + 1, 0);
     at + 3
 }
 
-// Writes a content; the place behind it: `slotBytes`.
+// Writes a content; the place behind it: `slot_bytes`.
 fn write_content(
     pool: &mut [u8],
     at: usize,
@@ -242,8 +242,8 @@ fn write_content(
     p: &[usize],
     content: usize,
 ) -> usize
-    requires { On p.now (length w.now) × Work job.now p.now × Made job.now (store p.now w.now) × IsContent job.now (store p.now w.now) content × (at + length (slotBytes (shownIn job.now (store p.now w.now) content)) ≤ length pool.old) }
-    ensures { Wrote pool.old at (slotBytes (shownIn job.now (store p.now w.now) content)) pool.new result }
+    requires { On p.now (length w.now) × Work job.now p.now × Made job.now (store p.now w.now) × IsContent job.now (store p.now w.now) content × (at + length (slot_bytes (shown_in job.now (store p.now w.now) content)) ≤ length pool.old) }
+    ensures { Wrote pool.old at (slot_bytes (shown_in job.now (store p.now w.now) content)) pool.new result }
 {
     if content < NOTHING {
         return write_node(pool, at, job, w, p, content);
@@ -260,7 +260,7 @@ fn write_content(
 
 // Each node joins the chain of its slot, one without a slot that of 0.
 pub fn own_slots(w: &mut [u32], p: &[usize])
-    requires { On p.now (length w.old) × Heads p.now OWNER-HEADS × (NODE-COUNT < size p.now COUNTS) × (nodeCount (store p.now w.old) ≤ size p.now GIVEN) × (nodeCount (store p.now w.old) ≤ size p.now OWNER-LINKS) × ((i : ℕ) → get_or (store p.now w.old OWNER-HEADS) i 0 ≡ 0) }
+    requires { On p.now (length w.old) × Heads p.now OWNER-HEADS × (NODE-COUNT < size p.now COUNTS) × (node_count (store p.now w.old) ≤ size p.now GIVEN) × (node_count (store p.now w.old) ≤ size p.now OWNER-LINKS) × ((i : ℕ) → get_or (store p.now w.old OWNER-HEADS) i 0 ≡ 0) }
     ensures { OwnersMade p.now (store p.now w.old) (store p.now w.new) }
 {
     let n = load(w, p, COUNTS, NODE_COUNT);
@@ -275,7 +275,7 @@ pub fn own_slots(w: &mut [u32], p: &[usize])
 // What a raw slot holds, by its entry: `starts`, `half`.
 fn raw_content(w: &[u32], p: &[usize], e: usize) -> usize
     requires { On p.now (length w.now) × ((e ≡ HALF) ⊎ ((e < size p.now MARKS) × (1 < get_or (store p.now w.now MARKS) e 0))) }
-    ensures { result ≡ rawWord (store p.now w.now MARKS) e }
+    ensures { result ≡ raw_word_lem (store p.now w.now MARKS) e }
 {
     if e == HALF {
         return NOTHING;
@@ -285,7 +285,7 @@ fn raw_content(w: &[u32], p: &[usize], e: usize) -> usize
 
 // What a slot that nobody owns holds: nothing behind a wide constant, else the empty text: `behind`.
 fn unowned(wide: bool) -> usize
-    ensures { result ≡ linkWord wide 0 }
+    ensures { result ≡ link_word wide 0 }
 {
     if wide {
         return NOTHING;
@@ -296,7 +296,7 @@ fn unowned(wide: bool) -> usize
 // What a slot that is neither raw nor the name's holds: a node that has it, else it is unowned: `lookup`, `behind`.
 fn given_content(w: &[u32], p: &[usize], slot: usize, wide: bool) -> usize
     requires { On p.now (length w.now) × Searched p.now (store p.now w.now) × (0 < slot) × IsWord slot }
-    ensures { result ≡ linkWord wide (link_of (store p.now w.now GIVEN) (nodeCount (store p.now w.now)) slot) }
+    ensures { result ≡ link_word wide (link_of (store p.now w.now GIVEN) (node_count (store p.now w.now)) slot) }
 {
     let link = find_number(w, p, OWNER_HEADS, GIVEN, slot);
     if 0 < link {
@@ -308,7 +308,7 @@ fn given_content(w: &[u32], p: &[usize], slot: usize, wide: bool) -> usize
 // What a slot above 0 holds, `wide` telling whether the slot before holds a wide constant: `lookup slot owned`, `behind`.
 fn owner_of(w: &[u32], p: &[usize], slot: usize, wide: bool) -> usize
     requires { On p.now (length w.now) × Searched p.now (store p.now w.now) × (0 < slot) × IsWord slot }
-    ensures { result ≡ ownerIn (store p.now w.now) slot wide }
+    ensures { result ≡ owner_in (store p.now w.now) slot wide }
 {
     if slot == load(w, p, COUNTS, NAME_SLOT) {
         return ATTRIBUTE;
@@ -322,8 +322,8 @@ fn owner_of(w: &[u32], p: &[usize], slot: usize, wide: bool) -> usize
 
 // A content is a node, and wide.
 fn is_wide(job: &[u8], w: &[u32], p: &[usize], content: usize) -> bool
-    requires { On p.now (length w.now) × Work job.now p.now × Made job.now (store p.now w.now) × (content < NOTHING → content < nodeCount (store p.now w.now)) }
-    ensures { result ≡ wideIn job.now (store p.now w.now) content }
+    requires { On p.now (length w.now) × Work job.now p.now × Made job.now (store p.now w.now) × (content < NOTHING → content < node_count (store p.now w.now)) }
+    ensures { result ≡ wide_in job.now (store p.now w.now) content }
 {
     if NOTHING <= content {
         return false;
@@ -334,7 +334,7 @@ fn is_wide(job: &[u8], w: &[u32], p: &[usize], content: usize) -> bool
 // The slot before one above 0 holds a wide constant.
 fn wide_before(job: &[u8], w: &[u32], p: &[usize], slot: usize) -> bool
     requires { On p.now (length w.now) × Work job.now p.now × Searched p.now (store p.now w.now) × Owned job.now (store p.now w.now) × (0 < slot) × IsWord slot }
-    ensures { result ≡ wideAt (ownerIn (store p.now w.now)) (wideIn job.now (store p.now w.now)) (slot - 1) }
+    ensures { result ≡ wide_at (owner_in (store p.now w.now)) (wide_in job.now (store p.now w.now)) (slot - 1) }
 {
     if slot < 2 {
         return false;
@@ -342,10 +342,10 @@ fn wide_before(job: &[u8], w: &[u32], p: &[usize], slot: usize) -> bool
     is_wide(job, w, p, owner_of(w, p, slot - 1, false))
 }
 
-// What a slot holds: `contentOf`.
+// What a slot holds: `content_of`.
 fn content_of(job: &[u8], w: &[u32], p: &[usize], slot: usize) -> usize
     requires { On p.now (length w.now) × Work job.now p.now × Searched p.now (store p.now w.now) × Owned job.now (store p.now w.now) × IsWord slot }
-    ensures { result ≡ contentIn job.now (store p.now w.now) slot }
+    ensures { result ≡ content_in job.now (store p.now w.now) slot }
 {
     if slot == 0 {
         return NOTHING;
@@ -356,7 +356,7 @@ fn content_of(job: &[u8], w: &[u32], p: &[usize], slot: usize) -> usize
 // The raw slot i by rising slot; past every slot where there is none.
 fn held_slot(w: &[u32], p: &[usize], i: usize) -> usize
     requires { On p.now (length w.now) × HeldOrder p.now (store p.now w.now) }
-    ensures { result ≡ heldIn (store p.now w.now) i }
+    ensures { result ≡ held_in_lem (store p.now w.now) i }
 {
     if i < load(w, p, COUNTS, HELD_COUNT) {
         return raws::raw_key(w, p, i);
@@ -368,7 +368,7 @@ fn held_slot(w: &[u32], p: &[usize], i: usize) -> usize
 // needs a search.
 fn last_given(w: &[u32], p: &[usize]) -> usize
     requires { On p.now (length w.now) × Searched p.now (store p.now w.now) }
-    ensures { NoneAbove (store p.now w.now GIVEN) (nodeCount (store p.now w.now)) result }
+    ensures { NoneAbove (store p.now w.now GIVEN) (node_count (store p.now w.now)) result }
 {
     let n = load(w, p, COUNTS, NODE_COUNT);
     let mut last = 0;
@@ -384,7 +384,7 @@ fn last_given(w: &[u32], p: &[usize]) -> usize
 }
 
 // What a slot holds, where no node has one above `last`, `raws` raw slots are below it, `held` is the next one, and `wide` tells of the
-// slot before: `contentOf`.
+// slot before: `content_of`.
 fn next_content(
     w: &[u32],
     p: &[usize],
@@ -395,8 +395,8 @@ fn next_content(
     held: usize,
     wide: bool,
 ) -> usize
-    requires { On p.now (length w.now) × Searched p.now (store p.now w.now) × HeldOrder p.now (store p.now w.now) × Sweep (store p.now w.now) slot raws held × (name ≡ nameSlot (store p.now w.now)) × (0 < slot) × (slot < 65536) × NoneAbove (store p.now w.now GIVEN) (nodeCount (store p.now w.now)) last }
-    ensures { result ≡ ownerIn (store p.now w.now) slot wide }
+    requires { On p.now (length w.now) × Searched p.now (store p.now w.now) × HeldOrder p.now (store p.now w.now) × Sweep (store p.now w.now) slot raws held × (name ≡ name_slot (store p.now w.now)) × (0 < slot) × (slot < 65536) × NoneAbove (store p.now w.now GIVEN) (node_count (store p.now w.now)) last }
+    ensures { result ≡ owner_in (store p.now w.now) slot wide }
 {
     if slot == name {
         return ATTRIBUTE;
@@ -413,7 +413,7 @@ fn next_content(
 // How many bytes the pool takes: `length pool`.
 pub fn pool_length(job: &[u8], w: &[u32], p: &[usize]) -> usize
     requires { On p.now (length w.now) × Work job.now p.now × Finished job.now p.now (store p.now w.now) }
-    ensures { result ≡ length (poolIn job.now (store p.now w.now)) }
+    ensures { result ≡ length (pool_in job.now (store p.now w.now)) }
 {
     let end = load(w, p, COUNTS, POOL_COUNT);
     let name = load(w, p, COUNTS, NAME_SLOT);
@@ -438,8 +438,8 @@ pub fn pool_length(job: &[u8], w: &[u32], p: &[usize]) -> usize
 
 // Writes the pool, its count, then the entries below it: `pool` of `render`.
 pub fn write_pool(pool: &mut [u8], job: &[u8], w: &[u32], p: &[usize])
-    requires { On p.now (length w.now) × Work job.now p.now × Finished job.now p.now (store p.now w.now) × (length (poolIn job.now (store p.now w.now)) ≤ length pool.old) }
-    ensures { pool.new ≡ overwrite (poolIn job.now (store p.now w.now)) pool.old }
+    requires { On p.now (length w.now) × Work job.now p.now × Finished job.now p.now (store p.now w.now) × (length (pool_in job.now (store p.now w.now)) ≤ length pool.old) }
+    ensures { pool.new ≡ overwrite (pool_in job.now (store p.now w.now)) pool.old }
 {
     let end = load(w, p, COUNTS, POOL_COUNT);
     let name = load(w, p, COUNTS, NAME_SLOT);
@@ -498,7 +498,7 @@ fn write_slots(
     n: usize,
 ) -> usize
     requires { On p.now (length w.now) × (first + n ≤ size p.now CHILDREN) × ((i : ℕ) → i < n → Slotted p.now (store p.now w.now GIVEN) (get_or (store p.now w.now CHILDREN) (first + i) 0)) × (start + 2 * n ≤ length out.old) }
-    ensures { Wrote out.old start (concat (map be2 (slotsFrom (store p.now w.now GIVEN) (store p.now w.now CHILDREN) first n))) out.new result }
+    ensures { Wrote out.old start (concat (map be2 (slots_from (store p.now w.now GIVEN) (store p.now w.now CHILDREN) first n))) out.new result }
 {
     let mut at = start;
     let mut i = 0;
@@ -511,10 +511,10 @@ fn write_slots(
     at
 }
 
-// Writes the row of bootstrap node k; the place behind it: `rowBytes`.
+// Writes the row of bootstrap node k; the place behind it: `row_bytes`.
 fn write_row(out: &mut [u8], at: usize, w: &[u32], p: &[usize], k: usize) -> usize
-    requires { On p.now (length w.now) × RowReady p.now (store p.now w.now) k × (at + length (rowBytes (row_in (store p.now w.now) k)) ≤ length out.old) }
-    ensures { Wrote out.old at (rowBytes (row_in (store p.now w.now) k)) out.new result }
+    requires { On p.now (length w.now) × RowReady p.now (store p.now w.now) k × (at + length (row_bytes (row_in (store p.now w.now) k)) ≤ length out.old) }
+    ensures { Wrote out.old at (row_bytes (row_in (store p.now w.now) k)) out.new result }
 {
     let first = first_child(w, p, k);
     let n = child_count(w, p, k) - 1;
@@ -525,8 +525,8 @@ fn write_row(out: &mut [u8], at: usize, w: &[u32], p: &[usize], k: usize) -> usi
 
 // The text of node k, if it is one.
 fn node_text(job: &[u8], w: &[u32], p: &[usize], k: usize) -> ClassName
-    requires { On p.now (length w.now) × Work job.now p.now × Made job.now (store p.now w.now) × (k < nodeCount (store p.now w.now)) }
-    ensures { NameIs job.now result (text_of (some (finishedIn job.now (store p.now w.now) k))) }
+    requires { On p.now (length w.now) × Work job.now p.now × Made job.now (store p.now w.now) × (k < node_count (store p.now w.now)) }
+    ensures { NameIs job.now result (text_of (some (finished_in job.now (store p.now w.now) k))) }
 {
     let at = node_at(w, p, k);
     if job::tag_at(job, at) != 1 {
@@ -540,10 +540,10 @@ fn node_text(job: &[u8], w: &[u32], p: &[usize], k: usize) -> ClassName
     }
 }
 
-// The text that a content is, if it is one: `textIn`.
+// The text that a content is, if it is one: `text_in`.
 fn text_in(job: &[u8], w: &[u32], p: &[usize], content: usize) -> ClassName
     requires { On p.now (length w.now) × Work job.now p.now × Made job.now (store p.now w.now) × IsContent job.now (store p.now w.now) content }
-    ensures { NameIs job.now result (text_of (shownIn job.now (store p.now w.now) content)) }
+    ensures { NameIs job.now result (text_of (shown_in job.now (store p.now w.now) content)) }
 {
     if content < NOTHING {
         return node_text(job, w, p, content);
@@ -557,10 +557,10 @@ fn text_in(job: &[u8], w: &[u32], p: &[usize], content: usize) -> ClassName
     ClassName::Attribute
 }
 
-// The class slot of record 60: `classSlotOf`.
+// The class slot of record 60: `class_slot_of`.
 fn class_slot(job: &[u8], w: &[u32], p: &[usize]) -> usize
     requires { On p.now (length w.now) × ClassAt job.now p.now (store p.now w.now) }
-    ensures { (result ≡ classSlotIn job.now (store p.now w.now)) × IsWord result }
+    ensures { (result ≡ class_slot_in job.now (store p.now w.now)) × IsWord result }
 {
     let at = load(w, p, COUNTS, AT);
     let n = writer::get_u16(job, at + 3) as usize;
@@ -573,7 +573,7 @@ fn class_slot(job: &[u8], w: &[u32], p: &[usize]) -> usize
 // The content is a Class.
 fn is_class(job: &[u8], w: &[u32], p: &[usize], content: usize) -> bool
     requires { On p.now (length w.now) × Work job.now p.now × Made job.now (store p.now w.now) × IsContent job.now (store p.now w.now) content }
-    ensures { result ≡ ltb content NOTHING && eqb (finishedIn job.now (store p.now w.now) content).tag 7 }
+    ensures { result ≡ ltb content NOTHING && eqb (finished_in job.now (store p.now w.now) content).tag 7 }
 {
     if NOTHING <= content {
         return false;
@@ -581,10 +581,10 @@ fn is_class(job: &[u8], w: &[u32], p: &[usize], content: usize) -> bool
     job::tag_at(job, node_at(w, p, content)) == 7
 }
 
-// The class name, if the class slot holds a Class whose slot holds a text: `className`.
+// The class name, if the class slot holds a Class whose slot holds a text: `class_name`.
 pub fn class_name(job: &[u8], w: &[u32], p: &[usize]) -> ClassName
     requires { On p.now (length w.now) × Work job.now p.now × Searched p.now (store p.now w.now) × Owned job.now (store p.now w.now) × ClassAt job.now p.now (store p.now w.now) }
-    ensures { NameIs job.now result (classIn job.now (store p.now w.now)) }
+    ensures { NameIs job.now result (class_in job.now (store p.now w.now)) }
 {
     let class = content_of(job, w, p, class_slot(job, w, p));
     if !is_class(job, w, p, class) {
@@ -595,9 +595,9 @@ pub fn class_name(job: &[u8], w: &[u32], p: &[usize]) -> ClassName
     text_in(job, w, p, content_of(job, w, p, text as usize))
 }
 
-// How many bytes a class name takes: `length (classOut ..)`.
+// How many bytes a class name takes: `length (class_out ..)`.
 pub fn class_length(c: ClassName) -> usize
-    ensures { (s : List ℕ) (o : Option (List ℕ)) → NameIs s c o → result ≡ length (classOut o) }
+    ensures { (s : List ℕ) (o : Option (List ℕ)) → NameIs s c o → result ≡ length (class_out o) }
 {
     match c {
         ClassName::None => 0,
@@ -606,10 +606,10 @@ pub fn class_length(c: ClassName) -> usize
     }
 }
 
-// Writes a class name: `classBytes`.
+// Writes a class name: `class_bytes`.
 pub fn write_class(out: &mut [u8], job: &[u8], c: ClassName)
-    requires { (o : Option (List ℕ)) × NameIs job.now c o × (length (classOut o) ≤ length out.old) }
-    ensures { (o : Option (List ℕ)) → NameIs job.now c o → out.new ≡ overwrite (classOut o) out.old }
+    requires { (o : Option (List ℕ)) × NameIs job.now c o × (length (class_out o) ≤ length out.old) }
+    ensures { (o : Option (List ℕ)) → NameIs job.now c o → out.new ≡ overwrite (class_out o) out.old }
 {
     match c {
         ClassName::None => {}
@@ -626,7 +626,7 @@ pub fn write_class(out: &mut [u8], job: &[u8], c: ClassName)
 // How many raw bootstraps there are: `length indexes`.
 fn raw_rows(w: &[u32], p: &[usize]) -> usize
     requires { On p.now (length w.now) × RowsReady p.now (store p.now w.now) }
-    ensures { result ≡ rawRows (store p.now w.now) }
+    ensures { result ≡ raw_rows (store p.now w.now) }
 {
     load(w, p, COUNTS, RAW_COUNT) - load(w, p, COUNTS, HELD_COUNT)
 }
@@ -634,7 +634,7 @@ fn raw_rows(w: &[u32], p: &[usize]) -> usize
 // The index of raw bootstrap i by rising index; past every index where there is none.
 fn raw_index(w: &[u32], p: &[usize], i: usize) -> usize
     requires { On p.now (length w.now) × RowsReady p.now (store p.now w.now) }
-    ensures { result ≡ rawIndexIn (store p.now w.now) i }
+    ensures { result ≡ raw_index_in (store p.now w.now) i }
 {
     if raw_rows(w, p) <= i {
         return PAST;
@@ -642,10 +642,10 @@ fn raw_index(w: &[u32], p: &[usize], i: usize) -> usize
     raws::raw_key(w, p, load(w, p, COUNTS, HELD_COUNT) + i) - ENTRY
 }
 
-// Its node: `indexNodes`.
+// Its node: `index_nodes`.
 fn raw_row(w: &[u32], p: &[usize], i: usize) -> usize
-    requires { On p.now (length w.now) × RowsReady p.now (store p.now w.now) × (i < rawRows (store p.now w.now)) }
-    ensures { result ≡ rawNodeIn (store p.now w.now) i }
+    requires { On p.now (length w.now) × RowsReady p.now (store p.now w.now) × (i < raw_rows (store p.now w.now)) }
+    ensures { result ≡ raw_node_in (store p.now w.now) i }
 {
     resolver::node_of(
         w,
@@ -657,7 +657,7 @@ fn raw_row(w: &[u32], p: &[usize], i: usize) -> usize
 // The index of inline row i; past every index where there is none.
 fn inline_index(w: &[u32], p: &[usize], i: usize) -> usize
     requires { On p.now (length w.now) × RowsReady p.now (store p.now w.now) }
-    ensures { result ≡ inlineIndexIn (constantsFor p.now) (store p.now w.now) i }
+    ensures { result ≡ inline_index_in (constants_for p.now) (store p.now w.now) i }
 {
     if load(w, p, COUNTS, INLINE_COUNT) <= i {
         return PAST;
@@ -666,10 +666,10 @@ fn inline_index(w: &[u32], p: &[usize], i: usize) -> usize
     index_of(w, p, e, constants(p))
 }
 
-// How many rows the table has, once its holes are filled: `length (fillHoles written waiting)`.
+// How many rows the table has, once its holes are filled: `length (fill_holes written waiting)`.
 pub fn row_count(w: &[u32], p: &[usize]) -> usize
     requires { On p.now (length w.now) × RowsReady p.now (store p.now w.now) }
-    ensures { result ≡ rowCountIn (store p.now w.now) }
+    ensures { result ≡ row_count_in (store p.now w.now) }
 {
     let n = raw_rows(w, p);
     if load(w, p, COUNTS, WRITTEN_COUNT) < n {
@@ -678,10 +678,10 @@ pub fn row_count(w: &[u32], p: &[usize]) -> usize
     load(w, p, COUNTS, ROW_COUNT)
 }
 
-// The node whose row stands at an index, `inline` inline and `raws` raw indexes being below it: `fillHoles`.
+// The node whose row stands at an index, `inline` inline and `raws` raw indexes being below it: `fill_holes`.
 fn row_node(w: &[u32], p: &[usize], index: usize, inline: usize, raws: usize) -> usize
-    requires { On p.now (length w.now) × RowsReady p.now (store p.now w.now) × (index < rowCountIn (store p.now w.now)) × (inline ≡ passed (inlineIndexIn (constantsFor p.now) (store p.now w.now)) index) × (raws ≡ passed (rawIndexIn (store p.now w.now)) index) }
-    ensures { result ≡ rowNodeIn (constantsFor p.now) (store p.now w.now) index }
+    requires { On p.now (length w.now) × RowsReady p.now (store p.now w.now) × (index < row_count_in (store p.now w.now)) × (inline ≡ passed (inline_index_in (constants_for p.now) (store p.now w.now)) index) × (raws ≡ passed (raw_index_in (store p.now w.now)) index) }
+    ensures { result ≡ row_node_in (constants_for p.now) (store p.now w.now) index }
 {
     if inline_index(w, p, inline) == index {
         return load(w, p, INLINE, inline);
@@ -691,7 +691,7 @@ fn row_node(w: &[u32], p: &[usize], index: usize, inline: usize, raws: usize) ->
 
 // 1 if a walk is at the next place that it waits for, else 0.
 fn reached(at: usize, next: usize) -> usize
-    ensures { (result ≡ reachedAt at next) × (result ≤ 1) }
+    ensures { (result ≡ reached_at at next) × (result ≤ 1) }
 {
     if at == next {
         return 1;
@@ -702,7 +702,7 @@ fn reached(at: usize, next: usize) -> usize
 // How many bytes the bootstrap rows take: `length bootstraps`.
 pub fn rows_length(w: &[u32], p: &[usize]) -> usize
     requires { On p.now (length w.now) × RowsReady p.now (store p.now w.now) }
-    ensures { result ≡ length (rowsIn (constantsFor p.now) (store p.now w.now)) }
+    ensures { result ≡ length (rows_in (constants_for p.now) (store p.now w.now)) }
 {
     let end = row_count(w, p);
     let mut size = 0;
@@ -721,8 +721,8 @@ pub fn rows_length(w: &[u32], p: &[usize]) -> usize
 
 // Writes the bootstrap rows: `bootstraps` of `render`.
 pub fn write_rows(bootstraps: &mut [u8], w: &[u32], p: &[usize])
-    requires { On p.now (length w.now) × RowsReady p.now (store p.now w.now) × (length (rowsIn (constantsFor p.now) (store p.now w.now)) ≤ length bootstraps.old) }
-    ensures { bootstraps.new ≡ overwrite (rowsIn (constantsFor p.now) (store p.now w.now)) bootstraps.old }
+    requires { On p.now (length w.now) × RowsReady p.now (store p.now w.now) × (length (rows_in (constants_for p.now) (store p.now w.now)) ≤ length bootstraps.old) }
+    ensures { bootstraps.new ≡ overwrite (rows_in (constants_for p.now) (store p.now w.now)) bootstraps.old }
 {
     let end = row_count(w, p);
     let mut at = 0;

@@ -8,32 +8,32 @@ use native.Mathlib.Numerals.{add-one}
 use native.Mathlib.Omega.{arith}
 use lib.ListN.{length, take, drop, get_or}
 use lib.Seq.{drop-cons}
-use Rattle.jvms.specs.Pool.{Reader, return, ◌>>=◌, u1, u2, u4, array, Constant, Utf8, Integer, Float, Long, Double, Class, String, Fieldref, Methodref, InterfaceMethodref, NameAndType, MethodHandle, MethodType, Dynamic, InvokeDynamic, Module, Package, structures, structure, cp-info, Slot, usable, unusable, BootstrapMethod}
-use Rattle.jvms.specs.Written.{constant-bytes}
+use Rattle.jvms.specs.Pool.{Reader, return, ◌>>=◌, u1, u2, u4, array, Constant, Utf8, Integer, Float, Long, Double, Class, String, Fieldref, Methodref, InterfaceMethodref, NameAndType, MethodHandle, MethodType, Dynamic, InvokeDynamic, Module, Package, structures, structure, cp_info_lem, Slot, usable, unusable, BootstrapMethod}
+use Rattle.jvms.specs.Written.{constant_bytes}
 use Rattle.writer.specs.Numbers.{number2, number4}
 use Rattle.facts.proofs.Lists.{none≢some}
 use Rattle.places.specs.Standing.{slot_of, ConstantAt, MethodAt, Noted}
-use Rattle.places.proofs.Finding.{Finds, finds-return, finds-bind, finds-u1, finds-u2, finds-u4, finds-text, Stands, finds-constant, MethodStands, finds-method}
+use Rattle.places.proofs.Finding.{Finds, finds_return, finds_bind, finds_u1, finds_u2, finds_u4, finds_text, Stands, finds_constant, MethodStands, finds_method}
 
 module _ (s : List ℕ) (p : ℕ) (c : Constant) (there : ConstantAt s p c) where
   -- its tag stands there, and its items behind
-  pub constant-stands : Stands s p c (p + length (constant-bytes c))
-  constant-stands =
-      let (e, low, left, is) = finds-constant s p c there.0 there.1 in
+  pub constant_stands : Stands s p c (p + length (constant_bytes c))
+  constant_stands =
+      let (e, low, left, is) = finds_constant s p c there.0 there.1 in
       record { inside = is.inside; first = is.first; fields = is.fields; behind = refl }
 
   behind-tag : (t : ℕ) → get_or s p 0 ≡ t → structure t structures (drop (p + 1) s) ≡ some (c, there.0)
-  unfolding cp-info u1
+  unfolding cp_info_lem u1
   behind-tag t is =
-      let inside = constant-stands.inside in
-      let shape : cp-info (drop p s) ≡ structure (get_or s p 0) structures (drop (p + 1) s) = rw (drop-cons s p 0 inside, add-one p) in
+      let inside = constant_stands.inside in
+      let shape : cp_info_lem (drop p s) ≡ structure (get_or s p 0) structures (drop (p + 1) s) = rw (drop-cons s p 0 inside, add-one p) in
       rw is at (sym shape ∙ there.1)
 
   -- what the structure of a tag finds is so of the constant
-  by-tag :
+  by_tag :
       (Q : Constant → ℕ → Type 0) (r : Reader Constant) (t : ℕ) → structure t structures ≡ r → get_or s p 0 ≡ t → Finds Q r s (p + 1) →
       (e : ℕ) × (e ≤ length s) × Q c e
-  by-tag Q r t shape is finds =
+  by_tag Q r t shape is finds =
       let (e, low, left, holds) = finds c there.0 (ap (λ r. r (drop (p + 1) s)) (sym shape) ∙ behind-tag t is) in
       (e, low, holds)
 
@@ -50,9 +50,9 @@ module _ (s : List ℕ) (p : ℕ) (c : Constant) (there : ConstantAt s p c) wher
   one-there f k r item end ends t C shape is =
       let Q : Constant → ℕ → Type 0 = λ x e. (x ≡ C (f (p + 1))) × (e ≡ end) in
       let finds : Finds Q (r >>= λ n. return (C n)) s (p + 1) =
-      finds-bind (λ n e. (n ≡ f (p + 1)) × (e ≡ p + 1 + k)) Q r _ s (p + 1) (item (p + 1)) λ n e low h.
-      finds-return Q (C n) s e low (ap C h.0, h.1 ∙ sym ends) in
-      let (e, low, h) = by-tag Q _ t shape is finds in
+      finds_bind (λ n e. (n ≡ f (p + 1)) × (e ≡ p + 1 + k)) Q r _ s (p + 1) (item (p + 1)) λ n e low h.
+      finds_return Q (C n) s e low (ap C h.0, h.1 ∙ sym ends) in
+      let (e, low, h) = by_tag Q _ t shape is finds in
       (h.0, omega arith)
 
   two-there :
@@ -69,45 +69,45 @@ module _ (s : List ℕ) (p : ℕ) (c : Constant) (there : ConstantAt s p c) wher
   two-there f g j k r q item item' mid end mids ends t C shape is =
       let Q : Constant → ℕ → Type 0 = λ x e. (x ≡ C (f (p + 1)) (g mid)) × (e ≡ end) in
       let finds : Finds Q (r >>= λ m. q >>= λ n. return (C m n)) s (p + 1) =
-      finds-bind (λ n e. (n ≡ f (p + 1)) × (e ≡ p + 1 + j)) Q r _ s (p + 1) (item (p + 1)) λ m e low h.
-      finds-bind (λ n e'. (n ≡ g e) × (e' ≡ e + k)) Q q _ s e (item' e) λ n e' low' h'.
+      finds_bind (λ n e. (n ≡ f (p + 1)) × (e ≡ p + 1 + j)) Q r _ s (p + 1) (item (p + 1)) λ m e low h.
+      finds_bind (λ n e'. (n ≡ g e) × (e' ≡ e + k)) Q q _ s e (item' e) λ n e' low' h'.
       let there' : e ≡ mid = h.1 ∙ sym mids in
-      finds-return Q (C m n) s e' low' (ap₂ C h.0 (h'.0 ∙ ap g there'), h'.1 ∙ ap (λ x. x + k) there' ∙ sym ends) in
-      let (e, low, h) = by-tag Q _ t shape is finds in
+      finds_return Q (C m n) s e' low' (ap₂ C h.0 (h'.0 ∙ ap g there'), h'.1 ∙ ap (λ x. x + k) there' ∙ sym ends) in
+      let (e, low, h) = by_tag Q _ t shape is finds in
       (h.0, omega arith)
 
   index-there :
       (t : ℕ) (C : ℕ → Constant) → structure t structures ≡ (u2 >>= λ n. return (C n)) → get_or s p 0 ≡ t →
       (c ≡ C (number2 s (p + 1))) × (p + 3 ≤ length s)
-  index-there = one-there (number2 s) 2 u2 (finds-u2 s) (p + 3) (omega arith)
+  index-there = one-there (number2 s) 2 u2 (finds_u2 s) (p + 3) (omega arith)
 
   four-there :
       (t : ℕ) (C : ℕ → Constant) → structure t structures ≡ (u4 >>= λ n. return (C n)) → get_or s p 0 ≡ t →
       (c ≡ C (number4 s (p + 1))) × (p + 5 ≤ length s)
-  four-there = one-there (number4 s) 4 u4 (finds-u4 s) (p + 5) (omega arith)
+  four-there = one-there (number4 s) 4 u4 (finds_u4 s) (p + 5) (omega arith)
 
-  indexes-there :
+  indexes_there :
       (t : ℕ) (C : ℕ → ℕ → Constant) → structure t structures ≡ (u2 >>= λ m. u2 >>= λ n. return (C m n)) → get_or s p 0 ≡ t →
       (c ≡ C (number2 s (p + 1)) (number2 s (p + 3))) × (p + 5 ≤ length s)
-  indexes-there = two-there (number2 s) (number2 s) 2 2 u2 u2 (finds-u2 s) (finds-u2 s) (p + 3) (p + 5) (omega arith) (omega arith)
+  indexes_there = two-there (number2 s) (number2 s) 2 2 u2 u2 (finds_u2 s) (finds_u2 s) (p + 3) (p + 5) (omega arith) (omega arith)
 
   eight-there :
       (t : ℕ) (C : ℕ → ℕ → Constant) → structure t structures ≡ (u4 >>= λ m. u4 >>= λ n. return (C m n)) → get_or s p 0 ≡ t →
       (c ≡ C (number4 s (p + 1)) (number4 s (p + 5))) × (p + 9 ≤ length s)
-  eight-there = two-there (number4 s) (number4 s) 4 4 u4 u4 (finds-u4 s) (finds-u4 s) (p + 5) (p + 9) (omega arith) (omega arith)
+  eight-there = two-there (number4 s) (number4 s) 4 4 u4 u4 (finds_u4 s) (finds_u4 s) (p + 5) (p + 9) (omega arith) (omega arith)
 
   -- the constant of each tag
-  pub utf8-there : get_or s p 0 ≡ 1 → (c ≡ Utf8 (take (number2 s (p + 1)) (drop (p + 3) s))) × (p + 3 + number2 s (p + 1) ≤ length s)
+  pub utf8_there : get_or s p 0 ≡ 1 → (c ≡ Utf8 (take (number2 s (p + 1)) (drop (p + 3) s))) × (p + 3 + number2 s (p + 1) ≤ length s)
   unfolding structure structures
-  utf8-there is =
+  utf8_there is =
       let size = number2 s (p + 1) in
       let Q : Constant → ℕ → Type 0 = λ x e. (x ≡ Utf8 (take size (drop (p + 3) s))) × (e ≡ p + 3 + size) in
       let finds : Finds Q (u2 >>= λ n. array n u1 >>= λ b. return (Utf8 b)) s (p + 1) =
-      finds-bind (λ n e. (n ≡ size) × (e ≡ p + 1 + 2)) Q u2 _ s (p + 1) (finds-u2 s (p + 1)) λ n e low h.
-      finds-bind (λ l e'. (l ≡ take n (drop e s)) × (length l ≡ n) × (e' ≡ e + n)) Q (array n u1) _ s e (finds-text n s e low) λ b e' low' h'.
+      finds_bind (λ n e. (n ≡ size) × (e ≡ p + 1 + 2)) Q u2 _ s (p + 1) (finds_u2 s (p + 1)) λ n e low h.
+      finds_bind (λ l e'. (l ≡ take n (drop e s)) × (length l ≡ n) × (e' ≡ e + n)) Q (array n u1) _ s e (finds_text n s e low) λ b e' low' h'.
       let there' : e ≡ p + 3 = omega arith in
-      finds-return Q (Utf8 b) s e' low' (ap Utf8 (h'.0 ∙ ap₂ (λ n e. take n (drop e s)) h.0 there'), omega arith) in
-      let (e, low, h) = by-tag Q _ 1 refl is finds in
+      finds_return Q (Utf8 b) s e' low' (ap Utf8 (h'.0 ∙ ap₂ (λ n e. take n (drop e s)) h.0 there'), omega arith) in
+      let (e, low, h) = by_tag Q _ 1 refl is finds in
       (h.0, omega arith)
 
   pub integer-there : get_or s p 0 ≡ 3 → (c ≡ Integer (number4 s (p + 1))) × (p + 5 ≤ length s)
@@ -118,68 +118,68 @@ module _ (s : List ℕ) (p : ℕ) (c : Constant) (there : ConstantAt s p c) wher
   unfolding structure structures
   float-there = four-there 4 Float refl
 
-  pub long-there : get_or s p 0 ≡ 5 → (c ≡ Long (number4 s (p + 1)) (number4 s (p + 5))) × (p + 9 ≤ length s)
+  pub long_there : get_or s p 0 ≡ 5 → (c ≡ Long (number4 s (p + 1)) (number4 s (p + 5))) × (p + 9 ≤ length s)
   unfolding structure structures
-  long-there = eight-there 5 Long refl
+  long_there = eight-there 5 Long refl
 
   pub double-there : get_or s p 0 ≡ 6 → (c ≡ Double (number4 s (p + 1)) (number4 s (p + 5))) × (p + 9 ≤ length s)
   unfolding structure structures
   double-there = eight-there 6 Double refl
 
-  pub class-there : get_or s p 0 ≡ 7 → (c ≡ Class (number2 s (p + 1))) × (p + 3 ≤ length s)
+  pub class_there_lem : get_or s p 0 ≡ 7 → (c ≡ Class (number2 s (p + 1))) × (p + 3 ≤ length s)
   unfolding structure structures
-  class-there = index-there 7 Class refl
+  class_there_lem = index-there 7 Class refl
 
-  pub string-there : get_or s p 0 ≡ 8 → (c ≡ String (number2 s (p + 1))) × (p + 3 ≤ length s)
+  pub string_there : get_or s p 0 ≡ 8 → (c ≡ String (number2 s (p + 1))) × (p + 3 ≤ length s)
   unfolding structure structures
-  string-there = index-there 8 String refl
+  string_there = index-there 8 String refl
 
-  pub fieldref-there : get_or s p 0 ≡ 9 → (c ≡ Fieldref (number2 s (p + 1)) (number2 s (p + 3))) × (p + 5 ≤ length s)
+  pub fieldref_there : get_or s p 0 ≡ 9 → (c ≡ Fieldref (number2 s (p + 1)) (number2 s (p + 3))) × (p + 5 ≤ length s)
   unfolding structure structures
-  fieldref-there = indexes-there 9 Fieldref refl
+  fieldref_there = indexes_there 9 Fieldref refl
 
-  pub methodref-there : get_or s p 0 ≡ 10 → (c ≡ Methodref (number2 s (p + 1)) (number2 s (p + 3))) × (p + 5 ≤ length s)
+  pub methodref_there : get_or s p 0 ≡ 10 → (c ≡ Methodref (number2 s (p + 1)) (number2 s (p + 3))) × (p + 5 ≤ length s)
   unfolding structure structures
-  methodref-there = indexes-there 10 Methodref refl
+  methodref_there = indexes_there 10 Methodref refl
 
-  pub interface-methodref-there : get_or s p 0 ≡ 11 → (c ≡ InterfaceMethodref (number2 s (p + 1)) (number2 s (p + 3))) × (p + 5 ≤ length s)
+  pub interface_methodref_there : get_or s p 0 ≡ 11 → (c ≡ InterfaceMethodref (number2 s (p + 1)) (number2 s (p + 3))) × (p + 5 ≤ length s)
   unfolding structure structures
-  interface-methodref-there = indexes-there 11 InterfaceMethodref refl
+  interface_methodref_there = indexes_there 11 InterfaceMethodref refl
 
-  pub name-and-type-there : get_or s p 0 ≡ 12 → (c ≡ NameAndType (number2 s (p + 1)) (number2 s (p + 3))) × (p + 5 ≤ length s)
+  pub name_and-type_there : get_or s p 0 ≡ 12 → (c ≡ NameAndType (number2 s (p + 1)) (number2 s (p + 3))) × (p + 5 ≤ length s)
   unfolding structure structures
-  name-and-type-there = indexes-there 12 NameAndType refl
+  name_and-type_there = indexes_there 12 NameAndType refl
 
-  pub method-handle-there : get_or s p 0 ≡ 15 → (c ≡ MethodHandle (get_or s (p + 1) 0) (number2 s (p + 2))) × (p + 4 ≤ length s)
+  pub method_handle_there : get_or s p 0 ≡ 15 → (c ≡ MethodHandle (get_or s (p + 1) 0) (number2 s (p + 2))) × (p + 4 ≤ length s)
   unfolding structure structures
-  method-handle-there =
-      two-there (λ a. get_or s a 0) (number2 s) 1 2 u1 u2 (finds-u1 s) (finds-u2 s) (p + 2) (p + 4) (omega arith) (omega arith) 15 MethodHandle refl
+  method_handle_there =
+      two-there (λ a. get_or s a 0) (number2 s) 1 2 u1 u2 (finds_u1 s) (finds_u2 s) (p + 2) (p + 4) (omega arith) (omega arith) 15 MethodHandle refl
 
-  pub method-type-there : get_or s p 0 ≡ 16 → (c ≡ MethodType (number2 s (p + 1))) × (p + 3 ≤ length s)
+  pub method_type_there : get_or s p 0 ≡ 16 → (c ≡ MethodType (number2 s (p + 1))) × (p + 3 ≤ length s)
   unfolding structure structures
-  method-type-there = index-there 16 MethodType refl
+  method_type_there = index-there 16 MethodType refl
 
-  pub dynamic-there : get_or s p 0 ≡ 17 → (c ≡ Dynamic (number2 s (p + 1)) (number2 s (p + 3))) × (p + 5 ≤ length s)
+  pub dynamic_there : get_or s p 0 ≡ 17 → (c ≡ Dynamic (number2 s (p + 1)) (number2 s (p + 3))) × (p + 5 ≤ length s)
   unfolding structure structures
-  dynamic-there = indexes-there 17 Dynamic refl
+  dynamic_there = indexes_there 17 Dynamic refl
 
-  pub invoke-dynamic-there : get_or s p 0 ≡ 18 → (c ≡ InvokeDynamic (number2 s (p + 1)) (number2 s (p + 3))) × (p + 5 ≤ length s)
+  pub invoke_dynamic_there : get_or s p 0 ≡ 18 → (c ≡ InvokeDynamic (number2 s (p + 1)) (number2 s (p + 3))) × (p + 5 ≤ length s)
   unfolding structure structures
-  invoke-dynamic-there = indexes-there 18 InvokeDynamic refl
+  invoke_dynamic_there = indexes_there 18 InvokeDynamic refl
 
-  pub module-there : get_or s p 0 ≡ 19 → (c ≡ Module (number2 s (p + 1))) × (p + 3 ≤ length s)
+  pub module_there : get_or s p 0 ≡ 19 → (c ≡ Module (number2 s (p + 1))) × (p + 3 ≤ length s)
   unfolding structure structures
-  module-there = index-there 19 Module refl
+  module_there = index-there 19 Module refl
 
-  pub package-there : get_or s p 0 ≡ 20 → (c ≡ Package (number2 s (p + 1))) × (p + 3 ≤ length s)
+  pub package_there : get_or s p 0 ≡ 20 → (c ≡ Package (number2 s (p + 1))) × (p + 3 ≤ length s)
   unfolding structure structures
-  package-there = index-there 20 Package refl
+  package_there = index-there 20 Package refl
 
 -- a bootstrap method: its handle, the number of its arguments, and the arguments
-pub method-stands :
-    (s : List ℕ) (p : ℕ) (m : BootstrapMethod) → MethodAt s p m → MethodStands s p m (p + 4 + 2 * length m.bootstrap-arguments)
-method-stands s p m there =
-    let (e, low, left, is) = finds-method s p m there.0 there.1 in
+pub method_stands :
+    (s : List ℕ) (p : ℕ) (m : BootstrapMethod) → MethodAt s p m → MethodStands s p m (p + 4 + 2 * length m.bootstrap_arguments)
+method_stands s p m there =
+    let (e, low, left, is) = finds_method s p m there.0 there.1 in
     record { handle = is.handle; count = is.count; argument = is.argument; behind = refl; room = is.room }
 
 -- an index whose place is 0 has no constant, and one with a place has the constant that stands there

@@ -2,7 +2,7 @@
 use Rattle.std.specs.Prelude.{List, ◌≡◌, ℕ, zero, suc, ◌<◌, length, drop, get_or}
 use Rattle.std.proofs.Math.Option.{Option, none, some}
 use Rattle.std.proofs.Math.ListN.{get_elem?}
-use Rattle.jvms.specs.Pool.{Constant, Utf8, Integer, Float, Long, Double, Class, String, Fieldref, Methodref, InterfaceMethodref, NameAndType, MethodHandle, MethodType, Dynamic, InvokeDynamic, Module, Package, cp-info, Slot, usable, BootstrapMethod, bootstrap-method}
+use Rattle.jvms.specs.Pool.{Constant, Utf8, Integer, Float, Long, Double, Class, String, Fieldref, Methodref, InterfaceMethodref, NameAndType, MethodHandle, MethodType, Dynamic, InvokeDynamic, Module, Package, cp_info_lem, Slot, usable, BootstrapMethod, bootstrap_method}
 
 -- JVMS table 4.4-A: the tags
 unfoldable pub tag : Constant → ℕ
@@ -31,10 +31,10 @@ slot_of slots (suc i) = get_elem? slots i
 
 -- a constant begins at a place of the bytes, and a bootstrap method
 abbrev pub ConstantAt : List ℕ → ℕ → Constant → Type 0
-ConstantAt bytes at c = (rest : List ℕ) × (cp-info (drop at bytes) ≡ some (c, rest))
+ConstantAt bytes at c = (rest : List ℕ) × (cp_info_lem (drop at bytes) ≡ some (c, rest))
 
 abbrev pub MethodAt : List ℕ → ℕ → BootstrapMethod → Type 0
-MethodAt bytes at m = (rest : List ℕ) × (bootstrap-method (drop at bytes) ≡ some (m, rest))
+MethodAt bytes at m = (rest : List ℕ) × (bootstrap_method (drop at bytes) ≡ some (m, rest))
 
 -- a table has the place of each index's constant, and 0 where none begins
 pub record Noted (bytes : List ℕ) (slots : List Slot) (table : List ℕ) : Type 0 where

@@ -11,15 +11,15 @@ use borrow.Author.Tests.{eqb-true, ne_eqb, ltb-true, ltb-false, le-leb, lt-leb}
 use Rattle.definition.specs.Basics.{good, bad, unless, lookup}
 use Rattle.definition.specs.Shapes.{constant}
 use Rattle.definition.specs.Job.{asks, reference}
-use Rattle.definition.specs.Resolving.{goalOf}
+use Rattle.definition.specs.Resolving.{goal_of}
 use Rattle.facts.proofs.Lists.{none≢some, some_inj}
-use Rattle.job.specs.Stored.{Stands, WhatStands, ReferenceStands, anyRequest}
-use Rattle.job.proofs.Standing.{request-there}
-use Rattle.store.specs.JobIn.{entriesIn, constantsIn, namingsIn}
+use Rattle.job.specs.Stored.{Stands, WhatStands, ReferenceStands, any_request}
+use Rattle.job.proofs.Standing.{request_there}
+use Rattle.store.specs.JobIn.{entries_in, constants_in, namings_in}
 use Rattle.store.specs.Words.{IsReference}
 use Rattle.sym_refs.specs.Names.{CitedIn, Goes}
 use Rattle.sym_refs.specs.Leading.{flagged, WordFor}
-use Rattle.pool.specs.Replying.{RequestAt, WhatRequest, goalFor, LeadsTo, low}
+use Rattle.pool.specs.Replying.{RequestAt, WhatRequest, goal_for, LeadsTo, low}
 
 -- LOW
 
@@ -50,26 +50,26 @@ says b ldc h = ways (eqb b 0x51) refl (eqb b 0x52) refl h
     ways false e false f h = none≢some h
 
 module _ (s : List ℕ) (at : ℕ) where
-  pub request-inside : Stands anyRequest s at → at < length s
-  request-inside (q, next, f) = omega (arith, f.past, f.within)
+  pub request_inside : Stands any_request s at → at < length s
+  request_inside (q, next, f) = omega (arith, f.past, f.within)
 
-  pub ldc-told : (b : ℕ) → b ≡ get_or s at 0 → WhatStands anyRequest s at (λ q next. eqb b 0x52 ≡ q.ldc)
-  ldc-told b is q next f = says b q.ldc (rw is (request-there s at q next f).0)
+  pub ldc_told : (b : ℕ) → b ≡ get_or s at 0 → WhatStands any_request s at (λ q next. eqb b 0x52 ≡ q.ldc)
+  ldc_told b is q next f = says b q.ldc (rw is (request_there s at q next f).0)
 
   -- THE REFERENCE
 
   pub refers : RequestAt s at → ReferenceStands s (at + 1)
-  refers (q, next, f, c) = (constant, (q.what, next, (request-there s at q next f).1))
+  refers (q, next, f, c) = (constant, (q.what, next, (request_there s at q next f).1))
 
   module _ (word : ℕ) (told : WhatStands (reference (flagged false)) s (at + 1) (λ a next. CitedIn s a → WordFor s a word)) where
-    pub worded : RequestAt s at → IsReference s (entriesIn s) word
+    pub worded : RequestAt s at → IsReference s (entries_in s) word
     unfolding flagged
-    worded (q, next, f, c) = (told q.what next (request-there s at q next f).1 c).1
+    worded (q, next, f, c) = (told q.what next (request_there s at q next f).1 c).1
 
-    pub leads : (r : ℕ) → Goes s word r → WhatRequest s at (λ q. LeadsTo s (goalFor s q) r)
+    pub leads : (r : ℕ) → Goes s word r → WhatRequest s at (λ q. LeadsTo s (goal_for s q) r)
     unfolding flagged
     leads r goes q next f c =
         record {
-          word = goes.leads ∙ ap (goalOf (namingsIn s) (constantsIn s)) (told q.what next (request-there s at q next f).1 c).0;
+          word = goes.leads ∙ ap (goal_of (namings_in s) (constants_in s)) (told q.what next (request_there s at q next f).1 c).0;
           is = goes.word;
         }

@@ -17,8 +17,8 @@ use Rattle.slots.specs.Gaps.{GapTable}
 use Rattle.store.specs.Store.{Store, put, among}
 use Rattle.store.specs.Regions.{COUNTS, GIVEN, PENDING, NODE-COUNT, GAP-COUNT, ODD, WIDE, PLAIN, PENDING-COUNT}
 use Rattle.store.proofs.Keeping.{kept_put, kept_then, kept_more}
-use Rattle.interner.specs.Nodes.{nodeCount}
-use Rattle.pool.specs.Pooled.{slotWord, slotsIn, PooledIn, GapsLive, LiveIn, withPending, pendingCount, moving, Goes, Took}
+use Rattle.interner.specs.Nodes.{node_count}
+use Rattle.pool.specs.Pooled.{slot_word, slots_in, PooledIn, GapsLive, LiveIn, with_pending, pending_count, moving, Goes, Took}
 use Rattle.pool.proofs.Words.{not-among, word_some, zeros-some, zeros-less}
 
 -- COUNTERS
@@ -31,11 +31,11 @@ pub record SameGaps (before after : List ℕ) : Type 0 where
   pub plain : get_or after PLAIN 0 ≡ get_or before PLAIN 0
 
 module _ (before after : List ℕ) (g : GapTable) (same : SameGaps before after) where
-  pub slots_same : slotsIn after g ≡ slotsIn before g
+  pub slots_same : slots_in after g ≡ slots_in before g
   slots_same = rw (same.count, same.odd, same.wide, same.plain)
 
-  pub gaps-live-same : GapsLive before g → GapsLive after g
-  gaps-live-same live =
+  pub gaps_live_same : GapsLive before g → GapsLive after g
+  gaps_live_same live =
       record {
         inside = rw same.count live.inside;
         apart = rw same.count live.apart;
@@ -56,8 +56,8 @@ same-gaps counts n =
 
 -- WHAT STAYS
 
-pub goes-not : (t : Store) (g : GapTable) → Goes t t g g
-goes-not t g =
+pub goes_not : (t : Store) (g : GapTable) → Goes t t g g
+goes_not t g =
     record { live = λ l. l; apart = λ top a. a; long = refl; given = λ k h. refl; counters = λ c f. refl; kept = λ k f. refl }
 
 pub goes_then : (t u v : Store) (g h i : GapTable) → Goes t u g h → Goes u v h i → Goes t v g i
@@ -86,9 +86,9 @@ module _ (wide ldc : Bool) (t u : Store) (g h : GapTable) (r : ℕ) (took : Took
   pub same-pending : u PENDING ≡ t PENDING
   same-pending = took.kept PENDING refl
 
-  pub goes-took : Goes t u g h
+  pub goes_took : Goes t u g h
   unfolding every
-  goes-took =
+  goes_took =
       record {
         live =
             λ l.
@@ -105,8 +105,8 @@ module _ (wide ldc : Bool) (t u : Store) (g h : GapTable) (r : ℕ) (took : Took
       }
 
   -- the pool with the slots that are left
-  pub pooled-took : (pool : Pool) → PooledIn pool t g → PooledIn (record { slots = slotsIn (u COUNTS) h; given = pool.given; pending = pool.pending; version = pool.version }) u h
-  pooled-took pool q =
+  pub pooled_took : (pool : Pool) → PooledIn pool t g → PooledIn (record { slots = slots_in (u COUNTS) h; given = pool.given; pending = pool.pending; version = pool.version }) u h
+  pooled_took pool q =
       record {
         slots = refl;
         given = rw same-given q.given;
@@ -114,61 +114,61 @@ module _ (wide ldc : Bool) (t u : Store) (g h : GapTable) (r : ℕ) (took : Took
       }
 
 -- a node onto the stack
-module _ (t : Store) (k : ℕ) (size : PENDING-COUNT < length (t COUNTS)) (room : pendingCount t < length (t PENDING)) where
+module _ (t : Store) (k : ℕ) (size : PENDING-COUNT < length (t COUNTS)) (room : pending_count t < length (t PENDING)) where
   abbrev n : ℕ
-  n = pendingCount t
+  n = pending_count t
 
   abbrev counts : List ℕ
   counts = set (t COUNTS) PENDING-COUNT (n + 1)
 
-  pub pushed-count : get_or counts PENDING-COUNT 0 ≡ n + 1
-  pushed-count = get_or-set_same (t COUNTS) PENDING-COUNT (n + 1) 0 size
+  pub pushed_count : get_or counts PENDING-COUNT 0 ≡ n + 1
+  pushed_count = get_or-set_same (t COUNTS) PENDING-COUNT (n + 1) 0 size
 
-  pub pushed-nodes :
-      k < nodeCount t →
-      ((i : ℕ) → i < n → get_or (t PENDING) i 0 < nodeCount t) →
+  pub pushed_nodes :
+      k < node_count t →
+      ((i : ℕ) → i < n → get_or (t PENDING) i 0 < node_count t) →
       (i : ℕ) → i < get_or counts PENDING-COUNT 0 → get_or (set (t PENDING) n k) i 0 < get_or counts NODE-COUNT 0
-  pushed-nodes low all i h =
+  pushed_nodes low all i h =
       rw (get_or-set_other (t COUNTS) PENDING-COUNT NODE-COUNT (n + 1) 0 (λ e. omega arith))
       (⊎_elim
       (λ (e : i ≡ n). rw (e, get_or-set_same (t PENDING) n k 0 room) low)
-      (λ (e : i ≡ n → ⊥). rw (get_or-set_other (t PENDING) n i k 0 e) (all i (omega (arith, pushed-count, e))))
+      (λ (e : i ≡ n → ⊥). rw (get_or-set_other (t PENDING) n i k 0 e) (all i (omega (arith, pushed_count, e))))
       (equal i n))
 
-  pub pushed-stack : reverse (take (get_or counts PENDING-COUNT 0) (set (t PENDING) n k)) ≡ k ∷ reverse (take n (t PENDING))
-  pushed-stack = rw (pushed-count, add-one, take-suc-set (t PENDING) n k room) (reverse-append (take n (t PENDING)) (k ∷ []))
+  pub pushed_stack : reverse (take (get_or counts PENDING-COUNT 0) (set (t PENDING) n k)) ≡ k ∷ reverse (take n (t PENDING))
+  pushed_stack = rw (pushed_count, add-one, take-suc-set (t PENDING) n k room) (reverse-append (take n (t PENDING)) (k ∷ []))
 
 -- a node gets a slot and goes onto the stack
 module _
     (t : Store) (h : GapTable) (k slot : ℕ) (some : 0 < slot) (lacks : get_or (t GIVEN) k 0 ≡ 0) (inside : k < length (t GIVEN))
-    (low : k < nodeCount t) (size : PENDING-COUNT < length (t COUNTS)) where
+    (low : k < node_count t) (size : PENDING-COUNT < length (t COUNTS)) where
   abbrev after : Store
-  after = withPending k (put t GIVEN k slot)
+  after = with_pending k (put t GIVEN k slot)
 
-  pub gave-room : LiveIn t h → pendingCount t < length (t PENDING)
-  gave-room live = omega (arith, live.room, zeros-some (t GIVEN) k inside lacks)
+  pub gave_room : LiveIn t h → pending_count t < length (t PENDING)
+  gave_room live = omega (arith, live.room, zeros-some (t GIVEN) k inside lacks)
 
   pub goes_gave : LiveIn t h → Goes t after h h
   goes_gave live =
-      let room = gave-room live in
-      let same = same-gaps (t COUNTS) (pendingCount t + 1) in
+      let room = gave_room live in
+      let same = same-gaps (t COUNTS) (pending_count t + 1) in
       record {
         live =
             λ l.
             record {
-              gaps = gaps-live-same (t COUNTS) (after COUNTS) h same l.gaps;
+              gaps = gaps_live_same (t COUNTS) (after COUNTS) h same l.gaps;
               room =
-                  rw (pushed-count t k size room, length-set (t PENDING) (pendingCount t) k)
+                  rw (pushed_count t k size room, length-set (t PENDING) (pending_count t) k)
                   (omega (arith, l.room, zeros-less (t GIVEN) k slot inside lacks some));
-              nodes = pushed-nodes t k size room low l.nodes;
+              nodes = pushed_nodes t k size room low l.nodes;
             };
         apart = λ top a. rw same.count a;
         long = refl;
         given = λ j l. get_or-set_other (t GIVEN) k j slot 0 (λ e. omega (arith, ap (λ (x : ℕ). get_or (t GIVEN) x 0) e));
-        counters = λ c f. get_or-set_other (t COUNTS) PENDING-COUNT c (pendingCount t + 1) 0 (other c f);
+        counters = λ c f. get_or-set_other (t COUNTS) PENDING-COUNT c (pending_count t + 1) 0 (other c f);
         kept =
-            kept_put (COUNTS ∷ GIVEN ∷ PENDING ∷ []) t (put (put t GIVEN k slot) COUNTS PENDING-COUNT (pendingCount t + 1)) PENDING (pendingCount t) k refl
-            (kept_put (COUNTS ∷ GIVEN ∷ PENDING ∷ []) t (put t GIVEN k slot) COUNTS PENDING-COUNT (pendingCount t + 1) refl
+            kept_put (COUNTS ∷ GIVEN ∷ PENDING ∷ []) t (put (put t GIVEN k slot) COUNTS PENDING-COUNT (pending_count t + 1)) PENDING (pending_count t) k refl
+            (kept_put (COUNTS ∷ GIVEN ∷ PENDING ∷ []) t (put t GIVEN k slot) COUNTS PENDING-COUNT (pending_count t + 1) refl
             (kept_put (COUNTS ∷ GIVEN ∷ PENDING ∷ []) t t GIVEN k slot refl (λ j f. refl)));
       }
     where
@@ -179,12 +179,12 @@ module _
           let (_, n) = not-among c PLAIN (PENDING-COUNT ∷ []) d in
           (not-among c PENDING-COUNT [] n).0
 
-  pub pooled-gave :
+  pub pooled_gave :
       LiveIn t h → (pool : Pool) → PooledIn pool t h →
       PooledIn (record { slots = pool.slots; given = (k, slot) ∷ pool.given; pending = (slot, k) ∷ pool.pending; version = pool.version }) after h
-  pooled-gave live pool q =
+  pooled_gave live pool q =
       record {
-        slots = slots_same (t COUNTS) (after COUNTS) h (same-gaps (t COUNTS) (pendingCount t + 1)) ∙ q.slots;
+        slots = slots_same (t COUNTS) (after COUNTS) h (same-gaps (t COUNTS) (pending_count t + 1)) ∙ q.slots;
         given =
             λ j.
             ⊎_elim
@@ -192,9 +192,9 @@ module _
             lookup-hit j (k, slot) pool.given e
             ∙ sym (rw (e, get_or-set_same (t GIVEN) k slot 0 inside) (word_some slot some)))
             (λ (e : j ≡ k → ⊥).
-            lookup-miss j (k, slot) pool.given e ∙ q.given j ∙ ap slotWord (sym (get_or-set_other (t GIVEN) k j slot 0 e)))
+            lookup-miss j (k, slot) pool.given e ∙ q.given j ∙ ap slot_word (sym (get_or-set_other (t GIVEN) k j slot 0 e)))
             (equal j k);
-        pending = ap (λ (l : List ℕ). k ∷ l) q.pending ∙ sym (pushed-stack t k size (gave-room live));
+        pending = ap (λ (l : List ℕ). k ∷ l) q.pending ∙ sym (pushed_stack t k size (gave_room live));
       }
 
   pub gave_slot : get_or (after GIVEN) k 0 ≡ slot

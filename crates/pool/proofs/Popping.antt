@@ -9,8 +9,8 @@ use Rattle.facts.proofs.Lists.{clash}
 use Rattle.store.specs.Store.{Store, put}
 use Rattle.store.specs.Regions.{COUNTS, PENDING, NODE-COUNT, PENDING-COUNT}
 use Rattle.store.proofs.Keeping.{kept_put}
-use Rattle.pool.specs.Pooled.{pendingCount, Popped}
-use Rattle.pool.proofs.Giving.{slots_same, gaps-live-same, same-gaps}
+use Rattle.pool.specs.Pooled.{pending_count, Popped}
+use Rattle.pool.proofs.Giving.{slots_same, gaps_live_same, same-gaps}
 
 -- a list of pairs whose second parts begin with a number
 top_of :
@@ -22,16 +22,16 @@ top_of ((slot, k) ∷ l) r rest e =
     let b : map (λ x. x.1) l ≡ rest = cc in
     (slot, l, rw a, b)
 
-module _ (t : Store) (i : ℕ) (size : PENDING-COUNT < length (t COUNTS)) (is : i + 1 ≡ pendingCount t) (fits : pendingCount t ≤ length (t PENDING)) where
+module _ (t : Store) (i : ℕ) (size : PENDING-COUNT < length (t COUNTS)) (is : i + 1 ≡ pending_count t) (fits : pending_count t ≤ length (t PENDING)) where
   abbrev after : Store
   after = put t COUNTS PENDING-COUNT i
 
   count : get_or (after COUNTS) PENDING-COUNT 0 ≡ i
   count = get_or-set_same (t COUNTS) PENDING-COUNT i 0 size
 
-  stack : reverse (take (pendingCount t) (t PENDING)) ≡ get_or (t PENDING) i 0 ∷ reverse (take i (t PENDING))
+  stack : reverse (take (pending_count t) (t PENDING)) ≡ get_or (t PENDING) i 0 ∷ reverse (take i (t PENDING))
   stack =
-      let e : pendingCount t ≡ suc i = omega arith in
+      let e : pending_count t ≡ suc i = omega arith in
       let l : i < length (t PENDING) = omega arith in
       rw (e, take-suc (t PENDING) i 0 l) (reverse-append (take i (t PENDING)) (get_or (t PENDING) i 0 ∷ []))
 
@@ -50,7 +50,7 @@ module _ (t : Store) (i : ℕ) (size : PENDING-COUNT < length (t COUNTS)) (is : 
         live =
             λ g l. (
               record {
-                gaps = gaps-live-same (t COUNTS) (after COUNTS) g same l.gaps;
+                gaps = gaps_live_same (t COUNTS) (after COUNTS) g same l.gaps;
                 room = omega (arith, l.room, count);
                 nodes =
                     λ j low.
@@ -64,7 +64,7 @@ module _ (t : Store) (i : ℕ) (size : PENDING-COUNT < length (t COUNTS)) (is : 
       }
 
 -- as the code has it
-pub popped-all :
-    (t u : Store) (i n r : ℕ) → PENDING-COUNT < length (t COUNTS) → n ≡ pendingCount t → 0 < pendingCount t → i ≡ n - 1 →
-    pendingCount t ≤ length (t PENDING) → u ≡ put t COUNTS PENDING-COUNT i → r ≡ get_or (u PENDING) i 0 → Popped t u r
-popped-all t u i n r size m some is fits e f = rw (f, e) (popped t i size (omega arith) fits)
+pub popped_all :
+    (t u : Store) (i n r : ℕ) → PENDING-COUNT < length (t COUNTS) → n ≡ pending_count t → 0 < pending_count t → i ≡ n - 1 →
+    pending_count t ≤ length (t PENDING) → u ≡ put t COUNTS PENDING-COUNT i → r ≡ get_or (u PENDING) i 0 → Popped t u r
+popped_all t u i n r size m some is fits e f = rw (f, e) (popped t i size (omega arith) fits)

@@ -12,111 +12,111 @@ use borrow.Author.Tests.{lt-ltb, le-ltb}
 use Rattle.definition.specs.Basics.{good, lookup}
 use Rattle.definition.specs.Shapes.{is_wide}
 use Rattle.definition.specs.Definitions.{tag_at}
-use Rattle.definition.specs.Resolving.{Node, firstNode}
-use Rattle.definition.specs.Slots.{slotFor}
+use Rattle.definition.specs.Resolving.{Node, first_node}
+use Rattle.definition.specs.Slots.{slot_for}
 use Rattle.definition.specs.Building.{Pool, no_slot, give, allocate, slot_of, raw, new, old, origin_of, mark_of}
-use Rattle.laws.proofs.slots.SlotRequest.{allocate-new, allocate-old}
+use Rattle.laws.proofs.Slots.SlotRequest.{allocate-new, allocate-old}
 use Rattle.slots.specs.Gaps.{GapTable}
 use Rattle.store.specs.Store.{Store, size, IsWord}
-use Rattle.store.specs.JobIn.{entriesIn}
+use Rattle.store.specs.JobIn.{entries_in}
 use Rattle.store.specs.Regions.{COUNTS, GIVEN, PENDING, NODE-COUNT, PENDING-COUNT, Work}
-use Rattle.store.specs.Words.{ENTRY, childSlot}
+use Rattle.store.specs.Words.{ENTRY, child_slot}
 use Rattle.store.proofs.Bounds.{small}
 use Rattle.store.proofs.Laying.{work-sizes, work-formed, entries-counted}
-use Rattle.interner.specs.Nodes.{nodeCount, nodesIn}
-use Rattle.pool.specs.Pooled.{Has, Lacks, slotsIn, PooledIn, LiveIn, pendingCount, NodesThere, Took, Gave, code_in, markIn, keptReply, newReply, Marked, Slotted}
+use Rattle.interner.specs.Nodes.{node_count, nodes_in}
+use Rattle.pool.specs.Pooled.{Has, Lacks, slots_in, PooledIn, LiveIn, pending_count, NodesThere, Took, Gave, code_in, mark_in, kept_reply, new_reply, Marked, Slotted}
 use Rattle.pool.specs.declared.Reply.{Reply}
 use Rattle.pool.specs.declared.Reply.TheVariants as reply
-use Rattle.pool.proofs.Words.{child-raw, child-node, word_none, word_some, zeros-some}
-use Rattle.pool.proofs.Giving.{goes-not, goes_then, goes-took, pooled-took, goes_gave, pooled-gave, gave_slot}
+use Rattle.pool.proofs.Words.{child_raw, child_node, word_none, word_some, zeros-some}
+use Rattle.pool.proofs.Giving.{goes_not, goes_then, goes_took, pooled_took, goes_gave, pooled_gave, gave_slot}
 
 -- SIZES
 
 pub record PoolSizes (s p : List ℕ) : Type 0 where
   pub counts : size p COUNTS ≡ 20
-  pub given : size p GIVEN ≡ entriesIn s
+  pub given : size p GIVEN ≡ entries_in s
   pub pending : IsWord (size p PENDING)
-  pub few : entriesIn s ≤ 131072
+  pub few : entries_in s ≤ 131072
 
-pub pool-sizes : (s p : List ℕ) → Work s p → PoolSizes s p
-pool-sizes s p work =
+pub pool_sizes : (s p : List ℕ) → Work s p → PoolSizes s p
+pool_sizes s p work =
     let z = work-sizes s p work in
     let b = small s (work-formed s p work) in
     let n = entries-counted s in
     record {
       counts = z.counts;
       given = z.given ∙ n;
-      pending = omega (arith, z.pending, b.entries, b.raw-constants);
+      pending = omega (arith, z.pending, b.entries, b.raw_constants);
       few = b.entries;
     }
 
 -- a node's number is a place in GIVEN
-pub node-given : (s p : List ℕ) (t : Store) → NodesThere s p t → nodeCount t ≤ size p GIVEN
-node-given s p t there = omega (arith, (pool-sizes s p there.0).given, there.2.few)
+pub node_given : (s p : List ℕ) (t : Store) → NodesThere s p t → node_count t ≤ size p GIVEN
+node_given s p t there = omega (arith, (pool_sizes s p there.0).given, there.2.few)
 
 -- THE DEFINITION
 
-slot-raw : (nodes : List Node) (ldc : Bool) (child : ℕ) (pool : Pool) → child < firstNode → slot_of nodes ldc child pool ≡ good (child, pool)
+slot-raw : (nodes : List Node) (ldc : Bool) (child : ℕ) (pool : Pool) → child < first_node → slot_of nodes ldc child pool ≡ good (child, pool)
 unfolding slot_of
-slot-raw nodes ldc child pool h = rw (lt-ltb child firstNode h, slot_of)
+slot-raw nodes ldc child pool h = rw (lt-ltb child first_node h, slot_of)
 
-slot-node : (nodes : List Node) (ldc : Bool) (child : ℕ) (pool : Pool) → firstNode ≤ child → slot_of nodes ldc child pool ≡ allocate nodes ldc (child - firstNode) pool
+slot-node : (nodes : List Node) (ldc : Bool) (child : ℕ) (pool : Pool) → first_node ≤ child → slot_of nodes ldc child pool ≡ allocate nodes ldc (child - first_node) pool
 unfolding slot_of
-slot-node nodes ldc child pool h = rw (le-ltb child firstNode h, slot_of)
+slot-node nodes ldc child pool h = rw (le-ltb child first_node h, slot_of)
 
-no-slot-some : (ldc : Bool) → 0 < no_slot ldc
+no_slot-some : (ldc : Bool) → 0 < no_slot ldc
 unfolding no_slot
-no-slot-some true = omega arith
-no-slot-some false = omega arith
+no_slot-some true = omega arith
+no_slot-some false = omega arith
 
 -- A CHILD THAT HAS A SLOT keeps it
-pub slotted-old : (s : List ℕ) (ldc : Bool) (child : ℕ) (t : Store) (g : GapTable) → Has (t GIVEN) child → Slotted s ldc child t t g g 0
-slotted-old s ldc child t g has =
+pub slotted_old : (s : List ℕ) (ldc : Bool) (child : ℕ) (t : Store) (g : GapTable) → Has (t GIVEN) child → Slotted s ldc child t t g g 0
+slotted_old s ldc child t g has =
     record {
       met = λ pool q z. (pool, is pool q has, q);
       refused = λ pool q z. absurd (omega arith);
       node = λ z. absurd (omega arith);
       has = λ z. has;
-      goes = goes-not t g;
+      goes = goes_not t g;
     }
   where
-    is : (pool : Pool) → PooledIn pool t g → Has (t GIVEN) child → slot_of (nodesIn s t) ldc child pool ≡ good (childSlot (t GIVEN) child, pool)
-    is pool q (inl h) = slot-raw (nodesIn s t) ldc child pool h ∙ rw (child-raw (t GIVEN) child h)
+    is : (pool : Pool) → PooledIn pool t g → Has (t GIVEN) child → slot_of (nodes_in s t) ldc child pool ≡ good (child_slot (t GIVEN) child, pool)
+    is pool q (inl h) = slot-raw (nodes_in s t) ldc child pool h ∙ rw (child_raw (t GIVEN) child h)
     is pool q (inr (h, l)) =
-        slot-node (nodesIn s t) ldc child pool h
-        ∙ allocate-old (nodesIn s t) ldc (child - ENTRY) (get_or (t GIVEN) (child - ENTRY) 0) pool (q.given (child - ENTRY) ∙ word_some _ l)
-        ∙ rw (child-node (t GIVEN) child h)
+        slot-node (nodes_in s t) ldc child pool h
+        ∙ allocate-old (nodes_in s t) ldc (child - ENTRY) (get_or (t GIVEN) (child - ENTRY) 0) pool (q.given (child - ENTRY) ∙ word_some _ l)
+        ∙ rw (child_node (t GIVEN) child h)
 
 -- ONE THAT HAS NONE gets the one that was asked for
 module _
     (s : List ℕ) (ldc wide : Bool) (child k slot r : ℕ) (t v u : Store) (g h : GapTable) (is : k ≡ child - ENTRY)
-    (lacks : Lacks (t GIVEN) child) (live : LiveIn t g) (width : wide ≡ is_wide (tag_at (nodesIn s t) k)) (took : Took wide ldc t v g h slot) where
-  live-still : LiveIn v h
-  live-still = (goes-took wide ldc t v g h slot took).live live
+    (lacks : Lacks (t GIVEN) child) (live : LiveIn t g) (width : wide ≡ is_wide (tag_at (nodes_in s t) k)) (took : Took wide ldc t v g h slot) where
+  live_still : LiveIn v h
+  live_still = (goes_took wide ldc t v g h slot took).live live
 
-  lacks-still : get_or (v GIVEN) k 0 ≡ 0
-  lacks-still = rw (took.kept GIVEN refl, is) lacks.1
+  lacks_still : get_or (v GIVEN) k 0 ≡ 0
+  lacks_still = rw (took.kept GIVEN refl, is) lacks.1
 
-  asked : (pool : Pool) → PooledIn pool t g → slot_of (nodesIn s t) ldc child pool ≡ give ldc k pool (slotFor wide ldc (slotsIn (t COUNTS) g))
+  asked : (pool : Pool) → PooledIn pool t g → slot_of (nodes_in s t) ldc child pool ≡ give ldc k pool (slot_for wide ldc (slots_in (t COUNTS) g))
   asked pool q =
-      slot-node (nodesIn s t) ldc child pool lacks.0
+      slot-node (nodes_in s t) ldc child pool lacks.0
       ∙ rw (← is)
-      (allocate-new (nodesIn s t) ldc k pool (q.given k ∙ word_none _ (rw is lacks.1))
+      (allocate-new (nodes_in s t) ldc k pool (q.given k ∙ word_none _ (rw is lacks.1))
       ∙ rw (← q.slots, ← width))
 
   -- there is room on the stack
-  pub still-room : k < nodeCount t → k < length (v GIVEN) → pendingCount v < length (v PENDING)
-  still-room low inside = omega (arith, live-still.room, zeros-some (v GIVEN) k inside lacks-still)
+  pub still_room : k < node_count t → k < length (v GIVEN) → pending_count v < length (v PENDING)
+  still_room low inside = omega (arith, live_still.room, zeros-some (v GIVEN) k inside lacks_still)
 
   -- what `give` asks
   pub give-asks :
-      (p : List ℕ) → NodesThere s p t → child < ENTRY + nodeCount t → length (v GIVEN) ≡ size p GIVEN → length (v PENDING) ≡ size p PENDING →
-      (PENDING-COUNT < size p COUNTS) × (k < size p GIVEN) × (pendingCount v < size p PENDING) × IsWord (size p PENDING) × IsWord k × IsWord slot
+      (p : List ℕ) → NodesThere s p t → child < ENTRY + node_count t → length (v GIVEN) ≡ size p GIVEN → length (v PENDING) ≡ size p PENDING →
+      (PENDING-COUNT < size p COUNTS) × (k < size p GIVEN) × (pending_count v < size p PENDING) × IsWord (size p PENDING) × IsWord k × IsWord slot
   give-asks p there low given pending =
-      let z = pool-sizes s p there.0 in
-      let n : k < nodeCount t = omega (arith, lacks.0) in
-      let m = node-given s p t there in
-      let r = still-room n (omega arith) in (
+      let z = pool_sizes s p there.0 in
+      let n : k < node_count t = omega (arith, lacks.0) in
+      let m = node_given s p t there in
+      let r = still_room n (omega arith) in (
         omega (arith, z.counts),
         omega arith,
         omega arith,
@@ -125,121 +125,121 @@ module _
         omega (arith, took.small),
       )
 
-  module _ (low : k < nodeCount t) (inside : k < length (v GIVEN)) (size : PENDING-COUNT < length (v COUNTS)) where
-    low-still : k < nodeCount v
+  module _ (low : k < node_count t) (inside : k < length (v GIVEN)) (size : PENDING-COUNT < length (v COUNTS)) where
+    low-still : k < node_count v
     low-still = rw (took.counters NODE-COUNT refl) low
 
-    pub slotted-new : Gave k slot ldc v u r → Slotted s ldc child t u g h r
+    pub slotted_new : Gave k slot ldc v u r → Slotted s ldc child t u g h r
     unfolding give
-    slotted-new (inl (z, e, same)) =
+    slotted_new (inl (z, e, same)) =
         record {
-          met = λ pool q f. absurd (omega (arith, no-slot-some ldc));
+          met = λ pool q f. absurd (omega (arith, no_slot-some ldc));
           refused = λ pool q f. asked pool q ∙ rw (took.unmet z, e);
           node = λ f. lacks.0;
-          has = λ f. absurd (omega (arith, no-slot-some ldc));
-          goes = rw same (goes-took wide ldc t v g h slot took);
+          has = λ f. absurd (omega (arith, no_slot-some ldc));
+          goes = rw same (goes_took wide ldc t v g h slot took);
         }
-    slotted-new (inr (z, e, same)) =
+    slotted_new (inr (z, e, same)) =
         record {
           met =
               λ pool q f. (
-                record { slots = slotsIn (v COUNTS) h; given = (k, slot) ∷ pool.given; pending = (slot, k) ∷ pool.pending; version = pool.version },
-                asked pool q ∙ rw (took.met z, has-slot),
+                record { slots = slots_in (v COUNTS) h; given = (k, slot) ∷ pool.given; pending = (slot, k) ∷ pool.pending; version = pool.version },
+                asked pool q ∙ rw (took.met z, has_slot),
                 rw same
-                    (pooled-gave v h k slot z lacks-still inside low-still size live-still
-                    (record { slots = slotsIn (v COUNTS) h; given = pool.given; pending = pool.pending; version = pool.version })
-                    (pooled-took wide ldc t v g h slot took pool q)),
+                    (pooled_gave v h k slot z lacks_still inside low-still size live_still
+                    (record { slots = slots_in (v COUNTS) h; given = pool.given; pending = pool.pending; version = pool.version })
+                    (pooled_took wide ldc t v g h slot took pool q)),
               );
           refused = λ pool q f. absurd (omega arith);
           node = λ f. lacks.0;
-          has = λ f. inr (lacks.0, omega (arith, is-slot, ap (λ (x : ℕ). get_or (u GIVEN) x 0) is));
+          has = λ f. inr (lacks.0, omega (arith, is_slot_lem, ap (λ (x : ℕ). get_or (u GIVEN) x 0) is));
           goes =
-              goes_then t v u g h h (goes-took wide ldc t v g h slot took)
-              (rw same (goes_gave v h k slot z lacks-still inside low-still size live-still));
+              goes_then t v u g h h (goes_took wide ldc t v g h slot took)
+              (rw same (goes_gave v h k slot z lacks_still inside low-still size live_still));
         }
       where
-        is-slot : get_or (u GIVEN) k 0 ≡ slot
-        is-slot = rw same (gave_slot v h k slot z lacks-still inside low-still size)
+        is_slot_lem : get_or (u GIVEN) k 0 ≡ slot
+        is_slot_lem = rw same (gave_slot v h k slot z lacks_still inside low-still size)
 
-        has-slot : childSlot (u GIVEN) child ≡ slot
-        has-slot = child-node (u GIVEN) child lacks.0 ∙ rw (← is) is-slot
+        has_slot : child_slot (u GIVEN) child ≡ slot
+        has_slot = child_node (u GIVEN) child lacks.0 ∙ rw (← is) is_slot_lem
 
   -- as the code has it
   pub slotted :
-      (p : List ℕ) → NodesThere s p t → child < ENTRY + nodeCount t → length (v GIVEN) ≡ size p GIVEN → length (v COUNTS) ≡ size p COUNTS →
+      (p : List ℕ) → NodesThere s p t → child < ENTRY + node_count t → length (v GIVEN) ≡ size p GIVEN → length (v COUNTS) ≡ size p COUNTS →
       Gave k slot ldc v u r → Slotted s ldc child t u g h r
   slotted p there low given counts =
-      let z = pool-sizes s p there.0 in
-      let n : k < nodeCount t = omega (arith, lacks.0) in
-      let m = node-given s p t there in
-      slotted-new n (omega arith) (omega (arith, z.counts))
+      let z = pool_sizes s p there.0 in
+      let n : k < node_count t = omega (arith, lacks.0) in
+      let m = node_given s p t there in
+      slotted_new n (omega arith) (omega (arith, z.counts))
 
 -- HOW A CHILD COMES BY ITS SLOT
 
-origin-raw : (child : ℕ) (pool : Pool) → child < firstNode → origin_of child pool ≡ raw
+origin_raw : (child : ℕ) (pool : Pool) → child < first_node → origin_of child pool ≡ raw
 unfolding origin_of
-origin-raw child pool h = rw (lt-ltb child firstNode h, origin_of)
+origin_raw child pool h = rw (lt-ltb child first_node h, origin_of)
 
-origin-old : (child slot : ℕ) (pool : Pool) → firstNode ≤ child → lookup (child - firstNode) pool.given ≡ some slot → origin_of child pool ≡ old
+origin_old : (child slot : ℕ) (pool : Pool) → first_node ≤ child → lookup (child - first_node) pool.given ≡ some slot → origin_of child pool ≡ old
 unfolding origin_of
-origin-old child slot pool h e = rw (le-ltb child firstNode h, e, origin_of)
+origin_old child slot pool h e = rw (le-ltb child first_node h, e, origin_of)
 
-origin-new : (child : ℕ) (pool : Pool) → firstNode ≤ child → lookup (child - firstNode) pool.given ≡ none → origin_of child pool ≡ new
+origin_new : (child : ℕ) (pool : Pool) → first_node ≤ child → lookup (child - first_node) pool.given ≡ none → origin_of child pool ≡ new
 unfolding origin_of
-origin-new child pool h e = rw (le-ltb child firstNode h, e, origin_of)
+origin_new child pool h e = rw (le-ltb child first_node h, e, origin_of)
 
-pub kept-raw : (child : ℕ) → child < ENTRY → keptReply child ≡ reply.Raw
-unfolding keptReply
-kept-raw child h = rw (lt-ltb child ENTRY h, keptReply)
+pub kept_raw : (child : ℕ) → child < ENTRY → kept_reply child ≡ reply.Raw
+unfolding kept_reply
+kept_raw child h = rw (lt-ltb child ENTRY h, kept_reply)
 
-pub kept-old : (child : ℕ) → ENTRY ≤ child → keptReply child ≡ reply.Old
-unfolding keptReply
-kept-old child h = rw (le-ltb child ENTRY h, keptReply)
+pub kept_old : (child : ℕ) → ENTRY ≤ child → kept_reply child ≡ reply.Old
+unfolding kept_reply
+kept_old child h = rw (le-ltb child ENTRY h, kept_reply)
 
-pub new-given : (code : ℕ) → code ≡ 0 → newReply code ≡ reply.New
-unfolding newReply
-new-given code e = rw e
+pub new_given : (code : ℕ) → code ≡ 0 → new_reply code ≡ reply.New
+unfolding new_reply
+new_given code e = rw e
 
-pub new-refused : (code : ℕ) → 0 < code → newReply code ≡ reply.Refused code
-unfolding newReply
-new-refused zero h = absurd (omega arith)
-new-refused (suc n) h = refl
+pub new_refused : (code : ℕ) → 0 < code → new_reply code ≡ reply.Refused code
+unfolding new_reply
+new_refused zero h = absurd (omega arith)
+new_refused (suc n) h = refl
 
 -- no slot was needed
 module _ (s : List ℕ) (ldc : Bool) (child : ℕ) (t : Store) (g : GapTable) where
-  kept-code : Has (t GIVEN) child → code_in (keptReply child) ≡ 0
+  kept_code : Has (t GIVEN) child → code_in (kept_reply child) ≡ 0
   unfolding code_in
-  kept-code (inl h) = ap code_in (kept-raw child h)
-  kept-code (inr (h, l)) = ap code_in (kept-old child h)
+  kept_code (inl h) = ap code_in (kept_raw child h)
+  kept_code (inr (h, l)) = ap code_in (kept_old child h)
 
-  kept-mark : Has (t GIVEN) child → Marked child t g (keptReply child)
-  unfolding markIn mark_of
-  kept-mark (inl h) pool q z = ap markIn (kept-raw child h) ∙ ap mark_of (sym (origin-raw child pool h))
-  kept-mark (inr (h, l)) pool q z =
-      ap markIn (kept-old child h)
-      ∙ ap mark_of (sym (origin-old child (get_or (t GIVEN) (child - ENTRY) 0) pool h (q.given (child - ENTRY) ∙ word_some _ l)))
+  kept_mark : Has (t GIVEN) child → Marked child t g (kept_reply child)
+  unfolding mark_in mark_of
+  kept_mark (inl h) pool q z = ap mark_in (kept_raw child h) ∙ ap mark_of (sym (origin_raw child pool h))
+  kept_mark (inr (h, l)) pool q z =
+      ap mark_in (kept_old child h)
+      ∙ ap mark_of (sym (origin_old child (get_or (t GIVEN) (child - ENTRY) 0) pool h (q.given (child - ENTRY) ∙ word_some _ l)))
 
-  pub kept-told : Has (t GIVEN) child → (r : Reply) → r ≡ keptReply child → Slotted s ldc child t t g g (code_in r) × Marked child t g r
-  kept-told has r is =
-      rw is (subst (Slotted s ldc child t t g g) (sym (kept-code has)) (slotted-old s ldc child t g has), kept-mark has)
+  pub kept_told : Has (t GIVEN) child → (r : Reply) → r ≡ kept_reply child → Slotted s ldc child t t g g (code_in r) × Marked child t g r
+  kept_told has r is =
+      rw is (subst (Slotted s ldc child t t g g) (sym (kept_code has)) (slotted_old s ldc child t g has), kept_mark has)
 
   -- one was given, or there is none
-  new-code : (code : ℕ) → code_in (newReply code) ≡ code
-  unfolding code_in newReply
-  new-code zero = refl
-  new-code (suc n) = refl
+  new_code : (code : ℕ) → code_in (new_reply code) ≡ code
+  unfolding code_in new_reply
+  new_code zero = refl
+  new_code (suc n) = refl
 
-  new-mark : Lacks (t GIVEN) child → (code : ℕ) → Marked child t g (newReply code)
-  unfolding code_in markIn mark_of newReply
-  new-mark lacks zero pool q z = ap mark_of (sym (origin-new child pool lacks.0 (q.given (child - ENTRY) ∙ word_none _ lacks.1)))
-  new-mark lacks (suc n) pool q z = absurd (omega arith)
+  new_mark : Lacks (t GIVEN) child → (code : ℕ) → Marked child t g (new_reply code)
+  unfolding code_in mark_in mark_of new_reply
+  new_mark lacks zero pool q z = ap mark_of (sym (origin_new child pool lacks.0 (q.given (child - ENTRY) ∙ word_none _ lacks.1)))
+  new_mark lacks (suc n) pool q z = absurd (omega arith)
 
   pub new_told :
-      Lacks (t GIVEN) child → (u : Store) (h : GapTable) (code : ℕ) → Slotted s ldc child t u g h code → (r : Reply) → r ≡ newReply code →
+      Lacks (t GIVEN) child → (u : Store) (h : GapTable) (code : ℕ) → Slotted s ldc child t u g h code → (r : Reply) → r ≡ new_reply code →
       Slotted s ldc child t u g h (code_in r) × Marked child t g r
   new_told lacks u h code slotted r is =
-      rw is (subst (Slotted s ldc child t u g h) (sym (new-code code)) slotted, new-mark lacks code)
+      rw is (subst (Slotted s ldc child t u g h) (sym (new_code code)) slotted, new_mark lacks code)
 
   -- as callers have it
-  pub slotted-code : (u : Store) (h : GapTable) (r : Reply) (code : ℕ) → code ≡ code_in r → Slotted s ldc child t u g h (code_in r) → Slotted s ldc child t u g h code
-  slotted-code u h r code e slotted = rw e slotted
+  pub slotted_code : (u : Store) (h : GapTable) (r : Reply) (code : ℕ) → code ≡ code_in r → Slotted s ldc child t u g h (code_in r) → Slotted s ldc child t u g h code
+  slotted_code u h r code e slotted = rw e slotted

@@ -12,16 +12,16 @@ use Rattle.definition.specs.Basics.{good, lookup, insert}
 use Rattle.definition.specs.Settings.{version, texts, highest}
 use Rattle.definition.specs.Shapes.{constant, bootstrap, Entry, is_wide}
 use Rattle.definition.specs.Job.{Definition, define, named, placed, setting}
-use Rattle.definition.specs.Numbering.{Literal, numberedDefinition}
-use Rattle.definition.specs.Definitions.{Held, starts, half, Defined, tag_at, is_none, nameTarget, hold, placeConstant, placeBootstrap, withSetting, defineOne, defineAll, nothingDefined}
-use Rattle.definition.specs.Slots.{Gap, gapBefore, gapsFrom}
+use Rattle.definition.specs.Numbering.{Literal, numbered_definition}
+use Rattle.definition.specs.Definitions.{Held, starts, half, Defined, tag_at, is_none, name_target, hold, place_constant, place_bootstrap, with_setting, define_one, define_all, nothing_defined}
+use Rattle.definition.specs.Slots.{Gap, gap_before, gaps_from}
 use Rattle.definition.specs.Layout.{starters}
 use Rattle.facts.proofs.Lists.{order, equal, none≢some}
 use Rattle.facts.proofs.Tables.{lookup-hit, lookup-miss, insert-front, insert-behind}
 use Rattle.facts.specs.Lists.{keys}
-use Rattle.facts.proofs.Results.{good-inj, good-then, unless-first}
-use Rattle.laws.proofs.definitions.RawSlotsRise.{isNone-true, placed-constant, defined-all}
-use Rattle.laws.proofs.slots.Gaps.{gapBefore-some, gapBefore-none}
+use Rattle.facts.proofs.Results.{good_inj, good_then, unless-first}
+use Rattle.laws.proofs.Definitions.RawSlotsRise.{is_none-true, placed-constant, defined_all}
+use Rattle.laws.proofs.Slots.Gaps.{gap_before-some, gap_before-none}
 
 -- every second half stands right behind another slot, from slot `first` on
 abbrev pub Paired : ℕ → List (ℕ × Held) → Type 0
@@ -31,20 +31,20 @@ Paired first ((n, half) ∷ held) = (first ≡ n) × Paired (suc n) held
 
 -- GAPS
 
-one-gap : (first next : ℕ) (gaps : List Gap) → length (gapBefore first next gaps) ≤ suc (length gaps)
+one-gap : (first next : ℕ) (gaps : List Gap) → length (gap_before first next gaps) ≤ suc (length gaps)
 one-gap first next gaps = ways (order first next)
   where
-    ways : (first < next) ⊎ (next ≤ first) → length (gapBefore first next gaps) ≤ suc (length gaps)
-    ways (inl h) = rw (gapBefore-some first next gaps h) (omega arith)
-    ways (inr h) = rw (gapBefore-none first next gaps h) (omega arith)
+    ways : (first < next) ⊎ (next ≤ first) → length (gap_before first next gaps) ≤ suc (length gaps)
+    ways (inl h) = rw (gap_before-some first next gaps h) (omega arith)
+    ways (inr h) = rw (gap_before-none first next gaps h) (omega arith)
 
-pub gaps-spare : (top first : ℕ) (held : List (ℕ × Held)) → Paired first held → length (gapsFrom top first (keys held)) ≤ length (starters held) + 1
-unfolding gapsFrom starters
-gaps-spare top first [] p = omega (arith, one-gap first (suc top) [])
-gaps-spare top first ((n, starts e) ∷ held) p =
-    omega (arith, one-gap first n (gapsFrom top (suc n) (keys held)), gaps-spare top (suc n) held p)
-gaps-spare top first ((n, half) ∷ held) p =
-    rw (gapBefore-none first n (gapsFrom top (suc n) (keys held)) (omega (arith, p.0))) (gaps-spare top (suc n) held p.1)
+pub gaps_spare : (top first : ℕ) (held : List (ℕ × Held)) → Paired first held → length (gaps_from top first (keys held)) ≤ length (starters held) + 1
+unfolding gaps_from starters
+gaps_spare top first [] p = omega (arith, one-gap first (suc top) [])
+gaps_spare top first ((n, starts e) ∷ held) p =
+    omega (arith, one-gap first n (gaps_from top (suc n) (keys held)), gaps_spare top (suc n) held p)
+gaps_spare top first ((n, half) ∷ held) p =
+    rw (gap_before-none first n (gaps_from top (suc n) (keys held)) (omega (arith, p.0))) (gaps_spare top (suc n) held p.1)
 
 -- PLACING
 
@@ -53,23 +53,23 @@ later : (first low : ℕ) (r : ℕ × Held) (rows : List (ℕ × Held)) → firs
 later first low (k, starts e) rows h l p = p
 later first low (k, half) rows h l p = absurd (omega (arith, p.0))
 
-head-then : (first k : ℕ) (x : Held) (rows rows' : List (ℕ × Held)) → (Paired (suc k) rows → Paired (suc k) rows') → Paired first ((k, x) ∷ rows) → Paired first ((k, x) ∷ rows')
-head-then first k (starts e) rows rows' f p = f p
-head-then first k half rows rows' f p = (p.0, f p.1)
+head_then : (first k : ℕ) (x : Held) (rows rows' : List (ℕ × Held)) → (Paired (suc k) rows → Paired (suc k) rows') → Paired first ((k, x) ∷ rows) → Paired first ((k, x) ∷ rows')
+head_then first k (starts e) rows rows' f p = f p
+head_then first k half rows rows' f p = (p.0, f p.1)
 
-free-tail : (n : ℕ) (r : ℕ × Held) (rows : List (ℕ × Held)) → lookup n (r ∷ rows) ≡ none → (n ≡ r.0 → ⊥) × (lookup n rows ≡ none)
-free-tail n r rows e = ways (equal n r.0)
+free_tail : (n : ℕ) (r : ℕ × Held) (rows : List (ℕ × Held)) → lookup n (r ∷ rows) ≡ none → (n ≡ r.0 → ⊥) × (lookup n rows ≡ none)
+free_tail n r rows e = ways (equal n r.0)
   where
     ways : (n ≡ r.0) ⊎ (n ≡ r.0 → ⊥) → (n ≡ r.0 → ⊥) × (lookup n rows ≡ none)
     ways (inl q) = none≢some (sym e ∙ lookup-hit n r rows q)
     ways (inr q) = (q, sym (lookup-miss n r rows q) ∙ e)
 
-pub narrow-paired :
+pub narrow_paired :
     (first n e : ℕ) (held : List (ℕ × Held)) → first ≤ n → lookup n held ≡ none → Paired first held → Paired first (insert n (starts e) held)
 unfolding insert
-narrow-paired first n e [] h free p = tt
-narrow-paired first n e ((k, x) ∷ rows) h free p =
-    ways (order n k) (free-tail n (k, x) rows free) (narrow-paired (suc k) n e rows)
+narrow_paired first n e [] h free p = tt
+narrow_paired first n e ((k, x) ∷ rows) h free p =
+    ways (order n k) (free_tail n (k, x) rows free) (narrow_paired (suc k) n e rows)
   where
     ways :
         (n < k) ⊎ (k ≤ n) →
@@ -79,15 +79,15 @@ narrow-paired first n e ((k, x) ∷ rows) h free p =
     ways (inl o) f ih = rw (insert-front n (starts e) (k, x) rows o) (later first n (k, x) rows h o p)
     ways (inr o) f ih =
         let l : suc k ≤ n = omega (arith, f.0) in
-        rw (insert-behind n (starts e) (k, x) rows o) (head-then first k x rows (insert n (starts e) rows) (ih l f.1) p)
+        rw (insert-behind n (starts e) (k, x) rows o) (head_then first k x rows (insert n (starts e) rows) (ih l f.1) p)
 
-pub wide-paired :
+pub wide_paired :
     (first n e : ℕ) (held : List (ℕ × Held)) → first ≤ n → lookup n held ≡ none → lookup (suc n) held ≡ none → Paired first held →
     Paired first (insert n (starts e) (insert (suc n) half held))
 unfolding insert
-wide-paired first n e [] h free free' p = rw (insert-front n (starts e) (suc n, half) [] (omega arith)) (refl, tt)
-wide-paired first n e ((k, x) ∷ rows) h free free' p =
-    ways (order (suc n) k) (free-tail n (k, x) rows free) (free-tail (suc n) (k, x) rows free') (wide-paired (suc k) n e rows)
+wide_paired first n e [] h free free' p = rw (insert-front n (starts e) (suc n, half) [] (omega arith)) (refl, tt)
+wide_paired first n e ((k, x) ∷ rows) h free free' p =
+    ways (order (suc n) k) (free_tail n (k, x) rows free) (free_tail (suc n) (k, x) rows free') (wide_paired (suc k) n e rows)
   where
     ways :
         (suc n < k) ⊎ (k ≤ suc n) →
@@ -103,14 +103,14 @@ wide-paired first n e ((k, x) ∷ rows) h free free' p =
         let l : suc k ≤ n = omega (arith, f.0, g.0) in
         let b : k ≤ n = omega arith in
         rw (insert-behind (suc n) half (k, x) rows o, insert-behind n (starts e) (k, x) (insert (suc n) half rows) b)
-        (head-then first k x rows (insert n (starts e) (insert (suc n) half rows)) (ih l f.1 g.1) p)
+        (head_then first k x rows (insert n (starts e) (insert (suc n) half rows)) (ih l f.1 g.1) p)
 
 -- HOW MANY raw constants there are
 
-start-counted : (n e : ℕ) (held : List (ℕ × Held)) → length (starters (insert n (starts e) held)) ≡ suc (length (starters held))
+start_counted : (n e : ℕ) (held : List (ℕ × Held)) → length (starters (insert n (starts e) held)) ≡ suc (length (starters held))
 unfolding insert starters
-start-counted n e [] = refl
-start-counted n e ((k, x) ∷ rows) = ways (order n k) x (start-counted n e rows)
+start_counted n e [] = refl
+start_counted n e ((k, x) ∷ rows) = ways (order n k) x (start_counted n e rows)
   where
     ways :
         (n < k) ⊎ (k ≤ n) → (x : Held) → length (starters (insert n (starts e) rows)) ≡ suc (length (starters rows)) →
@@ -119,10 +119,10 @@ start-counted n e ((k, x) ∷ rows) = ways (order n k) x (start-counted n e rows
     ways (inr o) (starts d) ih = rw (insert-behind n (starts e) (k, starts d) rows o) (ap suc ih)
     ways (inr o) half ih = rw (insert-behind n (starts e) (k, half) rows o) ih
 
-half-counted : (n : ℕ) (held : List (ℕ × Held)) → length (starters (insert n half held)) ≡ length (starters held)
+half_counted : (n : ℕ) (held : List (ℕ × Held)) → length (starters (insert n half held)) ≡ length (starters held)
 unfolding insert starters
-half-counted n [] = refl
-half-counted n ((k, x) ∷ rows) = ways (order n k) x (half-counted n rows)
+half_counted n [] = refl
+half_counted n ((k, x) ∷ rows) = ways (order n k) x (half_counted n rows)
   where
     ways :
         (n < k) ⊎ (k ≤ n) → (x : Held) → length (starters (insert n half rows)) ≡ length (starters rows) →
@@ -134,8 +134,8 @@ half-counted n ((k, x) ∷ rows) = ways (order n k) x (half-counted n rows)
 -- one more
 pub hold-counted : (wide : Bool) (n e : ℕ) (held : List (ℕ × Held)) → length (starters (hold wide n e held)) ≡ suc (length (starters held))
 unfolding hold
-hold-counted true n e held = start-counted n e (insert (suc n) half held) ∙ ap suc (half-counted (suc n) held)
-hold-counted false n e held = start-counted n e held
+hold-counted true n e held = start_counted n e (insert (suc n) half held) ∙ ap suc (half_counted (suc n) held)
+hold-counted false n e held = start_counted n e held
 
 -- ALL DEFINITIONS
 
@@ -157,14 +157,14 @@ one-placing (placed constant n e ∷ ds) x = omega (arith, one-placing ds x)
 one-placing (placed bootstrap n e ∷ ds) x = one-placing ds x
 one-placing (setting rule ∷ ds) x = one-placing ds x
 
-pub placings-numbered : (all : List Literal) (ds : List (Definition (List ℕ))) → placings (map (numberedDefinition all) ds) ≡ placings ds
-unfolding placings numberedDefinition
-placings-numbered all [] = refl
-placings-numbered all (define e ∷ ds) = placings-numbered all ds
-placings-numbered all (named kind s r ∷ ds) = placings-numbered all ds
-placings-numbered all (placed constant n e ∷ ds) = ap suc (placings-numbered all ds)
-placings-numbered all (placed bootstrap n e ∷ ds) = placings-numbered all ds
-placings-numbered all (setting rule ∷ ds) = placings-numbered all ds
+pub placings_numbered : (all : List Literal) (ds : List (Definition (List ℕ))) → placings (map (numbered_definition all) ds) ≡ placings ds
+unfolding placings numbered_definition
+placings_numbered all [] = refl
+placings_numbered all (define e ∷ ds) = placings_numbered all ds
+placings_numbered all (named kind s r ∷ ds) = placings_numbered all ds
+placings_numbered all (placed constant n e ∷ ds) = ap suc (placings_numbered all ds)
+placings_numbered all (placed bootstrap n e ∷ ds) = placings_numbered all ds
+placings_numbered all (setting rule ∷ ds) = placings_numbered all ds
 
 -- the raw slots after some definitions
 abbrev pub Spared : List (Definition ℕ) → Defined → Type 0
@@ -174,34 +174,34 @@ hold-paired :
     (wide : Bool) (n e : ℕ) (held : List (ℕ × Held)) → 1 ≤ n → (not wide || is_none (lookup (suc n) held)) ≡ true → lookup n held ≡ none →
     Paired 1 held → Paired 1 (hold wide n e held)
 unfolding hold
-hold-paired true n e held h behind here p = wide-paired 1 n e held h here (isNone-true (lookup (suc n) held) behind) p
-hold-paired false n e held h behind here p = narrow-paired 1 n e held h here p
+hold-paired true n e held h behind here p = wide_paired 1 n e held h here (is_none-true (lookup (suc n) held) behind) p
+hold-paired false n e held h behind here p = narrow_paired 1 n e held h here p
 
 one-spared :
     {R : Type 0} (top : ℕ) (constants : List (Entry ℕ R)) (ds : List (Definition ℕ)) (x : Definition ℕ) (d d' : Defined) →
-    Spared ds d → defineOne top constants x d ≡ good d' → Spared (ds ++ x ∷ []) d'
-unfolding defineOne withSetting placings
-one-spared top constants ds (define e) d d' p h = rw (← good-inj h) (p.0, omega (arith, p.1, one-placing ds (define e)))
+    Spared ds d → define_one top constants x d ≡ good d' → Spared (ds ++ x ∷ []) d'
+unfolding define_one with_setting placings
+one-spared top constants ds (define e) d d' p h = rw (← good_inj h) (p.0, omega (arith, p.1, one-placing ds (define e)))
 one-spared top constants ds (named kind s t) d d' p h =
-    rw (← good-inj (unless-first (is_none (nameTarget kind s d.names)) 11 _ d' h).1) (p.0, omega (arith, p.1, one-placing ds (named kind s t)))
+    rw (← good_inj (unless-first (is_none (name_target kind s d.names)) 11 _ d' h).1) (p.0, omega (arith, p.1, one-placing ds (named kind s t)))
 one-spared top constants ds (placed constant n e) d d' p h =
-    good-then (placeConstant top (is_wide (tag_at constants e)) n e d.held) _ d' h λ held q g.
+    good_then (place_constant top (is_wide (tag_at constants e)) n e d.held) _ d' h λ held q g.
     let wide = is_wide (tag_at constants e) in
     let c = placed-constant top wide n e d.held held q in
-    rw (← good-inj g, ← c.now) (
+    rw (← good_inj g, ← c.now) (
       hold-paired wide n e d.held c.positive c.behind c.here p.0,
       omega (arith, hold-counted wide n e d.held, p.1, one-placing ds (placed constant n e)),
     )
 one-spared top constants ds (placed bootstrap n e) d d' p h =
-    good-then (placeBootstrap n e d.indexes) _ d' h λ indexes q g.
-    rw (← good-inj g) (p.0, omega (arith, p.1, one-placing ds (placed bootstrap n e)))
-one-spared top constants ds (setting (version v)) d d' p h = rw (← good-inj h) (p.0, omega (arith, p.1, one-placing ds (setting (version v))))
-one-spared top constants ds (setting texts) d d' p h = rw (← good-inj h) (p.0, omega (arith, p.1, one-placing ds (setting texts)))
-one-spared top constants ds (setting (highest n)) d d' p h = rw (← good-inj h) (p.0, omega (arith, p.1, one-placing ds (setting (highest n))))
+    good_then (place_bootstrap n e d.indexes) _ d' h λ indexes q g.
+    rw (← good_inj g) (p.0, omega (arith, p.1, one-placing ds (placed bootstrap n e)))
+one-spared top constants ds (setting (version v)) d d' p h = rw (← good_inj h) (p.0, omega (arith, p.1, one-placing ds (setting (version v))))
+one-spared top constants ds (setting texts) d d' p h = rw (← good_inj h) (p.0, omega (arith, p.1, one-placing ds (setting texts)))
+one-spared top constants ds (setting (highest n)) d d' p h = rw (← good_inj h) (p.0, omega (arith, p.1, one-placing ds (setting (highest n))))
 
 pub spared :
     {R : Type 0} (top : ℕ) (constants : List (Entry ℕ R)) (definitions : List (Definition ℕ)) (d : Defined) →
-    defineAll top constants 0 definitions nothingDefined ≡ good d → Spared definitions d
-unfolding nothingDefined placings starters
+    define_all top constants 0 definitions nothing_defined ≡ good d → Spared definitions d
+unfolding nothing_defined placings starters
 spared top constants definitions d h =
-    defined-all top constants Spared (λ ds x d d' p e. one-spared top constants ds x d d' p e) 0 [] definitions nothingDefined d (tt, refl) h
+    defined_all top constants Spared (λ ds x d d' p e. one-spared top constants ds x d d' p e) 0 [] definitions nothing_defined d (tt, refl) h

@@ -6,21 +6,21 @@ use Prim.Native.Nat.{ℕ, ◌≤◌, ◌<◌}
 use native.Mathlib.Omega.{arith}
 use lib.ListN.{length, get_or, set, length-set}
 use lib.Seq.{get_or-set_same, get_or-set_other}
-use Rattle.definition.specs.Slots.{highestSlot, slotFor}
+use Rattle.definition.specs.Slots.{highest_slot, slot_for}
 use Rattle.laws.specs.Gaps.{Apart}
 use Rattle.slots.specs.declared.Positions.{Positions}
 use Rattle.slots.specs.declared.Allocated.{Allocated}
 use Rattle.slots.specs.declared.Allocated.TheVariants.{Slot, None}
 use Rattle.slots.specs.declared.Found.{Found}
-use Rattle.slots.specs.Gaps.{GapTable, gapsAt, ends, AtMost, slotsAt, answer_of, Answered, foundIn, movedBy, Taken}
-use Rattle.slots.proofs.Rows.{gaps-length}
-use Rattle.slots.proofs.Given.{apart-most, wide-given, narrow-given}
+use Rattle.slots.specs.Gaps.{GapTable, gaps_at, ends, AtMost, slots_at_lem, answer_of, Answered, found_in, moved_by, Taken}
+use Rattle.slots.proofs.Rows.{gaps_length}
+use Rattle.slots.proofs.Given.{apart_most, wide_given, narrow_given}
 use Rattle.store.specs.Store.{Store, put, among, Kept, IsWord}
 use Rattle.store.specs.Regions.{COUNTS, GAP-COUNT, ODD, WIDE, PLAIN}
 use Rattle.store.proofs.Keeping.{kept_put}
-use Rattle.pool.specs.Pooled.{positionsIn, gapsIn, slotsIn, GapsLive, withPositions, slotFound, Took}
+use Rattle.pool.specs.Pooled.{positions_in, gaps_in, slots_in, GapsLive, with_positions, slot_found, Took}
 use Rattle.pool.proofs.Words.{not-among}
-use Rattle.pool.proofs.Within.{Within, slot-within, apart-few}
+use Rattle.pool.proofs.Within.{Within, slot-within, apart_few}
 
 -- COUNTERS with other positions
 
@@ -28,8 +28,8 @@ abbrev others : List ℕ → Positions → List ℕ
 others counts q = set (set (set counts ODD q.odd) WIDE q.wide) PLAIN q.plain
 
 module _ (counts : List ℕ) (q : Positions) where
-  other-counters : (c : ℕ) → among c (ODD ∷ WIDE ∷ PLAIN ∷ []) ≡ false → get_or (others counts q) c 0 ≡ get_or counts c 0
-  other-counters c f =
+  other_counters : (c : ℕ) → among c (ODD ∷ WIDE ∷ PLAIN ∷ []) ≡ false → get_or (others counts q) c 0 ≡ get_or counts c 0
+  other_counters c f =
       let (a, g) = not-among c ODD (WIDE ∷ PLAIN ∷ []) f in
       let (b, h) = not-among c WIDE (PLAIN ∷ []) g in
       let (d, _) = not-among c PLAIN [] h in
@@ -37,8 +37,8 @@ module _ (counts : List ℕ) (q : Positions) where
       ∙ get_or-set_other (set counts ODD q.odd) WIDE c q.wide 0 b
       ∙ get_or-set_other counts ODD c q.odd 0 a
 
-  positions-are : PLAIN < length counts → positionsIn (others counts q) ≡ q
-  positions-are h = λ i. record { odd = odd i; wide = wide i; plain = plain i }
+  positions_are : PLAIN < length counts → positions_in (others counts q) ≡ q
+  positions_are h = λ i. record { odd = odd i; wide = wide i; plain = plain i }
     where
       odd : get_or (others counts q) ODD 0 ≡ q.odd
       odd =
@@ -59,61 +59,61 @@ module _ (counts : List ℕ) (q : Positions) where
 -- WHAT IS ASKED
 
 module _ (counts : List ℕ) (g : GapTable) (live : GapsLive counts g) where
-  pub live-most : AtMost highestSlot (ends (gapsIn counts g))
-  live-most = apart-most highestSlot (gapsIn counts g) (omega arith) live.apart
+  pub live_most : AtMost highest_slot (ends (gaps_in counts g))
+  live_most = apart_most highest_slot (gaps_in counts g) (omega arith) live.apart
 
-  long : length (gapsIn counts g) ≡ get_or counts GAP-COUNT 0
-  long = gaps-length g (get_or counts GAP-COUNT 0) live.inside
+  long : length (gaps_in counts g) ≡ get_or counts GAP-COUNT 0
+  long = gaps_length g (get_or counts GAP-COUNT 0) live.inside
 
   few : get_or counts GAP-COUNT 0 ≤ 65535
-  few = omega (arith, apart-few highestSlot 1 (gapsIn counts g) live.apart (omega arith), long)
+  few = omega (arith, apart_few highest_slot 1 (gaps_in counts g) live.apart (omega arith), long)
 
-  within : Within (slotsIn counts g)
-  unfolding slotsAt
+  within : Within (slots_in counts g)
+  unfolding slots_at_lem
   within = (omega (arith, live.odd, long), omega (arith, live.wide, long), omega (arith, live.plain, long))
 
   -- WHAT IS ANSWERED
 
   module _ (wide ldc : Bool) (h : GapTable) where
     -- a slot that is given
-    module _ (n : ℕ) (q : Positions) (w : Answered (slotFor wide ldc (slotsIn counts g)) (get_or counts GAP-COUNT 0) g h (Slot n q)) where
-      given : (top : ℕ) → Apart top 1 (gapsIn counts g) → (1 ≤ n) × Apart top 1 (gapsAt h (get_or counts GAP-COUNT 0))
-      unfolding slotFor
+    module _ (n : ℕ) (q : Positions) (w : Answered (slot_for wide ldc (slots_in counts g)) (get_or counts GAP-COUNT 0) g h (Slot n q)) where
+      given : (top : ℕ) → Apart top 1 (gaps_in counts g) → (1 ≤ n) × Apart top 1 (gaps_at h (get_or counts GAP-COUNT 0))
+      unfolding slot_for
       given top a = ways wide w
         where
           ways :
-              (b : Bool) → Answered (slotFor b ldc (slotsIn counts g)) (get_or counts GAP-COUNT 0) g h (Slot n q) →
-              (1 ≤ n) × Apart top 1 (gapsAt h (get_or counts GAP-COUNT 0))
+              (b : Bool) → Answered (slot_for b ldc (slots_in counts g)) (get_or counts GAP-COUNT 0) g h (Slot n q) →
+              (1 ≤ n) × Apart top 1 (gaps_at h (get_or counts GAP-COUNT 0))
           ways true w =
-              let r = wide-given top (get_or counts GAP-COUNT 0) n g h (positionsIn counts) q a w in
+              let r = wide_given top (get_or counts GAP-COUNT 0) n g h (positions_in counts) q a w in
               (r.low, r.apart)
           ways false w =
-              let r = (narrow-given top (get_or counts GAP-COUNT 0) n g h (positionsIn counts) q a ldc w).0 in
+              let r = (narrow_given top (get_or counts GAP-COUNT 0) n g h (positions_in counts) q a ldc w).0 in
               (r.low, r.apart)
 
-      moved-within : length h ≡ length g → (q.odd ≤ get_or counts GAP-COUNT 0) × (q.wide ≤ get_or counts GAP-COUNT 0) × (q.plain ≤ get_or counts GAP-COUNT 0)
-      unfolding answer_of slotsAt
-      moved-within e =
-          let r = slot-within wide ldc (slotsIn counts g) n (slotsAt h (get_or counts GAP-COUNT 0) q) within (sym w.answer) in
-          let l = gaps-length h (get_or counts GAP-COUNT 0) (omega (arith, live.inside)) in
+      moved_within : length h ≡ length g → (q.odd ≤ get_or counts GAP-COUNT 0) × (q.wide ≤ get_or counts GAP-COUNT 0) × (q.plain ≤ get_or counts GAP-COUNT 0)
+      unfolding answer_of slots_at_lem
+      moved_within e =
+          let r = slot-within wide ldc (slots_in counts g) n (slots_at_lem h (get_or counts GAP-COUNT 0) q) within (sym w.answer) in
+          let l = gaps_length h (get_or counts GAP-COUNT 0) (omega (arith, live.inside)) in
           (omega (arith, r.0), omega (arith, r.1), omega (arith, r.2))
 
     -- the positions are words
-    pub moved-words :
-        (a : Allocated) → length h ≡ length g → Answered (slotFor wide ldc (slotsIn counts g)) (get_or counts GAP-COUNT 0) g h a →
-        IsWord (movedBy a (positionsIn counts)).odd × IsWord (movedBy a (positionsIn counts)).wide × IsWord (movedBy a (positionsIn counts)).plain
-    unfolding movedBy
-    moved-words (Slot n q) e w =
-        let (x, y, z) = moved-within n q w e in
+    pub moved_words :
+        (a : Allocated) → length h ≡ length g → Answered (slot_for wide ldc (slots_in counts g)) (get_or counts GAP-COUNT 0) g h a →
+        IsWord (moved_by a (positions_in counts)).odd × IsWord (moved_by a (positions_in counts)).wide × IsWord (moved_by a (positions_in counts)).plain
+    unfolding moved_by
+    moved_words (Slot n q) e w =
+        let (x, y, z) = moved_within n q w e in
         let f = few in
         (omega arith, omega arith, omega arith)
-    moved-words None e w = let f = few in (omega (arith, live.odd), omega (arith, live.wide), omega (arith, live.plain))
+    moved_words None e w = let f = few in (omega (arith, live.odd), omega (arith, live.wide), omega (arith, live.plain))
 
 module _ (t : Store) (g : GapTable) (live : GapsLive (t COUNTS) g) (size : PLAIN < length (t COUNTS)) (wide ldc : Bool) (h : GapTable) where
   abbrev count : ℕ
   count = get_or (t COUNTS) GAP-COUNT 0
 
-  kept : (q : Positions) → Kept (COUNTS ∷ []) t (withPositions q t)
+  kept : (q : Positions) → Kept (COUNTS ∷ []) t (with_positions q t)
   kept q =
       kept_put (COUNTS ∷ []) t (put (put t COUNTS ODD q.odd) COUNTS WIDE q.wide) COUNTS PLAIN q.plain refl
       (kept_put (COUNTS ∷ []) t (put t COUNTS ODD q.odd) COUNTS WIDE q.wide refl
@@ -123,39 +123,39 @@ module _ (t : Store) (g : GapTable) (live : GapsLive (t COUNTS) g) (size : PLAIN
   after q = others (t COUNTS) q
 
   same_count : (q : Positions) → get_or (after q) GAP-COUNT 0 ≡ count
-  same_count q = other-counters (t COUNTS) q GAP-COUNT refl
+  same_count q = other_counters (t COUNTS) q GAP-COUNT refl
 
   pub took :
       (a : Allocated) (r : ℕ) → length h ≡ length g →
-      Answered (slotFor wide ldc (slotsIn (t COUNTS) g)) count g h a →
-      r ≡ slotFound (foundIn a) → r < 65536 →
-      Took wide ldc t (withPositions (movedBy a (positionsIn (t COUNTS))) t) g h r
-  unfolding slotFound foundIn movedBy answer_of
+      Answered (slot_for wide ldc (slots_in (t COUNTS) g)) count g h a →
+      r ≡ slot_found (found_in a) → r < 65536 →
+      Took wide ldc t (with_positions (moved_by a (positions_in (t COUNTS))) t) g h r
+  unfolding slot_found found_in moved_by answer_of
   took (Slot n q) r e w is low =
-      let moved = moved-within (t COUNTS) g live wide ldc h n q w e in
-      let p = positions-are (t COUNTS) q size in
+      let moved = moved_within (t COUNTS) g live wide ldc h n q w e in
+      let p = positions_are (t COUNTS) q size in
       let c = same_count q in
       let gave = given (t COUNTS) g live wide ldc h n q w in
       record {
-        unmet = λ z. absurd (omega (arith, (gave highestSlot live.apart).0));
+        unmet = λ z. absurd (omega (arith, (gave highest_slot live.apart).0));
         met = λ z. rw (is, c, p) (sym w.answer);
         small = low;
         live =
             record {
               inside = omega (arith, live.inside);
-              apart = rw c (gave highestSlot live.apart).1;
+              apart = rw c (gave highest_slot live.apart).1;
               odd = omega (arith, moved.0, ap (λ (x : Positions). x.odd) p);
               wide = omega (arith, moved.1, ap (λ (x : Positions). x.wide) p);
               plain = omega (arith, moved.2, ap (λ (x : Positions). x.plain) p);
             };
         apart = λ top z. rw c (gave top z).1;
         long = e;
-        counters = other-counters (t COUNTS) q;
+        counters = other_counters (t COUNTS) q;
         kept = kept q;
       }
   took None r e w is low =
-      let q = positionsIn (t COUNTS) in
-      let p = positions-are (t COUNTS) q size in
+      let q = positions_in (t COUNTS) in
+      let p = positions_are (t COUNTS) q size in
       let c = same_count q in
       record {
         unmet = λ z. sym w.answer;
@@ -171,7 +171,7 @@ module _ (t : Store) (g : GapTable) (live : GapsLive (t COUNTS) g) (size : PLAIN
             };
         apart = λ top z. rw (c, w.alone) z;
         long = e;
-        counters = other-counters (t COUNTS) q;
+        counters = other_counters (t COUNTS) q;
         kept = kept q;
       }
 
@@ -179,19 +179,19 @@ module _ (t : Store) (g : GapTable) (live : GapsLive (t COUNTS) g) (size : PLAIN
 
 pub slot-asks :
     (counts : List ℕ) (g : GapTable) (count : ℕ) → GapsLive counts g → count ≡ get_or counts GAP-COUNT 0 →
-    (count ≤ length g) × AtMost highestSlot (ends (gapsAt g count))
-slot-asks counts g count live e = rw e (live.inside, live-most counts g live)
+    (count ≤ length g) × AtMost highest_slot (ends (gaps_at g count))
+slot-asks counts g count live e = rw e (live.inside, live_most counts g live)
 
 module _
     (t : Store) (g h : GapTable) (wide ldc : Bool) (live : GapsLive (t COUNTS) g) (before : Positions) (count : ℕ) (found : Found)
-    (is : before ≡ positionsIn (t COUNTS)) (counted : count ≡ get_or (t COUNTS) GAP-COUNT 0) (long : length h ≡ length g)
-    (q : Positions) (taken : Taken (slotFor wide ldc (slotsAt g count before)) count g h before q found) where
-  answered : Answered (slotFor wide ldc (slotsIn (t COUNTS) g)) (get_or (t COUNTS) GAP-COUNT 0) g h taken.by_value
+    (is : before ≡ positions_in (t COUNTS)) (counted : count ≡ get_or (t COUNTS) GAP-COUNT 0) (long : length h ≡ length g)
+    (q : Positions) (taken : Taken (slot_for wide ldc (slots_at_lem g count before)) count g h before q found) where
+  answered : Answered (slot_for wide ldc (slots_in (t COUNTS) g)) (get_or (t COUNTS) GAP-COUNT 0) g h taken.by_value
   answered = rw (counted, is) at taken.answered
 
-  pub save-asks : IsWord q.odd × IsWord q.wide × IsWord q.plain
-  save-asks = rw (taken.moved, is) (moved-words (t COUNTS) g live wide ldc h taken.by_value long answered)
+  pub save_asks : IsWord q.odd × IsWord q.wide × IsWord q.plain
+  save_asks = rw (taken.moved, is) (moved_words (t COUNTS) g live wide ldc h taken.by_value long answered)
 
-  pub took-all : PLAIN < length (t COUNTS) → (u : Store) (r : ℕ) → u ≡ withPositions q t → r ≡ slotFound found → r < 65536 → Took wide ldc t u g h r
-  took-all size u r e f low =
-      rw (e, taken.moved, is) (took t g live size wide ldc h taken.by_value r long answered (f ∙ ap slotFound taken.found) low)
+  pub took_all : PLAIN < length (t COUNTS) → (u : Store) (r : ℕ) → u ≡ with_positions q t → r ≡ slot_found found → r < 65536 → Took wide ldc t u g h r
+  took_all size u r e f low =
+      rw (e, taken.moved, is) (took t g live size wide ldc h taken.by_value r long answered (f ∙ ap slot_found taken.found) low)

@@ -11,26 +11,26 @@ use lib.Dec.{eqb}
 use borrow.Author.Tests.{lt-ltb, le-ltb, eqb-true, eqb-false, not-true, not-false}
 use Rattle.facts.proofs.Lists.{true≢false}
 use Rattle.store.specs.Store.{among}
-use Rattle.store.specs.Words.{ENTRY, childSlot}
-use Rattle.pool.specs.Pooled.{slotWord, Has, Lacks, zeros}
+use Rattle.store.specs.Words.{ENTRY, child_slot}
+use Rattle.pool.specs.Pooled.{slot_word, Has, Lacks, zeros}
 
 -- A CHILD'S SLOT
 
-pub child-raw : (given : List ℕ) (child : ℕ) → child < ENTRY → childSlot given child ≡ child
-unfolding childSlot
-child-raw given child h = rw (lt-ltb child ENTRY h, childSlot)
+pub child_raw : (given : List ℕ) (child : ℕ) → child < ENTRY → child_slot given child ≡ child
+unfolding child_slot
+child_raw given child h = rw (lt-ltb child ENTRY h, child_slot)
 
-pub child-node : (given : List ℕ) (child : ℕ) → ENTRY ≤ child → childSlot given child ≡ get_or given (child - ENTRY) 0
-unfolding childSlot
-child-node given child h = rw (le-ltb child ENTRY h, childSlot)
+pub child_node : (given : List ℕ) (child : ℕ) → ENTRY ≤ child → child_slot given child ≡ get_or given (child - ENTRY) 0
+unfolding child_slot
+child_node given child h = rw (le-ltb child ENTRY h, child_slot)
 
 -- a child that has a slot keeps it as long as nodes do
-pub child-kept :
+pub child_kept :
     (given later : List ℕ) (child : ℕ) → Has given child → ((k : ℕ) → 0 < get_or given k 0 → get_or later k 0 ≡ get_or given k 0) →
-    childSlot later child ≡ childSlot given child
-child-kept given later child (inl h) keeps = child-raw later child h ∙ sym (child-raw given child h)
-child-kept given later child (inr (h, l)) keeps =
-    child-node later child h ∙ keeps (child - ENTRY) l ∙ sym (child-node given child h)
+    child_slot later child ≡ child_slot given child
+child_kept given later child (inl h) keeps = child_raw later child h ∙ sym (child_raw given child h)
+child_kept given later child (inr (h, l)) keeps =
+    child_node later child h ∙ keeps (child - ENTRY) l ∙ sym (child_node given child h)
 
 pub has_kept :
     (given later : List ℕ) (child : ℕ) → Has given child → ((k : ℕ) → 0 < get_or given k 0 → get_or later k 0 ≡ get_or given k 0) → Has later child
@@ -55,13 +55,13 @@ not-among c x l = ways (eqb c x) refl
 
 -- WORDS OF SLOTS
 
-pub word_none : (n : ℕ) → n ≡ 0 → slotWord n ≡ none
-unfolding slotWord
+pub word_none : (n : ℕ) → n ≡ 0 → slot_word n ≡ none
+unfolding slot_word
 word_none zero e = refl
 word_none (suc n) e = absurd (omega arith)
 
-pub word_some : (n : ℕ) → 0 < n → slotWord n ≡ some n
-unfolding slotWord
+pub word_some : (n : ℕ) → 0 < n → slot_word n ≡ some n
+unfolding slot_word
 word_some zero h = absurd (omega arith)
 word_some (suc n) h = refl
 

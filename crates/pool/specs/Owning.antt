@@ -3,12 +3,12 @@ use Rattle.std.specs.Prelude.{◌⊎◌, ◌≡◌, ℕ, suc, ◌<◌, get_or}
 use Rattle.store.specs.Store.{Store}
 use Rattle.store.specs.Regions.{MARKS, GIVEN, RAW-KEYS, RAW-ENTRIES, PENDING}
 use Rattle.store.specs.Words.{ENTRY, HALF}
-use Rattle.raws.specs.Raws.{rawCount}
-use Rattle.pool.specs.Pooled.{pendingCount}
+use Rattle.raws.specs.Raws.{raw_count}
+use Rattle.pool.specs.Pooled.{pending_count}
 
 -- node k became that of raw slot i, which isn't a second half
 pub record RawOwner (t : Store) (i k : ℕ) : Type 0 where
-  pub inside : i < rawCount t
+  pub inside : i < raw_count t
   pub slot : get_or (t RAW-KEYS) i 0 < ENTRY
   pub whole : get_or (t RAW-ENTRIES) i 0 ≡ HALF → ⊥
   pub node : get_or (t MARKS) (get_or (t RAW-ENTRIES) i 0) 0 ≡ suc (suc k)
@@ -19,4 +19,4 @@ IsOwner t k = (0 < get_or (t GIVEN) k 0) ⊎ ((i : ℕ) × RawOwner t i k)
 
 -- it is on the building stack
 abbrev pub OnStack : Store → ℕ → Type 0
-OnStack t k = (i : ℕ) × (i < pendingCount t) × (get_or (t PENDING) i 0 ≡ k)
+OnStack t k = (i : ℕ) × (i < pending_count t) × (get_or (t PENDING) i 0 ≡ k)

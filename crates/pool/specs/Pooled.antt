@@ -3,26 +3,26 @@
 use Rattle.std.specs.Prelude.{Bool, true, false, List, [], ◌∷◌, map, reverse, ◌⊎◌, ◌≡◌, ℕ, zero, suc, ◌+◌, ◌-◌, ◌≤◌, ◌<◌, ltb, length, get_or, take}
 use Rattle.std.proofs.Math.Option.{Option, none, some}
 use Rattle.definition.specs.Basics.{Result, good, bad, Refusal, lookup}
-use Rattle.definition.specs.Slots.{highestSlot, Gap, Slots, slotFor}
-use Rattle.definition.specs.Building.{Pool, no_slot, slot_of, origin_of, mark_of, slots_of, kidsOf}
+use Rattle.definition.specs.Slots.{highest_slot, Gap, Slots, slot_for}
+use Rattle.definition.specs.Building.{Pool, no_slot, slot_of, origin_of, mark_of, slots_of, kids_of}
 use Rattle.laws.specs.Gaps.{Apart}
 use Rattle.slots.specs.declared.Positions.{Positions}
 use Rattle.slots.specs.declared.Found.{Found}
 use Rattle.slots.specs.declared.Found.TheVariants.{Slot, None}
-use Rattle.slots.specs.Gaps.{GapTable, gapsAt, slotsAt}
+use Rattle.slots.specs.Gaps.{GapTable, gaps_at, slots_at_lem}
 use Rattle.store.specs.Store.{Store, size, put, among, Kept}
 use Rattle.store.specs.Regions.{COUNTS, GIVEN, NODE-HEADS, PENDING, PLACE, NODE-COUNT, GAP-COUNT, ODD, WIDE, PLAIN, PENDING-COUNT, Work}
-use Rattle.store.specs.Words.{ENTRY, childSlot}
-use Rattle.interner.specs.Nodes.{EnteredIn, NodesIn, nodeCount, nodesIn, recordIn}
+use Rattle.store.specs.Words.{ENTRY, child_slot}
+use Rattle.interner.specs.Nodes.{EnteredIn, NodesIn, node_count, nodes_in, record_in}
 use Rattle.pool.specs.declared.Reply.{Reply}
 use Rattle.pool.specs.declared.Reply.TheVariants as reply
 
 -- WORDS
 
 -- a node's slot as a word: 0 while it has none
-unfoldable pub slotWord : ℕ → Option ℕ
-slotWord zero = none
-slotWord (suc n) = some (suc n)
+unfoldable pub slot_word : ℕ → Option ℕ
+slot_word zero = none
+slot_word (suc n) = some (suc n)
 
 -- a child that needs no slot: a raw number, or a node that has one
 abbrev pub Has : List ℕ → ℕ → Type 0
@@ -39,22 +39,22 @@ zeros (zero ∷ words) = suc (zeros words)
 zeros (suc n ∷ words) = zeros words
 
 -- the positions as the counters have them
-abbrev pub positionsIn : List ℕ → Positions
-positionsIn counts = record { odd = get_or counts ODD 0; wide = get_or counts WIDE 0; plain = get_or counts PLAIN 0 }
+abbrev pub positions_in : List ℕ → Positions
+positions_in counts = record { odd = get_or counts ODD 0; wide = get_or counts WIDE 0; plain = get_or counts PLAIN 0 }
 
 -- the gaps in use, and the definition's allocator
-abbrev pub gapsIn : List ℕ → GapTable → List Gap
-gapsIn counts gaps = gapsAt gaps (get_or counts GAP-COUNT 0)
+abbrev pub gaps_in : List ℕ → GapTable → List Gap
+gaps_in counts gaps = gaps_at gaps (get_or counts GAP-COUNT 0)
 
-abbrev pub slotsIn : List ℕ → GapTable → Slots
-slotsIn counts gaps = slotsAt gaps (get_or counts GAP-COUNT 0) (positionsIn counts)
+abbrev pub slots_in : List ℕ → GapTable → Slots
+slots_in counts gaps = slots_at_lem gaps (get_or counts GAP-COUNT 0) (positions_in counts)
 
 -- THE POOL
 
 -- a pool that the words are. They don't tell in which order slots were given, nor which slot a node on the stack stands there with
 pub record Pooled (pool : Pool) (counts words stack : List ℕ) (table : GapTable) : Type 0 where
-  pub slots : slotsIn counts table ≡ pool.slots
-  pub given : (k : ℕ) → lookup k pool.given ≡ slotWord (get_or words k 0)
+  pub slots : slots_in counts table ≡ pool.slots
+  pub given : (k : ℕ) → lookup k pool.given ≡ slot_word (get_or words k 0)
   pub pending : map (λ r. r.1) pool.pending ≡ reverse (take (get_or counts PENDING-COUNT 0) stack)
 
 abbrev pub PooledIn : Pool → Store → GapTable → Type 0
@@ -63,7 +63,7 @@ PooledIn pool t gaps = Pooled pool (t COUNTS) (t GIVEN) (t PENDING) gaps
 -- what the allocator asks
 pub record GapsLive (counts : List ℕ) (table : GapTable) : Type 0 where
   pub inside : get_or counts GAP-COUNT 0 ≤ length table
-  pub apart : Apart highestSlot 1 (gapsIn counts table)
+  pub apart : Apart highest_slot 1 (gaps_in counts table)
   pub odd : get_or counts ODD 0 ≤ get_or counts GAP-COUNT 0
   pub wide : get_or counts WIDE 0 ≤ get_or counts GAP-COUNT 0
   pub plain : get_or counts PLAIN 0 ≤ get_or counts GAP-COUNT 0
@@ -84,24 +84,24 @@ NodesThere s p t = Work s p × EnteredIn s t × NodesIn (size p NODE-HEADS) s t
 -- the children of node k are raw numbers and nodes that are there
 abbrev pub KidsThere : List ℕ → Store → ℕ → Type 0
 KidsThere s t k =
-    (i : ℕ) → i < length (kidsOf (nodesIn s t) k) → get_or (kidsOf (nodesIn s t) k) i 0 < ENTRY + get_or (t COUNTS) NODE-COUNT 0
+    (i : ℕ) → i < length (kids_of (nodes_in s t) k) → get_or (kids_of (nodes_in s t) k) i 0 < ENTRY + get_or (t COUNTS) NODE-COUNT 0
 
 -- WRITERS
 
-abbrev pub withPositions : Positions → Store → Store
-withPositions q t = put (put (put t COUNTS ODD q.odd) COUNTS WIDE q.wide) COUNTS PLAIN q.plain
+abbrev pub with_positions : Positions → Store → Store
+with_positions q t = put (put (put t COUNTS ODD q.odd) COUNTS WIDE q.wide) COUNTS PLAIN q.plain
 
-abbrev pub pendingCount : Store → ℕ
-pendingCount t = get_or (t COUNTS) PENDING-COUNT 0
+abbrev pub pending_count : Store → ℕ
+pending_count t = get_or (t COUNTS) PENDING-COUNT 0
 
 -- node k on top of the building stack
-abbrev pub withPending : ℕ → Store → Store
-withPending k t = put (put t COUNTS PENDING-COUNT (pendingCount t + 1)) PENDING (pendingCount t) k
+abbrev pub with_pending : ℕ → Store → Store
+with_pending k t = put (put t COUNTS PENDING-COUNT (pending_count t + 1)) PENDING (pending_count t) k
 
 -- what a request for a slot found
-unfoldable pub slotFound : Found → ℕ
-slotFound (Slot n) = n
-slotFound None = 0
+unfoldable pub slot_found : Found → ℕ
+slot_found (Slot n) = n
+slot_found None = 0
 
 -- the counters that change while slots are given
 abbrev pub moving : List ℕ
@@ -110,7 +110,7 @@ moving = ODD ∷ WIDE ∷ PLAIN ∷ PENDING-COUNT ∷ []
 -- what stays while slots are given: t and the gap table g before, u and h after
 pub record Goes (t u : Store) (g h : GapTable) : Type 0 where
   pub live : LiveIn t g → LiveIn u h
-  pub apart : (top : ℕ) → Apart top 1 (gapsIn (t COUNTS) g) → Apart top 1 (gapsIn (u COUNTS) h)
+  pub apart : (top : ℕ) → Apart top 1 (gaps_in (t COUNTS) g) → Apart top 1 (gaps_in (u COUNTS) h)
   pub long : length h ≡ length g
   -- a node that has a slot keeps it
   pub given : (k : ℕ) → 0 < get_or (t GIVEN) k 0 → get_or (u GIVEN) k 0 ≡ get_or (t GIVEN) k 0
@@ -119,11 +119,11 @@ pub record Goes (t u : Store) (g h : GapTable) : Type 0 where
 
 -- a slot was asked for: r is it, or 0
 pub record Took (wide ldc : Bool) (t u : Store) (g h : GapTable) (r : ℕ) : Type 0 where
-  pub unmet : r ≡ 0 → slotFor wide ldc (slotsIn (t COUNTS) g) ≡ none
-  pub met : 0 < r → slotFor wide ldc (slotsIn (t COUNTS) g) ≡ some (r, slotsIn (u COUNTS) h)
+  pub unmet : r ≡ 0 → slot_for wide ldc (slots_in (t COUNTS) g) ≡ none
+  pub met : 0 < r → slot_for wide ldc (slots_in (t COUNTS) g) ≡ some (r, slots_in (u COUNTS) h)
   pub small : r < 65536
   pub live : GapsLive (u COUNTS) h
-  pub apart : (top : ℕ) → Apart top 1 (gapsIn (t COUNTS) g) → Apart top 1 (gapsIn (u COUNTS) h)
+  pub apart : (top : ℕ) → Apart top 1 (gaps_in (t COUNTS) g) → Apart top 1 (gaps_in (u COUNTS) h)
   pub long : length h ≡ length g
   pub counters : (c : ℕ) → among c (ODD ∷ WIDE ∷ PLAIN ∷ []) ≡ false → get_or (u COUNTS) c 0 ≡ get_or (t COUNTS) c 0
   pub kept : Kept (COUNTS ∷ []) t u
@@ -131,7 +131,7 @@ pub record Took (wide ldc : Bool) (t u : Store) (g h : GapTable) (r : ℕ) : Typ
 -- the slot found for node k became its own, or there is none and r is the refusal's number
 abbrev pub Gave : ℕ → ℕ → Bool → Store → Store → ℕ → Type 0
 Gave k slot ldc t u r =
-    ((slot ≡ 0) × (r ≡ no_slot ldc) × (u ≡ t)) ⊎ ((0 < slot) × (r ≡ 0) × (u ≡ withPending k (put t GIVEN k slot)))
+    ((slot ≡ 0) × (r ≡ no_slot ldc) × (u ≡ t)) ⊎ ((0 < slot) × (r ≡ 0) × (u ≡ with_pending k (put t GIVEN k slot)))
 
 -- how a child comes by its slot, as the code replies: the refusal's number, 0 if there is a slot, and the mark
 unfoldable pub code_in : Reply → ℕ
@@ -140,55 +140,55 @@ code_in reply.New = 0
 code_in reply.Old = 0
 code_in (reply.Refused n) = n
 
-unfoldable pub markIn : Reply → ℕ
-markIn reply.Raw = 0
-markIn reply.New = 1
-markIn reply.Old = 2
-markIn (reply.Refused n) = 0
+unfoldable pub mark_in : Reply → ℕ
+mark_in reply.Raw = 0
+mark_in reply.New = 1
+mark_in reply.Old = 2
+mark_in (reply.Refused n) = 0
 
 -- a child that needs no slot; one that was given one, or refused
-unfoldable pub keptReply : ℕ → Reply
-keptReply child = elim (ltb child ENTRY) [ true ↦ reply.Raw | false ↦ reply.Old ]
+unfoldable pub kept_reply : ℕ → Reply
+kept_reply child = elim (ltb child ENTRY) [ true ↦ reply.Raw | false ↦ reply.Old ]
 
-unfoldable pub newReply : ℕ → Reply
-newReply zero = reply.New
-newReply (suc n) = reply.Refused (suc n)
+unfoldable pub new_reply : ℕ → Reply
+new_reply zero = reply.New
+new_reply (suc n) = reply.Refused (suc n)
 
 -- the mark is the definition's, for the pool before
 abbrev pub Marked : ℕ → Store → GapTable → Reply → Type 0
-Marked child t g r = (pool : Pool) → PooledIn pool t g → code_in r ≡ 0 → markIn r ≡ mark_of (origin_of child pool)
+Marked child t g r = (pool : Pool) → PooledIn pool t g → code_in r ≡ 0 → mark_in r ≡ mark_of (origin_of child pool)
 
 -- a child has a slot from then on, or r is the refusal's number
 pub record Slotted (s : List ℕ) (ldc : Bool) (child : ℕ) (t u : Store) (g h : GapTable) (r : ℕ) : Type 0 where
   pub met :
       (pool : Pool) → PooledIn pool t g → r ≡ 0 →
-      (after : Pool) × (slot_of (nodesIn s t) ldc child pool ≡ good (childSlot (u GIVEN) child, after)) × PooledIn after u h
-  pub refused : (pool : Pool) → PooledIn pool t g → 0 < r → slot_of (nodesIn s t) ldc child pool ≡ bad r
+      (after : Pool) × (slot_of (nodes_in s t) ldc child pool ≡ good (child_slot (u GIVEN) child, after)) × PooledIn after u h
+  pub refused : (pool : Pool) → PooledIn pool t g → 0 < r → slot_of (nodes_in s t) ldc child pool ≡ bad r
   -- a raw number is never refused
   pub node : 0 < r → ENTRY ≤ child
   pub has : r ≡ 0 → Has (u GIVEN) child
   pub goes : Goes t u g h
 
 -- the record in turn
-abbrev pub placeCount : Store → ℕ
-placeCount t = get_or (t COUNTS) PLACE 0
+abbrev pub place_count : Store → ℕ
+place_count t = get_or (t COUNTS) PLACE 0
 
 -- what is refused while building is refused at a node, and PLACE tells its record: t before, u after
 pub record Told {A : Type 0} (x : Result Refusal A) (t u : Store) (r : ℕ) : Type 0 where
   pub node : ℕ
-  pub made : node < nodeCount t
+  pub made : node < node_count t
   pub refused : x ≡ bad (record { code = r; place = node })
-  pub place : placeCount u ≡ recordIn t node
+  pub place : place_count u ≡ record_in t node
 
 -- so have all children of node k, or r is the refusal's number, told at the child
 pub record SlottedAll (s : List ℕ) (k : ℕ) (t u : Store) (g h : GapTable) (r : ℕ) : Type 0 where
   pub met :
       (pool : Pool) → PooledIn pool t g → r ≡ 0 →
       (after : Pool)
-      × (slots_of (nodesIn s t) (kidsOf (nodesIn s t) k) pool ≡ good (map (childSlot (u GIVEN)) (kidsOf (nodesIn s t) k), after))
+      × (slots_of (nodes_in s t) (kids_of (nodes_in s t) k) pool ≡ good (map (child_slot (u GIVEN)) (kids_of (nodes_in s t) k), after))
       × PooledIn after u h
-  pub refused : (pool : Pool) → PooledIn pool t g → 0 < r → Told (slots_of (nodesIn s t) (kidsOf (nodesIn s t) k) pool) t u r
-  pub has : r ≡ 0 → (i : ℕ) → i < length (kidsOf (nodesIn s t) k) → Has (u GIVEN) (get_or (kidsOf (nodesIn s t) k) i 0)
+  pub refused : (pool : Pool) → PooledIn pool t g → 0 < r → Told (slots_of (nodes_in s t) (kids_of (nodes_in s t) k) pool) t u r
+  pub has : r ≡ 0 → (i : ℕ) → i < length (kids_of (nodes_in s t) k) → Has (u GIVEN) (get_or (kids_of (nodes_in s t) k) i 0)
   pub goes : r ≡ 0 → Goes t u g h
 
 -- node r left the building stack
@@ -200,6 +200,6 @@ pub record Popped (t u : Store) (r : ℕ) : Type 0 where
       × (pool.pending ≡ (slot, r) ∷ rest)
       × PooledIn (record { slots = pool.slots; given = pool.given; pending = rest; version = pool.version }) u g
   pub live : (g : GapTable) → LiveIn t g → LiveIn u g × (r < get_or (t COUNTS) NODE-COUNT 0)
-  pub fewer : pendingCount u + 1 ≡ pendingCount t
+  pub fewer : pending_count u + 1 ≡ pending_count t
   pub counters : (c : ℕ) → (c ≡ PENDING-COUNT → ⊥) → get_or (u COUNTS) c 0 ≡ get_or (t COUNTS) c 0
   pub kept : Kept (COUNTS ∷ []) t u

@@ -3,22 +3,22 @@ ghost use Rattle.std.specs.Prelude.{true, false, ◌≡◌, ℕ, ◌+◌, ◌-�
 ghost use Rattle.definition.specs.Basics.{good, bad};
 ghost use Rattle.definition.specs.Shapes.{is_wide};
 ghost use Rattle.definition.specs.Definitions.{tag_at};
-ghost use Rattle.definition.specs.Slots.{gapsFrom};
+ghost use Rattle.definition.specs.Slots.{gaps_from};
 ghost use Rattle.definition.specs.Building.{no_slot};
-ghost use Rattle.job.specs.Stored.{Stands, WhatStands, anyRequest};
+ghost use Rattle.job.specs.Stored.{Stands, WhatStands, any_request};
 ghost use Rattle.slots.specs.Gaps.{AtMost, Written};
 ghost use Rattle.store.specs.Store.{size, store, put, On, IsWord, Read};
 ghost use Rattle.store.specs.Regions.{COUNTS, GIVEN, NAME-HEADS, NAME-GOALS, RAW-KEYS, RAW-ENTRIES, ORDER, PENDING, ANSWERS, ORIGINS, NODES, RECORDS, OFFSETS, FIRSTS, SIZES, PLACE, AT, HELD-COUNT, PLAIN, PENDING-COUNT, Work};
-ghost use Rattle.store.specs.JobIn.{jobIn};
-ghost use Rattle.store.specs.Words.{ENTRY, childSlot};
-ghost use Rattle.interner.specs.Nodes.{nodeCount, nodesIn, recordIn};
-ghost use Rattle.pool.specs.Pooled.{placeCount, Has, Lacks, positionsIn, GapsLive, NodesThere, withPositions, pendingCount, withPending, slotFound, LiveIn, KidsThere, Took, Gave, keptReply, newReply, code_in, markIn, Marked, Slotted, SlottedAll, Popped};
-ghost use Rattle.raws.specs.Raws.{heldCount};
-ghost use Rattle.pool.specs.Starting.{orderKeys, rawAt, CanPush, RawPushed, CanPushAll, RawsPushed, SomeStart, PoolStarted};
+ghost use Rattle.store.specs.JobIn.{job_in};
+ghost use Rattle.store.specs.Words.{ENTRY, child_slot};
+ghost use Rattle.interner.specs.Nodes.{node_count, nodes_in, record_in};
+ghost use Rattle.pool.specs.Pooled.{place_count, Has, Lacks, positions_in, GapsLive, NodesThere, with_positions, pending_count, with_pending, slot_found, LiveIn, KidsThere, Took, Gave, kept_reply, new_reply, code_in, mark_in, Marked, Slotted, SlottedAll, Popped};
+ghost use Rattle.raws.specs.Raws.{held_count};
+ghost use Rattle.pool.specs.Starting.{order_keys, raw_at_lem, CanPush, RawPushed, CanPushAll, RawsPushed, SomeStart, PoolStarted};
 ghost use Rattle.sym_refs.specs.Names.{Goals};
 ghost use Rattle.sym_refs.specs.Leading.{AllNames};
-ghost use Rattle.resolver.specs.Resolved.{visitsOwed};
-ghost use Rattle.pool.specs.Replying.{RequestAt, WhatRequest, goalFor, LeadsTo, low, KeptAnswer, Asking, Replied, RequestsAt, RepliedAll};
+ghost use Rattle.resolver.specs.Resolved.{visits_owed};
+ghost use Rattle.pool.specs.Replying.{RequestAt, WhatRequest, goal_for, LeadsTo, low, KeptAnswer, Asking, Replied, RequestsAt, RepliedAll};
 
 use raws::{raw_entry, raw_key};
 use resolver::node_of;
@@ -41,7 +41,7 @@ pub enum Reply {
 // The slot of a child that has one: a raw number is itself.
 pub fn child_slot(w: &[u32], p: &[usize], child: usize) -> usize
     requires { On p.now (length w.now) × (child < ENTRY + size p.now GIVEN) }
-    ensures { (result ≡ childSlot (store p.now w.now GIVEN) child) × IsWord result }
+    ensures { (result ≡ child_slot (store p.now w.now GIVEN) child) × IsWord result }
 {
     if child < ENTRY {
         child
@@ -60,16 +60,16 @@ fn node_at(w: &[u32], p: &[usize], k: usize) -> usize
 
 // The tag of a node.
 pub fn node_tag(job: &[u8], w: &[u32], p: &[usize], k: usize) -> u8
-    requires { On p.now (length w.now) × NodesThere job.now p.now (store p.now w.now) × (k < nodeCount (store p.now w.now)) }
-    ensures { result ≡ tag_at (nodesIn job.now (store p.now w.now)) k }
+    requires { On p.now (length w.now) × NodesThere job.now p.now (store p.now w.now) × (k < node_count (store p.now w.now)) }
+    ensures { result ≡ tag_at (nodes_in job.now (store p.now w.now)) k }
 {
     job::tag_at(job, node_at(w, p, k))
 }
 
 // It is that of a wide constant.
 pub fn node_is_wide(job: &[u8], w: &[u32], p: &[usize], k: usize) -> bool
-    requires { On p.now (length w.now) × NodesThere job.now p.now (store p.now w.now) × (k < nodeCount (store p.now w.now)) }
-    ensures { result ≡ is_wide (tag_at (nodesIn job.now (store p.now w.now)) k) }
+    requires { On p.now (length w.now) × NodesThere job.now p.now (store p.now w.now) × (k < node_count (store p.now w.now)) }
+    ensures { result ≡ is_wide (tag_at (nodes_in job.now (store p.now w.now)) k) }
 {
     raw_const::is_long(node_tag(job, w, p, k))
 }
@@ -93,7 +93,7 @@ pub fn first_child(w: &[u32], p: &[usize], k: usize) -> usize
 // The positions as the counters have them.
 fn load_positions(w: &[u32], p: &[usize]) -> Positions
     requires { On p.now (length w.now) × (PLAIN < size p.now COUNTS) }
-    ensures { result ≡ positionsIn (store p.now w.now COUNTS) }
+    ensures { result ≡ positions_in (store p.now w.now COUNTS) }
 {
     Positions {
         odd: load(w, p, COUNTS, ODD),
@@ -105,7 +105,7 @@ fn load_positions(w: &[u32], p: &[usize]) -> Positions
 // The counters have these positions.
 fn save_positions(w: &mut [u32], p: &[usize], q: Positions)
     requires { On p.now (length w.old) × (PLAIN < size p.now COUNTS) × IsWord q.odd × IsWord q.wide × IsWord q.plain }
-    ensures { store p.now w.new ≡ withPositions q (store p.now w.old) }
+    ensures { store p.now w.new ≡ with_positions q (store p.now w.old) }
 {
     save(w, p, COUNTS, ODD, q.odd);
     save(w, p, COUNTS, WIDE, q.wide);
@@ -114,7 +114,7 @@ fn save_positions(w: &mut [u32], p: &[usize], q: Positions)
 
 // The slot found, 0 for none.
 fn slot_found(found: Found) -> usize
-    ensures { (result ≡ slotFound found) × (result < 65536) }
+    ensures { (result ≡ slot_found found) × (result < 65536) }
 {
     match found {
         Found::Slot(slot) => slot as usize,
@@ -143,8 +143,8 @@ fn no_slot(ldc: bool) -> usize
 
 // Node k goes onto the building stack.
 fn push_pending(w: &mut [u32], p: &[usize], k: usize)
-    requires { On p.now (length w.old) × (PENDING-COUNT < size p.now COUNTS) × (pendingCount (store p.now w.old) < size p.now PENDING) × IsWord (size p.now PENDING) × IsWord k }
-    ensures { store p.now w.new ≡ withPending k (store p.now w.old) }
+    requires { On p.now (length w.old) × (PENDING-COUNT < size p.now COUNTS) × (pending_count (store p.now w.old) < size p.now PENDING) × IsWord (size p.now PENDING) × IsWord k }
+    ensures { store p.now w.new ≡ with_pending k (store p.now w.old) }
 {
     let i = next_count(w, p, PENDING_COUNT);
     save(w, p, PENDING, i, k);
@@ -163,7 +163,7 @@ fn has_slot(w: &[u32], p: &[usize], child: usize) -> bool
 
 // The slot found for node k is its own and the node goes onto the stack, 0; 14 or 15 if none was found.
 fn give(w: &mut [u32], p: &[usize], k: usize, slot: usize, ldc: bool) -> usize
-    requires { On p.now (length w.old) × (PENDING-COUNT < size p.now COUNTS) × (k < size p.now GIVEN) × (pendingCount (store p.now w.old) < size p.now PENDING) × IsWord (size p.now PENDING) × IsWord k × IsWord slot }
+    requires { On p.now (length w.old) × (PENDING-COUNT < size p.now COUNTS) × (k < size p.now GIVEN) × (pending_count (store p.now w.old) < size p.now PENDING) × IsWord (size p.now PENDING) × IsWord k × IsWord slot }
     ensures { Gave k slot ldc (store p.now w.old) (store p.now w.new) result }
 {
     if slot == 0 {
@@ -176,7 +176,7 @@ fn give(w: &mut [u32], p: &[usize], k: usize, slot: usize, ldc: bool) -> usize
 
 // The reply for a child that needs no slot.
 fn kept_slot(child: usize) -> Reply
-    ensures { result ≡ keptReply child }
+    ensures { result ≡ kept_reply child }
 {
     if child < ENTRY {
         return Reply::Raw;
@@ -186,7 +186,7 @@ fn kept_slot(child: usize) -> Reply
 
 // The reply where a slot was given, 0, or refused.
 fn new_slot(code: usize) -> Reply
-    ensures { result ≡ newReply code }
+    ensures { result ≡ new_reply code }
 {
     if code == 0 {
         return Reply::New;
@@ -208,7 +208,7 @@ pub fn code_of(reply: Reply) -> usize
 
 // The number that marks an answer: `mark_of`.
 fn mark_of(reply: Reply) -> usize
-    ensures { (result ≡ markIn reply) × IsWord result }
+    ensures { (result ≡ mark_in reply) × IsWord result }
 {
     match reply {
         Reply::Raw => 0,
@@ -227,7 +227,7 @@ pub fn slot_of(
     child: usize,
     ldc: bool,
 ) -> Reply
-    requires { On p.now (length w.old) × NodesThere job.now p.now (store p.now w.old) × LiveIn (store p.now w.old) gaps.old × (child < ENTRY + nodeCount (store p.now w.old)) }
+    requires { On p.now (length w.old) × NodesThere job.now p.now (store p.now w.old) × LiveIn (store p.now w.old) gaps.old × (child < ENTRY + node_count (store p.now w.old)) }
     ensures { Slotted job.now ldc child (store p.now w.old) (store p.now w.new) gaps.old gaps.new (code_in result) × Marked child (store p.now w.old) gaps.old result }
 {
     if has_slot(w, p, child) {
@@ -243,7 +243,7 @@ pub fn slot_of(
 // A refusal met while building is told at node k's record, not at the build record: PLACE has it from then on.
 pub fn refuse_at(w: &mut [u32], p: &[usize], k: usize, code: usize) -> usize
     requires { On p.now (length w.old) × (PLACE < size p.now COUNTS) × (k < size p.now NODES) × (get_or (store p.now w.old NODES) k 0 < size p.now RECORDS) }
-    ensures { (result ≡ code) × (placeCount (store p.now w.new) ≡ recordIn (store p.now w.old) k) }
+    ensures { (result ≡ code) × (place_count (store p.now w.new) ≡ record_in (store p.now w.old) k) }
 {
     let place = load(w, p, RECORDS, load(w, p, NODES, k));
     save(w, p, COUNTS, PLACE, place);
@@ -252,7 +252,7 @@ pub fn refuse_at(w: &mut [u32], p: &[usize], k: usize, code: usize) -> usize
 
 // Node k's children have slots from then on, left to right, 0, or 14 at the child that gets none.
 pub fn slots_of(job: &[u8], w: &mut [u32], p: &[usize], gaps: &mut [Gap], k: usize) -> usize
-    requires { On p.now (length w.old) × NodesThere job.now p.now (store p.now w.old) × LiveIn (store p.now w.old) gaps.old × (k < nodeCount (store p.now w.old)) × KidsThere job.now (store p.now w.old) k }
+    requires { On p.now (length w.old) × NodesThere job.now p.now (store p.now w.old) × LiveIn (store p.now w.old) gaps.old × (k < node_count (store p.now w.old)) × KidsThere job.now (store p.now w.old) k }
     ensures { SlottedAll job.now k (store p.now w.old) (store p.now w.new) gaps.old gaps.new result }
 {
     let first = first_child(w, p, k);
@@ -272,7 +272,7 @@ pub fn slots_of(job: &[u8], w: &mut [u32], p: &[usize], gaps: &mut [Gap], k: usi
 
 // The node on top of the building stack, which leaves it.
 pub fn pop_pending(w: &mut [u32], p: &[usize]) -> usize
-    requires { On p.now (length w.old) × (PENDING-COUNT < size p.now COUNTS) × (0 < pendingCount (store p.now w.old)) × (pendingCount (store p.now w.old) ≤ size p.now PENDING) }
+    requires { On p.now (length w.old) × (PENDING-COUNT < size p.now COUNTS) × (0 < pending_count (store p.now w.old)) × (pending_count (store p.now w.old) ≤ size p.now PENDING) }
     ensures { Popped (store p.now w.old) (store p.now w.new) result }
 {
     let i = load(w, p, COUNTS, PENDING_COUNT) - 1;
@@ -282,9 +282,9 @@ pub fn pop_pending(w: &mut [u32], p: &[usize]) -> usize
 
 // The longest free runs between the slots of the first n places of the order, which rise. How many there are.
 fn gaps_between(gaps: &mut [Gap], w: &[u32], p: &[usize], n: usize, top: usize) -> usize
-    requires on { On p.now (length w.now) × (n ≤ size p.now ORDER) × ((i : ℕ) → i < n → get_or (store p.now w.now ORDER) i 0 < size p.now RAW-KEYS) × AtMost 65535 (orderKeys (store p.now w.now RAW-KEYS) (store p.now w.now ORDER) n) × (top ≤ 65535) }
-    requires room { length (gapsFrom top 1 (orderKeys (store p.now w.now RAW-KEYS) (store p.now w.now ORDER) n)) ≤ length gaps.old }
-    ensures { Written (gapsFrom top 1 (orderKeys (store p.now w.now RAW-KEYS) (store p.now w.now ORDER) n)) gaps.old gaps.new result }
+    requires on { On p.now (length w.now) × (n ≤ size p.now ORDER) × ((i : ℕ) → i < n → get_or (store p.now w.now ORDER) i 0 < size p.now RAW-KEYS) × AtMost 65535 (order_keys (store p.now w.now RAW-KEYS) (store p.now w.now ORDER) n) × (top ≤ 65535) }
+    requires room { length (gaps_from top 1 (order_keys (store p.now w.now RAW-KEYS) (store p.now w.now ORDER) n)) ≤ length gaps.old }
+    ensures { Written (gaps_from top 1 (order_keys (store p.now w.now RAW-KEYS) (store p.now w.now ORDER) n)) gaps.old gaps.new result }
 {
     let mut count = 0;
     let mut first = 1;
@@ -300,8 +300,8 @@ fn gaps_between(gaps: &mut [Gap], w: &[u32], p: &[usize], n: usize, top: usize) 
 
 // Place i of the order goes onto the building stack, unless it is a second half.
 fn push_raw(w: &mut [u32], p: &[usize], i: usize)
-    requires { On p.now (length w.old) × (PENDING-COUNT < size p.now COUNTS) × IsWord (size p.now PENDING) × (i < size p.now ORDER) × (get_or (store p.now w.old ORDER) i 0 < size p.now RAW-ENTRIES) × CanPush p.now (store p.now w.old) (rawAt (store p.now w.old RAW-ENTRIES) (store p.now w.old ORDER) i) }
-    ensures { RawPushed (store p.now w.old) (store p.now w.new) (rawAt (store p.now w.old RAW-ENTRIES) (store p.now w.old ORDER) i) }
+    requires { On p.now (length w.old) × (PENDING-COUNT < size p.now COUNTS) × IsWord (size p.now PENDING) × (i < size p.now ORDER) × (get_or (store p.now w.old ORDER) i 0 < size p.now RAW-ENTRIES) × CanPush p.now (store p.now w.old) (raw_at_lem (store p.now w.old RAW-ENTRIES) (store p.now w.old ORDER) i) }
+    ensures { RawPushed (store p.now w.old) (store p.now w.new) (raw_at_lem (store p.now w.old RAW-ENTRIES) (store p.now w.old ORDER) i) }
 {
     let e = raw_entry(w, p, i);
     if e == HALF {
@@ -314,7 +314,7 @@ fn push_raw(w: &mut [u32], p: &[usize], i: usize)
 // The raw constants go onto the building stack by rising slot.
 fn push_raws(w: &mut [u32], p: &[usize])
     requires { On p.now (length w.old) × CanPushAll p.now (store p.now w.old) }
-    ensures { RawsPushed (store p.now w.old) (store p.now w.new) (heldCount (store p.now w.old)) }
+    ensures { RawsPushed (store p.now w.old) (store p.now w.new) (held_count (store p.now w.old)) }
 {
     let n = load(w, p, COUNTS, HELD_COUNT);
     let mut i = 0;
@@ -338,7 +338,7 @@ pub fn start_pool(w: &mut [u32], p: &[usize], gaps: &mut [Gap], top: usize)
 // Where the reference of the request at a place leads.
 fn request_goal(job: &[u8], w: &[u32], p: &[usize], at: usize) -> usize
     requires { On p.now (length w.now) × Work job.now p.now × AllNames (size p.now NAME-HEADS) job.now (store p.now w.now) × Goals job.now (store p.now w.now NAME-GOALS) × RequestAt job.now at }
-    ensures { WhatRequest job.now at (λ q. LeadsTo job.now (goalFor job.now q) result) }
+    ensures { WhatRequest job.now at (λ q. LeadsTo job.now (goal_for job.now q) result) }
 {
     let reference = sym_refs::reference_word(job, p, at + 1, false);
     sym_refs::goal_of(job, w, p, reference)
@@ -346,8 +346,8 @@ fn request_goal(job: &[u8], w: &[u32], p: &[usize], at: usize) -> usize
 
 // The request at a place is an ldc request.
 fn asks_ldc(job: &[u8], at: usize) -> bool
-    requires { Stands anyRequest job.now at }
-    ensures { WhatStands anyRequest job.now at (λ q next. result ≡ q.ldc) }
+    requires { Stands any_request job.now at }
+    ensures { WhatStands any_request job.now at (λ q next. result ≡ q.ldc) }
 {
     writer::get_u8(job, at) == 0x52
 }
@@ -362,7 +362,7 @@ fn too_high(ldc: bool, slot: usize) -> bool
 // The slot of a child is answer i, marked with how it was come by, 0; 16 if it is an ldc answer above 255.
 fn keep_answer(w: &mut [u32], p: &[usize], i: usize, child: usize, ldc: bool, mark: usize) -> usize
     requires { On p.now (length w.old) × (i < size p.now ANSWERS) × (i < size p.now ORIGINS) × (child < ENTRY + size p.now GIVEN) × IsWord mark }
-    ensures { KeptAnswer ldc (childSlot (store p.now w.old GIVEN) child) mark i (store p.now w.old) (store p.now w.new) result }
+    ensures { KeptAnswer ldc (child_slot (store p.now w.old GIVEN) child) mark i (store p.now w.old) (store p.now w.new) result }
 {
     let slot = child_slot(w, p, child);
     if too_high(ldc, slot) {
@@ -375,7 +375,7 @@ fn keep_answer(w: &mut [u32], p: &[usize], i: usize, child: usize, ldc: bool, ma
 
 // The request at a place becomes answer i, 0, or a refusal's number.
 fn answer(job: &[u8], w: &mut [u32], p: &[usize], gaps: &mut [Gap], at: usize, i: usize) -> usize
-    requires { On p.now (length w.old) × Work job.now p.now × Asking job.now p.now (store p.now w.old) gaps.old × RequestAt job.now at × (i < size p.now ANSWERS) × IsWord (visitsOwed job.now (store p.now w.old) + 1) }
+    requires { On p.now (length w.old) × Work job.now p.now × Asking job.now p.now (store p.now w.old) gaps.old × RequestAt job.now at × (i < size p.now ANSWERS) × IsWord (visits_owed job.now (store p.now w.old) + 1) }
     ensures { WhatRequest job.now at (λ q. Replied job.now p.now q i (store p.now w.old) (store p.now w.new) gaps.old gaps.new result) }
 {
     let goal = request_goal(job, w, p, at);
@@ -396,7 +396,7 @@ fn answer(job: &[u8], w: &mut [u32], p: &[usize], gaps: &mut [Gap], at: usize, i
 
 // The requests in turn, 0, or a refusal's number. Then record 60 is in turn.
 pub fn answer_all(job: &[u8], w: &mut [u32], p: &[usize], gaps: &mut [Gap]) -> usize
-    requires { On p.now (length w.old) × Work job.now p.now × Asking job.now p.now (store p.now w.old) gaps.old × RequestsAt job.now (get_or (store p.now w.old COUNTS) AT 0) × IsWord (visitsOwed job.now (store p.now w.old) + length (jobIn job.now).requests + 1) × IsWord (placeCount (store p.now w.old) + length (jobIn job.now).requests + 1) }
+    requires { On p.now (length w.old) × Work job.now p.now × Asking job.now p.now (store p.now w.old) gaps.old × RequestsAt job.now (get_or (store p.now w.old COUNTS) AT 0) × IsWord (visits_owed job.now (store p.now w.old) + length (job_in job.now).requests + 1) × IsWord (place_count (store p.now w.old) + length (job_in job.now).requests + 1) }
     ensures { RepliedAll job.now p.now (store p.now w.old) (store p.now w.new) gaps.old gaps.new result }
 {
     let n = size_of(p, ANSWERS);

@@ -21,31 +21,31 @@ pub then :
 then {b} {a} {c} {at} {r} {s} {t} {u} p q =
     record {
       end_is = q.end_is ∙ omega (arith, p.end_is, length-append t u);
-      text-is = q.text-is ∙ ap (λ l. l ++ u) p.text-is ∙ append_assoc (take at b) t u;
-      rest-is = q.rest-is ∙ still a b r s (length u) q.end_is p.rest-is;
+      text_is = q.text_is ∙ ap (λ l. l ++ u) p.text_is ∙ append_assoc (take at b) t u;
+      rest_is = q.rest_is ∙ still a b r s (length u) q.end_is p.rest_is;
     }
 
 -- no text
 pub none-behind : (d : List ℕ) (at : ℕ) → Behind d d at at []
-none-behind d at = record { end_is = omega arith; text-is = sym (append-nil (take at d)); rest-is = refl }
+none-behind d at = record { end_is = omega arith; text_is = sym (append-nil (take at d)); rest_is = refl }
 
-pub byte-behind : (d : List ℕ) (at b : ℕ) → at < length d → Behind d (set d at b) at (at + 1) (b ∷ [])
-byte-behind d at b h =
+pub byte_behind : (d : List ℕ) (at b : ℕ) → at < length d → Behind d (set d at b) at (at + 1) (b ∷ [])
+byte_behind d at b h =
     record {
       end_is = refl;
-      text-is = ap (λ n. take n (set d at b)) (add-one at) ∙ take-suc-set d at b h;
-      rest-is = drop-set-lt (at + 1) d at b (omega arith);
+      text_is = ap (λ n. take n (set d at b)) (add-one at) ∙ take-suc-set d at b h;
+      rest_is = drop-set-lt (at + 1) d at b (omega arith);
     }
 
 -- the first n bytes of a word
-pub word-behind :
+pub word_behind :
     (d w e : List ℕ) (at n : ℕ) → n ≤ length w → at + n ≤ length d → e ≡ paste d at (drop 0 w) n → Behind d e at (at + n) (take n w)
-word-behind d w e at n inside room is =
+word_behind d w e at n inside room is =
     let low : at ≤ length d = omega arith in
     record {
       end_is = ap (λ k. at + k) (sym (length-take-le n w inside));
-      text-is = ap (take (at + n)) is ∙ take-paste d at w n low inside;
-      rest-is = ap (drop (at + n)) is ∙ drop-paste d at w n low inside;
+      text_is = ap (take (at + n)) is ∙ take-paste d at w n low inside;
+      rest_is = ap (drop (at + n)) is ∙ drop-paste d at w n low inside;
     }
 
 -- the same text in other words
@@ -57,8 +57,8 @@ pub whole :
     {b a : List ℕ} {r : ℕ} {t : List ℕ} → Behind b a 0 r t → IsPrefixLen r a × ((r ≡ length t) × ((take r a ≡ t) × (drop r a ≡ drop r b)))
 whole {b} {a} {r} {t} p =
     let size : r ≡ length t = omega (arith, p.end_is) in
-    let room : r ≤ length a = omega (arith, size, ap length p.text-is, length-take r a) in
-    ((room, sym (length-take-le r a room)), (size, (p.text-is, p.rest-is)))
+    let room : r ≤ length a = omega (arith, size, ap length p.text_is, length-take r a) in
+    ((room, sym (length-take-le r a room)), (size, (p.text_is, p.rest_is)))
 
 -- parts that a list's elements stand for, joined: one element more
 module _ (f : ℕ → List ℕ) where

@@ -1,4 +1,4 @@
--- What is printed of a run over `poolrunLent`'s memory is what the definition prints of it. Assumes nothing.
+-- What is printed of a run over `poolrun_lent`'s memory is what the definition prints of it. Assumes nothing.
 use mathlib.Core.Bool.{Bool, true, false}
 use mathlib.Core.List.{List, [], ◌∷◌, ◌++◌, map}
 use mathlib.Core.Option.{Option, none, some}
@@ -9,32 +9,32 @@ use lib.Dec.{eqb}
 use lib.ListN.{length, take, drop, replicate, length-append, length-replicate}
 use lib.Seq.{length-take-le}
 use Rattle.definition.specs.Basics.{Result, good, bad, Refusal}
-use Rattle.definition.specs.Run.{Built, Lent, lent_of, run, returned, classOut, overwrite}
-use Rattle.definition.specs.Blocks.{printed, poolrunLent}
+use Rattle.definition.specs.Run.{Built, Lent, lent_of, run, returned, class_out, overwrite}
+use Rattle.definition.specs.Blocks.{printed, poolrun_lent}
 use Rattle.slots.specs.declared.Gap.{Gap}
 use Rattle.slots.specs.Gaps.{gap_of}
 use Rattle.cpool.specs.declared.ClassLength.{ClassLength}
 use Rattle.cpool.specs.declared.ClassLength.TheVariants as classLength
 use Rattle.cpool.specs.declared.Outcome.{Outcome}
 use Rattle.cpool.specs.declared.Outcome.TheVariants as outcome
-use Rattle.cpool.specs.Ran.{Numbers, told, isBuilt, given, bytes_of, classSize, numbers, Slices, memoryOf, result_of, Ran}
+use Rattle.cpool.specs.Ran.{Numbers, told, is_built, given, bytes_of, class_size, numbers, Slices, memory_of, result_of, Ran}
 use Rattle.cpool.specs.Promises.{handed}
-use Rattle.cpool.proofs.Handed.{numbers-built, answers-built, marks-built, marks-many, pool-built, bootstraps-built, class-built, built-result, refused-result}
-use Rattle.poolrun_text.specs.Text.{builtText, refusedText, name_of, text_of, Room, Fits, Lengths}
-use Rattle.poolrun_text.proofs.Texts.{refused-is}
+use Rattle.cpool.proofs.Handed.{numbers-built, answers_built, marks_built, marks_many, pool_built, bootstraps_built, class_built, built_result, refused_result}
+use Rattle.poolrun_text.specs.Text.{built_text, refused_text, name_of, text_of, Room, Fits, Lengths}
+use Rattle.poolrun_text.proofs.Texts.{refused_is}
 
 -- the class name as it is handed
-name-is : (size : ClassLength) (class : List ℕ) → elim (eqb (given size) 1) [ true ↦ some (take (bytes_of size) class) | false ↦ none ] ≡ name_of size class
+name_is : (size : ClassLength) (class : List ℕ) → elim (eqb (given size) 1) [ true ↦ some (take (bytes_of size) class) | false ↦ none ] ≡ name_of size class
 unfolding given bytes_of name_of
-name-is classLength.None class = refl
-name-is (classLength.Bytes n) class = refl
+name_is classLength.None class = refl
+name_is (classLength.Bytes n) class = refl
 
 -- the text of what stands in the outputs
-pub text-ran :
+pub text_ran :
     (job : List ℕ) (before after : Slices) (r : Outcome) → Ran job before after r →
     text_of r after.answers after.marks after.pool after.bootstraps after.class ≡ printed (result_of job before)
-unfolding text_of builtText isBuilt told handed
-text-ran job before after (outcome.Built asked poolSize count rowsSize name size visits) ran =
+unfolding text_of built_text is_built told handed
+text_ran job before after (outcome.Built asked poolSize count rowsSize name size visits) ran =
     let r = outcome.Built asked poolSize count rowsSize name size visits in
     ap
     (λ (class : Option (List ℕ)).
@@ -44,56 +44,56 @@ text-ran job before after (outcome.Built asked poolSize count rowsSize name size
       answers = take asked after.answers;
       marks = take asked after.marks;
       pool = take poolSize after.pool;
-      bootstrapCount = count;
+      bootstrap_count = count;
       bootstraps = take rowsSize after.bootstraps;
       name = name;
       class = class;
       visits = visits;
     })))
-    (sym (name-is size after.class))
-    ∙ ap printed (sym (built-result job before after r ran refl))
-text-ran job before after (outcome.Refused code place) ran =
-    refused-is code place ∙ ap printed (sym (refused-result job before after (outcome.Refused code place) ran refl))
+    (sym (name_is size after.class))
+    ∙ ap printed (sym (built_result job before after r ran refl))
+text_ran job before after (outcome.Refused code place) ran =
+    refused_is code place ∙ ap printed (sym (refused_result job before after (outcome.Refused code place) ran refl))
 
 -- what was written lies inside its output
 inside : (new before after : List ℕ) (n : ℕ) → after ≡ overwrite new before → n ≡ length new → n ≤ length after
 unfolding overwrite
 inside new before after n e m = omega (arith, m, ap length e, length-append new (drop (length new) before))
 
-class-size : (c : Option (List ℕ)) → classSize c ≡ length (classOut c)
-unfolding classSize classOut
-class-size none = refl
-class-size (some s) = refl
+class_size_lem : (c : Option (List ℕ)) → class_size c ≡ length (class_out c)
+unfolding class_size class_out
+class_size_lem none = refl
+class_size_lem (some s) = refl
 
 pub fits-ran :
     (job : List ℕ) (before after : Slices) (r : Outcome) (out : ℕ) → Ran job before after r → 1245184 ≤ out →
     length after.answers ≤ 32768 → length after.marks ≤ 65536 → length after.pool ≤ 65536 → length after.bootstraps ≤ 65536 → length after.class ≤ 65536 →
     Fits r out (length after.answers) (length after.marks) (length after.pool) (length after.bootstraps) (length after.class)
-unfolding Fits isBuilt told numbers returned
+unfolding Fits is_built told numbers returned
 fits-ran job before after (outcome.Refused code place) out ran room a l p s c = omega (arith, room)
 fits-ran job before after (outcome.Built asked poolSize count rowsSize name size visits) out ran room a l p s c =
     let r = outcome.Built asked poolSize count rowsSize name size visits in
     let b = handed r after in
-    let is : result_of job before ≡ good b = built-result job before after r ran refl in
+    let is : result_of job before ≡ good b = built_result job before after r ran refl in
     let n : told r ≡ numbers (good b) = numbers-built job before after r ran b is in
     let asked_in : asked ≤ length after.answers =
-    inside b.answers before.answers after.answers asked (answers-built job before after r ran b is) (ap (λ (m : Numbers). m.answers) n) in
+    inside b.answers before.answers after.answers asked (answers_built job before after r ran b is) (ap (λ (m : Numbers). m.answers) n) in
     let marks-in : asked ≤ length after.marks =
-    inside b.marks before.marks after.marks asked (marks-built job before after r ran b is)
-    (ap (λ (m : Numbers). m.answers) n ∙ sym (marks-many job before after r ran b is)) in
+    inside b.marks before.marks after.marks asked (marks_built job before after r ran b is)
+    (ap (λ (m : Numbers). m.answers) n ∙ sym (marks_many job before after r ran b is)) in
     let pool-in : poolSize ≤ length after.pool =
-    inside b.pool before.pool after.pool poolSize (pool-built job before after r ran b is) (ap (λ (m : Numbers). m.pool) n) in
+    inside b.pool before.pool after.pool poolSize (pool_built job before after r ran b is) (ap (λ (m : Numbers). m.pool) n) in
     let rows_in : rowsSize ≤ length after.bootstraps =
-    inside b.bootstraps before.bootstraps after.bootstraps rowsSize (bootstraps-built job before after r ran b is) (ap (λ (m : Numbers). m.bootstraps) n) in
+    inside b.bootstraps before.bootstraps after.bootstraps rowsSize (bootstraps_built job before after r ran b is) (ap (λ (m : Numbers). m.bootstraps) n) in
     let class-in : bytes_of size ≤ length after.class =
     inside
-    (classOut b.class)
+    (class_out b.class)
     before.class
     after.class
     (bytes_of size)
-    (class-built job before after r ran b is)
-    (ap (λ (m : Numbers). m.classBytes) n ∙ class-size b.class) in
-    (asked_in, marks-in, pool-in, rows_in, record { marks-are = refl; out-room = omega (arith, room, asked_in, pool-in, rows_in, class-in, a, p, s, c); class-room = class-in })
+    (class_built job before after r ran b is)
+    (ap (λ (m : Numbers). m.class_bytes) n ∙ class_size_lem b.class) in
+    (asked_in, marks-in, pool-in, rows_in, record { marks_are = refl; out_room = omega (arith, room, asked_in, pool-in, rows_in, class-in, a, p, s, c); class_room = class-in })
 
 -- the room of what is cut out of the outputs
 pub room_cut :
@@ -102,11 +102,11 @@ pub room_cut :
     Room out (length (take asked answers)) (length (take asked marks)) (length (take poolSize pool)) (length (take rowsSize bootstraps)) size class
 room_cut {out} {asked} {poolSize} {rowsSize} {size} {class} answers marks pool bootstraps a l p s room =
     record {
-      marks-are = length-take-le asked marks l ∙ sym (length-take-le asked answers a);
-      out-room =
+      marks_are = length-take-le asked marks l ∙ sym (length-take-le asked answers a);
+      out_room =
           omega
-          (arith, room.out-room, length-take-le asked answers a, length-take-le poolSize pool p, length-take-le rowsSize bootstraps s);
-      class-room = room.class-room;
+          (arith, room.out_room, length-take-le asked answers a, length-take-le poolSize pool p, length-take-le rowsSize bootstraps s);
+      class_room = room.class_room;
     }
 
 length-map : {A B : Type 0} (f : A → B) (l : List A) → length (map f l) ≡ length l
@@ -114,7 +114,7 @@ length-map f [] = refl
 length-map f (x ∷ l) = ap (λ (n : ℕ). suc n) (length-map f l)
 
 -- arrays of the lengths that the program lends
-pub lengths-lent :
+pub lengths_lent :
     (gap : Gap) →
     Lengths
     (length (replicate {0} {A = ℕ} 16384 0))
@@ -124,16 +124,16 @@ pub lengths-lent :
     (length (replicate {0} {A = ℕ} 65536 0))
     (length (replicate {0} {A = ℕ} 65536 0))
     (length (replicate {0} {A = ℕ} 65536 0))
-lengths-lent gap =
+lengths_lent gap =
     let long : length (replicate {0} {A = ℕ} 65536 0) ≡ 65536 = length-replicate {0} {A = ℕ} 65536 0 in
     record {
       work-is = length-replicate {0} {A = ℕ} 16384 0;
-      gaps-is = length-replicate {0} {A = Gap} 514 gap;
-      answers-is = length-replicate {0} {A = ℕ} 32768 0;
-      marks-is = long;
-      pool-is = long;
-      bootstraps-is = long;
-      class-is = long;
+      gaps_is = length-replicate {0} {A = Gap} 514 gap;
+      answers_is = length-replicate {0} {A = ℕ} 32768 0;
+      marks_is = long;
+      pool_is = long;
+      bootstraps_is = long;
+      class_is = long;
     }
 
 -- memory of those lengths is what the program lends
@@ -147,22 +147,22 @@ pub lent_is :
     (length before.pool)
     (length before.bootstraps)
     (length before.class) →
-    lent_of (memoryOf before) ≡ poolrunLent
-unfolding lent_of memoryOf poolrunLent
+    lent_of (memory_of before) ≡ poolrun_lent
+unfolding lent_of memory_of poolrun_lent
 lent_is before l =
-    let g : length (map gap_of before.rows) ≡ 514 = length-map gap_of before.rows ∙ l.gaps-is in
+    let g : length (map gap_of before.rows) ≡ 514 = length-map gap_of before.rows ∙ l.gaps_is in
     λ i.
     record {
       work = l.work-is i;
       gaps = g i;
-      answers = l.answers-is i;
-      marks = l.marks-is i;
-      pool = l.pool-is i;
-      bootstraps = l.bootstraps-is i;
-      class = l.class-is i;
+      answers = l.answers_is i;
+      marks = l.marks_is i;
+      pool = l.pool_is i;
+      bootstraps = l.bootstraps_is i;
+      class = l.class_is i;
     }
 
-pub text-over :
+pub text_over :
     (job : List ℕ) (before after : Slices) (r : Outcome) → Ran job before after r →
     Lengths
     (length before.work)
@@ -172,6 +172,6 @@ pub text-over :
     (length before.pool)
     (length before.bootstraps)
     (length before.class) →
-    text_of r after.answers after.marks after.pool after.bootstraps after.class ≡ printed (run poolrunLent job)
+    text_of r after.answers after.marks after.pool after.bootstraps after.class ≡ printed (run poolrun_lent job)
 unfolding result_of
-text-over job before after r ran l = text-ran job before after r ran ∙ ap (λ (lent : Lent). printed (run lent job)) (lent_is before l)
+text_over job before after r ran l = text_ran job before after r ran ∙ ap (λ (lent : Lent). printed (run lent job)) (lent_is before l)

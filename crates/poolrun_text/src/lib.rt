@@ -3,12 +3,12 @@
 ghost use Rattle.std.specs.Prelude.{◌≡◌, [], ◌∷◌, ◌++◌, ◌+◌, ◌*◌, ◌<◌, ◌≤◌, length, take, drop};
 ghost use Rattle.std.proofs.Math.Option.{none, some};
 ghost use Rattle.io.specs.Counts.{IsPrefixLen};
-ghost use Rattle.definition.specs.Ascii.{decimal, hex, hexDigit};
-ghost use Rattle.definition.specs.Blocks.{line, classText, markText, answerLines, printed, poolrunLent, poolrun};
+ghost use Rattle.definition.specs.Ascii.{decimal, hex, hex_digit};
+ghost use Rattle.definition.specs.Blocks.{line, class_text, mark_text, answer_lines, printed, poolrun_lent, poolrun};
 ghost use Rattle.definition.specs.Run.{run};
 ghost use Rattle.cpool.specs.Ran.{bytes_of};
-ghost use Rattle.poolrun_text.specs.Text.{Behind, twoDigits, askedText, poolText, bootstrapsText, name_of, lastText};
-ghost use Rattle.poolrun_text.specs.Text.{refusedText, builtText, Room, Fits, text_of, Lengths, ReadInto, readText};
+ghost use Rattle.poolrun_text.specs.Text.{Behind, two_digits_lem, asked_text, pool_text, bootstraps_text, name_of, last_text};
+ghost use Rattle.poolrun_text.specs.Text.{refused_text, built_text, Room, Fits, text_of, Lengths, ReadInto, read_text};
 
 use blocks::BlocksRead;
 use cpool::{ClassLength, Outcome};
@@ -92,7 +92,7 @@ fn put_two(out: &mut [u8], at: usize, word: &[u8], n: usize, m: usize) -> usize
 
 fn digit(n: u8) -> u8
     requires { n < 16 }
-    ensures { result ≡ hexDigit n }
+    ensures { result ≡ hex_digit n }
 {
     if n < 10 { 48 + n } else { 87 + n }
 }
@@ -100,7 +100,7 @@ fn digit(n: u8) -> u8
 fn put_byte(out: &mut [u8], at: usize, b: u8) -> usize
     requires { at + 2 ≤ length out.old }
     ensures value { result ≡ at + 2 }
-    ensures behind { Behind out.old out.new at result (twoDigits b) }
+    ensures behind { Behind out.old out.new at result (two_digits_lem b) }
 {
     let low = put(out, at, digit(b / 16));
     put(out, low, digit(b % 16))
@@ -140,7 +140,7 @@ fn wide(answer: u16) -> usize
 fn put_mark(out: &mut [u8], at: usize, mark: u8) -> usize
     requires { at + 4 ≤ length out.old }
     ensures value { result ≡ at + 4 }
-    ensures behind { Behind out.old out.new at result (markText mark) }
+    ensures behind { Behind out.old out.new at result (mark_text mark) }
 {
     if mark == 0 {
         return put_word(out, at, b" raw");
@@ -155,7 +155,7 @@ fn put_mark(out: &mut [u8], at: usize, mark: u8) -> usize
 fn put_answer(out: &mut [u8], at: usize, answer: usize, mark: u8) -> usize
     requires { at + 25 ≤ length out.old }
     ensures upper_bound { result ≤ at + 25 }
-    ensures behind { Behind out.old out.new at result (line (decimal answer ++ markText mark)) }
+    ensures behind { Behind out.old out.new at result (line (decimal answer ++ mark_text mark)) }
 {
     let word = put_decimal(out, at, answer);
     let end = put_mark(out, word, mark);
@@ -166,7 +166,7 @@ fn put_answer(out: &mut [u8], at: usize, answer: usize, mark: u8) -> usize
 fn put_answers(out: &mut [u8], at: usize, answers: &[u16], marks: &[u8]) -> usize
     requires { (at + 25 * length answers.now ≤ length out.old) × (length marks.now ≡ length answers.now) }
     ensures upper_bound { result ≤ at + 25 * length answers.now }
-    ensures behind { Behind out.old out.new at result (answerLines answers.now marks.now) }
+    ensures behind { Behind out.old out.new at result (answer_lines answers.now marks.now) }
 {
     let mut end = at;
     let mut i = 0;
@@ -180,7 +180,7 @@ fn put_answers(out: &mut [u8], at: usize, answers: &[u16], marks: &[u8]) -> usiz
 fn put_asked(out: &mut [u8], at: usize, answers: &[u16], marks: &[u8]) -> usize
     requires { (at + 25 * length answers.now + 29 ≤ length out.old) × (length marks.now ≡ length answers.now) }
     ensures upper_bound { result ≤ at + 25 * length answers.now + 29 }
-    ensures behind { Behind out.old out.new at result (askedText answers.now marks.now) }
+    ensures behind { Behind out.old out.new at result (asked_text answers.now marks.now) }
 {
     let lines = put_one(out, at, b"answers ", answers.len());
     put_answers(out, lines, answers, marks)
@@ -189,7 +189,7 @@ fn put_asked(out: &mut [u8], at: usize, answers: &[u16], marks: &[u8]) -> usize
 fn put_pool(out: &mut [u8], at: usize, pool: &[u8]) -> usize
     requires { at + 2 * length pool.now + 27 ≤ length out.old }
     ensures upper_bound { result ≤ at + 2 * length pool.now + 27 }
-    ensures behind { Behind out.old out.new at result (poolText pool.now) }
+    ensures behind { Behind out.old out.new at result (pool_text pool.now) }
 {
     let bytes = put_one(out, at, b"pool ", pool.len());
     put_bytes(out, bytes, pool)
@@ -198,7 +198,7 @@ fn put_pool(out: &mut [u8], at: usize, pool: &[u8]) -> usize
 fn put_bootstraps(out: &mut [u8], at: usize, count: usize, bootstraps: &[u8]) -> usize
     requires { at + 2 * length bootstraps.now + 54 ≤ length out.old }
     ensures upper_bound { result ≤ at + 2 * length bootstraps.now + 54 }
-    ensures behind { Behind out.old out.new at result (bootstrapsText count bootstraps.now) }
+    ensures behind { Behind out.old out.new at result (bootstraps_text count bootstraps.now) }
 {
     let bytes = put_two(out, at, b"bootstraps ", count, bootstraps.len());
     put_bytes(out, bytes, bootstraps)
@@ -208,7 +208,7 @@ fn put_bootstraps(out: &mut [u8], at: usize, count: usize, bootstraps: &[u8]) ->
 fn put_named(out: &mut [u8], at: usize, n: usize, name: &[u8]) -> usize
     requires { (n ≤ length name.now) × (at + 2 * n + 28 ≤ length out.old) }
     ensures upper_bound { result ≤ at + 2 * n + 28 }
-    ensures behind { Behind out.old out.new at result (classText (some (take n name.now))) }
+    ensures behind { Behind out.old out.new at result (class_text (some (take n name.now))) }
 {
     let bytes = put_one(out, at, b"class ", n);
     put_bytes(out, bytes, &name[..n])
@@ -217,7 +217,7 @@ fn put_named(out: &mut [u8], at: usize, n: usize, name: &[u8]) -> usize
 fn put_unnamed(out: &mut [u8], at: usize) -> usize
     requires { at + 11 ≤ length out.old }
     ensures value { result ≡ at + 11 }
-    ensures behind { Behind out.old out.new at result (classText none) }
+    ensures behind { Behind out.old out.new at result (class_text none) }
 {
     put_word(out, at, b"class none\n")
 }
@@ -225,7 +225,7 @@ fn put_unnamed(out: &mut [u8], at: usize) -> usize
 fn put_class(out: &mut [u8], at: usize, size: ClassLength, name: &[u8]) -> usize
     requires { (bytes_of size ≤ length name.now) × (at + 2 * bytes_of size + 28 ≤ length out.old) }
     ensures upper_bound { result ≤ at + 2 * bytes_of size + 28 }
-    ensures behind { Behind out.old out.new at result (classText (name_of size name.now)) }
+    ensures behind { Behind out.old out.new at result (class_text (name_of size name.now)) }
 {
     match size {
         ClassLength::None => put_unnamed(out, at),
@@ -244,7 +244,7 @@ fn put_last(
 ) -> usize
     requires { (bytes_of size ≤ length class_name.now) × (at + 2 * bytes_of size + 82 ≤ length out.old) }
     ensures upper_bound { result ≤ at + 2 * bytes_of size + 82 }
-    ensures behind { Behind out.old out.new at result (lastText name (name_of size class_name.now) visits) }
+    ensures behind { Behind out.old out.new at result (last_text name (name_of size class_name.now) visits) }
 {
     let class = put_one(out, at, b"name ", name);
     let last = put_class(out, class, size, class_name);
@@ -253,7 +253,7 @@ fn put_last(
 
 fn put_refusal(out: &mut [u8], code: usize, place: usize) -> usize
     requires { 50 ≤ length out.old }
-    ensures { Behind out.old out.new 0 result (refusedText code place) }
+    ensures { Behind out.old out.new 0 result (refused_text code place) }
 {
     put_two(out, 0, b"refused ", code, place)
 }
@@ -272,7 +272,7 @@ fn put_built(
     visits: usize,
 ) -> usize
     requires { Room (length out.old) (length answers.now) (length marks.now) (length pool.now) (length bootstraps.now) (bytes_of size) (length class_name.now) }
-    ensures { Behind out.old out.new 0 result (builtText answers.now marks.now pool.now count bootstraps.now name (name_of size class_name.now) visits) }
+    ensures { Behind out.old out.new 0 result (built_text answers.now marks.now pool.now count bootstraps.now name (name_of size class_name.now) visits) }
 {
     let first = put_asked(out, 0, answers, marks);
     let second = put_pool(out, first, pool);
@@ -318,7 +318,7 @@ fn print(
     }
 }
 
-// Runs a job, the first n bytes of `job`, over memory as `poolrunLent` says.
+// Runs a job, the first n bytes of `job`, over memory as `poolrun_lent` says.
 fn run_over(
     job: &[u8],
     n: usize,
@@ -333,7 +333,7 @@ fn run_over(
 ) -> usize
     requires n_in_bounds { (n ≤ length job.now) × (1245184 ≤ length out.old) }
     requires lengths { Lengths (length work.old) (length gaps.old) (length answers.old) (length marks.old) (length pool.old) (length bootstraps.old) (length class_name.old) }
-    ensures { Behind out.old out.new 0 result (printed (run poolrunLent (take n job.now))) }
+    ensures { Behind out.old out.new 0 result (printed (run poolrun_lent (take n job.now))) }
 {
     let outcome = cpool::run(
         &job[..n],
@@ -351,7 +351,7 @@ fn run_over(
 // Runs a job over memory of its own.
 fn run_text(job: &[u8], n: usize, out: &mut [u8]) -> usize
     requires { (n ≤ length job.now) × (1245184 ≤ length out.old) }
-    ensures { Behind out.old out.new 0 result (printed (run poolrunLent (take n job.now))) }
+    ensures { Behind out.old out.new 0 result (printed (run poolrun_lent (take n job.now))) }
 {
     let mut work = [0u32; 16384];
     let gap = slots::no_gap();
@@ -379,7 +379,7 @@ fn run_text(job: &[u8], n: usize, out: &mut [u8]) -> usize
 fn read_text(read: BlocksRead, job: &[u8], out: &mut [u8]) -> usize
     requires read_into { ReadInto read (length job.now) }
     requires in_bounds { 1245184 ≤ length out.old }
-    ensures { Behind out.old out.new 0 result (readText read job.now) }
+    ensures { Behind out.old out.new 0 result (read_text read job.now) }
 {
     match read {
         BlocksRead::Read(n) => run_text(job, n, out),

@@ -8,7 +8,7 @@ use native.Mathlib.Omega.{arith}
 use lib.Pow.{pow-add}
 use borrow.Author.Tests.{lt-ltb, le-ltb}
 use Rattle.io.specs.Digits.{hex_digit_ascii, last_digits as ioDigits, IsDigitCount}
-use Rattle.definition.specs.Ascii.{digits, decimal, hexDigit}
+use Rattle.definition.specs.Ascii.{digits, decimal, hex_digit}
 use Rattle.facts.proofs.Lists.{order}
 
 -- a number below 10 is one digit, whatever the fuel
@@ -42,8 +42,8 @@ decimal-one : (n : ℕ) → n < 10 → decimal n ≡ (48 + n) ∷ []
 unfolding decimal
 decimal-one n h = digits-one n n h
 
-glyph-low : (n : ℕ) → n < 10 → hex_digit_ascii n ≡ 48 + n
-glyph-low n h = rw (lt-ltb n 10 h) refl
+glyph_low : (n : ℕ) → n < 10 → hex_digit_ascii n ≡ 48 + n
+glyph_low n h = rw (lt-ltb n 10 h) refl
 
 power-low : (k : ℕ) → 1 ≤ 10 ^ k
 power-low zero = omega arith
@@ -55,7 +55,7 @@ decimal-is zero n (low, below, above) = absurd (omega arith)
 decimal-is (suc zero) n (low, below, above) =
     let small : n < 10 = below in
     let same : n % 10 ≡ n = omega arith in
-    ap (λ d. d ∷ []) (glyph-low (n % 10) (omega arith) ∙ ap (λ d. 48 + d) same) ∙ sym (decimal-one n small)
+    ap (λ d. d ∷ []) (glyph_low (n % 10) (omega arith) ∙ ap (λ d. 48 + d) same) ∙ sym (decimal-one n small)
 decimal-is (suc (suc k)) n (low, below, above) =
     let down : suc (suc k) - 1 ≡ suc k = omega arith in
     let down₂ : suc k - 1 ≡ k = omega arith in
@@ -65,7 +65,7 @@ decimal-is (suc (suc k)) n (low, below, above) =
     let up₂ : 10 ^ suc (suc k) ≡ 10 ^ suc k * 10 = pow-suc 10 (suc k) in
     let high : 10 ≤ n = omega (arith, p, one, up) in
     let rest = decimal-is (suc k) (n / 10) (omega arith, omega (arith, below, up₂), λ _. subst (λ j. 10 ^ j ≤ n / 10) (sym down₂) (omega (arith, p, up))) in
-    (λ i. rest i ++ (glyph-low (n % 10) (omega arith) i ∷ [])) ∙ sym (decimal-more n high)
+    (λ i. rest i ++ (glyph_low (n % 10) (omega arith) i ∷ [])) ∙ sym (decimal-more n high)
 
 -- a number of 64 bits has at most 20 digits
 pub few : (k n : ℕ) → n < 18446744073709551616 → IsDigitCount 10 1 n k → k ≤ 20
@@ -81,10 +81,10 @@ few k n small (low, below, above) = ways (order 20 k)
         absurd (omega (arith, much, split, power-low j, small))
 
 -- a hex digit of the code is the definition's
-pub hex-low : (n : ℕ) → n < 10 → 48 + n ≡ hexDigit n
-unfolding hexDigit
-hex-low n h = rw (lt-ltb n 10 h, hexDigit) refl
+pub hex-low : (n : ℕ) → n < 10 → 48 + n ≡ hex_digit n
+unfolding hex_digit
+hex-low n h = rw (lt-ltb n 10 h, hex_digit) refl
 
-pub hex-high : (n : ℕ) → 10 ≤ n → 87 + n ≡ hexDigit n
-unfolding hexDigit
-hex-high n h = rw (le-ltb n 10 h, hexDigit) refl
+pub hex-high : (n : ℕ) → 10 ≤ n → 87 + n ≡ hex_digit n
+unfolding hex_digit
+hex-high n h = rw (le-ltb n 10 h, hex_digit) refl

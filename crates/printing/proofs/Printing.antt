@@ -96,9 +96,9 @@ nothing d room at can =
     }
 
 -- past the room one text is as good as another
-pub any-past :
+pub any_past :
     {d e : List ℕ} {room at r : ℕ} {t : List ℕ} (u : List ℕ) → CanPut d room at → room < at → Printed d room at t e r → Printed d room at u e r
-any-past {d} {e} {room} {at} {r} {t} u can h p =
+any_past {d} {e} {room} {at} {r} {t} u can h p =
     record {
       ends = p.ends ∙ capped-past room (at + length t) (omega arith) ∙ sym (capped-past room (at + length u) (omega arith));
       same = p.same;
@@ -106,7 +106,7 @@ any-past {d} {e} {room} {at} {r} {t} u can h p =
     }
 
 pub past : (d : List ℕ) (room at : ℕ) (t : List ℕ) → CanPut d room at → room < at → Printed d room at t d at
-past d room at t can h = any-past t can h (nothing d room at can)
+past d room at t can h = any_past t can h (nothing d room at can)
 
 -- one byte; past the end of `out` nothing is stored
 pub byte_put :
@@ -134,10 +134,10 @@ pub record Left (before : List ℕ) (room at : ℕ) (whole mid : List ℕ) (r : 
 pub all_left : (d : List ℕ) (room at : ℕ) (whole : List ℕ) → CanPut d room at → Left d room at whole d at whole
 all_left d room at whole can = record { can = can; same = refl; so = λ after s p. p }
 
-pub less-left :
+pub less_left :
     {before mid after : List ℕ} {room at r s : ℕ} {whole t rest : List ℕ} → Left before room at whole mid r (t ++ rest)
     → Printed mid room r t after s → Left before room at whole after s rest
-less-left l p =
+less_left l p =
     record { can = ready l.can p; same = p.same ∙ l.same; so = λ last e q. l.so last e (then l.can p q) }
 
 -- the rest in other words

@@ -1,7 +1,7 @@
 -- Texts and numbers as the listing shows them (document 02, No. 1). Assumes nothing.
 use Rattle.std.specs.Prelude.{true, false, ◌&&◌, ◌||◌, List, [], ◌∷◌, ◌++◌, map, ℕ, zero, suc, ◌+◌, ◌*◌, ◌-◌, ◌/◌, ◌%◌, eqb, leb, ltb}
 use Rattle.definition.specs.Basics.{concat}
-use Rattle.definition.specs.Ascii.{ascii, decimal, hexDigit, hex}
+use Rattle.definition.specs.Ascii.{ascii, decimal, hex_digit, hex}
 
 -- a quote and a backslash stand behind a backslash, and a byte that isn't printable ASCII is \x and its hex digits: a text stays in its line
 unfoldable pub escaped : ℕ → List ℕ
@@ -19,9 +19,9 @@ unfoldable pub signed : ℕ → ℕ → List ℕ
 signed half n = elim (ltb n half) [ true ↦ decimal n | false ↦ 0x2d ∷ decimal (2 * half - n) ]
 
 -- the last so many hex digits of a number
-unfoldable pub hexOf : ℕ → ℕ → List ℕ
-hexOf zero n = []
-hexOf (suc count) n = hexOf count (n / 16) ++ hexDigit (n % 16) ∷ []
+unfoldable pub hex_of : ℕ → ℕ → List ℕ
+hex_of zero n = []
+hex_of (suc count) n = hex_of count (n / 16) ++ hex_digit (n % 16) ∷ []
 
 -- the unit of the first of so many hex digits
 unfoldable pub unit_of : ℕ → ℕ
@@ -32,8 +32,8 @@ unit_of (suc (suc count)) = 16 * unit_of (suc count)
 -- of so many hex digits those up to the last that isn't 0, one at least
 unfoldable pub fraction : ℕ → ℕ → List ℕ
 fraction zero m = []
-fraction (suc zero) m = hexOf 1 m
-fraction (suc (suc count)) m = elim (eqb (m % 16) 0) [ true ↦ fraction (suc count) (m / 16) | false ↦ hexOf (suc (suc count)) m ]
+fraction (suc zero) m = hex_of 1 m
+fraction (suc (suc count)) m = elim (eqb (m % 16) 0) [ true ↦ fraction (suc count) (m / 16) | false ↦ hex_of (suc (suc count)) m ]
 
 -- an exponent behind its bias
 unfoldable pub power : ℕ → ℕ → List ℕ
@@ -43,7 +43,7 @@ power bias e = elim (ltb e bias) [ true ↦ 0x2d ∷ decimal (bias - e) | false 
 unfoldable pub scaled : ℕ → ℕ → ℕ → ℕ → List ℕ
 scaled bias count e m = fraction count m ++ 0x70 ∷ power bias e
 
--- a floating-point number as Java's toHexString writes it: its sign, its exponent, of which `2 * bias + 1` is the highest, and its fraction m of
+-- a floating-point number as Java's to_hex_string writes it: its sign, its exponent, of which `2 * bias + 1` is the highest, and its fraction m of
 -- so many hex digits
 unfoldable pub magnitude : ℕ → ℕ → ℕ → ℕ → List ℕ
 magnitude bias count e m =
@@ -58,13 +58,13 @@ magnitude bias count e m =
 unfoldable pub minus : ℕ → List ℕ
 minus sign = elim (eqb sign 0) [ true ↦ [] | false ↦ 0x2d ∷ [] ]
 
-unfoldable pub toHexString : ℕ → ℕ → ℕ → ℕ → ℕ → List ℕ
-toHexString bias count sign e m =
+unfoldable pub to_hex_string : ℕ → ℕ → ℕ → ℕ → ℕ → List ℕ
+to_hex_string bias count sign e m =
     elim (eqb e (2 * bias + 1) && ltb 0 m) [ true ↦ ascii "NaN" | false ↦ minus sign ++ magnitude bias count e m ]
 
 -- 23 bits of fraction are six hex digits with one bit more, 52 are thirteen
 unfoldable pub float : ℕ → List ℕ
-float bits = toHexString 127 6 (bits / 2147483648) (bits / 8388608 % 256) (2 * (bits % 8388608))
+float bits = to_hex_string 127 6 (bits / 2147483648) (bits / 8388608 % 256) (2 * (bits % 8388608))
 
 unfoldable pub double : ℕ → List ℕ
-double bits = toHexString 1023 13 (bits / 9223372036854775808) (bits / 4503599627370496 % 2048) (bits % 4503599627370496)
+double bits = to_hex_string 1023 13 (bits / 9223372036854775808) (bits / 4503599627370496 % 2048) (bits % 4503599627370496)

@@ -3,9 +3,9 @@
 // A text is first counted and then written, by the same functions. They put bytes at `at` into `out`, as far as it reaches, and return where
 // they end, or one more than `room` where that is past it: `Printed`. While text is counted, `out` is empty.
 ghost use Rattle.std.specs.Prelude.{◌≡◌, [], ◌∷◌, ◌++◌, ◌+◌, ◌*◌, ◌/◌, ◌%◌, ◌<◌, ◌≤◌, length, take, drop};
-ghost use Rattle.definition.specs.Ascii.{decimal, hexDigit};
+ghost use Rattle.definition.specs.Ascii.{decimal, hex_digit};
 ghost use Rattle.printing.specs.Printed.{CanPut, Printed};
-ghost use Rattle.printing.specs.Numbers.{escaped, quoted, signed, hexOf, unit_of, fraction, power, scaled, magnitude, toHexString, float, double};
+ghost use Rattle.printing.specs.Numbers.{escaped, quoted, signed, hex_of, unit_of, fraction, power, scaled, magnitude, to_hex_string, float, double};
 
 pub fn put(out: &mut [u8], room: usize, at: usize, b: u8) -> usize
     requires { CanPut out.old room at }
@@ -41,7 +41,7 @@ pub fn put_decimal(out: &mut [u8], room: usize, at: usize, n: usize) -> usize
 
 fn digit(n: usize) -> u8
     requires { n < 16 }
-    ensures { result ≡ hexDigit n }
+    ensures { result ≡ hex_digit n }
 {
     if n < 10 { 48 + n as u8 } else { 87 + n as u8 }
 }
@@ -63,7 +63,7 @@ fn first_unit(count: usize) -> usize
 // The last so many hex digits of a number.
 pub fn put_hex(out: &mut [u8], room: usize, start: usize, n: usize, count: usize) -> usize
     requires { CanPut out.old room start × (0 < count) × (count ≤ 16) }
-    ensures { Printed out.old room start (hexOf count n) out.new result }
+    ensures { Printed out.old room start (hex_of count n) out.new result }
 {
     let mut at = start;
     let mut unit = first_unit(count);
@@ -164,7 +164,7 @@ fn put_magnitude(
     put_scaled(out, room, zero, bias, digits, 1, m)
 }
 
-// As Java's toHexString writes a float or a double: its sign, its exponent and its fraction of so many hex digits.
+// As Java's to_hex_string writes a float or a double: its sign, its exponent and its fraction of so many hex digits.
 fn put_hex_string(
     out: &mut [u8],
     room: usize,
@@ -176,7 +176,7 @@ fn put_hex_string(
     m: usize,
 ) -> usize
     requires { CanPut out.old room at × (0 < digits) × (digits ≤ 16) × (bias < 65536) }
-    ensures { Printed out.old room at (toHexString bias digits sign e m) out.new result }
+    ensures { Printed out.old room at (to_hex_string bias digits sign e m) out.new result }
 {
     if e == 2 * bias + 1 {
         if 0 < m {
@@ -193,7 +193,7 @@ fn put_hex_string(
 // A Float's bits in hex, and its value.
 pub fn put_float(out: &mut [u8], room: usize, at: usize, bits: u32) -> usize
     requires { CanPut out.old room at }
-    ensures { Printed out.old room at (hexOf 8 bits ++ 0x20 ∷ float bits) out.new result }
+    ensures { Printed out.old room at (hex_of 8 bits ++ 0x20 ∷ float bits) out.new result }
 {
     let n = bits as usize;
     let end = put_hex(out, room, at, n, 8);
@@ -212,7 +212,7 @@ pub fn put_float(out: &mut [u8], room: usize, at: usize, bits: u32) -> usize
 
 pub fn put_double(out: &mut [u8], room: usize, at: usize, bits: u64) -> usize
     requires { CanPut out.old room at }
-    ensures { Printed out.old room at (hexOf 16 bits ++ 0x20 ∷ double bits) out.new result }
+    ensures { Printed out.old room at (hex_of 16 bits ++ 0x20 ∷ double bits) out.new result }
 {
     let n = bits as usize;
     let end = put_hex(out, room, at, n, 16);

@@ -10,9 +10,9 @@ use lib.ListN.{length, get_or, drop, length-drop, drop_of_length-le}
 use lib.Seq.{drop-drop, drop-cons}
 use Rattle.definition.specs.Basics.{lookup}
 use Rattle.definition.specs.Bytes.{Parser, return, ◌>>=◌, one, two, many}
-use Rattle.definition.specs.Shapes.{Kind, constant, bootstrap, Field, byte, to, shapes, Entry, withKids, withLiteral, withByte, readFields, read_entry}
-use Rattle.definition.specs.Jvms.{index, ofTag, cpInfo}
-use Rattle.raw_const.specs.Entries.{fields_of, length_of, numberRead, ReadAt}
+use Rattle.definition.specs.Shapes.{Kind, constant, bootstrap, Field, byte, to, shapes, Entry, with_kids, with_literal, with_byte, read_fields, read_entry}
+use Rattle.definition.specs.Jvms.{index, of_tag, cp_info}
+use Rattle.raw_const.specs.Entries.{fields_of, length_of, number_read, ReadAt}
 use Rattle.raw_const.specs.declared.Shape.{Shape}
 use Rattle.raw_const.specs.declared.Shape.TheVariants.{Text, Bits, One, Two, Dynamic, KindOne, Unknown}
 use Rattle.raw_const.specs.declared.Extent.TheVariants.{Entry as Whole, Bad}
@@ -28,15 +28,15 @@ pub record Takes {A : Type 0} (P : A → Type 0) (p : Parser A) (bytes : List �
   pub found : n ≤ length bytes → Found P p bytes n
   pub cut : length bytes < n → p bytes ≡ none
 
-takes-return : {A : Type 0} (P : A → Type 0) (a : A) (bytes : List ℕ) → P a → Takes P (return a) bytes 0
-takes-return P a bytes h = record { found = λ _. record { value = a; read = refl; holds = h }; cut = λ few. absurd (omega arith) }
+takes_return : {A : Type 0} (P : A → Type 0) (a : A) (bytes : List ℕ) → P a → Takes P (return a) bytes 0
+takes_return P a bytes h = record { found = λ _. record { value = a; read = refl; holds = h }; cut = λ few. absurd (omega arith) }
 
 -- one reader, then another that may go by what the first found
 module _ {A B : Type 0} (Q : B → Type 0) (p : Parser A) (f : A → Parser B) (bytes : List ℕ) (n m : ℕ) where
-  takes-then :
+  takes_then :
       {P : A → Type 0} → Takes P p bytes n → ((a : A) → p bytes ≡ some (a, drop n bytes) → Takes Q (f a) (drop n bytes) m) →
       Takes Q (p >>= f) bytes (n + m)
-  takes-then first second = record {
+  takes_then first second = record {
     found = λ enough.
         let a = first.found (omega arith) in
         let rest : m ≤ length (drop n bytes) = simp length-drop (omega arith) in
@@ -52,8 +52,8 @@ module _ {A B : Type 0} (Q : B → Type 0) (p : Parser A) (f : A → Parser B) (
           let rest : length (drop n bytes) < m = simp length-drop (omega arith) in
           rw a.read ((second a.value a.read).cut rest)
 
-takes-as : {A : Type 0} {P : A → Type 0} {p : Parser A} {bytes : List ℕ} {n m : ℕ} → m ≡ n → Takes P p bytes n → Takes P p bytes m
-takes-as e t = rw e t
+takes_as : {A : Type 0} {P : A → Type 0} {p : Parser A} {bytes : List ℕ} {n m : ℕ} → m ≡ n → Takes P p bytes n → Takes P p bytes m
+takes_as e t = rw e t
 
 abbrev Any : {A : Type 0} → A → Type 0
 Any a = Unit {0}
@@ -66,82 +66,82 @@ takes_one (b ∷ bytes) = record { found = λ enough. record { value = b; read =
 pub takes_two : (bytes : List ℕ) → Takes Any two bytes 2
 unfolding two
 takes_two bytes =
-    takes-then Any one _ bytes 1 1 (takes_one bytes)
-    (λ a _. takes-then Any one _ (drop 1 bytes) 1 0 (takes_one (drop 1 bytes)) (λ b _. takes-return Any _ _ tt))
+    takes_then Any one _ bytes 1 1 (takes_one bytes)
+    (λ a _. takes_then Any one _ (drop 1 bytes) 1 0 (takes_one (drop 1 bytes)) (λ b _. takes_return Any _ _ tt))
 
-takes-many : (k : ℕ) (bytes : List ℕ) → Takes Any (many k one) bytes k
+takes_many : (k : ℕ) (bytes : List ℕ) → Takes Any (many k one) bytes k
 unfolding many
-takes-many zero bytes = takes-return Any [] bytes tt
-takes-many (suc k) bytes =
-    takes-as (omega arith)
-    (takes-then Any one _ bytes 1 (k + 0) (takes_one bytes)
-    (λ a _. takes-then Any (many k one) _ (drop 1 bytes) k 0 (takes-many k (drop 1 bytes)) (λ s _. takes-return Any _ _ tt)))
+takes_many zero bytes = takes_return Any [] bytes tt
+takes_many (suc k) bytes =
+    takes_as (omega arith)
+    (takes_then Any one _ bytes 1 (k + 0) (takes_one bytes)
+    (λ a _. takes_then Any (many k one) _ (drop 1 bytes) k 0 (takes_many k (drop 1 bytes)) (λ s _. takes_return Any _ _ tt)))
 
 abbrev Tagged : ℕ → Entry (List ℕ) ℕ → Type 0
 Tagged tag e = e.tag ≡ tag
 
 -- the fields of an entry, one after the other
 module _ (tag : ℕ) where
-  takes-end : (e : Entry (List ℕ) ℕ) (bytes : List ℕ) → Tagged tag e → Takes (Tagged tag) (readFields index [] e) bytes 0
-  unfolding readFields
-  takes-end e bytes h = takes-return (Tagged tag) e bytes h
+  takes_end : (e : Entry (List ℕ) ℕ) (bytes : List ℕ) → Tagged tag e → Takes (Tagged tag) (read_fields index [] e) bytes 0
+  unfolding read_fields
+  takes_end e bytes h = takes_return (Tagged tag) e bytes h
 
-  takes-literal :
+  takes_literal :
       (k : ℕ) (e : Entry (List ℕ) ℕ) (bytes : List ℕ) → Tagged tag e →
-      Takes (Tagged tag) (many k one >>= λ s. readFields index [] (withLiteral s e)) bytes (k + 0)
-  unfolding withLiteral
-  takes-literal k e bytes h =
-      takes-then (Tagged tag) (many k one) _ bytes k 0 (takes-many k bytes) (λ s _. takes-end (withLiteral s e) (drop k bytes) h)
+      Takes (Tagged tag) (many k one >>= λ s. read_fields index [] (with_literal s e)) bytes (k + 0)
+  unfolding with_literal
+  takes_literal k e bytes h =
+      takes_then (Tagged tag) (many k one) _ bytes k 0 (takes_many k bytes) (λ s _. takes_end (with_literal s e) (drop k bytes) h)
 
-  takes-index :
+  takes_index :
       (kind : Kind) (fields : List Field) (e : Entry (List ℕ) ℕ) (bytes : List ℕ) (n : ℕ) →
-      ((kids : List ℕ) → Takes (Tagged tag) (readFields index fields (withKids kids e)) (drop 2 bytes) n) →
-      Takes (Tagged tag) (readFields index (to kind ∷ fields) e) bytes (2 + n)
-  unfolding readFields index
-  takes-index kind fields e bytes n rest =
-      takes-then (Tagged tag) two _ bytes 2 n (takes_two bytes) (λ r _. rest (e.kids ++ r ∷ []))
+      ((kids : List ℕ) → Takes (Tagged tag) (read_fields index fields (with_kids kids e)) (drop 2 bytes) n) →
+      Takes (Tagged tag) (read_fields index (to kind ∷ fields) e) bytes (2 + n)
+  unfolding read_fields index
+  takes_index kind fields e bytes n rest =
+      takes_then (Tagged tag) two _ bytes 2 n (takes_two bytes) (λ r _. rest (e.kids ++ r ∷ []))
 
-  takes-last : (kind : Kind) (e : Entry (List ℕ) ℕ) (bytes : List ℕ) → Tagged tag e → Takes (Tagged tag) (readFields index (to kind ∷ []) e) bytes 2
-  unfolding withKids
-  takes-last kind e bytes h = takes-index kind [] e bytes 0 (λ kids. takes-end (withKids kids e) (drop 2 bytes) h)
+  takes_last : (kind : Kind) (e : Entry (List ℕ) ℕ) (bytes : List ℕ) → Tagged tag e → Takes (Tagged tag) (read_fields index (to kind ∷ []) e) bytes 2
+  unfolding with_kids
+  takes_last kind e bytes h = takes_index kind [] e bytes 0 (λ kids. takes_end (with_kids kids e) (drop 2 bytes) h)
 
-  takes-pair :
+  takes_pair :
       (kind : Kind) (e : Entry (List ℕ) ℕ) (bytes : List ℕ) → Tagged tag e →
-      Takes (Tagged tag) (readFields index (to kind ∷ to constant ∷ []) e) bytes 4
-  unfolding withKids
-  takes-pair kind e bytes h =
-      takes-index kind (to constant ∷ []) e bytes 2 (λ kids. takes-last constant (withKids kids e) (drop 2 bytes) h)
+      Takes (Tagged tag) (read_fields index (to kind ∷ to constant ∷ []) e) bytes 4
+  unfolding with_kids
+  takes_pair kind e bytes h =
+      takes_index kind (to constant ∷ []) e bytes 2 (λ kids. takes_last constant (with_kids kids e) (drop 2 bytes) h)
 
 -- an entry that has none of its fields yet
 abbrev bare : ℕ → Entry (List ℕ) ℕ
 bare tag = record { tag = tag; literal = []; byte = 0; kids = [] }
 
 -- what stands behind a known tag
-shape-takes :
-    (s : Shape) (tag : ℕ) (bytes : List ℕ) → 0 < length_of s (numberRead (two bytes)) →
-    Takes (Tagged tag) (ofTag tag (fields_of s)) bytes (length_of s (numberRead (two bytes)) - 1)
-unfolding ofTag read_entry readFields withByte
-shape-takes Text tag bytes known =
-    takes-as (omega arith)
-    (takes-then (Tagged tag) two _ bytes 2 (numberRead (two bytes) + 0) (takes_two bytes)
-    (λ size e. rw (ap numberRead e) (takes-literal tag size (bare tag) (drop 2 bytes) refl)))
-shape-takes (Bits size) tag bytes known = takes-as (omega arith) (takes-literal tag size (bare tag) bytes refl)
-shape-takes One tag bytes known = takes-last tag constant (bare tag) bytes refl
-shape-takes Two tag bytes known = takes-pair tag constant (bare tag) bytes refl
-shape-takes Dynamic tag bytes known = takes-pair tag bootstrap (bare tag) bytes refl
-shape-takes KindOne tag bytes known =
-    takes-then (Tagged tag) one _ bytes 1 2 (takes_one bytes) (λ kind _. takes-last tag constant (withByte kind (bare tag)) (drop 1 bytes) refl)
-shape-takes Unknown tag bytes known = absurd (omega arith)
+shape_takes :
+    (s : Shape) (tag : ℕ) (bytes : List ℕ) → 0 < length_of s (number_read (two bytes)) →
+    Takes (Tagged tag) (of_tag tag (fields_of s)) bytes (length_of s (number_read (two bytes)) - 1)
+unfolding of_tag read_entry read_fields with_byte
+shape_takes Text tag bytes known =
+    takes_as (omega arith)
+    (takes_then (Tagged tag) two _ bytes 2 (number_read (two bytes) + 0) (takes_two bytes)
+    (λ size e. rw (ap number_read e) (takes_literal tag size (bare tag) (drop 2 bytes) refl)))
+shape_takes (Bits size) tag bytes known = takes_as (omega arith) (takes_literal tag size (bare tag) bytes refl)
+shape_takes One tag bytes known = takes_last tag constant (bare tag) bytes refl
+shape_takes Two tag bytes known = takes_pair tag constant (bare tag) bytes refl
+shape_takes Dynamic tag bytes known = takes_pair tag bootstrap (bare tag) bytes refl
+shape_takes KindOne tag bytes known =
+    takes_then (Tagged tag) one _ bytes 1 2 (takes_one bytes) (λ kind _. takes_last tag constant (with_byte kind (bare tag)) (drop 1 bytes) refl)
+shape_takes Unknown tag bytes known = absurd (omega arith)
 
 -- the number of two bytes at a place, 0 where they are cut off
-pub no_short : (pool : List ℕ) (at : ℕ) → length pool - at < 2 → 0 ≡ numberRead (two (drop at pool))
+pub no_short : (pool : List ℕ) (at : ℕ) → length pool - at < 2 → 0 ≡ number_read (two (drop at pool))
 no_short pool at few =
     let cut : length (drop at pool) < 2 = simp length-drop few in
     rw ((takes_two (drop at pool)).cut cut)
 
-pub a-short : (pool : List ℕ) (at : ℕ) → at + 2 ≤ length pool → 256 * get_or pool at 0 + get_or pool (at + 1) 0 ≡ numberRead (two (drop at pool))
+pub a_short : (pool : List ℕ) (at : ℕ) → at + 2 ≤ length pool → 256 * get_or pool at 0 + get_or pool (at + 1) 0 ≡ number_read (two (drop at pool))
 unfolding two one
-a-short pool at enough =
+a_short pool at enough =
     let here : at < length pool = omega arith in
     let next : suc at < length pool = omega arith in
     rw (drop-cons pool at 0 here, drop-cons pool (suc at) 0 next, add-one at)
@@ -156,34 +156,34 @@ no_fields Dynamic n e = absurd (omega arith)
 no_fields KindOne n e = absurd (omega arith)
 no_fields Unknown n e = refl
 
-read_none : (pool : List ℕ) (at : ℕ) → cpInfo (drop at pool) ≡ none → ReadAt pool at Bad
+read_none : (pool : List ℕ) (at : ℕ) → cp_info (drop at pool) ≡ none → ReadAt pool at Bad
 read_none pool at e = record { answer = rw e; rest = rw e }
 
 -- nothing stands behind the pool
 pub read_behind : (pool : List ℕ) (at : ℕ) → length pool ≤ at → ReadAt pool at Bad
-unfolding cpInfo one
+unfolding cp_info one
 read_behind pool at h = read_none pool at (rw (drop_of_length-le pool h))
 
 -- the tag at a place has the shape s, and such an entry takes so many bytes, if they are there
 pub record Sized (s : Shape) (pool : List ℕ) (at size : ℕ) : Type 0 where
   pub inside : at < length pool
   pub known : fields_of s ≡ lookup (get_or pool at 0) shapes
-  pub sized : size ≡ length_of s (numberRead (two (drop (at + 1) pool)))
+  pub sized : size ≡ length_of s (number_read (two (drop (at + 1) pool)))
 
 module _ {s : Shape} {pool : List ℕ} {at size : ℕ} (h : Sized s pool at size) where
-  behind : cpInfo (drop at pool) ≡ ofTag (get_or pool at 0) (fields_of s) (drop (at + 1) pool)
-  unfolding cpInfo one
+  behind : cp_info (drop at pool) ≡ of_tag (get_or pool at 0) (fields_of s) (drop (at + 1) pool)
+  unfolding cp_info one
   behind = rw (drop-cons pool at 0 h.inside, h.known, add-one at)
 
-  takes : 0 < size → Takes (Tagged (get_or pool at 0)) (ofTag (get_or pool at 0) (fields_of s)) (drop (at + 1) pool) (size - 1)
-  takes any = rw h.sized (shape-takes s (get_or pool at 0) (drop (at + 1) pool) (rw (← h.sized) any))
+  takes : 0 < size → Takes (Tagged (get_or pool at 0)) (of_tag (get_or pool at 0) (fields_of s)) (drop (at + 1) pool) (size - 1)
+  takes any = rw h.sized (shape_takes s (get_or pool at 0) (drop (at + 1) pool) (rw (← h.sized) any))
 
-  pub read-unknown : size ≡ 0 → ReadAt pool at Bad
-  unfolding ofTag
-  read-unknown e = read_none pool at (rw (behind, no_fields s (numberRead (two (drop (at + 1) pool))) (sym h.sized ∙ e)))
+  pub read_unknown : size ≡ 0 → ReadAt pool at Bad
+  unfolding of_tag
+  read_unknown e = read_none pool at (rw (behind, no_fields s (number_read (two (drop (at + 1) pool))) (sym h.sized ∙ e)))
 
-  pub read-cut : 0 < size → length pool - at < size → ReadAt pool at Bad
-  read-cut any few =
+  pub read_cut : 0 < size → length pool - at < size → ReadAt pool at Bad
+  read_cut any few =
       let cut : length (drop (at + 1) pool) < size - 1 = simp length-drop (omega arith) in
       read_none pool at (rw behind ((takes any).cut cut))
 
@@ -192,6 +192,6 @@ module _ {s : Shape} {pool : List ℕ} {at size : ℕ} (h : Sized s pool at size
       let all : size - 1 ≤ length (drop (at + 1) pool) = simp length-drop (omega arith) in
       let f = (takes any).found all in
       let next : at + 1 + (size - 1) ≡ at + size = omega arith in
-      let read : cpInfo (drop at pool) ≡ some (f.value, drop (at + size) pool) = rw (behind, f.read, drop-drop, next) in
+      let read : cp_info (drop at pool) ≡ some (f.value, drop (at + size) pool) = rw (behind, f.read, drop-drop, next) in
       let back : at + size ≡ length pool - length (drop (at + size) pool) = simp length-drop (omega arith) in
       record { answer = rw (read, f.holds, ← back); rest = rw (read, f.holds) }

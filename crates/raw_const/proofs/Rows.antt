@@ -8,8 +8,8 @@ use lib.ListN.{length, get_or, take, drop, length-drop}
 use lib.Seq.{take-suc, drop-cons, get_or-drop}
 use Rattle.definition.specs.Basics.{concat}
 use Rattle.definition.specs.Bytes.{be2}
-use Rattle.definition.specs.Shapes.{bootstrapShape, writeFields}
-use Rattle.definition.specs.Run.{rowBytes}
+use Rattle.definition.specs.Shapes.{bootstrap_shape, write_fields}
+use Rattle.definition.specs.Run.{row_bytes}
 use Rattle.facts.proofs.Copies.{part_length}
 use Rattle.raw_const.specs.Entries.{Wrote}
 use Rattle.raw_const.proofs.Writes.{wrote_then}
@@ -18,61 +18,61 @@ use Rattle.raw_const.proofs.Writes.{wrote_then}
 abbrev pub shorts : List ℕ → List ℕ
 shorts l = concat (map be2 l)
 
-shorts-length : (l : List ℕ) → length (shorts l) ≡ 2 * length l
+shorts_length : (l : List ℕ) → length (shorts l) ≡ 2 * length l
 unfolding concat be2
-shorts-length [] = refl
-shorts-length (x ∷ l) = omega (arith, shorts-length l)
+shorts_length [] = refl
+shorts_length (x ∷ l) = omega (arith, shorts_length l)
 
-shorts-append : (l m : List ℕ) → shorts (l ++ m) ≡ shorts l ++ shorts m
+shorts_append : (l m : List ℕ) → shorts (l ++ m) ≡ shorts l ++ shorts m
 unfolding concat
-shorts-append [] m = refl
-shorts-append (x ∷ l) m = rw (shorts-append l m, append_assoc)
+shorts_append [] m = refl
+shorts_append (x ∷ l) m = rw (shorts_append l m, append_assoc)
 
-shorts-snoc : (l : List ℕ) (x : ℕ) → shorts (l ++ x ∷ []) ≡ shorts l ++ be2 x
+shorts_snoc : (l : List ℕ) (x : ℕ) → shorts (l ++ x ∷ []) ≡ shorts l ++ be2 x
 unfolding concat
-shorts-snoc l x = rw (shorts-append l (x ∷ []), append-nil)
+shorts_snoc l x = rw (shorts_append l (x ∷ []), append-nil)
 
-pub shorts-size : (words : List ℕ) (from n : ℕ) → from + n ≤ length words → length (shorts (take n (drop from words))) ≡ 2 * n
-shorts-size words from n room = shorts-length (take n (drop from words)) ∙ ap (λ k. 2 * k) (part_length words from n room)
+pub shorts_size : (words : List ℕ) (from n : ℕ) → from + n ≤ length words → length (shorts (take n (drop from words))) ≡ 2 * n
+shorts_size words from n room = shorts_length (take n (drop from words)) ∙ ap (λ k. 2 * k) (part_length words from n room)
 
 -- a turn of the loop that writes them
-pub shorts-more :
+pub shorts_more :
     (words : List ℕ) (from i : ℕ) {d d₁ d₂ : List ℕ} {at m r : ℕ} →
     from + i < length words →
     at + 2 * i ≤ length d →
     Wrote d at (shorts (take i (drop from words))) d₁ m →
     Wrote d₁ m (be2 (get_or words (from + i) 0)) d₂ r →
     Wrote d at (shorts (take (i + 1) (drop from words))) d₂ r
-shorts-more words from i {d} {at = at} inside room before here =
+shorts_more words from i {d} {at = at} inside room before here =
     let more : i < length (drop from words) = simp length-drop (omega arith) in
-    let fits : at + length (shorts (take i (drop from words))) ≤ length d = omega (arith, shorts-size words from i (omega arith)) in
-    rw (add-one i, take-suc (drop from words) i 0 more, shorts-snoc, get_or-drop) (wrote_then before fits here)
+    let fits : at + length (shorts (take i (drop from words))) ≤ length d = omega (arith, shorts_size words from i (omega arith)) in
+    rw (add-one i, take-suc (drop from words) i 0 more, shorts_snoc, get_or-drop) (wrote_then before fits here)
 
 -- a row's bytes
-row-bytes : (x : ℕ) (l : List ℕ) → rowBytes (x ∷ l) ≡ be2 x ++ be2 (length l) ++ shorts l
-unfolding rowBytes bootstrapShape writeFields be2
-row-bytes x l = rw append-nil
+row_bytes_lem : (x : ℕ) (l : List ℕ) → row_bytes (x ∷ l) ≡ be2 x ++ be2 (length l) ++ shorts l
+unfolding row_bytes bootstrap_shape write_fields be2
+row_bytes_lem x l = rw append-nil
 
-pub row-size : (row : List ℕ) → 0 < length row → 4 + 2 * (length row - 1) ≡ length (rowBytes row)
-unfolding rowBytes bootstrapShape writeFields be2
-row-size [] some = absurd (omega arith)
-row-size (x ∷ l) some = omega (arith, ap length (append-nil (shorts l)), shorts-length l)
+pub row_size : (row : List ℕ) → 0 < length row → 4 + 2 * (length row - 1) ≡ length (row_bytes row)
+unfolding row_bytes bootstrap_shape write_fields be2
+row_size [] some = absurd (omega arith)
+row_size (x ∷ l) some = omega (arith, ap length (append-nil (shorts l)), shorts_length l)
 
 -- a row in a list of words: how many bytes it takes
 pub row_room :
     (words : List ℕ) (from count : ℕ) → 0 < count → from + count ≤ length words →
-    length (rowBytes (take count (drop from words))) ≡ 4 + 2 * (count - 1)
+    length (row_bytes (take count (drop from words))) ≡ 4 + 2 * (count - 1)
 row_room words from count some room =
     let n = part_length words from count room in
-    sym (row-size (take count (drop from words)) (rw n some)) ∙ rw n
+    sym (row_size (take count (drop from words)) (rw n some)) ∙ rw n
 
 -- its bytes: its first number, how many follow, and those
-pub row-part :
+pub row_part :
     (words : List ℕ) (from count : ℕ) → 0 < count → from + count ≤ length words →
-    rowBytes (take count (drop from words)) ≡ be2 (get_or words from 0) ++ be2 (count - 1) ++ shorts (take (count - 1) (drop (from + 1) words))
-row-part words from zero some room = absurd (omega arith)
-row-part words from (suc n) some room =
+    row_bytes (take count (drop from words)) ≡ be2 (get_or words from 0) ++ be2 (count - 1) ++ shorts (take (count - 1) (drop (from + 1) words))
+row_part words from zero some room = absurd (omega arith)
+row_part words from (suc n) some room =
     let less : suc n - 1 ≡ n = omega arith in
     let inside : from < length words = omega arith in
     let rest : length (take n (drop (suc from) words)) ≡ n = part_length words (suc from) n (omega arith) in
-    rw (less, add-one from, drop-cons words from 0 inside) (rw (row-bytes, rest))
+    rw (less, add-one from, drop-cons words from 0 inside) (rw (row_bytes_lem, rest))

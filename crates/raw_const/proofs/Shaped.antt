@@ -6,111 +6,111 @@ use native.Mathlib.Omega.{arith}
 use lib.ListN.{length, get_or, take}
 use Rattle.definition.specs.Basics.{lookup}
 use Rattle.definition.specs.Bytes.{be2}
-use Rattle.definition.specs.Shapes.{constant, bootstrap, Field, text, bits, byte, to, toMany, shapes, Entry, writeFields}
-use Rattle.definition.specs.Run.{entryBytes}
+use Rattle.definition.specs.Shapes.{constant, bootstrap, Field, text, bits, byte, to, to_many, shapes, Entry, write_fields}
+use Rattle.definition.specs.Run.{entry_bytes}
 use Rattle.raw_const.specs.Entries.{fields_of, listed, references, entry_of, LiteralFits, length_of}
 use Rattle.raw_const.specs.declared.Shape.{Shape}
 use Rattle.raw_const.specs.declared.Shape.TheVariants.{Text, Bits, One, Two, Dynamic, KindOne, Unknown}
-use Rattle.facts.proofs.Tables.{looked-up}
+use Rattle.facts.proofs.Tables.{looked_up}
 
 -- the bytes of an entry of a shape
-abbrev shapeBytes : Shape → ℕ → ℕ → List ℕ → ℕ → ℕ → List ℕ
-shapeBytes Text tag kind literal first second = tag ∷ be2 (length literal) ++ literal
-shapeBytes (Bits size) tag kind literal first second = tag ∷ literal
-shapeBytes One tag kind literal first second = tag ∷ be2 first
-shapeBytes Two tag kind literal first second = tag ∷ be2 first ++ be2 second
-shapeBytes Dynamic tag kind literal first second = tag ∷ be2 first ++ be2 second
-shapeBytes KindOne tag kind literal first second = tag ∷ kind ∷ be2 first
-shapeBytes Unknown tag kind literal first second = []
+abbrev shape_bytes : Shape → ℕ → ℕ → List ℕ → ℕ → ℕ → List ℕ
+shape_bytes Text tag kind literal first second = tag ∷ be2 (length literal) ++ literal
+shape_bytes (Bits size) tag kind literal first second = tag ∷ literal
+shape_bytes One tag kind literal first second = tag ∷ be2 first
+shape_bytes Two tag kind literal first second = tag ∷ be2 first ++ be2 second
+shape_bytes Dynamic tag kind literal first second = tag ∷ be2 first ++ be2 second
+shape_bytes KindOne tag kind literal first second = tag ∷ kind ∷ be2 first
+shape_bytes Unknown tag kind literal first second = []
 
 -- those of an entry whose tag has that shape
-entry-bytes :
+entry_bytes_lem :
     (s : Shape) (e : Entry (List ℕ) ℕ) → fields_of s ≡ lookup e.tag shapes →
-    entryBytes e ≡ shapeBytes s e.tag e.byte e.literal (get_or e.kids 0 0) (get_or (tail e.kids) 0 0)
-unfolding entryBytes writeFields be2
-entry-bytes Text e known = rw (← known, entryBytes) (rw append-nil)
-entry-bytes (Bits size) e known = rw (← known, entryBytes) (rw append-nil)
-entry-bytes One e known = rw (← known, entryBytes)
-entry-bytes Two e known = rw (← known, entryBytes)
-entry-bytes Dynamic e known = rw (← known, entryBytes)
-entry-bytes KindOne e known = rw (← known, entryBytes)
-entry-bytes Unknown e known = rw (← known, entryBytes)
+    entry_bytes e ≡ shape_bytes s e.tag e.byte e.literal (get_or e.kids 0 0) (get_or (tail e.kids) 0 0)
+unfolding entry_bytes write_fields be2
+entry_bytes_lem Text e known = rw (← known, entry_bytes) (rw append-nil)
+entry_bytes_lem (Bits size) e known = rw (← known, entry_bytes) (rw append-nil)
+entry_bytes_lem One e known = rw (← known, entry_bytes)
+entry_bytes_lem Two e known = rw (← known, entry_bytes)
+entry_bytes_lem Dynamic e known = rw (← known, entry_bytes)
+entry_bytes_lem KindOne e known = rw (← known, entry_bytes)
+entry_bytes_lem Unknown e known = rw (← known, entry_bytes)
 
 -- how many they are
 shape_size :
     (s : Shape) (tag kind : ℕ) (literal : List ℕ) (first second : ℕ) → LiteralFits (fields_of s) (length literal) →
-    length_of s (length literal) ≡ length (shapeBytes s tag kind literal first second)
+    length_of s (length literal) ≡ length (shape_bytes s tag kind literal first second)
 unfolding be2
 shape_size Text tag kind literal first second fits = omega arith
-shape_size (Bits size) tag kind literal first second fits = omega (arith, fits.asBits size refl)
+shape_size (Bits size) tag kind literal first second fits = omega (arith, fits.as_bits size refl)
 shape_size One tag kind literal first second fits = refl
 shape_size Two tag kind literal first second fits = refl
 shape_size Dynamic tag kind literal first second fits = refl
 shape_size KindOne tag kind literal first second fits = refl
 shape_size Unknown tag kind literal first second fits = refl
 
-pub entry-size :
+pub entry_size :
     (s : Shape) (e : Entry (List ℕ) ℕ) → fields_of s ≡ lookup e.tag shapes → LiteralFits (fields_of s) (length e.literal) →
-    length_of s (length e.literal) ≡ length (entryBytes e)
-entry-size s e known fits = rw (entry-bytes s e known) (shape_size s e.tag e.byte e.literal _ _ fits)
+    length_of s (length e.literal) ≡ length (entry_bytes e)
+entry_size s e known fits = rw (entry_bytes_lem s e known) (shape_size s e.tag e.byte e.literal _ _ fits)
 
 -- an entry from its parts
 module _ (tag kind : ℕ) (literal : List ℕ) (first second : ℕ) where
   -- a shape's bytes go by as many references as it has
-  kids-taken :
+  kids_taken :
       (s : Shape) →
       let kids = take (references (listed (fields_of s))) (first ∷ second ∷ []) in
-      shapeBytes s tag kind literal (get_or kids 0 0) (get_or (tail kids) 0 0) ≡ shapeBytes s tag kind literal first second
-  kids-taken Text = refl
-  kids-taken (Bits size) = refl
-  kids-taken One = refl
-  kids-taken Two = refl
-  kids-taken Dynamic = refl
-  kids-taken KindOne = refl
-  kids-taken Unknown = refl
+      shape_bytes s tag kind literal (get_or kids 0 0) (get_or (tail kids) 0 0) ≡ shape_bytes s tag kind literal first second
+  kids_taken Text = refl
+  kids_taken (Bits size) = refl
+  kids_taken One = refl
+  kids_taken Two = refl
+  kids_taken Dynamic = refl
+  kids_taken KindOne = refl
+  kids_taken Unknown = refl
 
   parts-bytes :
       (s : Shape) → fields_of s ≡ lookup tag shapes →
-      entryBytes (entry_of tag kind literal first second) ≡ shapeBytes s tag kind literal first second
+      entry_bytes (entry_of tag kind literal first second) ≡ shape_bytes s tag kind literal first second
   unfolding entry_of
-  parts-bytes s known = entry-bytes s (entry_of tag kind literal first second) known ∙ rw (← known) (kids-taken s)
+  parts-bytes s known = entry_bytes_lem s (entry_of tag kind literal first second) known ∙ rw (← known) (kids_taken s)
 
 -- the shape that fields are of
-abbrev pub shapeFor : List Field → Shape
-shapeFor [] = Unknown
-shapeFor (text ∷ fields) = Text
-shapeFor (bits size ∷ fields) = Bits size
-shapeFor (byte ∷ fields) = KindOne
-shapeFor (to kind ∷ []) = One
-shapeFor (to constant ∷ field ∷ fields) = Two
-shapeFor (to bootstrap ∷ field ∷ fields) = Dynamic
-shapeFor (toMany ∷ fields) = Unknown
+abbrev pub shape_for : List Field → Shape
+shape_for [] = Unknown
+shape_for (text ∷ fields) = Text
+shape_for (bits size ∷ fields) = Bits size
+shape_for (byte ∷ fields) = KindOne
+shape_for (to kind ∷ []) = One
+shape_for (to constant ∷ field ∷ fields) = Two
+shape_for (to bootstrap ∷ field ∷ fields) = Dynamic
+shape_for (to_many ∷ fields) = Unknown
 
 -- every tag has one
-shape-known : (tag : ℕ) → fields_of (shapeFor (listed (lookup tag shapes))) ≡ lookup tag shapes
+shape_known : (tag : ℕ) → fields_of (shape_for (listed (lookup tag shapes))) ≡ lookup tag shapes
 unfolding shapes
-shape-known tag = looked-up (λ o. fields_of (shapeFor (listed o)) ≡ o) tag shapes
+shape_known tag = looked_up (λ o. fields_of (shape_for (listed o)) ≡ o) tag shapes
     (refl, (refl, (refl, (refl, (refl, (refl, (refl, (refl, (refl, (refl, (refl, (refl, (refl, (refl, (refl, (refl, (refl, refl)))))))))))))))))
 
 -- and fields are of one shape
-pub shape-back : (s : Shape) → shapeFor (listed (fields_of s)) ≡ s
-shape-back Text = refl
-shape-back (Bits size) = refl
-shape-back One = refl
-shape-back Two = refl
-shape-back Dynamic = refl
-shape-back KindOne = refl
-shape-back Unknown = refl
+pub shape_back : (s : Shape) → shape_for (listed (fields_of s)) ≡ s
+shape_back Text = refl
+shape_back (Bits size) = refl
+shape_back One = refl
+shape_back Two = refl
+shape_back Dynamic = refl
+shape_back KindOne = refl
+shape_back Unknown = refl
 
 second-kid : (kids : List ℕ) → get_or kids 1 0 ≡ get_or (tail kids) 0 0
 second-kid [] = refl
 second-kid (x ∷ kids) = refl
 
 -- the bytes of any entry are those of its parts
-pub entry-parts :
-    (e : Entry (List ℕ) ℕ) → entryBytes (entry_of e.tag e.byte e.literal (get_or e.kids 0 0) (get_or e.kids 1 0)) ≡ entryBytes e
-entry-parts e =
-    let s = shapeFor (listed (lookup e.tag shapes)) in
-    let known = shape-known e.tag in
-    rw (second-kid e.kids, entry-bytes s e known)
+pub entry_parts :
+    (e : Entry (List ℕ) ℕ) → entry_bytes (entry_of e.tag e.byte e.literal (get_or e.kids 0 0) (get_or e.kids 1 0)) ≡ entry_bytes e
+entry_parts e =
+    let s = shape_for (listed (lookup e.tag shapes)) in
+    let known = shape_known e.tag in
+    rw (second-kid e.kids, entry_bytes_lem s e known)
     (parts-bytes e.tag e.byte e.literal (get_or e.kids 0 0) (get_or (tail e.kids) 0 0) s known)

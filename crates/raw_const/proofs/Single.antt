@@ -8,19 +8,19 @@ use Rattle.definition.specs.Shapes.{shapes}
 use Rattle.raw_const.specs.Entries.{fields_of, listed, entry_of, Wrote, EntryTakes, RowTakes, ReadAt}
 use Rattle.raw_const.specs.declared.Shape.{Shape}
 use Rattle.raw_const.specs.declared.Extent.{Extent}
-use Rattle.raw_const.proofs.Shaped.{shapeFor, shape-back}
+use Rattle.raw_const.proofs.Shaped.{shape_for, shape_back}
 
 pub one-shape : (tag : ℕ) (r r' : Shape) → fields_of r ≡ lookup tag shapes → fields_of r' ≡ lookup tag shapes → r ≡ r'
-one-shape tag r r' h h' = sym (shape-back r) ∙ ap (λ o. shapeFor (listed o)) (h ∙ sym h') ∙ shape-back r'
+one-shape tag r r' h h' = sym (shape_back r) ∙ ap (λ o. shape_for (listed o)) (h ∙ sym h') ∙ shape_back r'
 
-pub one-entry-length : (tag n r r' : ℕ) → EntryTakes tag n r → EntryTakes tag n r' → r ≡ r'
+pub one-entry_length : (tag n r r' : ℕ) → EntryTakes tag n r → EntryTakes tag n r' → r ≡ r'
 unfolding entry_of
-one-entry-length tag n r r' h h' =
+one-entry_length tag n r r' h h' =
     let e = entry_of tag 0 (replicate n 0) 0 0 in
     h e refl (length-replicate n 0) ∙ sym (h' e refl (length-replicate n 0))
 
-pub one-row-length : (count r r' : ℕ) → RowTakes count r → RowTakes count r' → r ≡ r'
-one-row-length count r r' h h' =
+pub one-row_length : (count r r' : ℕ) → RowTakes count r → RowTakes count r' → r ≡ r'
+one-row_length count r r' h h' =
     let row : List ℕ = replicate count 0 in
     h row (length-replicate count 0) ∙ sym (h' row (length-replicate count 0))
 

@@ -30,19 +30,19 @@ pub wrote_nothing : (d : List ℕ) (at : ℕ) → Wrote d at [] d at
 wrote_nothing d at = record { out = paste-zero d at []; next = sym (add-zero at) }
 
 -- a stored byte
-pub wrote-byte : (d : List ℕ) (at x : ℕ) {d₁ : List ℕ} → at < length d → d₁ ≡ set d at x → Wrote d at (x ∷ []) d₁ (at + 1)
-wrote-byte d at x room e = record { out = e ∙ sets-eq (x ∷ []) d at (omega arith); next = refl }
+pub wrote_byte : (d : List ℕ) (at x : ℕ) {d₁ : List ℕ} → at < length d → d₁ ≡ set d at x → Wrote d at (x ∷ []) d₁ (at + 1)
+wrote_byte d at x room e = record { out = e ∙ sets-eq (x ∷ []) d at (omega arith); next = refl }
 
 -- a number of two bytes
-pub wrote-short : (d : List ℕ) (at x : ℕ) {d₁ : List ℕ} → d₁ ≡ paste d at (be2 x) 2 → Wrote d at (be2 x) d₁ (at + 2)
+pub wrote_short : (d : List ℕ) (at x : ℕ) {d₁ : List ℕ} → d₁ ≡ paste d at (be2 x) 2 → Wrote d at (be2 x) d₁ (at + 2)
 unfolding be2
-wrote-short d at x e = record { out = e; next = refl }
+wrote_short d at x e = record { out = e; next = refl }
 
 -- a copied part
-pub wrote-part :
+pub wrote_part :
     (d s : List ℕ) (at from n : ℕ) {d₁ : List ℕ} → from + n ≤ length s → d₁ ≡ paste d at (drop from s) n →
     Wrote d at (take n (drop from s)) d₁ (at + n)
-wrote-part d s at from n room e =
+wrote_part d s at from n room e =
     record {
       out = rw (e, part_length s from n room, take-take n n (drop from s) (le_refl n));
       next = rw (part_length s from n room);

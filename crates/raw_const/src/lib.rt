@@ -1,11 +1,11 @@
 // Entries of a constant pool and rows of a bootstrap table as bytes: Krakatau's raw_const.rs (document 01, "Building"; JVMS 4.4, 4.7.23).
-// That JVMS's reader finds again what is written here is `cpInfo-entryBytes` of the crate laws.
+// That JVMS's reader finds again what is written here is `cp_info-entry_bytes` of the crate laws.
 ghost use Rattle.std.specs.Prelude.{◌≡◌, ◌||◌, [], ◌∷◌, ◌++◌, map, ℕ, ◌+◌, ◌*◌, ◌≤◌, ◌<◌, eqb, length, take, drop, get_or};
 ghost use Rattle.definition.specs.Basics.{lookup, concat};
 ghost use Rattle.definition.specs.Bytes.{two, be2};
 ghost use Rattle.definition.specs.Shapes.{is_wide, shapes};
-ghost use Rattle.definition.specs.Run.{entryBytes, rowBytes};
-ghost use Rattle.raw_const.specs.Entries.{row_of, fieldBytes, secondIndex, fields_of, entry_of, LiteralFits, Wrote, EntryTakes, RowTakes, length_of, numberRead, ReadAt};
+ghost use Rattle.definition.specs.Run.{entry_bytes, row_bytes};
+ghost use Rattle.raw_const.specs.Entries.{row_of, field_bytes, second_index, fields_of, entry_of, LiteralFits, Wrote, EntryTakes, RowTakes, length_of, number_read, ReadAt};
 
 // THE TABLE OF JVMS 4.4: a row for each tag, with its fields in the page's order. Everything here that goes by a tag goes by its row.
 fn row_of(tag: u8) -> [u8; 2]
@@ -208,8 +208,8 @@ fn write_field(
 ) -> usize
     requires size_bound { field ≡ 1 → size < 65536 }
     requires size_in_bounds { from + size ≤ length text.now }
-    requires index_in_bounds { at + length (fieldBytes field kind (take size (drop from text.now)) index) ≤ length out.old }
-    ensures { Wrote out.old at (fieldBytes field kind (take size (drop from text.now)) index) out.new result }
+    requires index_in_bounds { at + length (field_bytes field kind (take size (drop from text.now)) index) ≤ length out.old }
+    ensures { Wrote out.old at (field_bytes field kind (take size (drop from text.now)) index) out.new result }
 {
     match field {
         TEXT => write_text(out, at, text, from, size),
@@ -224,7 +224,7 @@ fn write_field(
 
 // The reference behind a row's first field: behind a kind byte it is the first one.
 fn second_index(field: u8, first: u16, second: u16) -> u16
-    ensures { result ≡ secondIndex field first second }
+    ensures { result ≡ second_index field first second }
 {
     if field == KIND { first } else { second }
 }
@@ -244,8 +244,8 @@ pub fn write_entry(
 ) -> usize
     requires literal_fits { LiteralFits (lookup tag shapes) size }
     requires size_in_bounds { from + size ≤ length text.now }
-    requires second_in_bounds { at + length (entryBytes (entry_of tag kind (take size (drop from text.now)) first second)) ≤ length out.old }
-    ensures { Wrote out.old at (entryBytes (entry_of tag kind (take size (drop from text.now)) first second)) out.new result }
+    requires second_in_bounds { at + length (entry_bytes (entry_of tag kind (take size (drop from text.now)) first second)) ≤ length out.old }
+    ensures { Wrote out.old at (entry_bytes (entry_of tag kind (take size (drop from text.now)) first second)) out.new result }
 {
     let row = row_of(tag);
     if row[0] == NONE {
@@ -286,8 +286,8 @@ pub fn write_row(out: &mut [u8], at: usize, words: &[u32], from: usize, count: u
     requires count_nonzero { (0 < count) × (count ≤ 65536) }
     requires count_in_bounds { from + count ≤ length words.now }
     requires by_index { (k : ℕ) → k < count → get_or words.now (from + k) 0 < 65536 }
-    requires words_in_bounds { at + length (rowBytes (take count (drop from words.now))) ≤ length out.old }
-    ensures { Wrote out.old at (rowBytes (take count (drop from words.now))) out.new result }
+    requires words_in_bounds { at + length (row_bytes (take count (drop from words.now))) ≤ length out.old }
+    ensures { Wrote out.old at (row_bytes (take count (drop from words.now))) out.new result }
 {
     let next = write_short(out, at, words[from] as u16);
     let next = write_short(out, next, (count - 1) as u16);
@@ -297,7 +297,7 @@ pub fn write_row(out: &mut [u8], at: usize, words: &[u32], from: usize, count: u
 // The number in the two bytes at a place; 0 where they are cut off.
 fn short_at(pool: &[u8], at: usize) -> u16
     requires { at ≤ length pool.now }
-    ensures { result ≡ numberRead (two (drop at pool.now)) }
+    ensures { result ≡ number_read (two (drop at pool.now)) }
 {
     if pool.len() - at < 2 {
         return 0;

@@ -18,9 +18,9 @@ Asks Dynamic n = Unit {0}
 Asks KindOne n = Unit {0}
 Asks Unknown n = Unit {0}
 
-pub literal-fits : (s : Shape) (tag n : ℕ) → fields_of s ≡ lookup tag shapes → Asks s n → LiteralFits (lookup tag shapes) n
-literal-fits s tag n known asked =
+pub literal_fits : (s : Shape) (tag n : ℕ) → fields_of s ≡ lookup tag shapes → Asks s n → LiteralFits (lookup tag shapes) n
+literal_fits s tag n known asked =
     record {
-      asText = λ e. rw (one-shape tag s Text known (sym e)) at asked;
-      asBits = λ size e. rw (one-shape tag s (Bits size) known (sym e)) at asked;
+      as_text = λ e. rw (one-shape tag s Text known (sym e)) at asked;
+      as_bits = λ size e. rw (one-shape tag s (Bits size) known (sym e)) at asked;
     }

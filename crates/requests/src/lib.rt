@@ -1,7 +1,7 @@
 // A job up to its last request: the definitions, record 50, the pool's start, the requests.
 ghost use Rattle.std.specs.Prelude.{◌≡◌, ◌+◌, ◌*◌, ◌/◌, ◌≤◌, ◌<◌, length};
 ghost use Rattle.store.specs.Store.{store};
-ghost use Rattle.store.specs.JobIn.{WellFormed, countsIn};
+ghost use Rattle.store.specs.JobIn.{WellFormed, counts_in};
 ghost use Rattle.requests.specs.Asked.{AskedAll};
 
 use job::JobCounts;
@@ -16,7 +16,7 @@ pub fn ask(
     c: JobCounts,
     top: usize,
 ) -> usize
-    requires { WellFormed job.now × (c ≡ countsIn job.now) × (length p.old ≡ 33) × (6 * length job.now + 1024 ≤ length w.old) × (length job.now / 5 + 2 ≤ length gaps.old) × (top < 65535) }
+    requires { WellFormed job.now × (c ≡ counts_in job.now) × (length p.old ≡ 33) × (6 * length job.now + 1024 ≤ length w.old) × (length job.now / 5 + 2 ≤ length gaps.old) × (top < 65535) }
     ensures { AskedAll p.new (length w.new) top job.now (store p.new w.new) gaps.new result }
 {
     let code = definitions::begin(job, w, p, c, top);

@@ -7,27 +7,27 @@ use native.Mathlib.Omega.{arith}
 use lib.ListN.{length, get_or, set}
 use lib.Seq.{get_or-set_same, get_or-set_other}
 use Rattle.definition.specs.Basics.{every}
-use Rattle.definition.specs.Resolving.{childOf}
+use Rattle.definition.specs.Resolving.{child_of}
 use Rattle.store.specs.Store.{Store, put, IsWord, Kept}
 use Rattle.store.specs.Regions.{MARKS, FIRSTS, SIZES, GOALS, CHILDREN, STACK}
-use Rattle.store.specs.Words.{ENTRY, LEAVE, REFUSED, markWord, goalWord}
+use Rattle.store.specs.Words.{ENTRY, LEAVE, REFUSED, mark_word, goal_word}
 use Rattle.store.proofs.Keeping.{kept_put, kept_then, kept_more}
 use Rattle.resolver.specs.Resolved.{Became}
 use Rattle.resolver.specs.Moves.{Places, ToLeave, Written, Pushed, Enters}
-use Rattle.resolver.proofs.Meanings.{child-raw, child-entry}
+use Rattle.resolver.proofs.Meanings.{child_raw, child_entry}
 use Rattle.facts.proofs.Lists.{equal, order}
 
 -- a child is a word
-child-word :
+child_word :
     (marks : List ℕ) (goal child : ℕ) → ((d : ℕ) → get_or marks d 0 < REFUSED) → Became marks goal →
-    child ≡ childOf (map markWord marks) (goalWord goal) → IsWord child
-child-word marks goal child low b e =
+    child ≡ child_of (map mark_word marks) (goal_word goal) → IsWord child
+child_word marks goal child low b e =
     ⊎_elim
-    (λ (l : goal < ENTRY). let q = child-raw marks goal l in omega arith)
+    (λ (l : goal < ENTRY). let q = child_raw marks goal l in omega arith)
     (λ (l : ENTRY ≤ goal).
     let k = get_or marks (goal - ENTRY) 0 - 2 in
     let r = b.ready l in
-    let q = child-entry marks goal k l b.low (omega arith) in
+    let q = child_entry marks goal k l b.low (omega arith) in
     omega (arith, low (goal - ENTRY)))
     (order goal ENTRY)
 
@@ -36,17 +36,17 @@ pub record Writing (t u : Store) (first end i : ℕ) : Type 0 where
   pub low : first ≤ i
   pub high : i ≤ end
   pub is :
-      (j : ℕ) → first ≤ j → j < i → get_or (u CHILDREN) j 0 ≡ childOf (map markWord (t MARKS)) (goalWord (get_or (t GOALS) j 0))
+      (j : ℕ) → first ≤ j → j < i → get_or (u CHILDREN) j 0 ≡ child_of (map mark_word (t MARKS)) (goal_word (get_or (t GOALS) j 0))
   pub others : (j : ℕ) → (j < first) ⊎ (i ≤ j) → get_or (u CHILDREN) j 0 ≡ get_or (t CHILDREN) j 0
   pub kept : Kept (CHILDREN ∷ []) t u
 
-pub writing-begin : (t : Store) (first end : ℕ) → first ≤ end → Writing t t first end first
-writing-begin t first end h = record { low = omega arith; high = h; is = λ j a b. absurd (omega arith); others = λ j _. refl; kept = λ k _. refl }
+pub writing_begin : (t : Store) (first end : ℕ) → first ≤ end → Writing t t first end first
+writing_begin t first end h = record { low = omega arith; high = h; is = λ j a b. absurd (omega arith); others = λ j _. refl; kept = λ k _. refl }
 
 module _ (t u : Store) (e first end i : ℕ) (w : Writing t u first end i) where
-  module _ (child : ℕ) (h : i < end) (inside : i < length (u CHILDREN)) (goal : ℕ) (got : goal ≡ get_or (u GOALS) i 0) (q : child ≡ childOf (map markWord (u MARKS)) (goalWord goal)) where
-    pub writing-next : Writing t (put u CHILDREN i child) first end (i + 1)
-    writing-next =
+  module _ (child : ℕ) (h : i < end) (inside : i < length (u CHILDREN)) (goal : ℕ) (got : goal ≡ get_or (u GOALS) i 0) (q : child ≡ child_of (map mark_word (u MARKS)) (goal_word goal)) where
+    pub writing_next : Writing t (put u CHILDREN i child) first end (i + 1)
+    writing_next =
         record {
           low = omega (arith, w.low);
           high = omega arith;
@@ -55,7 +55,7 @@ module _ (t u : Store) (e first end i : ℕ) (w : Writing t u first end i) where
           kept = kept_put (CHILDREN ∷ []) t u CHILDREN i child refl w.kept;
         }
       where
-        here : get_or (set (u CHILDREN) i child) i 0 ≡ childOf (map markWord (t MARKS)) (goalWord (get_or (t GOALS) i 0))
+        here : get_or (set (u CHILDREN) i child) i 0 ≡ child_of (map mark_word (t MARKS)) (goal_word (get_or (t GOALS) i 0))
         here = get_or-set_same (u CHILDREN) i child 0 inside ∙ q ∙ rw (got, w.kept MARKS refl, w.kept GOALS refl)
 
         other : (j : ℕ) → (j < first) ⊎ (i + 1 ≤ j) → j ≡ i → ⊥
@@ -68,22 +68,22 @@ module _ (t u : Store) (e first end i : ℕ) (w : Writing t u first end i) where
 
   module _ (from : first ≡ get_or (t FIRSTS) e 0) (to : end ≡ get_or (t FIRSTS) e 0 + get_or (t SIZES) e 0) where
     -- the goal in turn became a child
-    pub child-ready : ToLeave t e → i < end → (goal : ℕ) → goal ≡ get_or (u GOALS) i 0 → Became (u MARKS) goal
-    child-ready l h goal got =
+    pub child_ready : ToLeave t e → i < end → (goal : ℕ) → goal ≡ get_or (u GOALS) i 0 → Became (u MARKS) goal
+    child_ready l h goal got =
         let at : get_or (t FIRSTS) e 0 + (i - first) ≡ i = omega (arith, w.low) in
         let b = l.became (i - first) (omega (arith, w.low)) in
         rw (got, w.kept MARKS refl, w.kept GOALS refl) (subst (λ j. Became (t MARKS) (get_or (t GOALS) j 0)) at b)
 
-    marks-low : ToLeave t e → (d : ℕ) → get_or (u MARKS) d 0 < REFUSED
-    marks-low l d = rw (w.kept MARKS refl) (l.low d)
+    marks_low : ToLeave t e → (d : ℕ) → get_or (u MARKS) d 0 < REFUSED
+    marks_low l d = rw (w.kept MARKS refl) (l.low d)
 
     -- and it is a word
     pub child_fits :
-        ToLeave t e → i < end → (goal child : ℕ) → goal ≡ get_or (u GOALS) i 0 → child ≡ childOf (map markWord (u MARKS)) (goalWord goal) → IsWord child
-    child_fits l h goal child got q = child-word (u MARKS) goal child (marks-low l) (child-ready l h goal got) q
+        ToLeave t e → i < end → (goal child : ℕ) → goal ≡ get_or (u GOALS) i 0 → child ≡ child_of (map mark_word (u MARKS)) (goal_word goal) → IsWord child
+    child_fits l h goal child got q = child_word (u MARKS) goal child (marks_low l) (child_ready l h goal got) q
 
-    pub writing-end : end ≤ i → Written t u e
-    writing-end h =
+    pub writing_end : end ≤ i → Written t u e
+    writing_end h =
         record {
           is = λ j l. w.is (get_or (t FIRSTS) e 0 + j) (omega arith) (omega arith);
           others = λ j o. w.others j (where_to j o);
@@ -101,14 +101,14 @@ pub record Pushing (t u : Store) (n first count i : ℕ) : Type 0 where
   pub below : (j : ℕ) → j < n → get_or (u STACK) j 0 ≡ get_or (t STACK) j 0
   pub kept : Kept (STACK ∷ []) t u
 
-pub pushing-begin : (t : Store) (n first count : ℕ) → Pushing t t n first count 0
-pushing-begin t n first count = record { high = omega arith; is = λ j h. absurd (omega arith); below = λ j _. refl; kept = λ k _. refl }
+pub pushing_begin : (t : Store) (n first count : ℕ) → Pushing t t n first count 0
+pushing_begin t n first count = record { high = omega arith; is = λ j h. absurd (omega arith); below = λ j _. refl; kept = λ k _. refl }
 
 module _ (t u : Store) (e n first count i : ℕ) (w : Pushing t u n first count i) where
-  pub pushing-next :
+  pub pushing_next :
       i < count → n + count < length (u STACK) → (goal : ℕ) → goal ≡ get_or (u GOALS) (first + i) 0 →
       Pushing t (put u STACK (n + count - i) goal) n first count (i + 1)
-  pushing-next h inside goal got =
+  pushing_next h inside goal got =
       record {
         high = omega arith;
         is = λ j l. ⊎_elim (λ (z : j ≡ i). rw z here) (λ (z : j ≡ i → ⊥). get_or-set_other (u STACK) (n + count - i) (n + count - j) goal 0 (λ q. z (omega arith)) ∙ w.is j (omega arith)) (equal j i);
@@ -119,10 +119,10 @@ module _ (t u : Store) (e n first count i : ℕ) (w : Pushing t u n first count 
       here : get_or (set (u STACK) (n + count - i) goal) (n + count - i) 0 ≡ get_or (t GOALS) (first + i) 0
       here = get_or-set_same (u STACK) (n + count - i) goal 0 (omega arith) ∙ got ∙ rw (w.kept GOALS refl)
 
-  pub pushing-end :
+  pub pushing_end :
       count ≤ i → n < length (u STACK) → first ≡ get_or (t FIRSTS) e 0 → count ≡ get_or (t SIZES) e 0 →
       Pushed t (put u STACK n (LEAVE + e)) e n (n + count + 1)
-  pushing-end h inside from sized =
+  pushing_end h inside from sized =
       record {
         count = rw sized;
         leaving = get_or-set_same (u STACK) n (LEAVE + e) 0 inside;
@@ -132,19 +132,19 @@ module _ (t u : Store) (e n first count i : ℕ) (w : Pushing t u n first count 
       }
 
 -- ENTERING, by the entry's mark
-pub enters-done : (t : Store) (e n : ℕ) → 1 < get_or (t MARKS) e 0 → Enters t t e n n
-enters-done t e n h = record { isDone = λ _. (refl, refl); isUnderway = λ q. absurd (omega arith); isFresh = λ q. absurd (omega arith); kept = λ k _. refl }
+pub enters_done : (t : Store) (e n : ℕ) → 1 < get_or (t MARKS) e 0 → Enters t t e n n
+enters_done t e n h = record { is_done = λ _. (refl, refl); is_underway = λ q. absurd (omega arith); is_fresh = λ q. absurd (omega arith); kept = λ k _. refl }
 
-pub enters-underway : (t : Store) (e n : ℕ) → get_or (t MARKS) e 0 ≡ 1 → Enters t t e n (REFUSED + 13)
-enters-underway t e n h = record { isDone = λ q. absurd (omega arith); isUnderway = λ _. refl; isFresh = λ q. absurd (omega arith); kept = λ k _. refl }
+pub enters_underway : (t : Store) (e n : ℕ) → get_or (t MARKS) e 0 ≡ 1 → Enters t t e n (REFUSED + 13)
+enters_underway t e n h = record { is_done = λ q. absurd (omega arith); is_underway = λ _. refl; is_fresh = λ q. absurd (omega arith); kept = λ k _. refl }
 
-pub enters-fresh : (t u : Store) (e n r : ℕ) → get_or (t MARKS) e 0 ≡ 0 → Pushed (put t MARKS e 1) u e n r → Enters t u e n r
+pub enters_fresh : (t u : Store) (e n r : ℕ) → get_or (t MARKS) e 0 ≡ 0 → Pushed (put t MARKS e 1) u e n r → Enters t u e n r
 unfolding every
-enters-fresh t u e n r h q =
+enters_fresh t u e n r h q =
     record {
-      isDone = λ z. absurd (omega arith);
-      isUnderway = λ z. absurd (omega arith);
-      isFresh = λ _. q;
+      is_done = λ z. absurd (omega arith);
+      is_underway = λ z. absurd (omega arith);
+      is_fresh = λ _. q;
       kept =
           kept_then (MARKS ∷ STACK ∷ []) t (put t MARKS e 1) u
           (kept_put (MARKS ∷ STACK ∷ []) t t MARKS e 1 refl (λ k _. refl))
@@ -152,5 +152,5 @@ enters-fresh t u e n r h q =
     }
 
 -- a mark changes no entry's places
-pub places-marked : (p : List ℕ) (t : Store) (e i x : ℕ) → Places p t e → Places p (put t MARKS i x) e
-places-marked p t e i x h = record { mark = h.mark; first = h.first; count = h.count; goals = h.goals; children = h.children }
+pub places_marked : (p : List ℕ) (t : Store) (e i x : ℕ) → Places p t e → Places p (put t MARKS i x) e
+places_marked p t e i x h = record { mark = h.mark; first = h.first; count = h.count; goals = h.goals; children = h.children }

@@ -7,19 +7,19 @@ use native.Mathlib.Omega.{arith}
 use lib.Dec.{ltb}
 use lib.ListN.{length, get_or, replicate, length-replicate}
 use Rattle.definition.specs.Basics.{only}
-use Rattle.definition.specs.Resolving.{Node, fresh, nothingResolved}
+use Rattle.definition.specs.Resolving.{Node, fresh, nothing_resolved}
 use Rattle.facts.proofs.Lists.{only_here, only-later}
-use Rattle.laws.proofs.resolving.OwedVisits.{owing-start}
+use Rattle.laws.proofs.Resolving.OwedVisits.{owing-start}
 use Rattle.laws.specs.Faithful.{Faithful, Settled}
-use Rattle.laws.proofs.resolving.FaithfulToEntries.{Grows, nothing-faithful, resolve-faithful}
+use Rattle.laws.proofs.Resolving.FaithfulToEntries.{Grows, nothing_faithful, resolve-faithful}
 use Rattle.store.specs.Store.{Store}
-use Rattle.store.specs.JobIn.{entriesIn, linkedIn}
+use Rattle.store.specs.JobIn.{entries_in, linked_in}
 use Rattle.store.specs.Regions.{COUNTS, MARKS, NODE-HEADS, OFFSETS, FIRSTS, SIZES, GOALS, VISITS}
-use Rattle.store.specs.Words.{markWord, goalWord, IsGoal}
+use Rattle.store.specs.Words.{mark_word, goal_word, IsGoal}
 use Rattle.store.specs.Small.{Small}
-use Rattle.interner.specs.Nodes.{nodeCount, nodesIn}
-use Rattle.resolver.specs.Resolved.{resolvedIn, unfinished, Became, Table, AtRest, Resolves}
-use Rattle.resolver.proofs.Meanings.{goal-in, settled-became}
+use Rattle.interner.specs.Nodes.{node_count, nodes_in}
+use Rattle.resolver.specs.Resolved.{resolved_in, unfinished, Became, Table, AtRest, Resolves}
+use Rattle.resolver.proofs.Meanings.{goal_in_lem, settled-became}
 use Rattle.resolver.proofs.Tabled.{cited, linked-count}
 use Rattle.resolver.proofs.Going.{told-good}
 
@@ -32,22 +32,22 @@ unfinished-most (m ∷ marks) = ways (ltb m 2) refl (unfinished-most marks)
     ways true q ih = rw (only_here (λ m. ltb m 2) m marks q) (omega arith)
     ways false q ih = rw (only-later (λ m. ltb m 2) m marks q) (omega arith)
 
-all-fresh : (n : ℕ) → map markWord (replicate n 0) ≡ replicate n fresh
-unfolding markWord
-all-fresh zero = refl
-all-fresh (suc n) = ap (λ l. fresh ∷ l) (all-fresh n)
+all_fresh : (n : ℕ) → map mark_word (replicate n 0) ≡ replicate n fresh
+unfolding mark_word
+all_fresh zero = refl
+all_fresh (suc n) = ap (λ l. fresh ∷ l) (all_fresh n)
 
 -- marks and heads are zeros, and there is no node
 module _
     (h : ℕ) (s : List ℕ) (t : Store) (few : Small s) (table : Table s t)
-    (marks : t MARKS ≡ replicate (entriesIn s) 0) (heads : (k : ℕ) → get_or (t NODE-HEADS) k 0 ≡ 0) (count : nodeCount t ≡ 0) where
-  marks-are : map markWord (t MARKS) ≡ replicate (length (linkedIn s)) fresh
-  marks-are = rw (marks, linked-count s) (all-fresh (entriesIn s))
+    (marks : t MARKS ≡ replicate (entries_in s) 0) (heads : (k : ℕ) → get_or (t NODE-HEADS) k 0 ≡ 0) (count : node_count t ≡ 0) where
+  marks_are : map mark_word (t MARKS) ≡ replicate (length (linked_in s)) fresh
+  marks_are = rw (marks, linked-count s) (all_fresh (entries_in s))
 
-  pub nothing-rests : AtRest h s t
-  unfolding nothingResolved
-  nothing-rests =
-      let f = nothing-faithful (linkedIn s) (cited s (t OFFSETS) (t FIRSTS) (t SIZES) (t GOALS) table.entered table.linked few.entries) in
+  pub nothing_rests : AtRest h s t
+  unfolding nothing_resolved
+  nothing_rests =
+      let f = nothing_faithful (linked_in s) (cited s (t OFFSETS) (t FIRSTS) (t SIZES) (t GOALS) table.entered table.linked few.entries) in
       record {
         nodes =
             rw count
@@ -59,31 +59,31 @@ module _
             });
         made = λ i l. absurd (omega arith);
         lowest = λ k l. absurd (omega arith);
-        room = omega (arith, unfinished-most (t MARKS), ap length marks, length-replicate {A = ℕ} (entriesIn s) 0);
+        room = omega (arith, unfinished-most (t MARKS), ap length marks, length-replicate {A = ℕ} (entries_in s) 0);
         faithful =
-            subst (Faithful (linkedIn s)) (λ i. record { marks = sym marks-are i; nodes = nodes-are i; visits = get_or (t COUNTS) VISITS 0 })
-            (record { marksLength = f.marksLength; node_of = f.node_of; fromEntry = f.fromEntry; noneUnderway = f.noneUnderway });
-        owed = rw marks-are (omega (arith, owing-start (linkedIn s)));
+            subst (Faithful (linked_in s)) (λ i. record { marks = sym marks_are i; nodes = nodes_are i; visits = get_or (t COUNTS) VISITS 0 })
+            (record { marks_length = f.marks_length; node_of = f.node_of; from_entry = f.from_entry; none_underway = f.none_underway });
+        owed = rw marks_are (omega (arith, owing-start (linked_in s)));
       }
     where
-      nodes-are : ◌≡◌ {A = List Node} [] (nodesIn s t)
-      nodes-are = rw count
+      nodes_are : ◌≡◌ {A = List Node} [] (nodes_in s t)
+      nodes_are = rw count
 
-module _ (h : ℕ) (s : List ℕ) (t u : Store) (goal : ℕ) (few : Small s) (table : Table s t) (rests : AtRest h s t) (is : IsGoal (entriesIn s) goal) (done : Resolves h s t u goal 0) where
-  settled : Settled (map markWord (u MARKS)) (goalWord goal) × Grows (resolvedIn s t) (resolvedIn s u)
+module _ (h : ℕ) (s : List ℕ) (t u : Store) (goal : ℕ) (few : Small s) (table : Table s t) (rests : AtRest h s t) (is : IsGoal (entries_in s) goal) (done : Resolves h s t u goal 0) where
+  settled : Settled (map mark_word (u MARKS)) (goal_word goal) × Grows (resolved_in s t) (resolved_in s u)
   settled =
       let q =
-      resolve-faithful (linkedIn s) (goalWord goal) (resolvedIn s t) (resolvedIn s u)
+      resolve-faithful (linked_in s) (goal_word goal) (resolved_in s t) (resolved_in s u)
       (cited s (t OFFSETS) (t FIRSTS) (t SIZES) (t GOALS) table.entered table.linked few.entries)
-      (rw (linked-count s) (goal-in (entriesIn s) goal few.entries is))
+      (rw (linked-count s) (goal_in_lem (entries_in s) goal few.entries is))
       rests.faithful
-      (done.is ∙ told-good (resolvedIn s u)) in
+      (done.is ∙ told-good (resolved_in s u)) in
       (q.1, q.2)
 
   -- the goal became a child
-  pub resolved-became : Became (u MARKS) goal
-  resolved-became = settled-became (entriesIn s) (u MARKS) goal few.entries is settled.0
+  pub resolved_became : Became (u MARKS) goal
+  resolved_became = settled-became (entries_in s) (u MARKS) goal few.entries is settled.0
 
   -- and what was resolved before stays
-  pub resolved-grows : Grows (resolvedIn s t) (resolvedIn s u)
-  resolved-grows = settled.1
+  pub resolved_grows : Grows (resolved_in s t) (resolved_in s u)
+  resolved_grows = settled.1

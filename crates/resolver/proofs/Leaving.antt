@@ -11,25 +11,25 @@ use lib.ListN.{length, get_or, get_elem?, set, take}
 use lib.Seq.{get_or-set_same, get_or-set_other, get_or-take}
 use borrow.Author.Tests.{lt-ltb, le-ltb}
 use Rattle.definition.specs.Basics.{every, from, position}
-use Rattle.definition.specs.Shapes.{Entry, withKids}
-use Rattle.definition.specs.Resolving.{Goal, Node, done, sameNode, intern, childOf, leaveNode, leaving}
-use Rattle.facts.proofs.Lists.{found_inside, found-read, map_same, only_here, only-later, map-set, equal, order}
+use Rattle.definition.specs.Shapes.{Entry, with_kids}
+use Rattle.definition.specs.Resolving.{Goal, Node, done, same_node, intern, child_of, leave_node, leaving}
+use Rattle.facts.proofs.Lists.{found_inside, found_read, map_same, only_here, only-later, map-set, equal, order}
 use Rattle.facts.proofs.Chunks.{from-same}
-use Rattle.laws.proofs.resolving.FaithfulToEntries.{leaving-some}
+use Rattle.laws.proofs.Resolving.FaithfulToEntries.{leaving-some}
 use Rattle.store.specs.Store.{Store, put, IsWord}
 use Rattle.store.specs.Chains.{head_of}
-use Rattle.store.specs.JobIn.{tableIn, entriesIn, numberedIn, linkedIn}
+use Rattle.store.specs.JobIn.{table_in, entries_in, numbered_in, linked_in}
 use Rattle.store.specs.Regions.{COUNTS, MARKS, NODE-HEADS, NODE-LINKS, OFFSETS, FIRSTS, SIZES, GOALS, CHILDREN, NODES, VALUES, NODE-COUNT}
-use Rattle.store.specs.Words.{cut, goalWord, markWord}
+use Rattle.store.specs.Words.{cut, goal_word, mark_word}
 use Rattle.store.specs.Entries.{Apart, Entered}
 use Rattle.store.proofs.Keeping.{kept_put, kept_then, kept_more}
-use Rattle.interner.proofs.Lowering.{chains-ext}
-use Rattle.interner.specs.Nodes.{hashNode, hashAt, nodeAt, Nodes, nodeCount, NodesIn, nodeIn, nodesIn, Interned}
-use Rattle.resolver.specs.Resolved.{unfinished, lowestOf, Table}
-use Rattle.resolver.specs.Moves.{stateAt, ToLeave, Written, NodesHold, Leaves}
-use Rattle.resolver.proofs.Meanings.{is-done, there}
-use Rattle.resolver.proofs.Lowest.{lowest-earlier, lowest-behind, lowest-aside, none-lowest}
-use Rattle.resolver.proofs.Tabled.{Row, row, kids-of, kids-there}
+use Rattle.interner.proofs.Lowering.{chains_ext}
+use Rattle.interner.specs.Nodes.{hash_node, hash_at, node_at_lem, Nodes, node_count, NodesIn, node_in_lem, nodes_in, Interned}
+use Rattle.resolver.specs.Resolved.{unfinished, lowest_of, Table}
+use Rattle.resolver.specs.Moves.{state_at, ToLeave, Written, NodesHold, Leaves}
+use Rattle.resolver.proofs.Meanings.{is_done_lem, there}
+use Rattle.resolver.proofs.Lowest.{lowest_earlier, lowest_behind, lowest_aside, none-lowest}
+use Rattle.resolver.proofs.Tabled.{Row, row, kids_of_lem, kids_there}
 
 -- UNFINISHED ENTRIES
 
@@ -69,43 +69,43 @@ module _ (s firsts sizes old new : List ℕ) where
   cut-agree : (d : ℕ) → Agree d → cut new (get_or firsts d 0) (get_or sizes d 0) ≡ cut old (get_or firsts d 0) (get_or sizes d 0)
   cut-agree d h = from-same _ _ 0 (get_or sizes d 0) (λ i l k. h i (omega arith))
 
-  node-agree : (d : ℕ) → Agree d → nodeAt s firsts sizes new d ≡ nodeAt s firsts sizes old d
-  unfolding nodeAt
-  node-agree d h =
+  node_agree : (d : ℕ) → Agree d → node_at_lem s firsts sizes new d ≡ node_at_lem s firsts sizes old d
+  unfolding node_at_lem
+  node_agree d h =
       ap
-      (λ (kids : List ℕ). elim (get_elem? (numberedIn s) d) [ none ↦ record { tag = 0; literal = 0; byte = 0; kids = [] } | some x ↦ withKids kids x ])
+      (λ (kids : List ℕ). elim (get_elem? (numbered_in s) d) [ none ↦ record { tag = 0; literal = 0; byte = 0; kids = [] } | some x ↦ with_kids kids x ])
       (cut-agree d h)
 
-  hash-agree : (d : ℕ) → Agree d → hashAt s firsts sizes new d ≡ hashAt s firsts sizes old d
-  unfolding hashAt
-  hash-agree d h = ap (λ (kids : List ℕ). elim (get_elem? (tableIn s) d) [ none ↦ 0 | some x ↦ hashNode x kids ]) (cut-agree d h)
+  hash_agree : (d : ℕ) → Agree d → hash_at s firsts sizes new d ≡ hash_at s firsts sizes old d
+  unfolding hash_at
+  hash_agree d h = ap (λ (kids : List ℕ). elim (get_elem? (table_in s) d) [ none ↦ 0 | some x ↦ hash_node x kids ]) (cut-agree d h)
 
   module _ (nodes : List ℕ) (n : ℕ) (agree : (i : ℕ) → i < n → Agree (get_or nodes i 0)) where
-    nodes-agree : (h : ℕ) (heads links : List ℕ) → Nodes h s firsts sizes old nodes heads links n → Nodes h s firsts sizes new nodes heads links n
-    nodes-agree h heads links g =
+    nodes_agree : (h : ℕ) (heads links : List ℕ) → Nodes h s firsts sizes old nodes heads links n → Nodes h s firsts sizes new nodes heads links n
+    nodes_agree h heads links g =
         record {
           few = g.few;
           inside = g.inside;
           chains =
-              chains-ext
-              (λ i. head_of h (hashAt s firsts sizes old (get_or nodes i 0)))
-              (λ i. head_of h (hashAt s firsts sizes new (get_or nodes i 0)))
+              chains_ext
+              (λ i. head_of h (hash_at s firsts sizes old (get_or nodes i 0)))
+              (λ i. head_of h (hash_at s firsts sizes new (get_or nodes i 0)))
               heads
               links
               n
-              (λ i l. ap (head_of h) (hash-agree (get_or nodes i 0) (agree i l)))
+              (λ i l. ap (head_of h) (hash_agree (get_or nodes i 0) (agree i l)))
               g.chains;
-          unlike = λ i j l k. rw (node-agree (get_or nodes i 0) (agree i (omega arith)), node-agree (get_or nodes j 0) (agree j k)) (g.unlike i j l k);
+          unlike = λ i j l k. rw (node_agree (get_or nodes i 0) (agree i (omega arith)), node_agree (get_or nodes j 0) (agree j k)) (g.unlike i j l k);
         }
 
-    list-agree : map (nodeAt s firsts sizes new) (take n nodes) ≡ map (nodeAt s firsts sizes old) (take n nodes)
-    list-agree =
-        map_same (nodeAt s firsts sizes new) (nodeAt s firsts sizes old) (take n nodes) λ d a.
+    list_agree : map (node_at_lem s firsts sizes new) (take n nodes) ≡ map (node_at_lem s firsts sizes old) (take n nodes)
+    list_agree =
+        map_same (node_at_lem s firsts sizes new) (node_at_lem s firsts sizes old) (take n nodes) λ d a.
         let i = a.0 in
         let l = found_inside (take n nodes) i d a.1 in
         let k : i < n = omega (arith, length-take-below n nodes) in
-        let q : get_or nodes i 0 ≡ d = sym (get_or-take n nodes i 0 k) ∙ found-read (take n nodes) i d 0 a.1 in
-        subst (λ (x : ℕ). nodeAt s firsts sizes new x ≡ nodeAt s firsts sizes old x) q (node-agree (get_or nodes i 0) (agree i k))
+        let q : get_or nodes i 0 ≡ d = sym (get_or-take n nodes i 0 k) ∙ found_read (take n nodes) i d 0 a.1 in
+        subst (λ (x : ℕ). node_at_lem s firsts sizes new x ≡ node_at_lem s firsts sizes old x) q (node_agree (get_or nodes i 0) (agree i k))
       where
         length-take-below : (n : ℕ) (l : List ℕ) → length (take n l) ≤ n
         length-take-below zero l = omega arith
@@ -119,28 +119,28 @@ unfolding from
 map-from g f k zero = refl
 map-from g f k (suc n) = ap (λ l. g (f k) ∷ l) (map-from g f (suc k) n)
 
-node-some :
+node_some :
     (s firsts sizes children : List ℕ) (e : ℕ) (x : Entry ℕ Goal) → Row s e x →
-    nodeAt s firsts sizes children e ≡ withKids (cut children (get_or firsts e 0) (get_or sizes e 0)) x
-unfolding nodeAt withKids
-node-some s firsts sizes children e x r =
+    node_at_lem s firsts sizes children e ≡ with_kids (cut children (get_or firsts e 0) (get_or sizes e 0)) x
+unfolding node_at_lem with_kids
+node_some s firsts sizes children e x r =
     let kids = cut children (get_or firsts e 0) (get_or sizes e 0) in
-    rw (r.numbered, nodeAt) (sym (ap (withKids kids) r.is))
+    rw (r.numbered, node_at_lem) (sym (ap (with_kids kids) r.is))
 
 abbrev node_of : List ℕ → Entry ℕ Goal → Node
-node_of marks x = withKids (map (childOf (map markWord marks)) x.kids) x
+node_of marks x = with_kids (map (child_of (map mark_word marks)) x.kids) x
 
 -- LEAVING: t before, v with the children written, w with the node, then its mark
 module _
-    (h : ℕ) (s : List ℕ) (t v : Store) (e : ℕ) (inside : e < entriesIn s) (table : Table s t) (hold : NodesHold h s t) (to : ToLeave t e) (written : Written t v e) where
+    (h : ℕ) (s : List ℕ) (t v : Store) (e : ℕ) (inside : e < entries_in s) (table : Table s t) (hold : NodesHold h s t) (to : ToLeave t e) (written : Written t v e) where
   -- no node was made from the entry
-  other : (i : ℕ) → i < nodeCount t → get_or (t NODES) i 0 ≡ e → ⊥
+  other : (i : ℕ) → i < node_count t → get_or (t NODES) i 0 ≡ e → ⊥
   other i l q =
       let m = hold.made i l in
-      let z : get_or (t MARKS) (get_or (t NODES) i 0) 0 ≡ 1 = ap (λ d. get_or (t MARKS) d 0) q ∙ to.isUnderway in
+      let z : get_or (t MARKS) (get_or (t NODES) i 0) 0 ≡ 1 = ap (λ d. get_or (t MARKS) d 0) q ∙ to.is_underway in
       omega arith
 
-  agrees : (i : ℕ) → i < nodeCount t → Agree s (t FIRSTS) (t SIZES) (t CHILDREN) (v CHILDREN) (get_or (t NODES) i 0)
+  agrees : (i : ℕ) → i < node_count t → Agree s (t FIRSTS) (t SIZES) (t CHILDREN) (v CHILDREN) (get_or (t NODES) i 0)
   agrees i l j k = written.others (get_or (t FIRSTS) d 0 + j) (side (table.entered.apart d e (hold.nodes.inside i l) inside (other i l)))
     where
       d : ℕ
@@ -150,123 +150,123 @@ module _
       side (inl a) = inl (omega arith)
       side (inr a) = inr (omega arith)
 
-  pub entered-still : Entered s (v OFFSETS) (v FIRSTS) (v SIZES) (v VALUES)
-  entered-still = rw (written.kept OFFSETS refl, written.kept FIRSTS refl, written.kept SIZES refl, written.kept VALUES refl) table.entered
+  pub entered_still : Entered s (v OFFSETS) (v FIRSTS) (v SIZES) (v VALUES)
+  entered_still = rw (written.kept OFFSETS refl, written.kept FIRSTS refl, written.kept SIZES refl, written.kept VALUES refl) table.entered
 
-  pub nodes-still : NodesIn h s v
-  nodes-still =
+  pub nodes_still : NodesIn h s v
+  nodes_still =
       rw (written.kept FIRSTS refl, written.kept SIZES refl, written.kept NODES refl, written.kept NODE-HEADS refl, written.kept NODE-LINKS refl, written.kept COUNTS refl)
-      (nodes-agree s (t FIRSTS) (t SIZES) (t CHILDREN) (v CHILDREN) (t NODES) (nodeCount t) agrees h (t NODE-HEADS) (t NODE-LINKS) hold.nodes)
+      (nodes_agree s (t FIRSTS) (t SIZES) (t CHILDREN) (v CHILDREN) (t NODES) (node_count t) agrees h (t NODE-HEADS) (t NODE-LINKS) hold.nodes)
 
-  pub room-still : nodeCount v < entriesIn s
-  room-still =
+  pub room_still : node_count v < entries_in s
+  room_still =
       rw (written.kept COUNTS refl)
-      (omega (arith, hold.room, unfinished-less (t MARKS) e 2 (there (t MARKS) e (omega (arith, to.isUnderway))) (omega (arith, to.isUnderway)) (omega arith)))
+      (omega (arith, hold.room, unfinished-less (t MARKS) e 2 (there (t MARKS) e (omega (arith, to.is_underway))) (omega (arith, to.is_underway)) (omega arith)))
 
-  list-still : nodesIn s v ≡ nodesIn s t
-  list-still =
+  list_still : nodes_in s v ≡ nodes_in s t
+  list_still =
       let a = written.kept FIRSTS refl in
       let b = written.kept SIZES refl in
       let c = written.kept NODES refl in
       let d = written.kept COUNTS refl in
-      let moved : nodesIn s v ≡ map (nodeAt s (t FIRSTS) (t SIZES) (v CHILDREN)) (take (nodeCount t) (t NODES)) =
-      λ i. map (nodeAt s (a i) (b i) (v CHILDREN)) (take (get_or (d i) NODE-COUNT 0) (c i)) in
-      moved ∙ list-agree s (t FIRSTS) (t SIZES) (t CHILDREN) (v CHILDREN) (t NODES) (nodeCount t) agrees
+      let moved : nodes_in s v ≡ map (node_at_lem s (t FIRSTS) (t SIZES) (v CHILDREN)) (take (node_count t) (t NODES)) =
+      λ i. map (node_at_lem s (a i) (b i) (v CHILDREN)) (take (get_or (d i) NODE-COUNT 0) (c i)) in
+      moved ∙ list_agree s (t FIRSTS) (t SIZES) (t CHILDREN) (v CHILDREN) (t NODES) (node_count t) agrees
 
-  node-is : (x : Entry ℕ Goal) → get_elem? (linkedIn s) e ≡ some x → nodeIn s v e ≡ node_of (t MARKS) x
-  node-is x at =
-      let k = kids-of s (t OFFSETS) (t FIRSTS) (t SIZES) (t GOALS) table.entered table.linked e x at in
-      let word : ℕ → Goal = λ i. goalWord (get_or (t GOALS) (get_or (t FIRSTS) e 0 + i) 0) in
-      let child : Goal → ℕ = childOf (map markWord (t MARKS)) in
+  node_is : (x : Entry ℕ Goal) → get_elem? (linked_in s) e ≡ some x → node_in_lem s v e ≡ node_of (t MARKS) x
+  node_is x at =
+      let k = kids_of_lem s (t OFFSETS) (t FIRSTS) (t SIZES) (t GOALS) table.entered table.linked e x at in
+      let word : ℕ → Goal = λ i. goal_word (get_or (t GOALS) (get_or (t FIRSTS) e 0 + i) 0) in
+      let child : Goal → ℕ = child_of (map mark_word (t MARKS)) in
       let cuts : cut (v CHILDREN) (get_or (t FIRSTS) e 0) (get_or (t SIZES) e 0) ≡ map child x.kids =
       from-same _ (λ i. child (word i)) 0 (get_or (t SIZES) e 0) (λ i l g. written.is i (omega arith))
       ∙ sym (map-from child word 0 (get_or (t SIZES) e 0))
       ∙ ap (map child) k.is in
       rw (written.kept FIRSTS refl, written.kept SIZES refl)
-      (node-some s (t FIRSTS) (t SIZES) (v CHILDREN) e x (row s e x at) ∙ ap (λ kids. withKids kids x) cuts)
+      (node_some s (t FIRSTS) (t SIZES) (v CHILDREN) e x (row s e x at) ∙ ap (λ kids. with_kids kids x) cuts)
 
   module _ (w : Store) (k : ℕ) (interned : Interned h s v w e k) where
-    marks-still : w MARKS ≡ t MARKS
-    marks-still = interned.kept MARKS refl ∙ written.kept MARKS refl
+    marks_still : w MARKS ≡ t MARKS
+    marks_still = interned.kept MARKS refl ∙ written.kept MARKS refl
 
-    there-still : e < length (t MARKS)
-    there-still = there (t MARKS) e (omega (arith, to.isUnderway))
+    there_still : e < length (t MARKS)
+    there_still = there (t MARKS) e (omega (arith, to.is_underway))
 
     -- the mark is a word
-    pub mark-fits : entriesIn s ≤ 131072 → IsWord (2 + k)
-    mark-fits few = omega (arith, interned.low, interned.again.few)
+    pub mark_fits : entries_in s ≤ 131072 → IsWord (2 + k)
+    mark_fits few = omega (arith, interned.low, interned.again.few)
 
-    made : (visits : ℕ) (x : Entry ℕ Goal) → get_elem? (linkedIn s) e ≡ some x → leaveNode e (node_of (t MARKS) x) (stateAt s t visits) ≡ stateAt s (put w MARKS e (2 + k)) (suc visits)
-    unfolding leaveNode
+    made : (visits : ℕ) (x : Entry ℕ Goal) → get_elem? (linked_in s) e ≡ some x → leave_node e (node_of (t MARKS) x) (state_at s t visits) ≡ state_at s (put w MARKS e (2 + k)) (suc visits)
+    unfolding leave_node
     made visits x at =
-        let n = node-is x at in
-        let place : k ≡ position (sameNode (node_of (t MARKS) x)) (nodesIn s t) =
-        interned.node ∙ (λ i. position (sameNode (n i)) (list-still i)) in
-        let marks : set (map markWord (t MARKS)) e (done (position (sameNode (node_of (t MARKS) x)) (nodesIn s t))) ≡ map markWord (set (w MARKS) e (2 + k)) =
-        sym (map-set markWord (w MARKS) e (2 + k) ∙ rw (marks-still, is-done (2 + k) k (omega arith)) (ap (λ j. set (map markWord (t MARKS)) e (done j)) place)) in
-        let nodes : intern (node_of (t MARKS) x) (nodesIn s t) ≡ nodesIn s w = sym (interned.nodes ∙ (λ i. intern (n i) (list-still i))) in
+        let n = node_is x at in
+        let place : k ≡ position (same_node (node_of (t MARKS) x)) (nodes_in s t) =
+        interned.node ∙ (λ i. position (same_node (n i)) (list_still i)) in
+        let marks : set (map mark_word (t MARKS)) e (done (position (same_node (node_of (t MARKS) x)) (nodes_in s t))) ≡ map mark_word (set (w MARKS) e (2 + k)) =
+        sym (map-set mark_word (w MARKS) e (2 + k) ∙ rw (marks_still, is_done_lem (2 + k) k (omega arith)) (ap (λ j. set (map mark_word (t MARKS)) e (done j)) place)) in
+        let nodes : intern (node_of (t MARKS) x) (nodes_in s t) ≡ nodes_in s w = sym (interned.nodes ∙ (λ i. intern (n i) (list_still i))) in
         λ i. record { marks = marks i; nodes = nodes i; visits = suc visits }
 
-    is : (visits : ℕ) → leaving (linkedIn s) e (stateAt s t visits) ≡ stateAt s (put w MARKS e (2 + k)) (suc visits)
+    is : (visits : ℕ) → leaving (linked_in s) e (state_at s t visits) ≡ state_at s (put w MARKS e (2 + k)) (suc visits)
     is visits =
-        let (x, at, _) = kids-there s (t OFFSETS) (t FIRSTS) (t SIZES) (t GOALS) table.entered table.linked e inside in
-        leaving-some (linkedIn s) e x (stateAt s t visits) at ∙ made visits x at
+        let (x, at, _) = kids_there s (t OFFSETS) (t FIRSTS) (t SIZES) (t GOALS) table.entered table.linked e inside in
+        leaving-some (linked_in s) e x (state_at s t visits) at ∙ made visits x at
 
     -- as it was before the children were written
-    count-still : nodeCount v ≡ nodeCount t
-    count-still = ap (λ (l : List ℕ). get_or l NODE-COUNT 0) (written.kept COUNTS refl)
+    count_still : node_count v ≡ node_count t
+    count_still = ap (λ (l : List ℕ). get_or l NODE-COUNT 0) (written.kept COUNTS refl)
 
-    entry-still : (i : ℕ) → get_or (v NODES) i 0 ≡ get_or (t NODES) i 0
-    entry-still i = ap (λ (l : List ℕ). get_or l i 0) (written.kept NODES refl)
+    entry_still : (i : ℕ) → get_or (v NODES) i 0 ≡ get_or (t NODES) i 0
+    entry_still i = ap (λ (l : List ℕ). get_or l i 0) (written.kept NODES refl)
 
     -- what is told of each node
     abbrev Made : ℕ → Type 0
     Made i =
-        ((i < nodeCount v) × (get_or (w NODES) i 0 ≡ get_or (v NODES) i 0) × (i ≡ k → get_or (v NODES) i 0 ≤ e))
-        ⊎ ((i ≡ k) × (get_or (w NODES) i 0 ≡ e) × (i < nodeCount v → e < get_or (v NODES) i 0))
+        ((i < node_count v) × (get_or (w NODES) i 0 ≡ get_or (v NODES) i 0) × (i ≡ k → get_or (v NODES) i 0 ≤ e))
+        ⊎ ((i ≡ k) × (get_or (w NODES) i 0 ≡ e) × (i < node_count v → e < get_or (v NODES) i 0))
 
-    made-still : (i : ℕ) → Made i → 1 < get_or (set (w MARKS) e (2 + k)) (get_or (w NODES) i 0) 0
-    made-still i (inl (l, q, _)) =
-        let low : i < nodeCount t = omega (arith, count-still) in
-        rw (q ∙ entry-still i, get_or-set_other (w MARKS) e (get_or (t NODES) i 0) (2 + k) 0 (other i low), marks-still) (hold.made i low)
-    made-still i (inr (_, q, _)) = rw (q, marks-still, get_or-set_same (t MARKS) e (2 + k) 0 there-still) (omega arith)
+    made_still : (i : ℕ) → Made i → 1 < get_or (set (w MARKS) e (2 + k)) (get_or (w NODES) i 0) 0
+    made_still i (inl (l, q, _)) =
+        let low : i < node_count t = omega (arith, count_still) in
+        rw (q ∙ entry_still i, get_or-set_other (w MARKS) e (get_or (t NODES) i 0) (2 + k) 0 (other i low), marks_still) (hold.made i low)
+    made_still i (inr (_, q, _)) = rw (q, marks_still, get_or-set_same (t MARKS) e (2 + k) 0 there_still) (omega arith)
 
     -- the entry was underway
     unmade : get_or (t MARKS) e 0 < 2
-    unmade = omega (arith, to.isUnderway)
+    unmade = omega (arith, to.is_underway)
 
-    lowest-still : (i : ℕ) → Made i → get_or (w NODES) i 0 ≡ lowestOf i (set (t MARKS) e (2 + k))
-    lowest-still i (inl (l, q, above)) =
-        let is = hold.lowest i (omega (arith, count-still)) in
-        q ∙ entry-still i ∙ is
+    lowest_still : (i : ℕ) → Made i → get_or (w NODES) i 0 ≡ lowest_of i (set (t MARKS) e (2 + k))
+    lowest_still i (inl (l, q, above)) =
+        let is = hold.lowest i (omega (arith, count_still)) in
+        q ∙ entry_still i ∙ is
         ∙ sym
         (⊎_elim
-        (λ (z : i ≡ k). lowest-behind (t MARKS) e unmade k i z (omega (arith, above z, entry-still i)))
-        (λ (z : i ≡ k → ⊥). lowest-aside (t MARKS) e unmade k i z)
+        (λ (z : i ≡ k). lowest_behind (t MARKS) e unmade k i z (omega (arith, above z, entry_still i)))
+        (λ (z : i ≡ k → ⊥). lowest_aside (t MARKS) e unmade k i z)
         (equal i k))
-    lowest-still i (inr (z, q, below)) =
+    lowest_still i (inr (z, q, below)) =
         q
         ∙ sym
-        (lowest-earlier (t MARKS) e unmade k i z
+        (lowest_earlier (t MARKS) e unmade k i z
         (⊎_elim
-        (λ (l : i < nodeCount t). omega (arith, below (omega (arith, count-still)), entry-still i, hold.lowest i l))
-        (λ (l : nodeCount t ≤ i). none-lowest (t MARKS) e i there-still (λ d. omega (arith, to.told d)))
-        (order i (nodeCount t))))
+        (λ (l : i < node_count t). omega (arith, below (omega (arith, count_still)), entry_still i, hold.lowest i l))
+        (λ (l : node_count t ≤ i). none-lowest (t MARKS) e i there_still (λ d. omega (arith, to.told d)))
+        (order i (node_count t))))
 
     hold-again : NodesHold h s (put w MARKS e (2 + k))
     hold-again =
         record {
           nodes = interned.again;
-          made = λ i l. made-still i (interned.made i l);
-          lowest = λ i l. rw marks-still (lowest-still i (interned.made i l));
+          made = λ i l. made_still i (interned.made i l);
+          lowest = λ i l. rw marks_still (lowest_still i (interned.made i l));
           room =
-              rw marks-still
+              rw marks_still
               (omega (
                 arith,
                 interned.count,
-                count-still,
+                count_still,
                 hold.room,
-                unfinished-less (t MARKS) e (2 + k) there-still unmade (omega arith),
+                unfinished-less (t MARKS) e (2 + k) there_still unmade (omega arith),
               ));
         }
 

@@ -12,9 +12,9 @@ use Rattle.definition.specs.Basics.{position}
 use Rattle.definition.specs.Resolving.{Mark, fresh, underway, done}
 use Rattle.definition.specs.Places.{became}
 use Rattle.facts.proofs.Lists.{true≢false, map-set, order, position_here, position_later, position-passes}
-use Rattle.store.specs.Words.{markWord}
-use Rattle.resolver.specs.Resolved.{lowestOf}
-use Rattle.resolver.proofs.Meanings.{is-done, found_word, found-done}
+use Rattle.store.specs.Words.{mark_word}
+use Rattle.resolver.specs.Resolved.{lowest_of}
+use Rattle.resolver.proofs.Meanings.{is_done_lem, found_word, found_done}
 
 -- FIRST PLACES, with one element changed
 
@@ -60,8 +60,8 @@ module _ {A : Type 0} (p : A → Bool) where
 -- MARKS
 
 -- an entry that isn't done became no node
-not_yet : (k x : ℕ) → x < 2 → became k (markWord x) ≡ false
-unfolding became markWord
+not_yet : (k x : ℕ) → x < 2 → became k (mark_word x) ≡ false
+unfolding became mark_word
 not_yet k zero h = refl
 not_yet k (suc zero) h = refl
 not_yet k (suc (suc x)) h = absurd (omega arith)
@@ -81,39 +81,39 @@ became-done k underway h = absurd (true≢false (sym h))
 became-done k (done n) h = ap done (sym (eqb-true k n h))
 
 module _ (marks : List ℕ) (e : ℕ) (unmade : get_or marks e 0 < 2) where
-  was : (k : ℕ) (m : Mark) → get_elem? (map markWord marks) e ≡ some m → became k m ≡ false
+  was : (k : ℕ) (m : Mark) → get_elem? (map mark_word marks) e ≡ some m → became k m ≡ false
   was k m at = rw (← found_word marks e m at) (not_yet k (get_or marks e 0) unmade)
 
   -- an entry that is entered
-  pub lowest-entered : (k : ℕ) → lowestOf k (set marks e 1) ≡ lowestOf k marks
-  lowest-entered k =
-      ap (position (became k)) (map-set markWord marks e 1)
-      ∙ position-aside (became k) (map markWord marks) e (markWord 1) (not_yet k 1 (omega arith)) (was k)
+  pub lowest_entered : (k : ℕ) → lowest_of k (set marks e 1) ≡ lowest_of k marks
+  lowest_entered k =
+      ap (position (became k)) (map-set mark_word marks e 1)
+      ∙ position-aside (became k) (map mark_word marks) e (mark_word 1) (not_yet k 1 (omega arith)) (was k)
 
   -- an entry that becomes node k
   module _ (k : ℕ) where
-    marked : map markWord (set marks e (2 + k)) ≡ set (map markWord marks) e (done k)
-    marked = map-set markWord marks e (2 + k) ∙ ap (set (map markWord marks) e) (is-done (2 + k) k (omega arith))
+    marked : map mark_word (set marks e (2 + k)) ≡ set (map mark_word marks) e (done k)
+    marked = map-set mark_word marks e (2 + k) ∙ ap (set (map mark_word marks) e) (is_done_lem (2 + k) k (omega arith))
 
-    pub lowest-earlier : (i : ℕ) → i ≡ k → e < lowestOf i marks → lowestOf i (set marks e (2 + k)) ≡ e
-    lowest-earlier i z h =
-        ap (position (became i)) marked ∙ position-earlier (became i) (map markWord marks) e (done k) (became-it i k z) h
+    pub lowest_earlier : (i : ℕ) → i ≡ k → e < lowest_of i marks → lowest_of i (set marks e (2 + k)) ≡ e
+    lowest_earlier i z h =
+        ap (position (became i)) marked ∙ position-earlier (became i) (map mark_word marks) e (done k) (became-it i k z) h
 
-    pub lowest-behind : (i : ℕ) → i ≡ k → lowestOf i marks ≤ e → lowestOf i (set marks e (2 + k)) ≡ lowestOf i marks
-    lowest-behind i z h =
-        ap (position (became i)) marked ∙ position-behind (became i) (map markWord marks) e (done k) (became-it i k z) h
+    pub lowest_behind : (i : ℕ) → i ≡ k → lowest_of i marks ≤ e → lowest_of i (set marks e (2 + k)) ≡ lowest_of i marks
+    lowest_behind i z h =
+        ap (position (became i)) marked ∙ position-behind (became i) (map mark_word marks) e (done k) (became-it i k z) h
 
-    pub lowest-aside : (i : ℕ) → (i ≡ k → ⊥) → lowestOf i (set marks e (2 + k)) ≡ lowestOf i marks
-    lowest-aside i z =
-        ap (position (became i)) marked ∙ position-aside (became i) (map markWord marks) e (done k) (became-other i k z) (was i)
+    pub lowest_aside : (i : ℕ) → (i ≡ k → ⊥) → lowest_of i (set marks e (2 + k)) ≡ lowest_of i marks
+    lowest_aside i z =
+        ap (position (became i)) marked ∙ position-aside (became i) (map mark_word marks) e (done k) (became-other i k z) (was i)
 
 -- no entry became a node that there isn't
-pub none-lowest : (marks : List ℕ) (e k : ℕ) → e < length marks → ((d : ℕ) → get_or marks d 0 < 2 + k) → e < lowestOf k marks
+pub none-lowest : (marks : List ℕ) (e k : ℕ) → e < length marks → ((d : ℕ) → get_or marks d 0 < 2 + k) → e < lowest_of k marks
 none-lowest marks e k inside told =
     ⊎_elim
-    (λ (l : lowestOf k marks < length (map markWord marks)).
-    let p = position-passes (became k) (map markWord marks) l in
+    (λ (l : lowest_of k marks < length (map mark_word marks)).
+    let p = position-passes (became k) (map mark_word marks) l in
     let at = p.1 ∙ ap some (became-done k p.0 p.2) in
-    absurd (omega (arith, told (lowestOf k marks), found-done marks (lowestOf k marks) k at)))
-    (λ (l : length (map markWord marks) ≤ lowestOf k marks). omega (arith, length-map marks markWord))
-    (order (lowestOf k marks) (length (map markWord marks)))
+    absurd (omega (arith, told (lowest_of k marks), found_done marks (lowest_of k marks) k at)))
+    (λ (l : length (map mark_word marks) ≤ lowest_of k marks). omega (arith, length-map marks mark_word))
+    (order (lowest_of k marks) (length (map mark_word marks)))

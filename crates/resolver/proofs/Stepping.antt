@@ -9,43 +9,43 @@ use lib.ListN.{length, get_or, get_elem?, set, take, length-append, length-map}
 use lib.Seq.{get_or-set_other}
 use Rattle.definition.specs.Basics.{good, bad, every, from}
 use Rattle.definition.specs.Shapes.{Entry}
-use Rattle.definition.specs.Resolving.{Goal, tableEntry, refusal, Mark, fresh, underway, done, Resolved, Item, enter, leave}
-use Rattle.definition.specs.Resolving.{kidsAt, visited, leaving, entering, step, work, fuelFor}
+use Rattle.definition.specs.Resolving.{Goal, table_entry, refusal, Mark, fresh, underway, done, Resolved, Item, enter, leave}
+use Rattle.definition.specs.Resolving.{kids_at, visited, leaving, entering, step, work, fuel_for}
 use Rattle.facts.proofs.Lists.{found_inside, map-set, equal, order}
-use Rattle.facts.proofs.Outcomes.{whenGood}
+use Rattle.facts.proofs.Outcomes.{when_good}
 use Rattle.facts.proofs.Chunks.{length_from}
 use Rattle.laws.specs.Faithful.{owing}
-use Rattle.laws.proofs.resolving.OwedVisits.{owing-enter, ItemOk, TableOk, Stepped, step-steps}
+use Rattle.laws.proofs.Resolving.OwedVisits.{owing-enter, ItemOk, TableOk, Stepped, step-steps}
 use Rattle.laws.specs.Faithful.{Now, Cited}
-use Rattle.laws.proofs.resolving.FaithfulToEntries.{step_kept, kidsAt-some}
+use Rattle.laws.proofs.Resolving.FaithfulToEntries.{step_kept, kids_at-some}
 use Rattle.store.specs.Store.{Store, size, put, IsWord, Kept}
-use Rattle.store.specs.JobIn.{entriesIn, linkedIn}
+use Rattle.store.specs.JobIn.{entries_in, linked_in}
 use Rattle.store.specs.Regions.{COUNTS, MARKS, NODE-HEADS, NODE-LINKS, OFFSETS, FIRSTS, SIZES, GOALS, CHILDREN, NODES, STACK, NODE-COUNT, Work}
-use Rattle.store.specs.Words.{ENTRY, LEAVE, REFUSED, markWord, goalWord, itemWord, IsGoal}
+use Rattle.store.specs.Words.{ENTRY, LEAVE, REFUSED, mark_word, goal_word, item_word, IsGoal}
 use Rattle.store.specs.Small.{Small}
 use Rattle.store.proofs.Keeping.{kept_then, kept_more, kept_put}
 use Rattle.store.proofs.Laying.{work-sizes, work-formed, entries-counted}
 use Rattle.store.proofs.Bounds.{small}
-use Rattle.interner.specs.Nodes.{nodeAt, nodeCount, nodesIn}
+use Rattle.interner.specs.Nodes.{node_at_lem, node_count, nodes_in}
 use Rattle.resolver.specs.Resolved.{Table}
-use Rattle.resolver.specs.Moves.{stateAt, stack_of, IsItem, Places, ToLeave, Pushed, Enters, NodesHold, Running, CountersKept, Leaves, Steps}
-use Rattle.resolver.proofs.Meanings.{goal-refused, goal-ok, item-goal, item-leave, is-fresh, is-underway, is-done, mark-at, found-underway, done-found, settled-became}
-use Rattle.resolver.proofs.Lowest.{lowest-entered}
-use Rattle.resolver.proofs.Tabled.{Kids, kids-there, word-kid, cited, table-ok, linked-count, fuel-counted}
-use Rattle.resolver.proofs.Stacks.{stack-length, stack-pushed, words-pushed}
+use Rattle.resolver.specs.Moves.{state_at, stack_of, IsItem, Places, ToLeave, Pushed, Enters, NodesHold, Running, CountersKept, Leaves, Steps}
+use Rattle.resolver.proofs.Meanings.{goal_refused, goal_ok, item_goal, item_leave, is_fresh_lem, is_underway_lem, is_done_lem, mark_at, found_underway, done_found, settled-became}
+use Rattle.resolver.proofs.Lowest.{lowest_entered}
+use Rattle.resolver.proofs.Tabled.{Kids, kids_there, word_kid, cited, table_ok_lem, linked-count, fuel_counted}
+use Rattle.resolver.proofs.Stacks.{stack_length, stack_pushed, words_pushed}
 use Rattle.resolver.proofs.Leaving.{unfinished-same}
-use Rattle.store.proofs.Goals.{goal-raw, goal-entry}
+use Rattle.store.proofs.Goals.{goal_raw, goal_entry}
 
 -- the regions that a step writes
-abbrev pub stepRegions : List ℕ
-stepRegions = COUNTS ∷ MARKS ∷ NODE-HEADS ∷ NODE-LINKS ∷ CHILDREN ∷ NODES ∷ STACK ∷ []
+abbrev pub step_regions : List ℕ
+step_regions = COUNTS ∷ MARKS ∷ NODE-HEADS ∷ NODE-LINKS ∷ CHILDREN ∷ NODES ∷ STACK ∷ []
 
 -- where an entry's words stand
-pub places : (s p : List ℕ) (t : Store) (e : ℕ) → Work s p → Table s t → e < entriesIn s → Places p t e
+pub places : (s p : List ℕ) (t : Store) (e : ℕ) → Work s p → Table s t → e < entries_in s → Places p t e
 places s p t e work table h =
     let z = work-sizes s p work in
     let c = entries-counted s in
-    let (x, at, k) = kids-there s (t OFFSETS) (t FIRSTS) (t SIZES) (t GOALS) table.entered table.linked e h in
+    let (x, at, k) = kids_there s (t OFFSETS) (t FIRSTS) (t SIZES) (t GOALS) table.entered table.linked e h in
     record {
       mark = omega (arith, z.marks);
       first = omega (arith, z.firsts);
@@ -69,12 +69,12 @@ work-bad table fuel i rest st code e = rw e
 
 module _ (h : ℕ) (s : List ℕ) (t : Store) (n : ℕ) (few : Small s) (table : Table s t) (run : Running h s t (suc n)) where
   item : Item
-  item = itemWord (get_or (t STACK) n 0)
+  item = item_word (get_or (t STACK) n 0)
 
   rest : List Item
   rest = stack_of (t STACK) n
 
-  top : Now (linkedIn s) run.goal (stateAt s t 0) (item ∷ rest)
+  top : Now (linked_in s) run.goal (state_at s t 0) (item ∷ rest)
   unfolding stack_of item rest
   top = run.stacked
 
@@ -83,83 +83,83 @@ module _ (h : ℕ) (s : List ℕ) (t : Store) (n : ℕ) (few : Small s) (table :
   stack_is = refl
 
   -- the word on top
-  word : IsItem (entriesIn s) (get_or (t STACK) n 0)
+  word : IsItem (entries_in s) (get_or (t STACK) n 0)
   word = run.words n (omega arith)
 
-  all-cited : Cited (linkedIn s)
-  all-cited = cited s (t OFFSETS) (t FIRSTS) (t SIZES) (t GOALS) table.entered table.linked few.entries
+  all_cited : Cited (linked_in s)
+  all_cited = cited s (t OFFSETS) (t FIRSTS) (t SIZES) (t GOALS) table.entered table.linked few.entries
 
-  all-ok : TableOk ⊥ (linkedIn s)
-  all-ok = table-ok s (t OFFSETS) (t FIRSTS) (t SIZES) (t GOALS) table.entered table.linked few.entries
+  all_ok : TableOk ⊥ (linked_in s)
+  all_ok = table_ok_lem s (t OFFSETS) (t FIRSTS) (t SIZES) (t GOALS) table.entered table.linked few.entries
 
   item_ok : ItemOk ⊥ item
   unfolding item
   item_ok = ways word
     where
-      ways : IsItem (entriesIn s) (get_or (t STACK) n 0) → ItemOk ⊥ (itemWord (get_or (t STACK) n 0))
-      ways (inl g) = rw (item-goal (entriesIn s) (get_or (t STACK) n 0) few.entries g) (goal-ok (entriesIn s) (get_or (t STACK) n 0) few.entries g)
-      ways (inr (a, b)) = rw (item-leave (get_or (t STACK) n 0) a (omega (arith, few.entries))) tt
+      ways : IsItem (entries_in s) (get_or (t STACK) n 0) → ItemOk ⊥ (item_word (get_or (t STACK) n 0))
+      ways (inl g) = rw (item_goal (entries_in s) (get_or (t STACK) n 0) few.entries g) (goal_ok (entries_in s) (get_or (t STACK) n 0) few.entries g)
+      ways (inr (a, b)) = rw (item_leave (get_or (t STACK) n 0) a (omega (arith, few.entries))) tt
 
   -- the stack's room is less than a refusal
-  fuel-low : fuelFor (linkedIn s) < REFUSED
-  fuel-low = omega (arith, fuel-counted s, few.entries, few.references)
+  fuel_low : fuel_for (linked_in s) < REFUSED
+  fuel_low = omega (arith, fuel_counted s, few.entries, few.references)
 
   -- A STEP THAT GOES ON
   module _
       (u : Store) (r : ℕ) (pushed : List Item)
-      (is : (visits : ℕ) → step (linkedIn s) item (stateAt s t visits) ≡ good (pushed, stateAt s u (suc visits)))
+      (is : (visits : ℕ) → step (linked_in s) item (state_at s t visits) ≡ good (pushed, state_at s u (suc visits)))
       (stack : stack_of (u STACK) r ≡ pushed ++ rest)
       (hold : NodesHold h s u)
-      (words : (i : ℕ) → i < r → IsItem (entriesIn s) (get_or (u STACK) i 0))
+      (words : (i : ℕ) → i < r → IsItem (entries_in s) (get_or (u STACK) i 0))
       (counters : CountersKept t u)
-      (kept : Kept stepRegions t u) where
-    stepped : Stepped ⊥ (linkedIn s) (stateAt s t 0) (pushed, stateAt s u 1)
-    stepped = whenGood (step-steps ⊥ (linkedIn s) item (stateAt s t 0) all-ok item_ok) (is 0)
+      (kept : Kept step_regions t u) where
+    stepped : Stepped ⊥ (linked_in s) (state_at s t 0) (pushed, state_at s u 1)
+    stepped = when_good (step-steps ⊥ (linked_in s) item (state_at s t 0) all_ok item_ok) (is 0)
 
     long : r ≡ length pushed + n
     unfolding rest
-    long = sym (stack-length (u STACK) r) ∙ ap length stack ∙ length-append pushed rest ∙ ap (λ m. length pushed + m) (stack-length (t STACK) n)
+    long = sym (stack_length (u STACK) r) ∙ ap length stack ∙ length-append pushed rest ∙ ap (λ m. length pushed + m) (stack_length (t STACK) n)
 
-    less : r + owing (linkedIn s) (map markWord (u MARKS)) ≤ n + owing (linkedIn s) (map markWord (t MARKS))
+    less : r + owing (linked_in s) (map mark_word (u MARKS)) ≤ n + owing (linked_in s) (map mark_word (t MARKS))
     less = omega (arith, long, stepped.paid)
 
     running : Running h s u r
     running =
-        let k = step_kept (linkedIn s) run.goal item rest (stateAt s t 0) (pushed, stateAt s u 1) all-cited run.partial top (is 0) in
+        let k = step_kept (linked_in s) run.goal item rest (state_at s t 0) (pushed, state_at s u 1) all_cited run.partial top (is 0) in
         record {
           hold = hold;
           words = words;
           goal = run.goal;
-          partial = record { marksLength = k.0.marksLength; node_of = k.0.node_of; fromEntry = k.0.fromEntry };
-          stacked = subst (λ (l : List Item). Now (linkedIn s) run.goal (stateAt s u 0) l) (sym stack) k.1;
+          partial = record { marks_length = k.0.marks_length; node_of = k.0.node_of; from_entry = k.0.from_entry };
+          stacked = subst (λ (l : List Item). Now (linked_in s) run.goal (state_at s u 0) l) (sym stack) k.1;
           paid = omega (arith, less, run.paid);
         }
 
-    good-step : Steps h s t u n r
-    good-step =
+    good_step : Steps h s t u n r
+    good_step =
         record {
           goes =
               λ _ fuel visits.
-              rw (stack_is, stack) (work-good (linkedIn s) fuel item rest (stateAt s t visits) (pushed, stateAt s u (suc visits)) (is visits));
+              rw (stack_is, stack) (work-good (linked_in s) fuel item rest (state_at s t visits) (pushed, state_at s u (suc visits)) (is visits));
           again = λ _. running;
           falls = λ _. less;
-          ends = λ l. absurd (omega (arith, fuel-low, running.paid));
+          ends = λ l. absurd (omega (arith, fuel_low, running.paid));
           counters = counters;
           kept = kept;
         }
 
   -- A STEP THAT IS REFUSED
-  bad-step :
+  bad_step :
       (u : Store) (code : ℕ) → 0 < code →
-      ((visits : ℕ) → step (linkedIn s) item (stateAt s t visits) ≡ bad code) →
-      CountersKept t u → Kept stepRegions t u → Steps h s t u n (REFUSED + code)
-  bad-step u code real is counters kept =
+      ((visits : ℕ) → step (linked_in s) item (state_at s t visits) ≡ bad code) →
+      CountersKept t u → Kept step_regions t u → Steps h s t u n (REFUSED + code)
+  bad_step u code real is counters kept =
       let q : REFUSED + code - REFUSED ≡ code = omega arith in
       record {
         goes = λ l. absurd (omega arith);
         again = λ l. absurd (omega arith);
         falls = λ l. absurd (omega arith);
-        ends = λ _. (omega arith, λ fuel visits. rw (stack_is, q) (work-bad (linkedIn s) fuel item rest (stateAt s t visits) code (is visits)));
+        ends = λ _. (omega arith, λ fuel visits. rw (stack_is, q) (work-bad (linked_in s) fuel item rest (state_at s t visits) code (is visits)));
         counters = counters;
         kept = kept;
       }
@@ -168,19 +168,19 @@ module _ (h : ℕ) (s : List ℕ) (t : Store) (n : ℕ) (few : Small s) (table :
   nothing : CountersKept t t
   nothing c _ = refl
 
-  visit : (visits : ℕ) → step (linkedIn s) item (stateAt s t visits) ≡ good ([], visited (stateAt s t visits)) → step (linkedIn s) item (stateAt s t visits) ≡ good ([], stateAt s t (suc visits))
+  visit : (visits : ℕ) → step (linked_in s) item (state_at s t visits) ≡ good ([], visited (state_at s t visits)) → step (linked_in s) item (state_at s t visits) ≡ good ([], state_at s t (suc visits))
   unfolding visited
   visit visits e = e
 
-  unchanged : ((visits : ℕ) → step (linkedIn s) item (stateAt s t visits) ≡ good ([], visited (stateAt s t visits))) → Steps h s t t n n
+  unchanged : ((visits : ℕ) → step (linked_in s) item (state_at s t visits) ≡ good ([], visited (state_at s t visits))) → Steps h s t t n n
   unfolding rest
-  unchanged is = good-step t n [] (λ visits. visit visits (is visits)) refl run.hold (λ i l. run.words i (omega arith)) nothing (λ k _. refl)
+  unchanged is = good_step t n [] (λ visits. visit visits (is visits)) refl run.hold (λ i l. run.words i (omega arith)) nothing (λ k _. refl)
 
   pub step-raw : get_or (t STACK) n 0 < ENTRY → Steps h s t t n n
   unfolding item step
   step-raw l =
-      let g : IsGoal (entriesIn s) (get_or (t STACK) n 0) = inl (omega arith) in
-      unchanged (λ visits. rw (item-goal (entriesIn s) (get_or (t STACK) n 0) few.entries g, goal-raw (get_or (t STACK) n 0) l))
+      let g : IsGoal (entries_in s) (get_or (t STACK) n 0) = inl (omega arith) in
+      unchanged (λ visits. rw (item_goal (entries_in s) (get_or (t STACK) n 0) few.entries g, goal_raw (get_or (t STACK) n 0) l))
 
   -- A REFUSAL
   pub step-refused : REFUSED ≤ get_or (t STACK) n 0 → Steps h s t t n (get_or (t STACK) n 0)
@@ -190,94 +190,94 @@ module _ (h : ℕ) (s : List ℕ) (t : Store) (n : ℕ) (few : Small s) (table :
       x : ℕ
       x = get_or (t STACK) n 0
 
-      is : IsGoal (entriesIn s) x → (code : ℕ) → x ≡ REFUSED + code → (visits : ℕ) → step (linkedIn s) (itemWord x) (stateAt s t visits) ≡ bad code
+      is : IsGoal (entries_in s) x → (code : ℕ) → x ≡ REFUSED + code → (visits : ℕ) → step (linked_in s) (item_word x) (state_at s t visits) ≡ bad code
       is g code q visits =
           let z : x - REFUSED ≡ code = omega arith in
-          rw (item-goal (entriesIn s) x few.entries g, goal-refused x l, z)
+          rw (item_goal (entries_in s) x few.entries g, goal_refused x l, z)
 
-      met : IsGoal (entriesIn s) x → (code : ℕ) → 0 < code → x ≡ REFUSED + code → Steps h s t t n x
-      met g code real q = rw q (bad-step t code real (is g code q) nothing (λ k _. refl))
+      met : IsGoal (entries_in s) x → (code : ℕ) → 0 < code → x ≡ REFUSED + code → Steps h s t t n x
+      met g code real q = rw q (bad_step t code real (is g code q) nothing (λ k _. refl))
 
-      ways : IsItem (entriesIn s) x → Steps h s t t n x
+      ways : IsItem (entries_in s) x → Steps h s t t n x
       ways (inl (inl a)) = absurd (omega (arith, few.entries))
       ways (inl (inr (inl q))) = met (inr (inl q)) 12 (omega arith) q
       ways (inl (inr (inr q))) = met (inr (inr q)) 13 (omega arith) q
       ways (inr (a, b)) = absurd (omega (arith, few.entries))
 
   -- AN ENTRY ENTERED
-  marks-long : length (t MARKS) ≡ entriesIn s
-  marks-long = sym (length-map (t MARKS) markWord) ∙ run.partial.marksLength ∙ linked-count s
+  marks_long : length (t MARKS) ≡ entries_in s
+  marks_long = sym (length-map (t MARKS) mark_word) ∙ run.partial.marks_length ∙ linked-count s
 
-  module _ (e : ℕ) (inside : e < entriesIn s) where
-    kids : (x : Entry ℕ Goal) × (get_elem? (linkedIn s) e ≡ some x) × Kids s (t FIRSTS) (t SIZES) (t GOALS) e x
-    kids = kids-there s (t OFFSETS) (t FIRSTS) (t SIZES) (t GOALS) table.entered table.linked e inside
+  module _ (e : ℕ) (inside : e < entries_in s) where
+    kids : (x : Entry ℕ Goal) × (get_elem? (linked_in s) e ≡ some x) × Kids s (t FIRSTS) (t SIZES) (t GOALS) e x
+    kids = kids_there s (t OFFSETS) (t FIRSTS) (t SIZES) (t GOALS) table.entered table.linked e inside
 
     goals : List Goal
-    goals = from (λ i. goalWord (get_or (t GOALS) (get_or (t FIRSTS) e 0 + i) 0)) 0 (get_or (t SIZES) e 0)
+    goals = from (λ i. goal_word (get_or (t GOALS) (get_or (t FIRSTS) e 0 + i) 0)) 0 (get_or (t SIZES) e 0)
 
-    kids-are : kidsAt (linkedIn s) e ≡ goals
+    kids_are_lem : kids_at (linked_in s) e ≡ goals
     unfolding goals
-    kids-are = kidsAt-some (linkedIn s) e kids.0 kids.1 ∙ sym kids.2.is
+    kids_are_lem = kids_at-some (linked_in s) e kids.0 kids.1 ∙ sym kids.2.is
 
-    mark-is : (m : Mark) → markWord (get_or (t MARKS) e 0) ≡ m → get_or (map markWord (t MARKS)) e (done 0) ≡ m
-    mark-is m q = mark-at (t MARKS) e (done 0) (omega (arith, marks-long)) ∙ q
+    mark_is : (m : Mark) → mark_word (get_or (t MARKS) e 0) ≡ m → get_or (map mark_word (t MARKS)) e (done 0) ≡ m
+    mark_is m q = mark_at (t MARKS) e (done 0) (omega (arith, marks_long)) ∙ q
 
     -- the stack has room for its goals and its leaving
-    pub entry-room : get_or (t MARKS) e 0 ≡ 0 → n + get_or (t SIZES) e 0 + 2 ≤ fuelFor (linkedIn s)
+    pub entry_room : get_or (t MARKS) e 0 ≡ 0 → n + get_or (t SIZES) e 0 + 2 ≤ fuel_for (linked_in s)
     unfolding goals
-    entry-room z =
-        let pays = owing-enter (linkedIn s) (map markWord (t MARKS)) e (mark-is fresh (is-fresh (get_or (t MARKS) e 0) z)) in
-        let long : length (kidsAt (linkedIn s) e) ≡ get_or (t SIZES) e 0 = ap length kids-are ∙ length_from _ 0 (get_or (t SIZES) e 0) in
+    entry_room z =
+        let pays = owing-enter (linked_in s) (map mark_word (t MARKS)) e (mark_is fresh (is_fresh_lem (get_or (t MARKS) e 0) z)) in
+        let long : length (kids_at (linked_in s) e) ≡ get_or (t SIZES) e 0 = ap length kids_are_lem ∙ length_from _ 0 (get_or (t SIZES) e 0) in
         omega (arith, run.paid)
 
-    module _ (at : item ≡ enter (tableEntry e)) where
-      stepping : (m : Mark) → markWord (get_or (t MARKS) e 0) ≡ m → (visits : ℕ) → step (linkedIn s) item (stateAt s t visits) ≡ entering (linkedIn s) e m (stateAt s t visits)
+    module _ (at : item ≡ enter (table_entry e)) where
+      stepping : (m : Mark) → mark_word (get_or (t MARKS) e 0) ≡ m → (visits : ℕ) → step (linked_in s) item (state_at s t visits) ≡ entering (linked_in s) e m (state_at s t visits)
       unfolding step
-      stepping m q visits = rw (at, mark-is m q)
+      stepping m q visits = rw (at, mark_is m q)
 
       entry_done : 1 < get_or (t MARKS) e 0 → Steps h s t t n n
       unfolding entering
       entry_done l =
           let k = get_or (t MARKS) e 0 - 2 in
-          unchanged (stepping (done k) (is-done (get_or (t MARKS) e 0) k (omega arith)))
+          unchanged (stepping (done k) (is_done_lem (get_or (t MARKS) e 0) k (omega arith)))
 
       module _ (u : Store) (r : ℕ) where
-        entry-underway : get_or (t MARKS) e 0 ≡ 1 → r ≡ REFUSED + 13 → Kept (MARKS ∷ STACK ∷ []) t u → Steps h s t u n r
+        entry_underway : get_or (t MARKS) e 0 ≡ 1 → r ≡ REFUSED + 13 → Kept (MARKS ∷ STACK ∷ []) t u → Steps h s t u n r
         unfolding entering every
-        entry-underway q is kept =
+        entry_underway q is kept =
             rw is
-            (bad-step u 13 (omega arith) (stepping underway (is-underway (get_or (t MARKS) e 0) q))
+            (bad_step u 13 (omega arith) (stepping underway (is_underway_lem (get_or (t MARKS) e 0) q))
             (λ c _. ap (λ (l : List ℕ). get_or l c 0) (kept COUNTS refl))
-            (kept_more (MARKS ∷ STACK ∷ []) stepRegions t u refl kept))
+            (kept_more (MARKS ∷ STACK ∷ []) step_regions t u refl kept))
 
         module _ (z : get_or (t MARKS) e 0 ≡ 0) (pushed : Pushed (put t MARKS e 1) u e n r) where
           items : List Item
-          items = map enter (kidsAt (linkedIn s) e) ++ leave e ∷ []
+          items = map enter (kids_at (linked_in s) e) ++ leave e ∷ []
 
-          marks-are : map markWord (u MARKS) ≡ set (map markWord (t MARKS)) e underway
-          unfolding markWord
-          marks-are = ap (map markWord) (pushed.kept MARKS refl) ∙ map-set markWord (t MARKS) e 1
+          marks_are : map mark_word (u MARKS) ≡ set (map mark_word (t MARKS)) e underway
+          unfolding mark_word
+          marks_are = ap (map mark_word) (pushed.kept MARKS refl) ∙ map-set mark_word (t MARKS) e 1
 
-          nodes-are : nodesIn s u ≡ nodesIn s t
-          nodes-are =
+          nodes_are : nodes_in s u ≡ nodes_in s t
+          nodes_are =
               let a = pushed.kept FIRSTS refl in
               let b = pushed.kept SIZES refl in
               let c = pushed.kept NODES refl in
               let d = pushed.kept COUNTS refl in
               let f = pushed.kept CHILDREN refl in
-              λ i. map (nodeAt s (a i) (b i) (f i)) (take (get_or (d i) NODE-COUNT 0) (c i))
+              λ i. map (node_at_lem s (a i) (b i) (f i)) (take (get_or (d i) NODE-COUNT 0) (c i))
 
-          is : (visits : ℕ) → step (linkedIn s) item (stateAt s t visits) ≡ good (items, stateAt s u (suc visits))
+          is : (visits : ℕ) → step (linked_in s) item (state_at s t visits) ≡ good (items, state_at s u (suc visits))
           unfolding entering items
           is visits =
-              stepping fresh (is-fresh (get_or (t MARKS) e 0) z) visits
-              ∙ (λ i. good (items, record { marks = sym marks-are i; nodes = sym nodes-are i; visits = suc visits }))
+              stepping fresh (is_fresh_lem (get_or (t MARKS) e 0) z) visits
+              ∙ (λ i. good (items, record { marks = sym marks_are i; nodes = sym nodes_are i; visits = suc visits }))
 
           stack : stack_of (u STACK) r ≡ items ++ rest
           unfolding items rest goals
           stack =
-              rw (pushed.count, kids-are)
-              (stack-pushed (t STACK) (u STACK) (λ i. get_or (t GOALS) (get_or (t FIRSTS) e 0 + i) 0) (entriesIn s) e n (get_or (t SIZES) e 0) few.entries inside pushed.below pushed.leaving pushed.goals kids.2.words
+              rw (pushed.count, kids_are_lem)
+              (stack_pushed (t STACK) (u STACK) (λ i. get_or (t GOALS) (get_or (t FIRSTS) e 0 + i) 0) (entries_in s) e n (get_or (t SIZES) e 0) few.entries inside pushed.below pushed.leaving pushed.goals kids.2.words
               ∙ sym (append_assoc (map enter goals) (leave e ∷ []) (stack_of (t STACK) n)))
 
           hold : NodesHold h s u
@@ -294,30 +294,30 @@ module _ (h : ℕ) (s : List ℕ) (t : Store) (n : ℕ) (few : Small s) (table :
                     rw (get_or-set_other (t MARKS) e (get_or (t NODES) i 0) 1 0 other) m;
                 lowest =
                     rw (pushed.kept COUNTS refl, pushed.kept NODES refl, pushed.kept MARKS refl)
-                    (λ k l. run.hold.lowest k l ∙ sym (lowest-entered (t MARKS) e (omega arith) k));
+                    (λ k l. run.hold.lowest k l ∙ sym (lowest_entered (t MARKS) e (omega arith) k));
                 room = rw (pushed.kept COUNTS refl, pushed.kept MARKS refl, unfinished-same (t MARKS) e 1 (omega arith) (omega arith)) run.hold.room;
               }
 
-          words : (i : ℕ) → i < r → IsItem (entriesIn s) (get_or (u STACK) i 0)
+          words : (i : ℕ) → i < r → IsItem (entries_in s) (get_or (u STACK) i 0)
           words =
               rw pushed.count
-              (words-pushed (t STACK) (u STACK) (λ i. get_or (t GOALS) (get_or (t FIRSTS) e 0 + i) 0) (entriesIn s) e n (get_or (t SIZES) e 0) few.entries inside pushed.below pushed.leaving pushed.goals kids.2.words
+              (words_pushed (t STACK) (u STACK) (λ i. get_or (t GOALS) (get_or (t FIRSTS) e 0 + i) 0) (entries_in s) e n (get_or (t SIZES) e 0) few.entries inside pushed.below pushed.leaving pushed.goals kids.2.words
               (λ i l. run.words i (omega arith)))
 
-          entry-fresh : Steps h s t u n r
+          entry_fresh : Steps h s t u n r
           unfolding every
-          entry-fresh =
-              good-step u r items is stack hold words
+          entry_fresh =
+              good_step u r items is stack hold words
               (λ c _. ap (λ (l : List ℕ). get_or l c 0) (pushed.kept COUNTS refl))
-              (kept_then stepRegions t (put t MARKS e 1) u
-              (kept_put stepRegions t t MARKS e 1 refl (λ k _. refl))
-              (kept_more (STACK ∷ []) stepRegions (put t MARKS e 1) u refl pushed.kept))
+              (kept_then step_regions t (put t MARKS e 1) u
+              (kept_put step_regions t t MARKS e 1 refl (λ k _. refl))
+              (kept_more (STACK ∷ []) step_regions (put t MARKS e 1) u refl pushed.kept))
 
   -- the word on top is an entry's
-  pub entered-inside : ENTRY ≤ get_or (t STACK) n 0 → get_or (t STACK) n 0 < LEAVE → get_or (t STACK) n 0 - ENTRY < entriesIn s
-  entered-inside l g = ways word
+  pub entered_inside : ENTRY ≤ get_or (t STACK) n 0 → get_or (t STACK) n 0 < LEAVE → get_or (t STACK) n 0 - ENTRY < entries_in s
+  entered_inside l g = ways word
     where
-      ways : IsItem (entriesIn s) (get_or (t STACK) n 0) → get_or (t STACK) n 0 - ENTRY < entriesIn s
+      ways : IsItem (entries_in s) (get_or (t STACK) n 0) → get_or (t STACK) n 0 - ENTRY < entries_in s
       ways (inl (inl a)) = omega arith
       ways (inl (inr (inl q))) = absurd (omega arith)
       ways (inl (inr (inr q))) = absurd (omega arith)
@@ -334,39 +334,39 @@ module _ (h : ℕ) (s : List ℕ) (t : Store) (n : ℕ) (few : Small s) (table :
       e : ℕ
       e = x - ENTRY
 
-      inside : e < entriesIn s
-      inside = entered-inside l g
+      inside : e < entries_in s
+      inside = entered_inside l g
 
-      at : itemWord x ≡ enter (tableEntry e)
-      at = item-goal (entriesIn s) x few.entries (inl (omega (arith, inside))) ∙ ap enter (goal-entry x l (omega arith))
+      at : item_word x ≡ enter (table_entry e)
+      at = item_goal (entries_in s) x few.entries (inl (omega (arith, inside))) ∙ ap enter (goal_entry x l (omega arith))
 
       ways : (1 < get_or (t MARKS) e 0) ⊎ (get_or (t MARKS) e 0 ≤ 1) → Steps h s t u n r
-      ways (inl m) = let (a, b) = enters.isDone m in rw (a, b) (entry_done e inside at m)
+      ways (inl m) = let (a, b) = enters.is_done m in rw (a, b) (entry_done e inside at m)
       ways (inr m) =
           ⊎_elim
-          (λ (q : get_or (t MARKS) e 0 ≡ 1). entry-underway e inside at u r q (enters.isUnderway q) enters.kept)
-          (λ (q : get_or (t MARKS) e 0 ≡ 1 → ⊥). let z : get_or (t MARKS) e 0 ≡ 0 = omega arith in entry-fresh e inside at u r z (enters.isFresh z))
+          (λ (q : get_or (t MARKS) e 0 ≡ 1). entry_underway e inside at u r q (enters.is_underway q) enters.kept)
+          (λ (q : get_or (t MARKS) e 0 ≡ 1 → ⊥). let z : get_or (t MARKS) e 0 ≡ 0 = omega arith in entry_fresh e inside at u r z (enters.is_fresh z))
           (equal (get_or (t MARKS) e 0) 1)
 
   -- AN ENTRY LEFT
-  pub left-inside : LEAVE ≤ get_or (t STACK) n 0 → get_or (t STACK) n 0 < REFUSED → get_or (t STACK) n 0 - LEAVE < entriesIn s
+  pub left-inside : LEAVE ≤ get_or (t STACK) n 0 → get_or (t STACK) n 0 < REFUSED → get_or (t STACK) n 0 - LEAVE < entries_in s
   left-inside l g = ways word
     where
-      ways : IsItem (entriesIn s) (get_or (t STACK) n 0) → get_or (t STACK) n 0 - LEAVE < entriesIn s
+      ways : IsItem (entries_in s) (get_or (t STACK) n 0) → get_or (t STACK) n 0 - LEAVE < entries_in s
       ways (inl (inl a)) = absurd (omega (arith, few.entries))
       ways (inl (inr (inl q))) = absurd (omega arith)
       ways (inl (inr (inr q))) = absurd (omega arith)
       ways (inr (a, b)) = omega arith
 
   -- a mark that is done tells of a node
-  mark-told : (d : ℕ) → get_or (t MARKS) d 0 < 2 + nodeCount t
-  mark-told d =
+  mark_told : (d : ℕ) → get_or (t MARKS) d 0 < 2 + node_count t
+  mark_told d =
       ⊎_elim
       (λ (l : 1 < get_or (t MARKS) d 0).
       let k = get_or (t MARKS) d 0 - 2 in
-      let node = run.partial.node_of d k (done-found (t MARKS) d k (omega arith)) in
-      let low = found_inside (nodesIn s t) k _ node.2 in
-      omega (arith, length-map (take (nodeCount t) (t NODES)) (nodeAt s (t FIRSTS) (t SIZES) (t CHILDREN)), taken (nodeCount t) (t NODES)))
+      let node = run.partial.node_of d k (done_found (t MARKS) d k (omega arith)) in
+      let low = found_inside (nodes_in s t) k _ node.2 in
+      omega (arith, length-map (take (node_count t) (t NODES)) (node_at_lem s (t FIRSTS) (t SIZES) (t CHILDREN)), taken (node_count t) (t NODES)))
       (λ (l : get_or (t MARKS) d 0 ≤ 1). omega arith)
       (order 1 (get_or (t MARKS) d 0))
     where
@@ -376,87 +376,87 @@ module _ (h : ℕ) (s : List ℕ) (t : Store) (n : ℕ) (few : Small s) (table :
       taken (suc n) (x ∷ l) = let ih = taken n l in omega arith
 
   -- and there aren't more nodes than entries
-  mark-low : (d : ℕ) → get_or (t MARKS) d 0 < REFUSED
-  mark-low d = omega (arith, mark-told d, run.hold.nodes.few, few.entries)
+  mark_low : (d : ℕ) → get_or (t MARKS) d 0 < REFUSED
+  mark_low d = omega (arith, mark_told d, run.hold.nodes.few, few.entries)
 
   module _ (l : LEAVE ≤ get_or (t STACK) n 0) (g : get_or (t STACK) n 0 < REFUSED) where
     e : ℕ
     e = get_or (t STACK) n 0 - LEAVE
 
-    is-left : item ≡ leave e
+    is_left : item ≡ leave e
     unfolding item e
-    is-left = item-leave (get_or (t STACK) n 0) l g
+    is_left = item_leave (get_or (t STACK) n 0) l g
 
-    now-left : Now (linkedIn s) run.goal (stateAt s t 0) (leave e ∷ rest)
-    now-left = subst (λ (i : Item). Now (linkedIn s) run.goal (stateAt s t 0) (i ∷ rest)) is-left top
+    now_left : Now (linked_in s) run.goal (state_at s t 0) (leave e ∷ rest)
+    now_left = subst (λ (i : Item). Now (linked_in s) run.goal (state_at s t 0) (i ∷ rest)) is_left top
 
-    pub to-leave : ToLeave t (get_or (t STACK) n 0 - LEAVE)
+    pub to_leave : ToLeave t (get_or (t STACK) n 0 - LEAVE)
     unfolding e
-    to-leave =
+    to_leave =
         let (x, at, k) = kids e (left-inside l g) in
         record {
-          isUnderway = found-underway (t MARKS) e now-left.0;
+          is_underway = found_underway (t MARKS) e now_left.0;
           became =
               λ i b.
-              settled-became (entriesIn s) (t MARKS) (get_or (t GOALS) (get_or (t FIRSTS) e 0 + i) 0) few.entries (k.words i b)
-              (now-left.1 x at _ (word-kid s (t OFFSETS) (t FIRSTS) (t SIZES) (t GOALS) table.entered table.linked e x at i b));
-          low = mark-low;
-          told = mark-told;
+              settled-became (entries_in s) (t MARKS) (get_or (t GOALS) (get_or (t FIRSTS) e 0 + i) 0) few.entries (k.words i b)
+              (now_left.1 x at _ (word_kid s (t OFFSETS) (t FIRSTS) (t SIZES) (t GOALS) table.entered table.linked e x at i b));
+          low = mark_low;
+          told = mark_told;
         }
 
     module _ (u : Store) (leaves : Leaves h s t u (get_or (t STACK) n 0 - LEAVE)) where
-      left_is : (visits : ℕ) → step (linkedIn s) item (stateAt s t visits) ≡ good ([], stateAt s u (suc visits))
+      left_is : (visits : ℕ) → step (linked_in s) item (state_at s t visits) ≡ good ([], state_at s u (suc visits))
       unfolding e step
-      left_is visits = rw is-left (ap (λ (st : Resolved). good ([], st)) (leaves.is visits))
+      left_is visits = rw is_left (ap (λ (st : Resolved). good ([], st)) (leaves.is visits))
 
       left-stack : stack_of (u STACK) n ≡ rest
       unfolding rest
       left-stack = rw (leaves.kept STACK refl)
 
-      left-words : (i : ℕ) → i < n → IsItem (entriesIn s) (get_or (u STACK) i 0)
+      left-words : (i : ℕ) → i < n → IsItem (entries_in s) (get_or (u STACK) i 0)
       left-words i b = rw (leaves.kept STACK refl) (run.words i (omega arith))
 
       pub step_left : Steps h s t u n n
       unfolding every
       step_left =
-          good-step u n [] left_is left-stack leaves.hold left-words leaves.counters
-          (kept_more (COUNTS ∷ MARKS ∷ NODE-HEADS ∷ NODE-LINKS ∷ CHILDREN ∷ NODES ∷ []) stepRegions t u refl leaves.kept)
+          good_step u n [] left_is left-stack leaves.hold left-words leaves.counters
+          (kept_more (COUNTS ∷ MARKS ∷ NODE-HEADS ∷ NODE-LINKS ∷ CHILDREN ∷ NODES ∷ []) step_regions t u refl leaves.kept)
 
   -- THE SAME FOR THE WORD x, READ FROM THE TOP
   module _ (x : ℕ) (got : x ≡ get_or (t STACK) n 0) where
-    pub raw-steps : x < ENTRY → Steps h s t t n n
-    raw-steps l = step-raw (rw got at l)
+    pub raw_steps : x < ENTRY → Steps h s t t n n
+    raw_steps l = step-raw (rw got at l)
 
-    pub refused-steps : REFUSED ≤ x → Steps h s t t n x
-    refused-steps l = rw got (step-refused (rw got at l))
+    pub refused_steps : REFUSED ≤ x → Steps h s t t n x
+    refused_steps l = rw got (step-refused (rw got at l))
 
     module _ (l : ENTRY ≤ x) (g : x < LEAVE) where
-      pub entered-low : x - ENTRY < entriesIn s
-      entered-low = rw got (entered-inside (rw got at l) (rw got at g))
+      pub entered_low : x - ENTRY < entries_in s
+      entered_low = rw got (entered_inside (rw got at l) (rw got at g))
 
-      pub enter-room : (p : List ℕ) → Work s p → get_or (t MARKS) (x - ENTRY) 0 ≡ 0 → n + get_or (t SIZES) (x - ENTRY) 0 < size p STACK
-      enter-room p work z =
-          omega (arith, entry-room (x - ENTRY) entered-low z, (work-sizes s p work).stack, entries-counted s, fuel-counted s)
+      pub enter_room : (p : List ℕ) → Work s p → get_or (t MARKS) (x - ENTRY) 0 ≡ 0 → n + get_or (t SIZES) (x - ENTRY) 0 < size p STACK
+      enter_room p work z =
+          omega (arith, entry_room (x - ENTRY) entered_low z, (work-sizes s p work).stack, entries-counted s, fuel_counted s)
 
-      pub enter-word : IsWord (LEAVE + (x - ENTRY))
-      enter-word = omega (arith, entered-low, few.entries)
+      pub enter_word : IsWord (LEAVE + (x - ENTRY))
+      enter_word = omega (arith, entered_low, few.entries)
 
-      pub entered-steps : (u : Store) (r : ℕ) → Enters t u (x - ENTRY) n r → Steps h s t u n r
-      entered-steps u r enters = step-entered u r (rw got at l) (rw got at g) (rw got at enters)
+      pub entered_steps : (u : Store) (r : ℕ) → Enters t u (x - ENTRY) n r → Steps h s t u n r
+      entered_steps u r enters = step-entered u r (rw got at l) (rw got at g) (rw got at enters)
 
     module _ (l : LEAVE ≤ x) (g : x < REFUSED) where
-      pub left-low : x - LEAVE < entriesIn s
+      pub left-low : x - LEAVE < entries_in s
       left-low = rw got (left-inside (rw got at l) (rw got at g))
 
       pub left-ready : ToLeave t (x - LEAVE)
-      left-ready = rw got (to-leave (rw got at l) (rw got at g))
+      left-ready = rw got (to_leave (rw got at l) (rw got at g))
 
       pub left-steps : (u : Store) → Leaves h s t u (x - LEAVE) → Steps h s t u n n
       left-steps u leaves = step_left (rw got at l) (rw got at g) u (rw got at leaves)
 
 -- the item on top has its place
 pub top-inside : (h : ℕ) (s p : List ℕ) (t : Store) (n : ℕ) → Work s p → Running h s t (suc n) → n < size p STACK
-top-inside h s p t n work run = omega (arith, run.paid, (work-sizes s p work).stack, entries-counted s, fuel-counted s)
+top-inside h s p t n work run = omega (arith, run.paid, (work-sizes s p work).stack, entries-counted s, fuel_counted s)
 
-pub few-of : (s p : List ℕ) → Work s p → Small s
-few-of s p work = small s (work-formed s p work)
+pub few_of : (s p : List ℕ) → Work s p → Small s
+few_of s p work = small s (work-formed s p work)

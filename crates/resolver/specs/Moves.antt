@@ -1,24 +1,24 @@
 -- What the resolver's functions keep and change, one item at a time. Assumes nothing.
 use Rattle.std.specs.Prelude.{List, [], ◌∷◌, map, ◌⊎◌, ◌≡◌, ℕ, zero, suc, ◌+◌, ◌-◌, ◌≤◌, ◌<◌, get_or}
 use Rattle.definition.specs.Basics.{bad}
-use Rattle.definition.specs.Resolving.{Goal, Resolved, Item, childOf, leaving, work, fuelFor}
+use Rattle.definition.specs.Resolving.{Goal, Resolved, Item, child_of, leaving, work, fuel_for}
 use Rattle.laws.specs.Faithful.{owing}
 use Rattle.laws.specs.Faithful.{Partial, Now}
 use Rattle.store.specs.Store.{Store, size, put, Kept}
-use Rattle.store.specs.JobIn.{entriesIn, linkedIn}
+use Rattle.store.specs.JobIn.{entries_in, linked_in}
 use Rattle.store.specs.Regions.{COUNTS, MARKS, NODE-HEADS, NODE-LINKS, FIRSTS, SIZES, GOALS, CHILDREN, NODES, STACK, NODE-COUNT}
-use Rattle.store.specs.Words.{LEAVE, REFUSED, markWord, goalWord, itemWord, IsGoal}
-use Rattle.interner.specs.Nodes.{NodesIn, nodeCount, nodesIn}
-use Rattle.resolver.specs.Resolved.{unfinished, lowestOf, Became}
+use Rattle.store.specs.Words.{LEAVE, REFUSED, mark_word, goal_word, item_word, IsGoal}
+use Rattle.interner.specs.Nodes.{NodesIn, node_count, nodes_in}
+use Rattle.resolver.specs.Resolved.{unfinished, lowest_of, Became}
 
 -- the definition's state, with the visits counted apart
-abbrev pub stateAt : List ℕ → Store → ℕ → Resolved
-stateAt s t visits = record { marks = map markWord (t MARKS); nodes = nodesIn s t; visits = visits }
+abbrev pub state_at : List ℕ → Store → ℕ → Resolved
+state_at s t visits = record { marks = map mark_word (t MARKS); nodes = nodes_in s t; visits = visits }
 
 -- the first n words as a stack of items, the last on top
 unfoldable pub stack_of : List ℕ → ℕ → List Item
 stack_of words zero = []
-stack_of words (suc n) = itemWord (get_or words n 0) ∷ stack_of words n
+stack_of words (suc n) = item_word (get_or words n 0) ∷ stack_of words n
 
 -- a word that stands on the stack, in a table of so many entries
 abbrev pub IsItem : ℕ → ℕ → Type 0
@@ -34,16 +34,16 @@ pub record Places (p : List ℕ) (t : Store) (e : ℕ) : Type 0 where
 
 -- an entry that is left: its goals are done, no mark is high, and each that is done tells of a node
 pub record ToLeave (t : Store) (e : ℕ) : Type 0 where
-  pub isUnderway : get_or (t MARKS) e 0 ≡ 1
+  pub is_underway : get_or (t MARKS) e 0 ≡ 1
   pub became : (i : ℕ) → i < get_or (t SIZES) e 0 → Became (t MARKS) (get_or (t GOALS) (get_or (t FIRSTS) e 0 + i) 0)
   pub low : (d : ℕ) → get_or (t MARKS) d 0 < REFUSED
-  pub told : (d : ℕ) → get_or (t MARKS) d 0 < 2 + nodeCount t
+  pub told : (d : ℕ) → get_or (t MARKS) d 0 < 2 + node_count t
 
 -- its children were written
 pub record Written (t u : Store) (e : ℕ) : Type 0 where
   pub is :
       (i : ℕ) → i < get_or (t SIZES) e 0 →
-      get_or (u CHILDREN) (get_or (t FIRSTS) e 0 + i) 0 ≡ childOf (map markWord (t MARKS)) (goalWord (get_or (t GOALS) (get_or (t FIRSTS) e 0 + i) 0))
+      get_or (u CHILDREN) (get_or (t FIRSTS) e 0 + i) 0 ≡ child_of (map mark_word (t MARKS)) (goal_word (get_or (t GOALS) (get_or (t FIRSTS) e 0 + i) 0))
   pub others :
       (i : ℕ) → (i < get_or (t FIRSTS) e 0) ⊎ (get_or (t FIRSTS) e 0 + get_or (t SIZES) e 0 ≤ i) → get_or (u CHILDREN) i 0 ≡ get_or (t CHILDREN) i 0
   pub kept : Kept (CHILDREN ∷ []) t u
@@ -59,26 +59,26 @@ pub record Pushed (t u : Store) (e n r : ℕ) : Type 0 where
 
 -- an entry was entered over n items
 pub record Enters (t u : Store) (e n r : ℕ) : Type 0 where
-  pub isDone : 1 < get_or (t MARKS) e 0 → (r ≡ n) × (u ≡ t)
-  pub isUnderway : get_or (t MARKS) e 0 ≡ 1 → r ≡ REFUSED + 13
-  pub isFresh : get_or (t MARKS) e 0 ≡ 0 → Pushed (put t MARKS e 1) u e n r
+  pub is_done : 1 < get_or (t MARKS) e 0 → (r ≡ n) × (u ≡ t)
+  pub is_underway : get_or (t MARKS) e 0 ≡ 1 → r ≡ REFUSED + 13
+  pub is_fresh : get_or (t MARKS) e 0 ≡ 0 → Pushed (put t MARKS e 1) u e n r
   pub kept : Kept (MARKS ∷ STACK ∷ []) t u
 
 -- what holds of the nodes between two items
 pub record NodesHold (h : ℕ) (s : List ℕ) (t : Store) : Type 0 where
   pub nodes : NodesIn h s t
-  pub made : (i : ℕ) → i < nodeCount t → 1 < get_or (t MARKS) (get_or (t NODES) i 0) 0
-  pub lowest : (k : ℕ) → k < nodeCount t → get_or (t NODES) k 0 ≡ lowestOf k (t MARKS)
-  pub room : nodeCount t + unfinished (t MARKS) ≤ entriesIn s
+  pub made : (i : ℕ) → i < node_count t → 1 < get_or (t MARKS) (get_or (t NODES) i 0) 0
+  pub lowest : (k : ℕ) → k < node_count t → get_or (t NODES) k 0 ≡ lowest_of k (t MARKS)
+  pub room : node_count t + unfinished (t MARKS) ≤ entries_in s
 
 -- what holds while n items are on the stack
 pub record Running (h : ℕ) (s : List ℕ) (t : Store) (n : ℕ) : Type 0 where
   pub hold : NodesHold h s t
-  pub words : (i : ℕ) → i < n → IsItem (entriesIn s) (get_or (t STACK) i 0)
+  pub words : (i : ℕ) → i < n → IsItem (entries_in s) (get_or (t STACK) i 0)
   pub goal : Goal
-  pub partial : Partial (linkedIn s) (stateAt s t 0)
-  pub stacked : Now (linkedIn s) goal (stateAt s t 0) (stack_of (t STACK) n)
-  pub paid : n + owing (linkedIn s) (map markWord (t MARKS)) ≤ fuelFor (linkedIn s)
+  pub partial : Partial (linked_in s) (state_at s t 0)
+  pub stacked : Now (linked_in s) goal (state_at s t 0) (stack_of (t STACK) n)
+  pub paid : n + owing (linked_in s) (map mark_word (t MARKS)) ≤ fuel_for (linked_in s)
 
 -- the counters but that of nodes are as they were
 abbrev pub CountersKept : Store → Store → Type 0
@@ -86,7 +86,7 @@ CountersKept t u = (c : ℕ) → (c ≡ NODE-COUNT → ⊥) → get_or (u COUNTS
 
 -- an entry was left: it became a node
 pub record Leaves (h : ℕ) (s : List ℕ) (t u : Store) (e : ℕ) : Type 0 where
-  pub is : (visits : ℕ) → leaving (linkedIn s) e (stateAt s t visits) ≡ stateAt s u (suc visits)
+  pub is : (visits : ℕ) → leaving (linked_in s) e (state_at s t visits) ≡ state_at s u (suc visits)
   pub hold : NodesHold h s u
   pub counters : CountersKept t u
   pub kept : Kept (COUNTS ∷ MARKS ∷ NODE-HEADS ∷ NODE-LINKS ∷ CHILDREN ∷ NODES ∷ []) t u
@@ -95,12 +95,12 @@ pub record Leaves (h : ℕ) (s : List ℕ) (t u : Store) (e : ℕ) : Type 0 wher
 pub record Steps (h : ℕ) (s : List ℕ) (t u : Store) (n r : ℕ) : Type 0 where
   pub goes :
       r < REFUSED → (fuel visits : ℕ) →
-      work (suc fuel) (linkedIn s) (stack_of (t STACK) (suc n)) (stateAt s t visits)
-      ≡ work fuel (linkedIn s) (stack_of (u STACK) r) (stateAt s u (suc visits))
+      work (suc fuel) (linked_in s) (stack_of (t STACK) (suc n)) (state_at s t visits)
+      ≡ work fuel (linked_in s) (stack_of (u STACK) r) (state_at s u (suc visits))
   pub again : r < REFUSED → Running h s u r
-  pub falls : r < REFUSED → r + owing (linkedIn s) (map markWord (u MARKS)) ≤ n + owing (linkedIn s) (map markWord (t MARKS))
+  pub falls : r < REFUSED → r + owing (linked_in s) (map mark_word (u MARKS)) ≤ n + owing (linked_in s) (map mark_word (t MARKS))
   pub ends :
       REFUSED ≤ r →
-      (REFUSED < r) × ((fuel visits : ℕ) → work (suc fuel) (linkedIn s) (stack_of (t STACK) (suc n)) (stateAt s t visits) ≡ bad (r - REFUSED))
+      (REFUSED < r) × ((fuel visits : ℕ) → work (suc fuel) (linked_in s) (stack_of (t STACK) (suc n)) (state_at s t visits) ≡ bad (r - REFUSED))
   pub counters : CountersKept t u
   pub kept : Kept (COUNTS ∷ MARKS ∷ NODE-HEADS ∷ NODE-LINKS ∷ CHILDREN ∷ NODES ∷ STACK ∷ []) t u

@@ -1,11 +1,11 @@
 // A stack of items turns the entries reached into nodes: `resolve` of Krakatau's sym_ref_resolver.rs.
 ghost use Rattle.std.specs.Prelude.{map, ◌≡◌, ℕ, suc, ◌+◌, ◌<◌, ◌≤◌, length, get_or};
-ghost use Rattle.definition.specs.Resolving.{childOf};
+ghost use Rattle.definition.specs.Resolving.{child_of};
 ghost use Rattle.store.specs.Store.{size, store, On, IsWord};
-ghost use Rattle.store.specs.JobIn.{entriesIn};
+ghost use Rattle.store.specs.JobIn.{entries_in};
 ghost use Rattle.store.specs.Regions.{MARKS, NODE-HEADS, SIZES, STACK, Work};
-ghost use Rattle.store.specs.Words.{LEAVE, markWord, goalWord, IsGoal};
-ghost use Rattle.resolver.specs.Resolved.{Table, AtRest, Became, visitsOwed, Resolves};
+ghost use Rattle.store.specs.Words.{LEAVE, mark_word, goal_word, IsGoal};
+ghost use Rattle.resolver.specs.Resolved.{Table, AtRest, Became, visits_owed, Resolves};
 ghost use Rattle.resolver.specs.Moves.{Places, ToLeave, Written, Pushed, Enters, NodesHold, Running, Leaves, Steps};
 
 use store::{
@@ -24,7 +24,7 @@ pub fn node_of(w: &[u32], p: &[usize], e: usize) -> usize
 // The child that a goal became.
 pub fn child_of(w: &[u32], p: &[usize], goal: usize) -> usize
     requires { On p.now (length w.now) × Became (store p.now w.now MARKS) goal }
-    ensures { result ≡ childOf (map markWord (store p.now w.now MARKS)) (goalWord goal) }
+    ensures { result ≡ child_of (map mark_word (store p.now w.now MARKS)) (goal_word goal) }
 {
     if goal < ENTRY {
         goal
@@ -83,7 +83,7 @@ fn enter(w: &mut [u32], p: &[usize], e: usize, n: usize) -> usize
 
 // Leaves an entry, which becomes a node.
 fn leave(job: &[u8], w: &mut [u32], p: &[usize], e: usize)
-    requires { On p.now (length w.old) × Work job.now p.now × Table job.now (store p.now w.old) × NodesHold (size p.now NODE-HEADS) job.now (store p.now w.old) × ToLeave (store p.now w.old) e × (e < entriesIn job.now) }
+    requires { On p.now (length w.old) × Work job.now p.now × Table job.now (store p.now w.old) × NodesHold (size p.now NODE-HEADS) job.now (store p.now w.old) × ToLeave (store p.now w.old) e × (e < entries_in job.now) }
     ensures { Leaves (size p.now NODE-HEADS) job.now (store p.now w.old) (store p.now w.new) e }
 {
     write_children(w, p, e);
@@ -112,7 +112,7 @@ fn step(job: &[u8], w: &mut [u32], p: &[usize], n: usize) -> usize
 
 // Takes items until none is left, 0, or a refusal's number.
 pub fn resolve(job: &[u8], w: &mut [u32], p: &[usize], goal: usize) -> usize
-    requires { On p.now (length w.old) × Work job.now p.now × Table job.now (store p.now w.old) × AtRest (size p.now NODE-HEADS) job.now (store p.now w.old) × IsGoal (entriesIn job.now) goal × IsWord (visitsOwed job.now (store p.now w.old) + 1) }
+    requires { On p.now (length w.old) × Work job.now p.now × Table job.now (store p.now w.old) × AtRest (size p.now NODE-HEADS) job.now (store p.now w.old) × IsGoal (entries_in job.now) goal × IsWord (visits_owed job.now (store p.now w.old) + 1) }
     ensures { Resolves (size p.now NODE-HEADS) job.now (store p.now w.old) (store p.now w.new) goal result }
 {
     let mut visits = load(w, p, COUNTS, VISITS);

@@ -7,14 +7,14 @@ use native.Mathlib.Omega.{arith}
 use lib.ListN.{length, get_or}
 use Rattle.definition.specs.Basics.{same}
 use Rattle.facts.proofs.Lists.{same_true, same_refl}
-use Rattle.interner.specs.Nodes.{nodeCount}
+use Rattle.interner.specs.Nodes.{node_count}
 use Rattle.store.specs.Store.{Store, size}
 use Rattle.store.specs.Chains.{head_of, Sought}
 use Rattle.store.specs.Regions.{INDEXES, ROW-HEADS, ROW-LINKS, INLINE}
-use Rattle.store.proofs.Hashing.{head-lt}
-use Rattle.store.proofs.Walking.{both, Down, walk_start, walk-on}
-use Rattle.rows.specs.Rowed.{hashRow, row_in, inlineCount, RowWordsIn}
-use Rattle.rows.proofs.Listing.{few-room}
+use Rattle.store.proofs.Hashing.{head_lt}
+use Rattle.store.proofs.Walking.{both, Down, walk_start, walk_on}
+use Rattle.rows.specs.Rowed.{hash_row, row_in, inline_count, RowWordsIn}
+use Rattle.rows.proofs.Listing.{few_room}
 
 -- inline item i has the row of node k
 abbrev pub Is : Store → ℕ → ℕ → Type 0
@@ -24,45 +24,45 @@ Is t k i = row_in t (get_or (t INLINE) i 0) ≡ row_in t k
 abbrev pub Looking : List ℕ → Store → ℕ → ℕ → Type 0
 Looking p t k link =
     Down
-    (λ i. head_of (size p ROW-HEADS) (hashRow (row_in t (get_or (t INLINE) i 0))))
+    (λ i. head_of (size p ROW-HEADS) (hash_row (row_in t (get_or (t INLINE) i 0))))
     (Is t k)
-    (head_of (size p ROW-HEADS) (hashRow (row_in t k)))
-    (inlineCount t)
+    (head_of (size p ROW-HEADS) (hash_row (row_in t k)))
+    (inline_count t)
     link
 
 module _ (p : List ℕ) (t : Store) (k : ℕ) (g : RowWordsIn p t) where
-  keyed : (i : ℕ) → Is t k i → head_of (size p ROW-HEADS) (hashRow (row_in t (get_or (t INLINE) i 0))) ≡ head_of (size p ROW-HEADS) (hashRow (row_in t k))
-  keyed i is = ap (λ row. head_of (size p ROW-HEADS) (hashRow row)) is
+  keyed : (i : ℕ) → Is t k i → head_of (size p ROW-HEADS) (hash_row (row_in t (get_or (t INLINE) i 0))) ≡ head_of (size p ROW-HEADS) (hash_row (row_in t k))
+  keyed i is = ap (λ row. head_of (size p ROW-HEADS) (hash_row row)) is
 
-  pub looking-start :
-      (hash link : ℕ) → length (t ROW-HEADS) ≡ size p ROW-HEADS → 1 < size p ROW-HEADS → hash ≡ hashRow (row_in t k) →
+  pub looking_start :
+      (hash link : ℕ) → length (t ROW-HEADS) ≡ size p ROW-HEADS → 1 < size p ROW-HEADS → hash ≡ hash_row (row_in t k) →
       link ≡ get_or (t ROW-HEADS) (head_of (size p ROW-HEADS) hash) 0 → Looking p t k link
-  looking-start hash link long two q first =
+  looking_start hash link long two q first =
       rw (first, q)
       (walk_start
-      (λ i. head_of (size p ROW-HEADS) (hashRow (row_in t (get_or (t INLINE) i 0))))
+      (λ i. head_of (size p ROW-HEADS) (hash_row (row_in t (get_or (t INLINE) i 0))))
       (t ROW-HEADS)
       (t ROW-LINKS)
-      (inlineCount t)
-      (head_of (size p ROW-HEADS) (hashRow (row_in t k)))
+      (inline_count t)
+      (head_of (size p ROW-HEADS) (hash_row (row_in t k)))
       (Is t k)
       g.inlined.chains
       keyed
-      (omega (arith, head-lt (size p ROW-HEADS) (hashRow (row_in t k)) two)))
+      (omega (arith, head_lt (size p ROW-HEADS) (hash_row (row_in t k)) two)))
 
   module _ (link : ℕ) (more : 0 < link) (d : Looking p t k link) where
     -- the item to look at is there
-    pub looking-low : length (t INDEXES) ≡ size p INDEXES → link - 1 < size p INDEXES
-    looking-low long = omega (arith, d.below, few-room (t INDEXES) (inlineCount t) g.inlined.few)
+    pub looking_low : length (t INDEXES) ≡ size p INDEXES → link - 1 < size p INDEXES
+    looking_low long = omega (arith, d.below, few_room (t INDEXES) (inline_count t) g.inlined.few)
 
     module _ (x : ℕ) (is : x ≡ get_or (t INLINE) (link - 1) 0) where
       -- and so is its node
-      pub looking-node : x < nodeCount t
-      looking-node = rw is (g.inlined.nodes (link - 1) (omega (arith, d.below))).made
+      pub looking_node : x < node_count t
+      looking_node = rw is (g.inlined.nodes (link - 1) (omega (arith, d.below))).made
 
       module _ (r : Bool) (told : r ≡ same (row_in t k) (row_in t x)) where
-        pub looking-hit : r ≡ true → Sought (Is t k) (inlineCount t) link
-        looking-hit hit =
+        pub looking_hit : r ≡ true → Sought (Is t k) (inline_count t) link
+        looking_hit hit =
             record { low = d.below; hit = λ _. rw is at (sym (same_true (row_in t k) (row_in t x) (sym told ∙ hit))); miss = λ end. absurd (omega arith) }
 
         module _ (miss : r ≡ false) where
@@ -74,12 +74,12 @@ module _ (p : List ℕ) (t : Store) (k : ℕ) (g : RowWordsIn p t) where
 
           next : Looking p t k (get_or (t ROW-LINKS) (link - 1) 0) × (get_or (t ROW-LINKS) (link - 1) 0 < link)
           next =
-              walk-on
-              (λ i. head_of (size p ROW-HEADS) (hashRow (row_in t (get_or (t INLINE) i 0))))
+              walk_on
+              (λ i. head_of (size p ROW-HEADS) (hash_row (row_in t (get_or (t INLINE) i 0))))
               (t ROW-HEADS)
               (t ROW-LINKS)
-              (inlineCount t)
-              (head_of (size p ROW-HEADS) (hashRow (row_in t k)))
+              (inline_count t)
+              (head_of (size p ROW-HEADS) (hash_row (row_in t k)))
               (Is t k)
               g.inlined.chains
               keyed
@@ -88,12 +88,12 @@ module _ (p : List ℕ) (t : Store) (k : ℕ) (g : RowWordsIn p t) where
               d
               not-here
 
-          pub looking-on : (new : ℕ) → new ≡ get_or (t ROW-LINKS) (link - 1) 0 → Looking p t k new
-          looking-on new q = rw q next.0
+          pub looking_on : (new : ℕ) → new ≡ get_or (t ROW-LINKS) (link - 1) 0 → Looking p t k new
+          looking_on new q = rw q next.0
 
-          pub looking-less : (new : ℕ) → new ≡ get_or (t ROW-LINKS) (link - 1) 0 → new < link
-          looking-less new q = rw q next.1
+          pub looking_less : (new : ℕ) → new ≡ get_or (t ROW-LINKS) (link - 1) 0 → new < link
+          looking_less new q = rw q next.1
 
-  pub looking-miss : (link : ℕ) → link ≤ 0 → Looking p t k link → Sought (Is t k) (inlineCount t) 0
-  looking-miss link end d =
+  pub looking_miss : (link : ℕ) → link ≤ 0 → Looking p t k link → Sought (Is t k) (inline_count t) 0
+  looking_miss link end d =
       record { low = omega arith; hit = λ more. absurd (omega arith); miss = λ _ i less is. d.past i (omega arith) less is }

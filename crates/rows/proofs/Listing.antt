@@ -111,5 +111,5 @@ filled-room (y ∷ l) (suc i) h e = ways (eqb y 0) (filled-room l i (omega arith
     ways true q = omega arith
     ways false q = omega arith
 
-pub few-room : (l : List ℕ) (n : ℕ) → n ≤ filled l → n ≤ length l
-few-room l n h = omega (arith, filled-le l)
+pub few_room : (l : List ℕ) (n : ℕ) → n ≤ filled l → n ≤ length l
+few_room l n h = omega (arith, filled-le l)

@@ -5,13 +5,13 @@ use mathlib.Core.Path.{◌≡◌, refl, sym, ap, subst, ◌∙◌}
 use Prim.Native.Nat.{ℕ, zero, suc, ◌+◌, ◌-◌, ◌≤◌, ◌<◌}
 use native.Mathlib.Omega.{arith}
 use lib.ListN.{get_or}
-use Rattle.interner.specs.Nodes.{nodeCount}
-use Rattle.raws.specs.Raws.{rawCount, heldCount}
+use Rattle.interner.specs.Nodes.{node_count}
+use Rattle.raws.specs.Raws.{raw_count, held_count}
 use Rattle.store.specs.Store.{Store, size, store, On}
 use Rattle.store.specs.Regions.{COUNTS, MARKS, GIVEN, INDEXES, FIRSTS, SIZES, CHILDREN, RAW-KEYS, RAW-ENTRIES, ORDER, NODES}
 use Rattle.store.specs.Words.{ENTRY}
 use Rattle.store.proofs.Stores.{length-store, in_words}
-use Rattle.rows.specs.Rowed.{constantsOf, rawRows, rawItem, rawIndex, RowRoom, Kids, KidsAt, KidsIn, RawAt, RawsReady, RawsReadyIn, IsBootstrapIn, Nth}
+use Rattle.rows.specs.Rowed.{constants_of, raw_rows, raw_item, raw_index, RowRoom, Kids, KidsAt, KidsIn, RawAt, RawsReady, RawsReadyIn, IsBootstrapIn, Nth}
 use Rattle.facts.proofs.Lists.{order}
 
 -- COUNTERS
@@ -21,96 +21,96 @@ counter p room c h = omega (arith, room.counts)
 
 -- NODES and their children
 
-module _ (p : List ℕ) (t : Store) (room : RowRoom p) (kids : KidsIn p t) (k : ℕ) (low : k < nodeCount t) where
-  pub kids-at : KidsAt p (t NODES) (t FIRSTS) (t SIZES) (t CHILDREN) k
+module _ (p : List ℕ) (t : Store) (room : RowRoom p) (kids : KidsIn p t) (k : ℕ) (low : k < node_count t) where
+  pub kids_at_lem : KidsAt p (t NODES) (t FIRSTS) (t SIZES) (t CHILDREN) k
   unfolding Kids
-  kids-at = kids k low
+  kids_at_lem = kids k low
 
-  pub node-place : k < size p NODES
-  node-place = omega (arith, kids-at.node, room.nodes)
+  pub node_place_lem : k < size p NODES
+  node_place_lem = omega (arith, kids_at_lem.node, room.nodes)
 
   module _ (e : ℕ) (is : e ≡ get_or (t NODES) k 0) where
     pub size-place : e < size p SIZES
-    size-place = omega (arith, kids-at.entry, room.sizes)
+    size-place = omega (arith, kids_at_lem.entry, room.sizes)
 
-    pub first-place : e < size p FIRSTS
-    first-place = omega (arith, kids-at.entry, room.firsts)
+    pub first_place_lem : e < size p FIRSTS
+    first_place_lem = omega (arith, kids_at_lem.entry, room.firsts)
 
   module _
       (first n i : ℕ) (from : first ≡ get_or (t FIRSTS) (get_or (t NODES) k 0) 0) (m : ℕ) (all : m ≡ get_or (t SIZES) (get_or (t NODES) k 0) 0) (even : m ≡ n)
       (less : i < n) where
-    pub kid-place : first + i < size p CHILDREN
-    kid-place = omega (arith, kids-at.room)
+    pub kid_place : first + i < size p CHILDREN
+    kid_place = omega (arith, kids_at_lem.room)
 
-    pub kid-add : (words : ℕ) → On p words → first + i < words
-    kid-add words on = omega (arith, (in_words p words CHILDREN (first + i) on kid-place).1)
+    pub kid_add : (words : ℕ) → On p words → first + i < words
+    kid_add words on = omega (arith, (in_words p words CHILDREN (first + i) on kid_place).1)
 
-    pub kid-small : (x : ℕ) → x ≡ get_or (t CHILDREN) (first + i) 0 → x < ENTRY + size p GIVEN
-    kid-small x q =
+    pub kid_small : (x : ℕ) → x ≡ get_or (t CHILDREN) (first + i) 0 → x < ENTRY + size p GIVEN
+    kid_small x q =
         subst
         (λ (y : ℕ). y < ENTRY + size p GIVEN)
         (sym (q ∙ ap (λ (a : ℕ). get_or (t CHILDREN) (a + i) 0) from))
-        (kids-at.kids i (omega arith))
+        (kids_at_lem.kids i (omega arith))
 
 -- BOOTSTRAPS
 
-module _ (p w : List ℕ) (room : RowRoom p) (k : ℕ) (is : IsBootstrapIn p (store p w) k) (e n : ℕ) (node : e ≡ get_or (store p w NODES) k 0) (all : n ≡ constantsOf p) where
-  pub boot-behind : n ≤ e
-  boot-behind = omega (arith, is.behind)
+module _ (p w : List ℕ) (room : RowRoom p) (k : ℕ) (is : IsBootstrapIn p (store p w) k) (e n : ℕ) (node : e ≡ get_or (store p w NODES) k 0) (all : n ≡ constants_of p) where
+  pub boot_behind : n ≤ e
+  boot_behind = omega (arith, is.behind)
 
-  pub boot-place : e - n < size p INDEXES
-  boot-place = rw (node, all) (omega (arith, is.inside, length-store p w INDEXES))
+  pub boot_place : e - n < size p INDEXES
+  boot_place = rw (node, all) (omega (arith, is.inside, length-store p w INDEXES))
 
 -- RAW BOOTSTRAPS
 
 module _ (p : List ℕ) (t : Store) (ready : RawsReadyIn p t) where
-  pub raws-held : heldCount t ≤ rawCount t
+  pub raws_held : held_count t ≤ raw_count t
   unfolding RawsReady
-  raws-held = ready.0
+  raws_held = ready.0
 
-  pub raw_at : (i : ℕ) → i < rawRows t → RawAt p (t MARKS) (t RAW-KEYS) (t RAW-ENTRIES) (t ORDER) (heldCount t) (nodeCount t) i
+  pub raw_at : (i : ℕ) → i < raw_rows t → RawAt p (t MARKS) (t RAW-KEYS) (t RAW-ENTRIES) (t ORDER) (held_count t) (node_count t) i
   unfolding RawsReady
   raw_at = ready.1
 
-  pub raw-low : (i : ℕ) → i < rawRows t → rawIndex t i < 65535
-  raw-low i h = omega (arith, (raw_at i h).high, (raw_at i h).low)
+  pub raw_low_lem : (i : ℕ) → i < raw_rows t → raw_index t i < 65535
+  raw_low_lem i h = omega (arith, (raw_at i h).high, (raw_at i h).low)
 
-  pub raw-rise : (i j : ℕ) → i < j → j < rawRows t → rawIndex t i < rawIndex t j
+  pub raw_rise : (i j : ℕ) → i < j → j < raw_rows t → raw_index t i < raw_index t j
   unfolding RawsReady
-  raw-rise i j l h = omega (arith, ready.2 i j l h, (raw_at i (omega arith)).low)
+  raw_rise i j l h = omega (arith, ready.2 i j l h, (raw_at i (omega arith)).low)
 
-  raw-far : (i : ℕ) → i < rawRows t → i ≤ rawIndex t i
-  raw-far zero h = omega arith
-  raw-far (suc i) h = omega (arith, raw-far i (omega arith), raw-rise i (suc i) (omega arith) h)
+  raw_far : (i : ℕ) → i < raw_rows t → i ≤ raw_index t i
+  raw_far zero h = omega arith
+  raw_far (suc i) h = omega (arith, raw_far i (omega arith), raw_rise i (suc i) (omega arith) h)
 
   -- the indexes rise, so that there are few
-  pub raws-few : rawRows t ≤ 65535
-  raws-few =
+  pub raws_few : raw_rows t ≤ 65535
+  raws_few =
       ⊎_elim
-      (λ (l : 0 < rawRows t). omega (arith, raw-far (rawRows t - 1) (omega arith), raw-low (rawRows t - 1) (omega arith)))
-      (λ (l : rawRows t ≤ 0). omega arith)
-      (order 0 (rawRows t))
+      (λ (l : 0 < raw_rows t). omega (arith, raw_far (raw_rows t - 1) (omega arith), raw_low_lem (raw_rows t - 1) (omega arith)))
+      (λ (l : raw_rows t ≤ 0). omega arith)
+      (order 0 (raw_rows t))
 
-  module _ (i n : ℕ) (all : n ≡ rawRows t) where
-    pub nth_past : n ≤ i → Nth (rawIndex t) (rawRows t) i 65536
+  module _ (i n : ℕ) (all : n ≡ raw_rows t) where
+    pub nth_past : n ≤ i → Nth (raw_index t) (raw_rows t) i 65536
     nth_past h = record { there = λ l. absurd (omega arith); past = λ l. refl }
 
-    module _ (less : i < n) (held : ℕ) (from : held ≡ heldCount t) where
-      pub raw-there : (held + i < size p ORDER) × (get_or (t ORDER) (held + i) 0 < size p RAW-KEYS)
-      raw-there = rw from ((raw_at i (omega arith)).place, (raw_at i (omega arith)).item)
+    module _ (less : i < n) (held : ℕ) (from : held ≡ held_count t) where
+      pub raw_there_lem : (held + i < size p ORDER) × (get_or (t ORDER) (held + i) 0 < size p RAW-KEYS)
+      raw_there_lem = rw from ((raw_at i (omega arith)).place, (raw_at i (omega arith)).item)
 
-      pub raw-entry-there : (held + i < size p ORDER) × (get_or (t ORDER) (held + i) 0 < size p RAW-ENTRIES)
-      raw-entry-there = rw from ((raw_at i (omega arith)).place, (raw_at i (omega arith)).there)
+      pub raw_entry_there : (held + i < size p ORDER) × (get_or (t ORDER) (held + i) 0 < size p RAW-ENTRIES)
+      raw_entry_there = rw from ((raw_at i (omega arith)).place, (raw_at i (omega arith)).there)
 
-      pub raw-add : (words : ℕ) → On p words → held + i < words
-      raw-add words on = omega (arith, (in_words p words ORDER (held + i) on raw-there.0).1)
+      pub raw_add : (words : ℕ) → On p words → held + i < words
+      raw_add words on = omega (arith, (in_words p words ORDER (held + i) on raw_there_lem.0).1)
 
       module _ (key : ℕ) (is : key ≡ get_or (t RAW-KEYS) (get_or (t ORDER) (held + i) 0) 0) where
-        key-is : key ≡ get_or (t RAW-KEYS) (rawItem t i) 0
-        key-is = is ∙ ap (λ (h : ℕ). get_or (t RAW-KEYS) (get_or (t ORDER) (h + i) 0) 0) from
+        key_is : key ≡ get_or (t RAW-KEYS) (raw_item t i) 0
+        key_is = is ∙ ap (λ (h : ℕ). get_or (t RAW-KEYS) (get_or (t ORDER) (h + i) 0) 0) from
 
-        pub key-high : ENTRY ≤ key
-        key-high = omega (arith, key-is, (raw_at i (omega arith)).low)
+        pub key_high : ENTRY ≤ key
+        key_high = omega (arith, key_is, (raw_at i (omega arith)).low)
 
-        pub nth-there : Nth (rawIndex t) (rawRows t) i (key - ENTRY)
-        nth-there = record { there = λ l. ap (λ (x : ℕ). x - ENTRY) key-is; past = λ l. absurd (omega arith) }
+        pub nth_there : Nth (raw_index t) (raw_rows t) i (key - ENTRY)
+        nth_there = record { there = λ l. ap (λ (x : ℕ). x - ENTRY) key_is; past = λ l. absurd (omega arith) }

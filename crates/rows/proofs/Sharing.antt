@@ -29,11 +29,11 @@ module _
   abbrev indexes' : List ℕ
   indexes' = set indexes (e - b.constants) shared
 
-  word-other : (d : ℕ) → (d - b.constants ≡ e - b.constants → ⊥) → word_of b indexes' d ≡ word_of b indexes d
-  word-other d h = get_or-set_other indexes (e - b.constants) (d - b.constants) shared 0 h
+  word_other : (d : ℕ) → (d - b.constants ≡ e - b.constants → ⊥) → word_of b indexes' d ≡ word_of b indexes d
+  word_other d h = get_or-set_other indexes (e - b.constants) (d - b.constants) shared 0 h
 
-  pub word-shared : word_of b indexes' e ≡ shared
-  word-shared = get_or-set_same indexes (e - b.constants) shared 0 is.inside
+  pub word_shared : word_of b indexes' e ≡ shared
+  word_shared = get_or-set_same indexes (e - b.constants) shared 0 is.inside
 
   -- only item j has its row
   only_one : (i : ℕ) → i < n → b.row (entry_of b inline i) ≡ b.row e → i ≡ j
@@ -47,48 +47,48 @@ module _
       (order i j))
       (equal i j)
 
-  word-old : (i : ℕ) → i < n → word_of b indexes' (entry_of b inline i) ≡ word_of b indexes (entry_of b inline i)
-  word-old i l =
+  word_old : (i : ℕ) → i < n → word_of b indexes' (entry_of b inline i) ≡ word_of b indexes (entry_of b inline i)
+  word_old i l =
       ⊎_elim
       (λ (z : entry_of b inline i - b.constants ≡ e - b.constants).
       let q : entry_of b inline i ≡ e = omega (arith, (g.nodes i l).behind, is.behind) in
       let y : i ≡ j = only_one i l (ap b.row q) in
-      ap (λ (x : ℕ). word_of b indexes' x) q ∙ word-shared ∙ ap (λ (x : ℕ). word_of b indexes (entry_of b inline x)) (sym y))
-      (word-other (entry_of b inline i))
+      ap (λ (x : ℕ). word_of b indexes' x) q ∙ word_shared ∙ ap (λ (x : ℕ). word_of b indexes (entry_of b inline x)) (sym y))
+      (word_other (entry_of b inline i))
       (equal (entry_of b inline i - b.constants) (e - b.constants))
 
-  items-same : backwards (item_of b indexes' inline) n ≡ backwards (item_of b indexes inline) n
-  items-same =
+  items_same : backwards (item_of b indexes' inline) n ≡ backwards (item_of b indexes inline) n
+  items_same =
       backwards-same (item_of b indexes' inline) (item_of b indexes inline) n
-      (λ i l. ap (λ (x : ℕ). (b.row (entry_of b inline i), x - 1)) (word-old i l))
+      (λ i l. ap (λ (x : ℕ). (b.row (entry_of b inline i), x - 1)) (word_old i l))
 
   pub index-shared : index_of (b.row e) (backwards (item_of b indexes inline) n) ≡ some (shared - 1)
   index-shared = index-some (b.row e) (item_of b indexes inline) n j less same (λ i a l q. g.unlike j i a l (same ∙ sym q))
 
-  pub still-stays : (d : ℕ) → b.constants ≤ d → 0 < word_of b indexes d → word_of b indexes' d ≡ word_of b indexes d
-  still-stays d low there =
+  pub still_stays : (d : ℕ) → b.constants ≤ d → 0 < word_of b indexes d → word_of b indexes' d ≡ word_of b indexes d
+  still_stays d low there =
       ⊎_elim
       (λ (z : d - b.constants ≡ e - b.constants).
       let q : d ≡ e = omega (arith, is.behind) in
       let y : shared - 1 ≡ word_of b indexes d - 1 = some_inj (sym index-shared ∙ ap (λ (x : ℕ). index_of (b.row x) (backwards (item_of b indexes inline) n)) (sym q) ∙ g.has d low there) in
-      ap (λ (x : ℕ). word_of b indexes' x) q ∙ word-shared ∙ omega (arith, g.low j less))
-      (word-other d)
+      ap (λ (x : ℕ). word_of b indexes' x) q ∙ word_shared ∙ omega (arith, g.low j less))
+      (word_other d)
       (equal (d - b.constants) (e - b.constants))
 
-  has-still :
+  has_still :
       (d : ℕ) → b.constants ≤ d → 0 < word_of b indexes' d →
       index_of (b.row d) (backwards (item_of b indexes' inline) n) ≡ some (word_of b indexes' d - 1)
-  has-still d low word =
-      rw items-same
+  has_still d low word =
+      rw items_same
       (⊎_elim
       (λ (z : d - b.constants ≡ e - b.constants).
       let q : d ≡ e = omega (arith, is.behind) in
-      rw (q, word-shared) index-shared)
-      (λ (z : d - b.constants ≡ e - b.constants → ⊥). rw (word-other d z) (g.has d low (rw (word-other d z) at word)))
+      rw (q, word_shared) index-shared)
+      (λ (z : d - b.constants ≡ e - b.constants → ⊥). rw (word_other d z) (g.has d low (rw (word_other d z) at word)))
       (equal (d - b.constants) (e - b.constants)))
 
-  inlined-still : Inlined b indexes' inline heads links count n
-  inlined-still =
+  inlined_still : Inlined b indexes' inline heads links count n
+  inlined_still =
       record {
         nodes =
             λ i l.
@@ -96,28 +96,28 @@ module _
             record { made = h.made; behind = h.behind; inside = omega (arith, h.inside, length-set indexes (e - b.constants) shared) };
         chains = g.chains;
         unlike = g.unlike;
-        rise = λ i i' l l'. rw (word-old i (omega arith), word-old i' l') (g.rise i i' l l');
-        low = λ i l. rw (word-old i l) (g.low i l);
-        high = λ i l. rw (word-old i l) (g.high i l);
+        rise = λ i i' l l'. rw (word_old i (omega arith), word_old i' l') (g.rise i i' l l');
+        low = λ i l. rw (word_old i l) (g.low i l);
+        high = λ i l. rw (word_old i l) (g.high i l);
         few = omega (arith, g.few, filled_keeps indexes (e - b.constants) shared (g.low j less));
-        has = has-still;
+        has = has_still;
       }
 
-  pub words-still : RowWords b indexes' inline heads links count wrote n
-  words-still = record { inlined = inlined-still; few = words.few; low = words.low; behind = words.behind; ahead = words.ahead }
+  pub words_still : RowWords b indexes' inline heads links count wrote n
+  words_still = record { inlined = inlined_still; few = words.few; low = words.low; behind = words.behind; ahead = words.ahead }
 
-  pub rows-still : (rows : Rows) → Rowed b indexes inline heads links count wrote n rows → Rowed b indexes' inline heads links count wrote n rows
-  rows-still rows r =
+  pub rows_still : (rows : Rows) → Rowed b indexes inline heads links count wrote n rows → Rowed b indexes' inline heads links count wrote n rows
+  rows_still rows r =
       record {
-        words = words-still;
-        items = r.items ∙ sym items-same;
+        words = words_still;
+        items = r.items ∙ sym items_same;
         waiting = r.waiting;
         written = r.written;
-        inlines = λ i h. rw (word-old i h) (r.inlines i h);
+        inlines = λ i h. rw (word_old i h) (r.inlines i h);
         stands =
             λ i h.
             ⊎_elim
-            (λ s. inl (s.0, s.1, rw (word-old s.0 s.1) s.2, s.3))
+            (λ s. inl (s.0, s.1, rw (word_old s.0 s.1) s.2, s.3))
             (λ s. inr s)
             (r.stands i h);
       }

@@ -10,7 +10,7 @@ use Rattle.store.specs.Store.{Store}
 use Rattle.store.specs.Regions.{INDEXES, ROW-HEADS, ROW-LINKS, INLINE, Work}
 use Rattle.store.proofs.Bounds.{work-small, work-heads}
 use Rattle.store.proofs.Laying.{work-sizes}
-use Rattle.rows.specs.Rowed.{backwards, Base, RowWords, Rowed, rowCount, writtenCount, inlineCount, rawRows, baseIn, RowedIn, RowRoom}
+use Rattle.rows.specs.Rowed.{backwards, Base, RowWords, Rowed, row_count, written_count, inline_count, raw_rows, base_in, RowedIn, RowRoom}
 
 -- the work of a job has room
 pub row_room : (s p : List ℕ) → Work s p → RowRoom p
@@ -23,7 +23,7 @@ row_room s p work =
       indexes = omega (arith, z.indexes, z.marks);
       few = omega (arith, z.indexes, b.bootstraps);
       entries = omega (arith, z.marks, b.constants, b.bootstraps);
-      links = omega (arith, z.indexes, z.row-links);
+      links = omega (arith, z.indexes, z.row_links);
       inline = omega (arith, z.indexes, z.inline);
       given = omega (arith, z.marks, z.given);
       firsts = omega (arith, z.marks, z.firsts);
@@ -54,10 +54,10 @@ module _ (b : Base) (indexes inline heads links : List ℕ) (none : (i : ℕ) �
         ahead = λ i a l. omega arith;
       }
 
-  abbrev waitingOnly : Rows
-  waitingOnly = record { written = []; waiting = from b.raw 0 b.raws; inline = [] }
+  abbrev waiting_only : Rows
+  waiting_only = record { written = []; waiting = from b.raw 0 b.raws; inline = [] }
 
-  no_rows : Rowed b indexes inline heads links 0 0 0 waitingOnly
+  no_rows : Rowed b indexes inline heads links 0 0 0 waiting_only
   unfolding backwards
   no_rows =
       let z : b.raws - 0 ≡ b.raws = omega arith in
@@ -71,8 +71,8 @@ module _ (b : Base) (indexes inline heads links : List ℕ) (none : (i : ℕ) �
       }
 
 -- all raw rows wait
-pub rows-begin :
+pub rows_begin :
     (p : List ℕ) (t : Store) → ((i : ℕ) → get_or (t INDEXES) i 0 ≡ 0) → ((k : ℕ) → get_or (t ROW-HEADS) k 0 ≡ 0) →
-    rowCount t ≡ 0 → writtenCount t ≡ 0 → inlineCount t ≡ 0 →
-    RowedIn p (record { written = []; waiting = from (baseIn p t).raw 0 (rawRows t); inline = [] }) t
-rows-begin p t none empty r w n = rw (r, w, n) (no_rows (baseIn p t) (t INDEXES) (t INLINE) (t ROW-HEADS) (t ROW-LINKS) none empty)
+    row_count t ≡ 0 → written_count t ≡ 0 → inline_count t ≡ 0 →
+    RowedIn p (record { written = []; waiting = from (base_in p t).raw 0 (raw_rows t); inline = [] }) t
+rows_begin p t none empty r w n = rw (r, w, n) (no_rows (base_in p t) (t INDEXES) (t INLINE) (t ROW-HEADS) (t ROW-LINKS) none empty)

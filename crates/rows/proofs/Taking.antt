@@ -9,10 +9,10 @@ use native.Mathlib.Omega.{arith}
 use lib.ListN.{length, get_or, set, length-append, length-set}
 use lib.Seq.{get_or-set_same, get_or-set_other}
 use Rattle.definition.specs.Building.{Rows, index_of}
-use Rattle.facts.proofs.Lists.{none≢some, found-append, found-seam, equal, order}
+use Rattle.facts.proofs.Lists.{none≢some, found_append, found_seam, equal, order}
 use Rattle.store.specs.Chains.{head_of}
-use Rattle.store.proofs.Walking.{chains-more}
-use Rattle.rows.specs.Rowed.{hashRow, backwards, Base, entry_of, word_of, item_of, IsBootstrap, Inlined, RowWords, Rowed}
+use Rattle.store.proofs.Walking.{chains_more}
+use Rattle.rows.specs.Rowed.{hash_row, backwards, Base, entry_of, word_of, item_of, IsBootstrap, Inlined, RowWords, Rowed}
 use Rattle.rows.proofs.Listing.{backwards-same, index-here, index-later, index-none, filled_more, filled-room}
 
 module _
@@ -34,10 +34,10 @@ module _
       (λ (l : word_of b indexes e ≤ 0). omega arith)
       (order 0 (word_of b indexes e))
 
-  pub inline-room : n < length indexes
-  inline-room = omega (arith, g.few, filled-room indexes (e - b.constants) is.inside no_index)
+  pub inline_room_lem : n < length indexes
+  inline_room_lem = omega (arith, g.few, filled-room indexes (e - b.constants) is.inside no_index)
 
-  module _ (space : n < length inline) (link : n < length links) (head : ℕ) (at : head ≡ head_of b.heads (hashRow (b.row e))) (there : head < length heads) where
+  module _ (space : n < length inline) (link : n < length links) (head : ℕ) (at : head ≡ head_of b.heads (hash_row (b.row e))) (there : head < length heads) where
     abbrev indexes' : List ℕ
     indexes' = set indexes (e - b.constants) (count + 1)
 
@@ -50,37 +50,37 @@ module _
     entry_old : (i : ℕ) → i < n → entry_of b inline' i ≡ entry_of b inline i
     entry_old i l = ap (λ (x : ℕ). get_or b.nodes x 0) (get_or-set_other inline n i k 0 (λ z. omega arith))
 
-    word-new : word_of b indexes' e ≡ count + 1
-    word-new = get_or-set_same indexes (e - b.constants) (count + 1) 0 is.inside
+    word_new : word_of b indexes' e ≡ count + 1
+    word_new = get_or-set_same indexes (e - b.constants) (count + 1) 0 is.inside
 
-    word-other : (d : ℕ) → (d - b.constants ≡ e - b.constants → ⊥) → word_of b indexes' d ≡ word_of b indexes d
-    word-other d h = get_or-set_other indexes (e - b.constants) (d - b.constants) (count + 1) 0 h
+    word_other : (d : ℕ) → (d - b.constants ≡ e - b.constants → ⊥) → word_of b indexes' d ≡ word_of b indexes d
+    word_other d h = get_or-set_other indexes (e - b.constants) (d - b.constants) (count + 1) 0 h
 
-    word-old : (i : ℕ) → i < n → word_of b indexes' (entry_of b inline i) ≡ word_of b indexes (entry_of b inline i)
-    word-old i l =
-        word-other (entry_of b inline i) λ z.
+    word_old : (i : ℕ) → i < n → word_of b indexes' (entry_of b inline i) ≡ word_of b indexes (entry_of b inline i)
+    word_old i l =
+        word_other (entry_of b inline i) λ z.
         let q : entry_of b inline i ≡ e = omega (arith, (g.nodes i l).behind, is.behind) in
         new i l (ap b.row q)
 
-    pub word-stays : (d : ℕ) → b.constants ≤ d → 0 < word_of b indexes d → word_of b indexes' d ≡ word_of b indexes d
-    word-stays d low there =
-        word-other d λ z.
+    pub word_stays : (d : ℕ) → b.constants ≤ d → 0 < word_of b indexes d → word_of b indexes' d ≡ word_of b indexes d
+    word_stays d low there =
+        word_other d λ z.
         let q : d ≡ e = omega (arith, is.behind) in
         let y : word_of b indexes d ≡ 0 = ap (λ (x : ℕ). word_of b indexes x) q ∙ no_index in
         omega arith
 
-    item-old : (i : ℕ) → i < n → item_of b indexes' inline' i ≡ item_of b indexes inline i
-    item-old i l = rw (entry_old i l, word-old i l)
+    item_old : (i : ℕ) → i < n → item_of b indexes' inline' i ≡ item_of b indexes inline i
+    item_old i l = rw (entry_old i l, word_old i l)
 
-    item-new : item_of b indexes' inline' n ≡ (b.row e, count)
-    item-new = let z : count + 1 - 1 ≡ count = omega arith in rw (entry_new, word-new, z)
+    item_new : item_of b indexes' inline' n ≡ (b.row e, count)
+    item_new = let z : count + 1 - 1 ≡ count = omega arith in rw (entry_new, word_new, z)
 
     pub items_more : backwards (item_of b indexes' inline') (n + 1) ≡ (b.row e, count) ∷ backwards (item_of b indexes inline) n
     unfolding backwards
-    items_more = rw (add-one n, item-new, backwards-same (item_of b indexes' inline') (item_of b indexes inline) n item-old)
+    items_more = rw (add-one n, item_new, backwards-same (item_of b indexes' inline') (item_of b indexes inline) n item_old)
 
-    boot-more : (x : ℕ) → IsBootstrap b indexes x → IsBootstrap b indexes' x
-    boot-more x h = record { made = h.made; behind = h.behind; inside = omega (arith, h.inside, length-set indexes (e - b.constants) (count + 1)) }
+    boot_more : (x : ℕ) → IsBootstrap b indexes x → IsBootstrap b indexes' x
+    boot_more x h = record { made = h.made; behind = h.behind; inside = omega (arith, h.inside, length-set indexes (e - b.constants) (count + 1)) }
 
     has_more :
         (d : ℕ) → b.constants ≤ d → 0 < word_of b indexes' d →
@@ -91,35 +91,35 @@ module _
         (λ (z : d - b.constants ≡ e - b.constants).
         let q : d ≡ e = omega (arith, is.behind) in
         let y : count + 1 - 1 ≡ count = omega arith in
-        rw (q, word-new, y) (index-here (b.row e) (b.row e) count (backwards (item_of b indexes inline) n) refl))
+        rw (q, word_new, y) (index-here (b.row e) (b.row e) count (backwards (item_of b indexes inline) n) refl))
         (λ (z : d - b.constants ≡ e - b.constants → ⊥).
-        let had = g.has d low (rw (word-other d z) at word) in
-        rw (word-other d z)
+        let had = g.has d low (rw (word_other d z) at word) in
+        rw (word_other d z)
         (index-later (b.row d) (b.row e) count (backwards (item_of b indexes inline) n)
         (λ q. none≢some (sym none_has ∙ (rw q at had)))
         ∙ had))
         (equal (d - b.constants) (e - b.constants)))
 
-    pub inlined-more : Inlined b indexes' inline' (set heads head (n + 1)) (set links n (get_or heads head 0)) (count + 1) (n + 1)
-    inlined-more =
+    pub inlined_more : Inlined b indexes' inline' (set heads head (n + 1)) (set links n (get_or heads head 0)) (count + 1) (n + 1)
+    inlined_more =
         record {
           nodes =
               λ i l.
               ⊎_elim
-              (λ (h : i < n). rw (get_or-set_other inline n i k 0 (λ z. omega arith)) (boot-more (get_or inline i 0) (g.nodes i h)))
-              (λ (h : n ≤ i). let z : i ≡ n = omega arith in rw (z, get_or-set_same inline n k 0 space) (boot-more k is))
+              (λ (h : i < n). rw (get_or-set_other inline n i k 0 (λ z. omega arith)) (boot_more (get_or inline i 0) (g.nodes i h)))
+              (λ (h : n ≤ i). let z : i ≡ n = omega arith in rw (z, get_or-set_same inline n k 0 space) (boot_more k is))
               (order i n);
           chains =
-              chains-more
-              (λ i. head_of b.heads (hashRow (b.row (entry_of b inline i))))
-              (λ i. head_of b.heads (hashRow (b.row (entry_of b inline' i))))
+              chains_more
+              (λ i. head_of b.heads (hash_row (b.row (entry_of b inline i))))
+              (λ i. head_of b.heads (hash_row (b.row (entry_of b inline' i))))
               heads
               links
               n
               head
               g.chains
-              (ap (λ x. head_of b.heads (hashRow (b.row x))) entry_new ∙ sym at)
-              (λ i l. ap (λ x. head_of b.heads (hashRow (b.row x))) (entry_old i l))
+              (ap (λ x. head_of b.heads (hash_row (b.row x))) entry_new ∙ sym at)
+              (λ i l. ap (λ x. head_of b.heads (hash_row (b.row x))) (entry_old i l))
               there
               link;
           unlike =
@@ -131,22 +131,22 @@ module _
           rise =
               λ i j l m.
               ⊎_elim
-              (λ (h : j < n). rw (entry_old i (omega arith), entry_old j h, word-old i (omega arith), word-old j h) (g.rise i j l h))
+              (λ (h : j < n). rw (entry_old i (omega arith), entry_old j h, word_old i (omega arith), word_old j h) (g.rise i j l h))
               (λ (h : n ≤ j).
               let z : j ≡ n = omega arith in
-              rw (z, entry_new, entry_old i (omega arith), word-old i (omega arith), word-new) (omega (arith, g.high i (omega arith))))
+              rw (z, entry_new, entry_old i (omega arith), word_old i (omega arith), word_new) (omega (arith, g.high i (omega arith))))
               (order j n);
           low =
               λ i l.
               ⊎_elim
-              (λ (h : i < n). rw (entry_old i h, word-old i h) (g.low i h))
-              (λ (h : n ≤ i). let z : i ≡ n = omega arith in rw (z, entry_new, word-new) (omega arith))
+              (λ (h : i < n). rw (entry_old i h, word_old i h) (g.low i h))
+              (λ (h : n ≤ i). let z : i ≡ n = omega arith in rw (z, entry_new, word_new) (omega arith))
               (order i n);
           high =
               λ i l.
               ⊎_elim
-              (λ (h : i < n). rw (entry_old i h, word-old i h) (omega (arith, g.high i h)))
-              (λ (h : n ≤ i). let z : i ≡ n = omega arith in rw (z, entry_new, word-new) (omega arith))
+              (λ (h : i < n). rw (entry_old i h, word_old i h) (omega (arith, g.high i h)))
+              (λ (h : n ≤ i). let z : i ≡ n = omega arith in rw (z, entry_new, word_new) (omega arith))
               (order i n);
           few = omega (arith, g.few, filled_more indexes (e - b.constants) (count + 1) is.inside no_index (omega arith));
           has = has_more;
@@ -158,7 +158,7 @@ module _
       pub words_more : RowWords b indexes' inline' (set heads head (n + 1)) (set links n (get_or heads head 0)) (count + 1) wrote (n + 1)
       words_more =
           record {
-            inlined = inlined-more;
+            inlined = inlined_more;
             few = omega arith;
             low = words.low;
             behind = λ i l. omega (arith, words.behind i l);
@@ -182,11 +182,11 @@ module _
                 λ j h.
                 ⊎_elim
                 (λ (l : j < n).
-                rw (entry_old j l, word-old j l) (found-append rows.written (b.row e ∷ []) _ _ (r.inlines j l)))
+                rw (entry_old j l, word_old j l) (found_append rows.written (b.row e ∷ []) _ _ (r.inlines j l)))
                 (λ (l : n ≤ j).
                 let z : j ≡ n = omega arith in
                 let y : count + 1 - 1 ≡ length rows.written = omega (arith, r.written) in
-                rw (z, entry_new, word-new, y) (found-seam rows.written (b.row e) []))
+                rw (z, entry_new, word_new, y) (found_seam rows.written (b.row e) []))
                 (order j n);
             stands =
                 λ i h.
@@ -197,18 +197,18 @@ module _
                 inl (
                   s.0,
                   omega (arith, s.1),
-                  rw (entry_old s.0 s.1, word-old s.0 s.1) s.2,
-                  rw (entry_old s.0 s.1) (found-append rows.written (b.row e ∷ []) i _ s.3),
+                  rw (entry_old s.0 s.1, word_old s.0 s.1) s.2,
+                  rw (entry_old s.0 s.1) (found_append rows.written (b.row e ∷ []) i _ s.3),
                 ))
-                (λ s. inr (s.0, s.1, s.2, found-append rows.written (b.row e ∷ []) i _ s.3))
+                (λ s. inr (s.0, s.1, s.2, found_append rows.written (b.row e ∷ []) i _ s.3))
                 (r.stands i l))
                 (λ (l : count ≤ i).
                 let z : i ≡ length rows.written = omega (arith, r.written) in
                 inl (
                   n,
                   omega arith,
-                  rw (entry_new, word-new) (omega arith),
-                  rw (z, entry_new) (found-seam rows.written (b.row e) []),
+                  rw (entry_new, word_new) (omega arith),
+                  rw (z, entry_new) (found_seam rows.written (b.row e) []),
                 ))
                 (order i count);
           }

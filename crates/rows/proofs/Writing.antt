@@ -8,21 +8,21 @@ use native.Mathlib.Omega.{arith}
 use lib.ListN.{length, set, length-append, length-set}
 use lib.Seq.{get_or-set_same, get_or-set_other}
 use Rattle.definition.specs.Basics.{every, from}
-use Rattle.definition.specs.Building.{Rows, writeRaw}
-use Rattle.facts.proofs.Lists.{found-append, found-seam, equal, order}
-use Rattle.laws.proofs.building.RowsThatOccur.{write-next, write-stop}
+use Rattle.definition.specs.Building.{Rows, write_raw}
+use Rattle.facts.proofs.Lists.{found_append, found_seam, equal, order}
+use Rattle.laws.proofs.Building.RowsThatOccur.{write_next, write_stop}
 use Rattle.store.specs.Store.{Store, put, Kept}
 use Rattle.store.specs.Regions.{COUNTS, INDEXES, ROW-HEADS, ROW-LINKS, INLINE, ROW-COUNT, WRITTEN-COUNT, INLINE-COUNT}
 use Rattle.store.proofs.Keeping.{kept_put, kept_more}
-use Rattle.rows.specs.Rowed.{Base, Inlined, RowWords, Rowed, rowCount, writtenCount, inlineCount, rawRows, rawIndex, baseIn, RowWordsIn, RowedIn, RawsReadyIn, Nth, withRaws, SameBut, WroteRaws, written}
-use Rattle.rows.proofs.Reading.{raw-low, raw-rise}
-use Rattle.rows.proofs.Staying.{counters, same_set, base_same, words-in, rowed-in}
+use Rattle.rows.specs.Rowed.{Base, Inlined, RowWords, Rowed, row_count, written_count, inline_count, raw_rows, raw_index, base_in, RowWordsIn, RowedIn, RawsReadyIn, Nth, with_raws, SameBut, WroteRaws, written}
+use Rattle.rows.proofs.Reading.{raw_low_lem, raw_rise}
+use Rattle.rows.proofs.Staying.{counters, same_set, base_same, words_in, rowed_in}
 
 -- more rows have an index
-pub inlined-longer :
+pub inlined_longer :
     (b : Base) (indexes inline heads links : List ℕ) (count more n : ℕ) → count ≤ more → Inlined b indexes inline heads links count n →
     Inlined b indexes inline heads links more n
-inlined-longer b indexes inline heads links count more n h g =
+inlined_longer b indexes inline heads links count more n h g =
     record {
       nodes = g.nodes;
       chains = g.chains;
@@ -35,11 +35,11 @@ inlined-longer b indexes inline heads links count more n h g =
     }
 
 -- the same rows
-pub rowed-same :
+pub rowed_same :
     (b : Base) (indexes inline heads links : List ℕ) (count wrote n : ℕ) (rows rows' : Rows) →
     rows'.written ≡ rows.written → rows'.waiting ≡ rows.waiting → rows'.inline ≡ rows.inline →
     Rowed b indexes inline heads links count wrote n rows → Rowed b indexes inline heads links count wrote n rows'
-rowed-same b indexes inline heads links count wrote n rows rows' w a l g =
+rowed_same b indexes inline heads links count wrote n rows rows' w a l g =
     record {
       words = g.words;
       items = l ∙ g.items;
@@ -61,15 +61,15 @@ module _ (b : Base) (indexes inline heads links : List ℕ) (n : ℕ) where
   unfolding from
   waits wrote h = let e : b.raws - wrote ≡ suc (b.raws - (wrote + 1)) = omega arith in rw (e, add-one wrote)
 
-  waits-none : (wrote : ℕ) → b.raws ≤ wrote → from b.raw wrote (b.raws - wrote) ≡ []
+  waits_none : (wrote : ℕ) → b.raws ≤ wrote → from b.raw wrote (b.raws - wrote) ≡ []
   unfolding from
-  waits-none wrote h = let e : b.raws - wrote ≡ 0 = omega arith in rw e
+  waits_none wrote h = let e : b.raws - wrote ≡ 0 = omega arith in rw e
 
   module _ (count wrote : ℕ) (less : wrote < b.raws) (next : (b.raw wrote).0 ≡ count) (low : count < 65535) (rise : (i j : ℕ) → i < j → j < b.raws → (b.raw i).0 < (b.raw j).0) where
-    pub words-next : Words count wrote → Words (count + 1) (wrote + 1)
-    words-next g =
+    pub words_next : Words count wrote → Words (count + 1) (wrote + 1)
+    words_next g =
         record {
-          inlined = inlined-longer b indexes inline heads links count (count + 1) n (omega arith) g.inlined;
+          inlined = inlined_longer b indexes inline heads links count (count + 1) n (omega arith) g.inlined;
           few = omega arith;
           low = omega arith;
           behind =
@@ -88,40 +88,40 @@ module _ (b : Base) (indexes inline heads links : List ℕ) (n : ℕ) where
     pub rows_next : (rows : Rows) → These count wrote rows → These (count + 1) (wrote + 1) (longer rows)
     rows_next rows g =
         record {
-          words = words-next g.words;
+          words = words_next g.words;
           items = g.items;
           waiting = refl;
           written = length-append rows.written ((b.raw wrote).1 ∷ []) ∙ omega (arith, g.written);
-          inlines = λ j h. found-append rows.written ((b.raw wrote).1 ∷ []) _ _ (g.inlines j h);
+          inlines = λ j h. found_append rows.written ((b.raw wrote).1 ∷ []) _ _ (g.inlines j h);
           stands =
               λ i h.
               ⊎_elim
               (λ (l : i < count).
               ⊎_elim
-              (λ s. inl (s.0, s.1, s.2, found-append rows.written ((b.raw wrote).1 ∷ []) i _ s.3))
-              (λ s. inr (s.0, omega (arith, s.1), s.2, found-append rows.written ((b.raw wrote).1 ∷ []) i _ s.3))
+              (λ s. inl (s.0, s.1, s.2, found_append rows.written ((b.raw wrote).1 ∷ []) i _ s.3))
+              (λ s. inr (s.0, omega (arith, s.1), s.2, found_append rows.written ((b.raw wrote).1 ∷ []) i _ s.3))
               (g.stands i l))
               (λ (l : count ≤ i).
               let z : i ≡ length rows.written = omega (arith, g.written) in
-              inr (wrote, omega arith, omega arith, rw z (found-seam rows.written (b.raw wrote).1 [])))
+              inr (wrote, omega arith, omega arith, rw z (found_seam rows.written (b.raw wrote).1 [])))
               (order i count);
         }
 
-    pub wrote-next : (rows : Rows) → These count wrote rows → writeRaw rows.written rows.waiting ≡ writeRaw (longer rows).written (longer rows).waiting
-    wrote-next rows g =
+    pub wrote_next : (rows : Rows) → These count wrote rows → write_raw rows.written rows.waiting ≡ write_raw (longer rows).written (longer rows).waiting
+    wrote_next rows g =
         rw (g.waiting, waits wrote less)
-        (write-next rows.written (b.raw wrote) (from b.raw (wrote + 1) (b.raws - (wrote + 1))) (next ∙ sym g.written))
+        (write_next rows.written (b.raw wrote) (from b.raw (wrote + 1) (b.raws - (wrote + 1))) (next ∙ sym g.written))
 
-  pub wrote-stop :
+  pub wrote_stop :
       (count wrote : ℕ) → (wrote < b.raws → (b.raw wrote).0 ≡ count → ⊥) → (rows : Rows) → These count wrote rows →
-      writeRaw rows.written rows.waiting ≡ (rows.written, rows.waiting)
-  unfolding writeRaw
-  wrote-stop count wrote stop rows g =
+      write_raw rows.written rows.waiting ≡ (rows.written, rows.waiting)
+  unfolding write_raw
+  wrote_stop count wrote stop rows g =
       ⊎_elim
       (λ (l : wrote < b.raws).
       rw (g.waiting, waits wrote l)
-      (write-stop rows.written (b.raw wrote) (from b.raw (wrote + 1) (b.raws - (wrote + 1))) (λ e. stop l (e ∙ g.written))))
-      (λ (l : b.raws ≤ wrote). rw (g.waiting, waits-none wrote l))
+      (write_stop rows.written (b.raw wrote) (from b.raw (wrote + 1) (b.raws - (wrote + 1))) (λ e. stop l (e ∙ g.written))))
+      (λ (l : b.raws ≤ wrote). rw (g.waiting, waits_none wrote l))
       (order wrote b.raws)
 
 -- WHAT THE LOOP KEEPS, from counts at its start
@@ -131,46 +131,46 @@ pub record Writing (b : Base) (indexes inline heads links : List ℕ) (n count�
       (rows : Rows) → Rowed b indexes inline heads links count₀ wrote₀ n rows →
       (rows' : Rows)
       × Rowed b indexes inline heads links count wrote n rows'
-      × (writeRaw rows.written rows.waiting ≡ writeRaw rows'.written rows'.waiting)
+      × (write_raw rows.written rows.waiting ≡ write_raw rows'.written rows'.waiting)
       × (rows.inline ≡ rows'.inline)
 
 abbrev pub WritingIn : List ℕ → Store → ℕ → ℕ → Type 0
 WritingIn p t count wrote =
-    Writing (baseIn p t) (t INDEXES) (t INLINE) (t ROW-HEADS) (t ROW-LINKS) (inlineCount t) (rowCount t) (writtenCount t) count wrote
+    Writing (base_in p t) (t INDEXES) (t INLINE) (t ROW-HEADS) (t ROW-LINKS) (inline_count t) (row_count t) (written_count t) count wrote
 
 module _ (p : List ℕ) (t : Store) where
-  pub writing-begin : RowWordsIn p t → (count wrote : ℕ) → count ≡ rowCount t → wrote ≡ writtenCount t → WritingIn p t count wrote
-  writing-begin g count wrote c w = rw (c, w) (record { words = g; rows = λ rows r. (rows, r, refl, refl) })
+  pub writing_begin : RowWordsIn p t → (count wrote : ℕ) → count ≡ row_count t → wrote ≡ written_count t → WritingIn p t count wrote
+  writing_begin g count wrote c w = rw (c, w) (record { words = g; rows = λ rows r. (rows, r, refl, refl) })
 
-  module _ (ready : RawsReadyIn p t) (count wrote : ℕ) (g : WritingIn p t count wrote) (r : ℕ) (nth : Nth (rawIndex t) (rawRows t) wrote r) where
+  module _ (ready : RawsReadyIn p t) (count wrote : ℕ) (g : WritingIn p t count wrote) (r : ℕ) (nth : Nth (raw_index t) (raw_rows t) wrote r) where
     module _ (is : r ≡ count) where
-      pub writing-less : wrote < rawRows t
-      writing-less =
+      pub writing_less : wrote < raw_rows t
+      writing_less =
           ⊎_elim
-          (λ (l : wrote < rawRows t). l)
-          (λ (l : rawRows t ≤ wrote). absurd (omega (arith, nth.past l, g.words.few)))
-          (order wrote (rawRows t))
+          (λ (l : wrote < raw_rows t). l)
+          (λ (l : raw_rows t ≤ wrote). absurd (omega (arith, nth.past l, g.words.few)))
+          (order wrote (raw_rows t))
 
-      index_is : rawIndex t wrote ≡ count
-      index_is = sym (nth.there writing-less) ∙ is
+      index_is : raw_index t wrote ≡ count
+      index_is = sym (nth.there writing_less) ∙ is
 
-      pub writing-low : count < 65535
-      writing-low = omega (arith, raw-low p t ready wrote writing-less, index_is)
+      pub writing_low : count < 65535
+      writing_low = omega (arith, raw_low_lem p t ready wrote writing_less, index_is)
 
-      pub writing-next : WritingIn p t (count + 1) (wrote + 1)
-      writing-next =
+      pub writing_next : WritingIn p t (count + 1) (wrote + 1)
+      writing_next =
           record {
             words =
-                words-next (baseIn p t) (t INDEXES) (t INLINE) (t ROW-HEADS) (t ROW-LINKS) (inlineCount t)
-                count wrote writing-less index_is writing-low (raw-rise p t ready) g.words;
+                words_next (base_in p t) (t INDEXES) (t INLINE) (t ROW-HEADS) (t ROW-LINKS) (inline_count t)
+                count wrote writing_less index_is writing_low (raw_rise p t ready) g.words;
             rows =
                 λ rows s.
                 let (rows', h, e, i) = g.rows rows s in (
                   _,
-                  rows_next (baseIn p t) (t INDEXES) (t INLINE) (t ROW-HEADS) (t ROW-LINKS) (inlineCount t)
-                      count wrote writing-less index_is writing-low (raw-rise p t ready) rows' h,
-                  e ∙ wrote-next (baseIn p t) (t INDEXES) (t INLINE) (t ROW-HEADS) (t ROW-LINKS) (inlineCount t)
-                      count wrote writing-less index_is writing-low (raw-rise p t ready) rows' h,
+                  rows_next (base_in p t) (t INDEXES) (t INLINE) (t ROW-HEADS) (t ROW-LINKS) (inline_count t)
+                      count wrote writing_less index_is writing_low (raw_rise p t ready) rows' h,
+                  e ∙ wrote_next (base_in p t) (t INDEXES) (t INLINE) (t ROW-HEADS) (t ROW-LINKS) (inline_count t)
+                      count wrote writing_less index_is writing_low (raw_rise p t ready) rows' h,
                   i,
                 );
           }
@@ -179,33 +179,33 @@ module _ (p : List ℕ) (t : Store) where
       abbrev after : Store
       after = put (put t COUNTS ROW-COUNT count) COUNTS WRITTEN-COUNT wrote
 
-      ended : wrote < rawRows t → rawIndex t wrote ≡ count → ⊥
+      ended : wrote < raw_rows t → raw_index t wrote ≡ count → ⊥
       ended l e = isn't (nth.there l ∙ e)
 
-      ahead : (i : ℕ) → wrote ≤ i → i < rawRows t → count < rawIndex t i
+      ahead : (i : ℕ) → wrote ≤ i → i < raw_rows t → count < raw_index t i
       ahead i a l =
-          let h : wrote < rawRows t = omega arith in
-          let low : count ≤ rawIndex t wrote = g.words.ahead wrote (omega arith) h in
+          let h : wrote < raw_rows t = omega arith in
+          let low : count ≤ raw_index t wrote = g.words.ahead wrote (omega arith) h in
           ⊎_elim
-          (λ (z : rawIndex t wrote ≡ count). absurd (ended h z))
-          (λ (z : rawIndex t wrote ≡ count → ⊥).
+          (λ (z : raw_index t wrote ≡ count). absurd (ended h z))
+          (λ (z : raw_index t wrote ≡ count → ⊥).
           ⊎_elim
           (λ (y : wrote ≡ i). rw (← y) (omega arith))
-          (λ (y : wrote ≡ i → ⊥). omega (arith, raw-rise p t ready wrote i (omega arith) l))
+          (λ (y : wrote ≡ i → ⊥). omega (arith, raw_rise p t ready wrote i (omega arith) l))
           (equal wrote i))
-          (equal (rawIndex t wrote) count)
+          (equal (raw_index t wrote) count)
 
-      counted : rowCount after ≡ count
+      counted : row_count after ≡ count
       counted =
           get_or-set_other (set (t COUNTS) ROW-COUNT count) WRITTEN-COUNT ROW-COUNT wrote 0 (λ z. omega arith)
           ∙ get_or-set_same (t COUNTS) ROW-COUNT count 0 (omega arith)
 
-      wrote-is : writtenCount after ≡ wrote
-      wrote-is =
+      wrote_is : written_count after ≡ wrote
+      wrote_is =
           get_or-set_same (set (t COUNTS) ROW-COUNT count) WRITTEN-COUNT wrote 0 (omega (arith, length-set (t COUNTS) ROW-COUNT count))
 
-      inline-is : inlineCount after ≡ inlineCount t
-      inline-is =
+      inline_is : inline_count after ≡ inline_count t
+      inline_is =
           get_or-set_other (set (t COUNTS) ROW-COUNT count) WRITTEN-COUNT INLINE-COUNT wrote 0 (λ z. omega arith)
           ∙ get_or-set_other (t COUNTS) ROW-COUNT INLINE-COUNT count 0 (λ z. omega arith)
 
@@ -224,38 +224,38 @@ module _ (p : List ℕ) (t : Store) where
           same_set counters (t COUNTS) (set (t COUNTS) ROW-COUNT count) WRITTEN-COUNT wrote refl
           (same_set counters (t COUNTS) (t COUNTS) ROW-COUNT count refl (λ c other. refl))
 
-      kept-all : Kept written t after
+      kept_all : Kept written t after
       unfolding every
-      kept-all = kept_more (COUNTS ∷ []) written t after refl kept
+      kept_all = kept_more (COUNTS ∷ []) written t after refl kept
 
-      rows-after : (rows : Rows) → RowedIn p rows t → RowedIn p (withRaws rows) after
-      rows-after rows s =
+      rows_after : (rows : Rows) → RowedIn p rows t → RowedIn p (with_raws rows) after
+      rows_after rows s =
           let (rows', h, e, i) = g.rows rows s in
-          let q : writeRaw rows.written rows.waiting ≡ (rows'.written, rows'.waiting) = e ∙ wrote-stop (baseIn p t) (t INDEXES) (t INLINE) (t ROW-HEADS) (t ROW-LINKS) (inlineCount t) count wrote ended rows' h in
-          rowed-in p t after kept-all same-all (t INDEXES) (t INLINE) (t ROW-HEADS) (t ROW-LINKS) count wrote (inlineCount t) refl refl refl refl counted wrote-is inline-is
-          (withRaws rows)
-          (rowed-same (baseIn p t) (t INDEXES) (t INLINE) (t ROW-HEADS) (t ROW-LINKS) count wrote (inlineCount t) rows' (withRaws rows)
+          let q : write_raw rows.written rows.waiting ≡ (rows'.written, rows'.waiting) = e ∙ wrote_stop (base_in p t) (t INDEXES) (t INLINE) (t ROW-HEADS) (t ROW-LINKS) (inline_count t) count wrote ended rows' h in
+          rowed_in p t after kept_all same-all (t INDEXES) (t INLINE) (t ROW-HEADS) (t ROW-LINKS) count wrote (inline_count t) refl refl refl refl counted wrote_is inline_is
+          (with_raws rows)
+          (rowed_same (base_in p t) (t INDEXES) (t INLINE) (t ROW-HEADS) (t ROW-LINKS) count wrote (inline_count t) rows' (with_raws rows)
           (ap (λ x. x.0) q)
           (ap (λ x. x.1) q)
           i
           h)
 
-      words-after : RowWordsIn p after
-      words-after =
-          words-in p t after kept-all same-all (t INDEXES) (t INLINE) (t ROW-HEADS) (t ROW-LINKS) count wrote (inlineCount t) refl refl refl refl counted wrote-is inline-is
+      words_after : RowWordsIn p after
+      words_after =
+          words_in p t after kept_all same-all (t INDEXES) (t INLINE) (t ROW-HEADS) (t ROW-LINKS) count wrote (inline_count t) refl refl refl refl counted wrote_is inline_is
           g.words
 
-      pub wrote-raws : WroteRaws p t after
-      wrote-raws =
+      pub wrote_raws : WroteRaws p t after
+      wrote_raws =
           record {
-            rows = rows-after;
-            words = words-after;
+            rows = rows_after;
+            words = words_after;
             stop =
                 λ i a l.
-                let z = base_same p t after kept-all same-all in
-                let y : rawRows after ≡ rawRows t = ap (λ b. b.raws) z in
-                let x : rawIndex after i ≡ rawIndex t i = ap (λ b. (b.raw i).0) z in
-                omega (arith, ahead i (omega (arith, wrote-is)) (omega arith), counted);
+                let z = base_same p t after kept_all same-all in
+                let y : raw_rows after ≡ raw_rows t = ap (λ b. b.raws) z in
+                let x : raw_index after i ≡ raw_index t i = ap (λ b. (b.raw i).0) z in
+                omega (arith, ahead i (omega (arith, wrote_is)) (omega arith), counted);
             counters = same;
             kept = kept;
           }

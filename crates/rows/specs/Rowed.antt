@@ -4,23 +4,23 @@ use Rattle.std.specs.Prelude.{Bool, true, false, cond, ◌&&◌, List, [], ◌�
 use Rattle.std.proofs.Math.Option.{some}
 use Rattle.std.proofs.Math.ListN.{get_elem?}
 use Rattle.definition.specs.Basics.{Result, good, bad, from}
-use Rattle.definition.specs.Building.{Row, Rows, writeRaw, index_of, fillHoles}
-use Rattle.interner.specs.Nodes.{hashWords, nodeCount}
-use Rattle.raws.specs.Raws.{rawCount, heldCount}
+use Rattle.definition.specs.Building.{Row, Rows, write_raw, index_of, fill_holes}
+use Rattle.interner.specs.Nodes.{hash_words, node_count}
+use Rattle.raws.specs.Raws.{raw_count, held_count}
 use Rattle.store.specs.Store.{Store, size, put, among, Kept}
 use Rattle.store.specs.Chains.{head_of, Chains, Heads, linked}
 use Rattle.store.specs.Regions.{COUNTS, MARKS, GIVEN, INDEXES, ROW-HEADS, ROW-LINKS, FIRSTS, SIZES, CHILDREN, RAW-KEYS, RAW-ENTRIES, ORDER, NODES, INLINE, ROW-COUNT, WRITTEN-COUNT, INLINE-COUNT}
-use Rattle.store.specs.Words.{ENTRY, cut, childSlot}
+use Rattle.store.specs.Words.{ENTRY, cut, child_slot}
 
 -- ROWS
 
 -- the row of an entry: its children's slots
 unfoldable pub row_at : List ℕ → List ℕ → List ℕ → List ℕ → ℕ → Row
-row_at given children firsts sizes e = map (childSlot given) (cut children (get_or firsts e 0) (get_or sizes e 0))
+row_at given children firsts sizes e = map (child_slot given) (cut children (get_or firsts e 0) (get_or sizes e 0))
 
 -- any function of what is compared will do
-unfoldable pub hashRow : Row → ℕ
-hashRow row = hashWords (length row) row
+unfoldable pub hash_row : Row → ℕ
+hash_row row = hash_words (length row) row
 
 -- f (n - 1), .., f 1, f 0
 unfoldable pub backwards : {A : Type 0} → (ℕ → A) → ℕ → List A
@@ -62,7 +62,7 @@ pub record IsBootstrap (b : Base) (indexes : List ℕ) (k : ℕ) : Type 0 where
 -- the first n of `inline` are bootstrap nodes, no two with the same row, each in the chain of its row, and took indexes below `count`
 pub record Inlined (b : Base) (indexes inline heads links : List ℕ) (count n : ℕ) : Type 0 where
   pub nodes : (i : ℕ) → i < n → IsBootstrap b indexes (get_or inline i 0)
-  pub chains : Chains (λ i. head_of b.heads (hashRow (b.row (entry_of b inline i)))) heads links n
+  pub chains : Chains (λ i. head_of b.heads (hash_row (b.row (entry_of b inline i)))) heads links n
   pub unlike : (i j : ℕ) → i < j → j < n → b.row (entry_of b inline i) ≡ b.row (entry_of b inline j) → ⊥
   pub rise : (i j : ℕ) → i < j → j < n → word_of b indexes (entry_of b inline i) < word_of b indexes (entry_of b inline j)
   pub low : (i : ℕ) → i < n → 0 < word_of b indexes (entry_of b inline i)
@@ -98,64 +98,64 @@ pub record Rowed (b : Base) (indexes inline heads links : List ℕ) (count wrote
 
 -- THE SAME over the store
 
-abbrev pub constantsOf : List ℕ → ℕ
-constantsOf p = size p MARKS - size p INDEXES
+abbrev pub constants_of : List ℕ → ℕ
+constants_of p = size p MARKS - size p INDEXES
 
-abbrev pub rowCount : Store → ℕ
-rowCount t = get_or (t COUNTS) ROW-COUNT 0
+abbrev pub row_count : Store → ℕ
+row_count t = get_or (t COUNTS) ROW-COUNT 0
 
-abbrev pub writtenCount : Store → ℕ
-writtenCount t = get_or (t COUNTS) WRITTEN-COUNT 0
+abbrev pub written_count : Store → ℕ
+written_count t = get_or (t COUNTS) WRITTEN-COUNT 0
 
-abbrev pub inlineCount : Store → ℕ
-inlineCount t = get_or (t COUNTS) INLINE-COUNT 0
+abbrev pub inline_count : Store → ℕ
+inline_count t = get_or (t COUNTS) INLINE-COUNT 0
 
 -- how many raw bootstraps there are, the item of number i of them by rising index, its index, its node
-abbrev pub rawRows : Store → ℕ
-rawRows t = rawCount t - heldCount t
+abbrev pub raw_rows : Store → ℕ
+raw_rows t = raw_count t - held_count t
 
-abbrev pub rawItem : Store → ℕ → ℕ
-rawItem t i = get_or (t ORDER) (heldCount t + i) 0
+abbrev pub raw_item : Store → ℕ → ℕ
+raw_item t i = get_or (t ORDER) (held_count t + i) 0
 
-abbrev pub rawIndex : Store → ℕ → ℕ
-rawIndex t i = get_or (t RAW-KEYS) (rawItem t i) 0 - ENTRY
+abbrev pub raw_index : Store → ℕ → ℕ
+raw_index t i = get_or (t RAW-KEYS) (raw_item t i) 0 - ENTRY
 
-abbrev pub rawNode : Store → ℕ → ℕ
-rawNode t i = get_or (t MARKS) (get_or (t RAW-ENTRIES) (rawItem t i) 0) 0 - 2
+abbrev pub raw_node : Store → ℕ → ℕ
+raw_node t i = get_or (t MARKS) (get_or (t RAW-ENTRIES) (raw_item t i) 0) 0 - 2
 
 -- the row of an entry, and of a node
-abbrev pub entryRow : Store → ℕ → Row
-entryRow t e = row_at (t GIVEN) (t CHILDREN) (t FIRSTS) (t SIZES) e
+abbrev pub entry_row : Store → ℕ → Row
+entry_row t e = row_at (t GIVEN) (t CHILDREN) (t FIRSTS) (t SIZES) e
 
 abbrev pub row_in : Store → ℕ → Row
-row_in t k = entryRow t (get_or (t NODES) k 0)
+row_in t k = entry_row t (get_or (t NODES) k 0)
 
-abbrev pub baseIn : List ℕ → Store → Base
-baseIn p t =
+abbrev pub base_in : List ℕ → Store → Base
+base_in p t =
     record {
       heads = size p ROW-HEADS;
-      constants = constantsOf p;
+      constants = constants_of p;
       nodes = t NODES;
-      made = nodeCount t;
+      made = node_count t;
       row = row_at (t GIVEN) (t CHILDREN) (t FIRSTS) (t SIZES);
-      raw = λ i. (rawIndex t i, row_in t (rawNode t i));
-      raws = rawRows t;
+      raw = λ i. (raw_index t i, row_in t (raw_node t i));
+      raws = raw_rows t;
     }
 
 abbrev pub RowWordsIn : List ℕ → Store → Type 0
 RowWordsIn p t =
-    RowWords (baseIn p t) (t INDEXES) (t INLINE) (t ROW-HEADS) (t ROW-LINKS) (rowCount t) (writtenCount t) (inlineCount t)
+    RowWords (base_in p t) (t INDEXES) (t INLINE) (t ROW-HEADS) (t ROW-LINKS) (row_count t) (written_count t) (inline_count t)
 
 abbrev pub RowedIn : List ℕ → Rows → Store → Type 0
 RowedIn p rows t =
-    Rowed (baseIn p t) (t INDEXES) (t INLINE) (t ROW-HEADS) (t ROW-LINKS) (rowCount t) (writtenCount t) (inlineCount t) rows
+    Rowed (base_in p t) (t INDEXES) (t INLINE) (t ROW-HEADS) (t ROW-LINKS) (row_count t) (written_count t) (inline_count t) rows
 
 abbrev pub IsBootstrapIn : List ℕ → Store → ℕ → Type 0
-IsBootstrapIn p t k = IsBootstrap (baseIn p t) (t INDEXES) k
+IsBootstrapIn p t k = IsBootstrap (base_in p t) (t INDEXES) k
 
 -- 1 + the index of bootstrap node k, 0 while it has none
-abbrev pub indexWord : List ℕ → Store → ℕ → ℕ
-indexWord p t k = get_or (t INDEXES) (get_or (t NODES) k 0 - constantsOf p) 0
+abbrev pub index_word_lem : List ℕ → Store → ℕ → ℕ
+index_word_lem p t k = get_or (t INDEXES) (get_or (t NODES) k 0 - constants_of p) 0
 
 -- ROOM, and what is known of nodes and raw bootstraps from before
 
@@ -186,7 +186,7 @@ unfoldable pub Kids : (p nodes firsts sizes children : List ℕ) → ℕ → Typ
 Kids p nodes firsts sizes children made = (k : ℕ) → k < made → KidsAt p nodes firsts sizes children k
 
 abbrev pub KidsIn : List ℕ → Store → Type 0
-KidsIn p t = Kids p (t NODES) (t FIRSTS) (t SIZES) (t CHILDREN) (nodeCount t)
+KidsIn p t = Kids p (t NODES) (t FIRSTS) (t SIZES) (t CHILDREN) (node_count t)
 
 -- raw bootstrap i by rising index: its key is an index's, and its entry became a node
 pub record RawAt (p marks rawKeys rawEntries order : List ℕ) (held made i : ℕ) : Type 0 where
@@ -207,7 +207,7 @@ RawsReady p marks rawKeys rawEntries order held n made =
     × ((i j : ℕ) → i < j → j < n - held → get_or rawKeys (get_or order (held + i) 0) 0 < get_or rawKeys (get_or order (held + j) 0) 0)
 
 abbrev pub RawsReadyIn : List ℕ → Store → Type 0
-RawsReadyIn p t = RawsReady p (t MARKS) (t RAW-KEYS) (t RAW-ENTRIES) (t ORDER) (heldCount t) (rawCount t) (nodeCount t)
+RawsReadyIn p t = RawsReady p (t MARKS) (t RAW-KEYS) (t RAW-ENTRIES) (t ORDER) (held_count t) (raw_count t) (node_count t)
 
 -- WHAT THE FUNCTIONS DO: t before, u after
 
@@ -216,34 +216,34 @@ abbrev pub SameBut : List ℕ → List ℕ → List ℕ → Type 0
 SameBut l before after = (c : ℕ) → among c l ≡ false → get_or after c 0 ≡ get_or before c 0
 
 -- the rows with raw ones written
-abbrev pub withRaws : Rows → Rows
-withRaws rows =
+abbrev pub with_raws : Rows → Rows
+with_raws rows =
     record {
-      written = (writeRaw rows.written rows.waiting).0;
-      waiting = (writeRaw rows.written rows.waiting).1;
+      written = (write_raw rows.written rows.waiting).0;
+      waiting = (write_raw rows.written rows.waiting).1;
       inline = rows.inline;
     }
 
 -- raw rows whose index is next are written
 pub record WroteRaws (p : List ℕ) (t u : Store) : Type 0 where
-  pub rows : (rows : Rows) → RowedIn p rows t → RowedIn p (withRaws rows) u
+  pub rows : (rows : Rows) → RowedIn p rows t → RowedIn p (with_raws rows) u
   pub words : RowWordsIn p u
-  pub stop : (i : ℕ) → writtenCount u ≤ i → i < rawRows u → rowCount u < rawIndex u i
+  pub stop : (i : ℕ) → written_count u ≤ i → i < raw_rows u → row_count u < raw_index u i
   pub counters : SameBut (ROW-COUNT ∷ WRITTEN-COUNT ∷ []) (t COUNTS) (u COUNTS)
   pub kept : Kept (COUNTS ∷ []) t u
 
 -- node k is the next inline one, and took the next index
-abbrev pub withInline : List ℕ → ℕ → ℕ → Store → Store
-withInline p k hash t =
-    linked (put (put t COUNTS INLINE-COUNT (inlineCount t + 1)) INLINE (inlineCount t) k) p ROW-HEADS hash (inlineCount t)
+abbrev pub with_inline : List ℕ → ℕ → ℕ → Store → Store
+with_inline p k hash t =
+    linked (put (put t COUNTS INLINE-COUNT (inline_count t + 1)) INLINE (inline_count t) k) p ROW-HEADS hash (inline_count t)
 
-abbrev pub withIndex : List ℕ → ℕ → ℕ → ℕ → Store → Store
-withIndex p k hash rows t =
-    put (withInline p k hash (put t INDEXES (get_or (t NODES) k 0 - constantsOf p) (rows + 1))) COUNTS ROW-COUNT (rows + 1)
+abbrev pub with_index : List ℕ → ℕ → ℕ → ℕ → Store → Store
+with_index p k hash rows t =
+    put (with_inline p k hash (put t INDEXES (get_or (t NODES) k 0 - constants_of p) (rows + 1))) COUNTS ROW-COUNT (rows + 1)
 
 -- no inline row is that of node k. It is shut, as Kids is
 unfoldable pub NewRow : Store → ℕ → Type 0
-NewRow t k = (i : ℕ) → i < inlineCount t → row_in t (get_or (t INLINE) i 0) ≡ row_in t k → ⊥
+NewRow t k = (i : ℕ) → i < inline_count t → row_in t (get_or (t INLINE) i 0) ≡ row_in t k → ⊥
 
 abbrev pub written : List ℕ
 written = COUNTS ∷ INDEXES ∷ ROW-HEADS ∷ ROW-LINKS ∷ INLINE ∷ []
@@ -252,24 +252,24 @@ written = COUNTS ∷ INDEXES ∷ ROW-HEADS ∷ ROW-LINKS ∷ INLINE ∷ []
 pub record Indexed (found : Rows → Result ℕ (ℕ × Rows)) (p : List ℕ) (k : ℕ) (t u : Store) (r : ℕ) : Type 0 where
   pub given :
       r ≡ 0 → (rows : Rows) → RowedIn p rows t →
-      (rows' : Rows) × (found rows ≡ good (indexWord p u k - 1, rows')) × RowedIn p rows' u
+      (rows' : Rows) × (found rows ≡ good (index_word_lem p u k - 1, rows')) × RowedIn p rows' u
   pub refused : (r ≡ 0 → ⊥) → (r ≡ 17) × ((rows : Rows) → RowedIn p rows t → found rows ≡ bad 17)
   pub words : RowWordsIn p u
-  pub index : r ≡ 0 → 0 < indexWord p u k
+  pub index : r ≡ 0 → 0 < index_word_lem p u k
   -- a bootstrap that has an index keeps it
   pub stays :
-      (e : ℕ) → constantsOf p ≤ e → 0 < get_or (t INDEXES) (e - constantsOf p) 0 →
-      get_or (u INDEXES) (e - constantsOf p) 0 ≡ get_or (t INDEXES) (e - constantsOf p) 0
+      (e : ℕ) → constants_of p ≤ e → 0 < get_or (t INDEXES) (e - constants_of p) 0 →
+      get_or (u INDEXES) (e - constants_of p) 0 ≡ get_or (t INDEXES) (e - constants_of p) 0
   -- and no other than node k's gets one
-  pub others : (i : ℕ) → (i ≡ get_or (t NODES) k 0 - constantsOf p → ⊥) → get_or (u INDEXES) i 0 ≡ get_or (t INDEXES) i 0
+  pub others : (i : ℕ) → (i ≡ get_or (t NODES) k 0 - constants_of p → ⊥) → get_or (u INDEXES) i 0 ≡ get_or (t INDEXES) i 0
   pub counters : SameBut (ROW-COUNT ∷ WRITTEN-COUNT ∷ INLINE-COUNT ∷ []) (t COUNTS) (u COUNTS)
   pub kept : Kept written t u
 
 -- THE TABLE at the end
 
 -- the index of inline item i
-abbrev pub inlineIndex : List ℕ → Store → ℕ → ℕ
-inlineIndex p t i = indexWord p t (get_or (t INLINE) i 0) - 1
+abbrev pub inline_index : List ℕ → Store → ℕ → ℕ
+inline_index p t i = index_word_lem p t (get_or (t INLINE) i 0) - 1
 
 -- number i of n rising indexes; past every index where there is none
 pub record Nth (f : ℕ → ℕ) (n i r : ℕ) : Type 0 where
@@ -283,7 +283,7 @@ pub record Reached (f : ℕ → ℕ) (n index c : ℕ) : Type 0 where
   pub above : (j : ℕ) → c ≤ j → j < n → index ≤ f j
 
 abbrev pub table_of : Rows → List Row
-table_of rows = fillHoles rows.written rows.waiting
+table_of rows = fill_holes rows.written rows.waiting
 
 -- an index of the table. It is shut, as Kids is
 unfoldable pub InTable : List ℕ → Store → ℕ → Type 0
@@ -294,13 +294,13 @@ abbrev pub RowNode : List ℕ → Store → ℕ → ℕ → Type 0
 RowNode p t index r = (rows : Rows) → RowedIn p rows t → get_elem? (table_of rows) index ≡ some (row_in t r)
 
 -- a child is a bootstrap node
-abbrev pub isBootstrap : List ℕ → Store → ℕ → Bool
-isBootstrap p t child = leb ENTRY child && leb (constantsOf p) (get_or (t NODES) (child - ENTRY) 0)
+abbrev pub is_bootstrap : List ℕ → Store → ℕ → Bool
+is_bootstrap p t child = leb ENTRY child && leb (constants_of p) (get_or (t NODES) (child - ENTRY) 0)
 
 -- the number of a child: a bootstrap's index, or a slot
 unfoldable pub number_of : List ℕ → Store → ℕ → ℕ
-number_of p t child = elim (isBootstrap p t child) [ true ↦ indexWord p t (child - ENTRY) - 1 | false ↦ childSlot (t GIVEN) child ]
+number_of p t child = elim (is_bootstrap p t child) [ true ↦ index_word_lem p t (child - ENTRY) - 1 | false ↦ child_slot (t GIVEN) child ]
 
 -- a child that is a bootstrap has an index. It is shut, as Kids is
 unfoldable pub HasNumber : List ℕ → Store → ℕ → Type 0
-HasNumber p t child = isBootstrap p t child ≡ true → 0 < indexWord p t (child - ENTRY)
+HasNumber p t child = is_bootstrap p t child ≡ true → 0 < index_word_lem p t (child - ENTRY)

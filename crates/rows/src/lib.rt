@@ -1,13 +1,13 @@
 // The rows of the bootstrap table: indexes for inline bootstraps, and which bootstrap node has the row at an index.
 ghost use Rattle.std.specs.Prelude.{◌≡◌, ◌+◌, ◌-◌, ◌<◌, ◌≤◌, length, get_or};
 ghost use Rattle.definition.specs.Basics.{same};
-ghost use Rattle.definition.specs.Building.{Rows, writeRaw, takeIndex, rowIndex};
-ghost use Rattle.interner.specs.Nodes.{nodeCount};
+ghost use Rattle.definition.specs.Building.{Rows, write_raw, take_index, row_index};
+ghost use Rattle.interner.specs.Nodes.{node_count};
 ghost use Rattle.store.specs.Store.{size, store, put, On, IsWord, Read};
 ghost use Rattle.store.specs.Chains.{Sought};
 ghost use Rattle.store.specs.Regions.{MARKS, GIVEN, INDEXES, FIRSTS, SIZES, NODES, INLINE};
-ghost use Rattle.store.specs.Words.{ENTRY, childSlot};
-ghost use Rattle.rows.specs.Rowed.{hashRow, constantsOf, rawRows, rawIndex, rawNode, row_in, RowRoom, KidsIn, RawsReadyIn, RowWordsIn, RowedIn, IsBootstrapIn, indexWord, inlineCount, Nth, Reached, WroteRaws, withInline, withIndex, NewRow, Indexed, inlineIndex, InTable, RowNode, table_of, isBootstrap, number_of, HasNumber};
+ghost use Rattle.store.specs.Words.{ENTRY, child_slot};
+ghost use Rattle.rows.specs.Rowed.{hash_row, constants_of, raw_rows, raw_index, raw_node, row_in, RowRoom, KidsIn, RawsReadyIn, RowWordsIn, RowedIn, IsBootstrapIn, index_word_lem, inline_count, Nth, Reached, WroteRaws, with_inline, with_index, NewRow, Indexed, inline_index, InTable, RowNode, table_of, is_bootstrap, number_of, HasNumber};
 
 use raws::{raw_entry, raw_key};
 use store::{
@@ -21,7 +21,7 @@ const PAST: usize = 65536;
 
 // How many children a node has.
 fn child_count(w: &[u32], p: &[usize], k: usize) -> usize
-    requires { On p.now (length w.now) × RowRoom p.now × KidsIn p.now (store p.now w.now) × (k < nodeCount (store p.now w.now)) }
+    requires { On p.now (length w.now) × RowRoom p.now × KidsIn p.now (store p.now w.now) × (k < node_count (store p.now w.now)) }
     ensures { Read (store p.now w.now) SIZES (get_or (store p.now w.now NODES) k 0) result }
 {
     load(w, p, SIZES, load(w, p, NODES, k))
@@ -29,7 +29,7 @@ fn child_count(w: &[u32], p: &[usize], k: usize) -> usize
 
 // Where in CHILDREN they begin.
 fn first_child(w: &[u32], p: &[usize], k: usize) -> usize
-    requires { On p.now (length w.now) × RowRoom p.now × KidsIn p.now (store p.now w.now) × (k < nodeCount (store p.now w.now)) }
+    requires { On p.now (length w.now) × RowRoom p.now × KidsIn p.now (store p.now w.now) × (k < node_count (store p.now w.now)) }
     ensures { Read (store p.now w.now) FIRSTS (get_or (store p.now w.now NODES) k 0) result }
 {
     load(w, p, FIRSTS, load(w, p, NODES, k))
@@ -38,7 +38,7 @@ fn first_child(w: &[u32], p: &[usize], k: usize) -> usize
 // The slot of a child that has one: a raw number is itself.
 pub fn child_slot(w: &[u32], p: &[usize], child: usize) -> usize
     requires { On p.now (length w.now) × (child < ENTRY + size p.now GIVEN) }
-    ensures { (result ≡ childSlot (store p.now w.now GIVEN) child) × IsWord result }
+    ensures { (result ≡ child_slot (store p.now w.now GIVEN) child) × IsWord result }
 {
     if child < ENTRY {
         child
@@ -50,7 +50,7 @@ pub fn child_slot(w: &[u32], p: &[usize], child: usize) -> usize
 // How many raw bootstraps there are.
 pub fn raw_rows(w: &[u32], p: &[usize]) -> usize
     requires { On p.now (length w.now) × RowRoom p.now × RawsReadyIn p.now (store p.now w.now) }
-    ensures { result ≡ rawRows (store p.now w.now) }
+    ensures { result ≡ raw_rows (store p.now w.now) }
 {
     load(w, p, COUNTS, RAW_COUNT) - load(w, p, COUNTS, HELD_COUNT)
 }
@@ -58,7 +58,7 @@ pub fn raw_rows(w: &[u32], p: &[usize]) -> usize
 // The index of raw bootstrap i by rising index; past every index where there is none.
 pub fn raw_index(w: &[u32], p: &[usize], i: usize) -> usize
     requires { On p.now (length w.now) × RowRoom p.now × RawsReadyIn p.now (store p.now w.now) }
-    ensures { Nth (rawIndex (store p.now w.now)) (rawRows (store p.now w.now)) i result }
+    ensures { Nth (raw_index (store p.now w.now)) (raw_rows (store p.now w.now)) i result }
 {
     if raw_rows(w, p) <= i {
         return PAST;
@@ -69,7 +69,7 @@ pub fn raw_index(w: &[u32], p: &[usize], i: usize) -> usize
 // 1 + the index of bootstrap node k, 0 while it has none.
 pub fn index_of(w: &[u32], p: &[usize], k: usize) -> usize
     requires { On p.now (length w.now) × RowRoom p.now × KidsIn p.now (store p.now w.now) × IsBootstrapIn p.now (store p.now w.now) k }
-    ensures { (result ≡ indexWord p.now (store p.now w.now) k) × IsWord result }
+    ensures { (result ≡ index_word_lem p.now (store p.now w.now) k) × IsWord result }
 {
     load(w, p, INDEXES, load(w, p, NODES, k) - constants(p))
 }
@@ -77,7 +77,7 @@ pub fn index_of(w: &[u32], p: &[usize], k: usize) -> usize
 // Makes it x.
 fn set_index(w: &mut [u32], p: &[usize], k: usize, x: usize)
     requires { On p.now (length w.old) × RowRoom p.now × KidsIn p.now (store p.now w.old) × IsBootstrapIn p.now (store p.now w.old) k × IsWord x }
-    ensures { store p.now w.new ≡ put (store p.now w.old) INDEXES (get_or (store p.now w.old NODES) k 0 - constantsOf p.now) x }
+    ensures { store p.now w.new ≡ put (store p.now w.old) INDEXES (get_or (store p.now w.old NODES) k 0 - constants_of p.now) x }
 {
     let e = load(w, p, NODES, k);
     save(w, p, INDEXES, e - constants(p), x);
@@ -85,8 +85,8 @@ fn set_index(w: &mut [u32], p: &[usize], k: usize, x: usize)
 
 // The hash of the row of bootstrap node k: a function of its slots.
 fn hash_row(w: &[u32], p: &[usize], k: usize) -> usize
-    requires { On p.now (length w.now) × RowRoom p.now × KidsIn p.now (store p.now w.now) × (k < nodeCount (store p.now w.now)) }
-    ensures { (result ≡ hashRow (row_in (store p.now w.now) k)) × IsWord result }
+    requires { On p.now (length w.now) × RowRoom p.now × KidsIn p.now (store p.now w.now) × (k < node_count (store p.now w.now)) }
+    ensures { (result ≡ hash_row (row_in (store p.now w.now) k)) × IsWord result }
 {
     let n = child_count(w, p, k);
     let first = first_child(w, p, k);
@@ -101,7 +101,7 @@ fn hash_row(w: &[u32], p: &[usize], k: usize) -> usize
 
 // The rows of two bootstrap nodes are the same.
 fn same_row(w: &[u32], p: &[usize], k: usize, l: usize) -> bool
-    requires { On p.now (length w.now) × RowRoom p.now × KidsIn p.now (store p.now w.now) × (k < nodeCount (store p.now w.now)) × (l < nodeCount (store p.now w.now)) }
+    requires { On p.now (length w.now) × RowRoom p.now × KidsIn p.now (store p.now w.now) × (k < node_count (store p.now w.now)) × (l < node_count (store p.now w.now)) }
     ensures { result ≡ same (row_in (store p.now w.now) k) (row_in (store p.now w.now) l) }
 {
     let n = child_count(w, p, k);
@@ -123,8 +123,8 @@ fn same_row(w: &[u32], p: &[usize], k: usize, l: usize) -> bool
 
 // 1 + the place in INLINE of a row that is the same as node k's, of this hash; 0 if there is none.
 fn find_row(w: &[u32], p: &[usize], k: usize, hash: usize) -> usize
-    requires { On p.now (length w.now) × RowRoom p.now × KidsIn p.now (store p.now w.now) × RowWordsIn p.now (store p.now w.now) × (k < nodeCount (store p.now w.now)) × (hash ≡ hashRow (row_in (store p.now w.now) k)) × IsWord hash }
-    ensures { Sought (λ i. row_in (store p.now w.now) (get_or (store p.now w.now INLINE) i 0) ≡ row_in (store p.now w.now) k) (inlineCount (store p.now w.now)) result }
+    requires { On p.now (length w.now) × RowRoom p.now × KidsIn p.now (store p.now w.now) × RowWordsIn p.now (store p.now w.now) × (k < node_count (store p.now w.now)) × (hash ≡ hash_row (row_in (store p.now w.now) k)) × IsWord hash }
+    ensures { Sought (λ i. row_in (store p.now w.now) (get_or (store p.now w.now INLINE) i 0) ≡ row_in (store p.now w.now) k) (inline_count (store p.now w.now)) result }
 {
     let mut link = first_link(w, p, ROW_HEADS, hash);
     while 0 < link {
@@ -153,8 +153,8 @@ fn write_raw(w: &mut [u32], p: &[usize])
 
 // Node k is the next inline one.
 fn add_inline(w: &mut [u32], p: &[usize], k: usize, hash: usize)
-    requires { On p.now (length w.old) × RowRoom p.now × (inlineCount (store p.now w.old) < size p.now INDEXES) × IsWord k × IsWord hash }
-    ensures { store p.now w.new ≡ withInline p.now k hash (store p.now w.old) }
+    requires { On p.now (length w.old) × RowRoom p.now × (inline_count (store p.now w.old) < size p.now INDEXES) × IsWord k × IsWord hash }
+    ensures { store p.now w.new ≡ with_inline p.now k hash (store p.now w.old) }
 {
     let i = next_count(w, p, INLINE_COUNT);
     save(w, p, INLINE, i, k);
@@ -163,8 +163,8 @@ fn add_inline(w: &mut [u32], p: &[usize], k: usize, hash: usize)
 
 // Node k takes index `rows`, the next one.
 fn take_next(w: &mut [u32], p: &[usize], k: usize, hash: usize, rows: usize)
-    requires { On p.now (length w.old) × RowRoom p.now × KidsIn p.now (store p.now w.old) × IsBootstrapIn p.now (store p.now w.old) k × (inlineCount (store p.now w.old) < size p.now INDEXES) × IsWord k × IsWord hash × (rows < 65535) }
-    ensures { store p.now w.new ≡ withIndex p.now k hash rows (store p.now w.old) }
+    requires { On p.now (length w.old) × RowRoom p.now × KidsIn p.now (store p.now w.old) × IsBootstrapIn p.now (store p.now w.old) k × (inline_count (store p.now w.old) < size p.now INDEXES) × IsWord k × IsWord hash × (rows < 65535) }
+    ensures { store p.now w.new ≡ with_index p.now k hash rows (store p.now w.old) }
 {
     set_index(w, p, k, rows + 1);
     add_inline(w, p, k, hash);
@@ -173,8 +173,8 @@ fn take_next(w: &mut [u32], p: &[usize], k: usize, hash: usize, rows: usize)
 
 // The row of node k, which no inline one has, takes the next index, 0, or 17.
 fn take_index(w: &mut [u32], p: &[usize], k: usize, hash: usize) -> usize
-    requires { On p.now (length w.old) × RowRoom p.now × KidsIn p.now (store p.now w.old) × RawsReadyIn p.now (store p.now w.old) × RowWordsIn p.now (store p.now w.old) × IsBootstrapIn p.now (store p.now w.old) k × NewRow (store p.now w.old) k × (hash ≡ hashRow (row_in (store p.now w.old) k)) × IsWord hash }
-    ensures { Indexed (λ rows. takeIndex (row_in (store p.now w.old) k) rows.inline (writeRaw rows.written rows.waiting)) p.now k (store p.now w.old) (store p.now w.new) result }
+    requires { On p.now (length w.old) × RowRoom p.now × KidsIn p.now (store p.now w.old) × RawsReadyIn p.now (store p.now w.old) × RowWordsIn p.now (store p.now w.old) × IsBootstrapIn p.now (store p.now w.old) k × NewRow (store p.now w.old) k × (hash ≡ hash_row (row_in (store p.now w.old) k)) × IsWord hash }
+    ensures { Indexed (λ rows. take_index (row_in (store p.now w.old) k) rows.inline (write_raw rows.written rows.waiting)) p.now k (store p.now w.old) (store p.now w.new) result }
 {
     write_raw(w, p);
     let rows = load(w, p, COUNTS, ROW_COUNT);
@@ -185,10 +185,10 @@ fn take_index(w: &mut [u32], p: &[usize], k: usize, hash: usize) -> usize
     0
 }
 
-// Bootstrap node k, whose children have slots, has an index from then on, 0, or 17: `rowIndex`.
+// Bootstrap node k, whose children have slots, has an index from then on, 0, or 17: `row_index`.
 pub fn row_index(w: &mut [u32], p: &[usize], k: usize) -> usize
     requires { On p.now (length w.old) × RowRoom p.now × KidsIn p.now (store p.now w.old) × RawsReadyIn p.now (store p.now w.old) × RowWordsIn p.now (store p.now w.old) × IsBootstrapIn p.now (store p.now w.old) k }
-    ensures { Indexed (rowIndex (row_in (store p.now w.old) k)) p.now k (store p.now w.old) (store p.now w.new) result }
+    ensures { Indexed (row_index (row_in (store p.now w.old) k)) p.now k (store p.now w.old) (store p.now w.new) result }
 {
     let hash = hash_row(w, p, k);
     let link = find_row(w, p, k, hash);
@@ -210,16 +210,16 @@ fn node_of(w: &[u32], p: &[usize], e: usize) -> usize
 
 // The node of raw bootstrap i by rising index.
 pub fn raw_row(w: &[u32], p: &[usize], i: usize) -> usize
-    requires { On p.now (length w.now) × RowRoom p.now × RawsReadyIn p.now (store p.now w.now) × (i < rawRows (store p.now w.now)) }
-    ensures { (result ≡ rawNode (store p.now w.now) i) × (result < nodeCount (store p.now w.now)) }
+    requires { On p.now (length w.now) × RowRoom p.now × RawsReadyIn p.now (store p.now w.now) × (i < raw_rows (store p.now w.now)) }
+    ensures { (result ≡ raw_node (store p.now w.now) i) × (result < node_count (store p.now w.now)) }
 {
     node_of(w, p, raw_entry(w, p, load(w, p, COUNTS, HELD_COUNT) + i))
 }
 
 // A child is a bootstrap node.
 pub fn is_bootstrap(w: &[u32], p: &[usize], child: usize) -> bool
-    requires { On p.now (length w.now) × RowRoom p.now × KidsIn p.now (store p.now w.now) × (child < ENTRY + nodeCount (store p.now w.now)) }
-    ensures { result ≡ isBootstrap p.now (store p.now w.now) child }
+    requires { On p.now (length w.now) × RowRoom p.now × KidsIn p.now (store p.now w.now) × (child < ENTRY + node_count (store p.now w.now)) }
+    ensures { result ≡ is_bootstrap p.now (store p.now w.now) child }
 {
     if child < ENTRY {
         return false;
@@ -229,7 +229,7 @@ pub fn is_bootstrap(w: &[u32], p: &[usize], child: usize) -> bool
 
 // The number of a child that has one: a bootstrap's index, or a slot.
 pub fn child_number(w: &[u32], p: &[usize], child: usize) -> usize
-    requires { On p.now (length w.now) × RowRoom p.now × KidsIn p.now (store p.now w.now) × (child < ENTRY + nodeCount (store p.now w.now)) × HasNumber p.now (store p.now w.now) child }
+    requires { On p.now (length w.now) × RowRoom p.now × KidsIn p.now (store p.now w.now) × (child < ENTRY + node_count (store p.now w.now)) × HasNumber p.now (store p.now w.now) child }
     ensures { result ≡ number_of p.now (store p.now w.now) child }
 {
     if is_bootstrap(w, p, child) {
@@ -253,7 +253,7 @@ pub fn row_count(w: &[u32], p: &[usize]) -> usize
 // The index of inline row i; past every index where there is none.
 pub fn inline_index(w: &[u32], p: &[usize], i: usize) -> usize
     requires { On p.now (length w.now) × RowRoom p.now × KidsIn p.now (store p.now w.now) × RowWordsIn p.now (store p.now w.now) }
-    ensures { Nth (inlineIndex p.now (store p.now w.now)) (inlineCount (store p.now w.now)) i result }
+    ensures { Nth (inline_index p.now (store p.now w.now)) (inline_count (store p.now w.now)) i result }
 {
     if load(w, p, COUNTS, INLINE_COUNT) <= i {
         return PAST;
@@ -263,8 +263,8 @@ pub fn inline_index(w: &[u32], p: &[usize], i: usize) -> usize
 
 // The node whose row stands at an index, `inline` inline and `raws` raw indexes being below it.
 pub fn row_node(w: &[u32], p: &[usize], index: usize, inline: usize, raws: usize) -> usize
-    requires { On p.now (length w.now) × RowRoom p.now × KidsIn p.now (store p.now w.now) × RawsReadyIn p.now (store p.now w.now) × RowWordsIn p.now (store p.now w.now) × InTable p.now (store p.now w.now) index × Reached (inlineIndex p.now (store p.now w.now)) (inlineCount (store p.now w.now)) index inline × Reached (rawIndex (store p.now w.now)) (rawRows (store p.now w.now)) index raws }
-    ensures { RowNode p.now (store p.now w.now) index result × (result < nodeCount (store p.now w.now)) }
+    requires { On p.now (length w.now) × RowRoom p.now × KidsIn p.now (store p.now w.now) × RawsReadyIn p.now (store p.now w.now) × RowWordsIn p.now (store p.now w.now) × InTable p.now (store p.now w.now) index × Reached (inline_index p.now (store p.now w.now)) (inline_count (store p.now w.now)) index inline × Reached (raw_index (store p.now w.now)) (raw_rows (store p.now w.now)) index raws }
+    ensures { RowNode p.now (store p.now w.now) index result × (result < node_count (store p.now w.now)) }
 {
     if inline_index(w, p, inline) == index {
         return load(w, p, INLINE, inline);

@@ -9,65 +9,65 @@ use native.Mathlib.Omega.{arith}
 use lib.ListN.{length, drop, set, get_elem?}
 use lib.Seq.{drop-set-lt, set-get_or}
 use borrow.Author.Tests.{leb-true}
-use Rattle.definition.specs.Slots.{Gap, size, Slots, scan, cut, tooHigh, isOdd, plainEnds, plainSlot, narrowSlot, wideSlot, highestSlot}
-use Rattle.laws.proofs.slots.Gaps.{less, cut-some, scan-at}
-use Rattle.laws.proofs.slots.SlotRequest.{hasTwo, odd-one}
+use Rattle.definition.specs.Slots.{Gap, size, Slots, scan, cut, too_high, is_odd, plain_ends, plain_slot, narrow_slot, wide_slot, highest_slot}
+use Rattle.laws.proofs.Slots.Gaps.{less, cut-some, scan-at}
+use Rattle.laws.proofs.Slots.SlotRequest.{has_two, odd_one}
 use Rattle.slots.specs.declared.Positions.{Positions}
 use Rattle.slots.specs.declared.Allocated.{Allocated}
 use Rattle.slots.specs.declared.Allocated.TheVariants.{Slot, None}
-use Rattle.slots.specs.Gaps.{GapTable, row_of, gapAt, gapsAt, ends, AtMost, slotsAt, rowsLess, answer_of, Answered}
-use Rattle.slots.proofs.Rows.{gaps-length, gap-place, end-place, gaps-set}
+use Rattle.slots.specs.Gaps.{GapTable, row_of, gap_at, gaps_at, ends, AtMost, slots_at_lem, rows_less, answer_of, Answered}
+use Rattle.slots.proofs.Rows.{gaps_length, gap_place, end-place, gaps_set}
 use Rattle.facts.proofs.Lists.{place_out, map-set}
 
 -- WHERE A SEARCH ENDS
 
-module _ (p : Gap → Bool) (rows : GapTable) (count from at : ℕ) (fits : count ≤ length rows) (e : at ≡ scan p from (gapsAt rows count)) where
-  nothing : count ≤ at → get_elem? (gapsAt rows count) (scan p from (gapsAt rows count)) ≡ none
-  nothing h = rw (← e) (place_out (gapsAt rows count) at (rw (gaps-length rows count fits) h))
+module _ (p : Gap → Bool) (rows : GapTable) (count from at : ℕ) (fits : count ≤ length rows) (e : at ≡ scan p from (gaps_at rows count)) where
+  nothing : count ≤ at → get_elem? (gaps_at rows count) (scan p from (gaps_at rows count)) ≡ none
+  nothing h = rw (← e) (place_out (gaps_at rows count) at (rw (gaps_length rows count fits) h))
 
-  something : at < count → get_elem? (gapsAt rows count) (scan p from (gapsAt rows count)) ≡ some (gapAt rows at)
-  something h = rw (← e) (gap-place rows count at fits h)
+  something : at < count → get_elem? (gaps_at rows count) (scan p from (gaps_at rows count)) ≡ some (gap_at rows at)
+  something h = rw (← e) (gap_place rows count at fits h)
 
-  passes : at < count → p (gapAt rows at) ≡ true
-  passes h = scan-at p from (gapsAt rows count) (gapAt rows at) (something h)
+  passes : at < count → p (gap_at rows at) ≡ true
+  passes h = scan-at p from (gaps_at rows count) (gap_at rows at) (something h)
 
 -- TAKING FROM A GAP
 
 module _ (rows : GapTable) (count at n : ℕ) (fits : count ≤ length rows) (h : at < count) where
-  gaps-less : gapsAt (rowsLess n at rows) count ≡ cut n at (gapsAt rows count)
-  unfolding rowsLess
-  gaps-less =
-      gaps-set rows count at (less n (gapAt rows at)) h
-      ∙ sym (cut-some n at (gapsAt rows count) (gapAt rows at) (gap-place rows count at fits h))
+  gaps_less : gaps_at (rows_less n at rows) count ≡ cut n at (gaps_at rows count)
+  unfolding rows_less
+  gaps_less =
+      gaps_set rows count at (less n (gap_at rows at)) h
+      ∙ sym (cut-some n at (gaps_at rows count) (gap_at rows at) (gap_place rows count at fits h))
 
-  ends-less : ends (gapsAt (rowsLess n at rows) count) ≡ ends (gapsAt rows count)
-  unfolding rowsLess ends
+  ends-less : ends (gaps_at (rows_less n at rows) count) ≡ ends (gaps_at rows count)
+  unfolding rows_less ends
   ends-less =
-      ap ends (gaps-set rows count at (less n (gapAt rows at)) h)
-      ∙ map-set (λ (g : Gap). g.last) (gapsAt rows count) at (less n (gapAt rows at))
-      ∙ ap (set (ends (gapsAt rows count)) at) (sym (end-place rows count at fits h))
-      ∙ set-get_or (ends (gapsAt rows count)) at 0
+      ap ends (gaps_set rows count at (less n (gap_at rows at)) h)
+      ∙ map-set (λ (g : Gap). g.last) (gaps_at rows count) at (less n (gap_at rows at))
+      ∙ ap (set (ends (gaps_at rows count)) at) (sym (end-place rows count at fits h))
+      ∙ set-get_or (ends (gaps_at rows count)) at 0
 
-  behind-less : drop count (rowsLess n at rows) ≡ drop count rows
-  unfolding rowsLess
-  behind-less = drop-set-lt count rows at (row_of (less n (gapAt rows at))) h
+  behind-less : drop count (rows_less n at rows) ≡ drop count rows
+  unfolding rows_less
+  behind-less = drop-set-lt count rows at (row_of (less n (gap_at rows at))) h
 
   -- a gap that has as many slots: its numbers fit
-  pub fits-less : AtMost highestSlot (ends (gapsAt rows count)) → n ≤ size (gapAt rows at) → 1 ≤ n → (gapAt rows at).first + n < 65536
+  pub fits-less : AtMost highest_slot (ends (gaps_at rows count)) → n ≤ size (gap_at rows at) → 1 ≤ n → (gap_at rows at).first + n < 65536
   unfolding size
   fits-less low enough one = omega (arith, low at, end-place rows count at fits h)
 
   -- the answer that takes them
   answer-less :
       (o : Option (ℕ × Slots)) (p : Positions) (slot : ℕ) (after : GapTable) →
-      (slot ≡ (gapAt rows at).first) × (after ≡ rowsLess n at rows) →
-      o ≡ some ((gapAt rows at).first, record { gaps = cut n at (gapsAt rows count); odd = p.odd; wide = p.wide; plain = p.plain }) →
+      (slot ≡ (gap_at rows at).first) × (after ≡ rows_less n at rows) →
+      o ≡ some ((gap_at rows at).first, record { gaps = cut n at (gaps_at rows count); odd = p.odd; wide = p.wide; plain = p.plain }) →
       Answered o count rows after (Slot slot p)
-  unfolding answer_of slotsAt
+  unfolding answer_of slots_at_lem
   answer-less o p slot after t e =
       rw (t.0, t.1)
       (record {
-        answer = rw gaps-less (sym e);
+        answer = rw gaps_less (sym e);
         alone = behind-less;
         same = ends-less;
       })
@@ -84,120 +84,120 @@ no_answer o rows count e =
 
 -- WIDE
 
-module _ (rows : GapTable) (count : ℕ) (p : Positions) (at : ℕ) (fits : count ≤ length rows) (e : at ≡ scan hasTwo p.wide (gapsAt rows count)) where
-  pub wide-unmet : count ≤ at → Answered (wideSlot (slotsAt rows count p)) count rows rows None
-  unfolding wideSlot slotsAt
-  wide-unmet h = no_answer (wideSlot (slotsAt rows count p)) rows count (rw (nothing hasTwo rows count p.wide at fits e h, wideSlot))
+module _ (rows : GapTable) (count : ℕ) (p : Positions) (at : ℕ) (fits : count ≤ length rows) (e : at ≡ scan has_two p.wide (gaps_at rows count)) where
+  pub wide_unmet : count ≤ at → Answered (wide_slot (slots_at_lem rows count p)) count rows rows None
+  unfolding wide_slot slots_at_lem
+  wide_unmet h = no_answer (wide_slot (slots_at_lem rows count p)) rows count (rw (nothing has_two rows count p.wide at fits e h, wide_slot))
 
-  pub wide_fits : AtMost highestSlot (ends (gapsAt rows count)) → at < count → (gapAt rows at).first + 2 < 65536
+  pub wide_fits : AtMost highest_slot (ends (gaps_at rows count)) → at < count → (gap_at rows at).first + 2 < 65536
   wide_fits low h =
-      fits-less rows count at 2 fits h low (leb-true 2 (size (gapAt rows at)) (passes hasTwo rows count p.wide at fits e h)) (omega arith)
+      fits-less rows count at 2 fits h low (leb-true 2 (size (gap_at rows at)) (passes has_two rows count p.wide at fits e h)) (omega arith)
 
-  pub wide-met :
+  pub wide_met :
       (slot : ℕ) (after : GapTable) →
       at < count →
-      (slot ≡ (gapAt rows at).first) × (after ≡ rowsLess 2 at rows) →
-      Answered (wideSlot (slotsAt rows count p)) count rows after (Slot slot (record { odd = p.odd; wide = at; plain = p.plain }))
-  unfolding wideSlot slotsAt
-  wide-met slot after h t =
+      (slot ≡ (gap_at rows at).first) × (after ≡ rows_less 2 at rows) →
+      Answered (wide_slot (slots_at_lem rows count p)) count rows after (Slot slot (record { odd = p.odd; wide = at; plain = p.plain }))
+  unfolding wide_slot slots_at_lem
+  wide_met slot after h t =
       answer-less rows count at 2 fits h
-      (wideSlot (slotsAt rows count p))
+      (wide_slot (slots_at_lem rows count p))
       (record { odd = p.odd; wide = at; plain = p.plain })
       slot
       after
       t
-      (rw (something hasTwo rows count p.wide at fits e h, ← e, wideSlot))
+      (rw (something has_two rows count p.wide at fits e h, ← e, wide_slot))
 
 -- PLAIN
 
 -- a gap where the plain search ends, and that isn't too high, has a slot
-plain-one : (ldc : Bool) (g : Gap) → plainEnds ldc g ≡ true → tooHigh ldc g ≡ false → 1 ≤ size g
-unfolding plainEnds
-plain-one ldc g e t = leb-true 1 (size g) (rw (t, plainEnds) at e)
+plain_one : (ldc : Bool) (g : Gap) → plain_ends ldc g ≡ true → too_high ldc g ≡ false → 1 ≤ size g
+unfolding plain_ends
+plain_one ldc g e t = leb-true 1 (size g) (rw (t, plain_ends) at e)
 
 module _
     (rows : GapTable) (count : ℕ) (p : Positions) (ldc : Bool) (at : ℕ)
-    (fits : count ≤ length rows) (e : at ≡ scan (plainEnds ldc) p.plain (gapsAt rows count)) where
-  pub plain-unmet : count ≤ at → Answered (plainSlot ldc (slotsAt rows count p)) count rows rows None
-  unfolding plainSlot slotsAt
-  plain-unmet h =
-      no_answer (plainSlot ldc (slotsAt rows count p)) rows count
-      (rw (nothing (plainEnds ldc) rows count p.plain at fits e h, plainSlot))
+    (fits : count ≤ length rows) (e : at ≡ scan (plain_ends ldc) p.plain (gaps_at rows count)) where
+  pub plain_unmet : count ≤ at → Answered (plain_slot ldc (slots_at_lem rows count p)) count rows rows None
+  unfolding plain_slot slots_at_lem
+  plain_unmet h =
+      no_answer (plain_slot ldc (slots_at_lem rows count p)) rows count
+      (rw (nothing (plain_ends ldc) rows count p.plain at fits e h, plain_slot))
 
-  module _ (high : Bool) (t : high ≡ tooHigh ldc (gapAt rows at)) (h : at < count) where
-    there : get_elem? (gapsAt rows count) (scan (plainEnds ldc) p.plain (gapsAt rows count)) ≡ some (gapAt rows at)
-    there = something (plainEnds ldc) rows count p.plain at fits e h
+  module _ (high : Bool) (t : high ≡ too_high ldc (gap_at rows at)) (h : at < count) where
+    there : get_elem? (gaps_at rows count) (scan (plain_ends ldc) p.plain (gaps_at rows count)) ≡ some (gap_at rows at)
+    there = something (plain_ends ldc) rows count p.plain at fits e h
 
-    pub plain-high : high ≡ true → Answered (plainSlot ldc (slotsAt rows count p)) count rows rows None
-    unfolding plainSlot slotsAt
-    plain-high w = no_answer (plainSlot ldc (slotsAt rows count p)) rows count (rw (there, ← t, w, plainSlot))
+    pub plain_high : high ≡ true → Answered (plain_slot ldc (slots_at_lem rows count p)) count rows rows None
+    unfolding plain_slot slots_at_lem
+    plain_high w = no_answer (plain_slot ldc (slots_at_lem rows count p)) rows count (rw (there, ← t, w, plain_slot))
 
-    pub plain_fits : AtMost highestSlot (ends (gapsAt rows count)) → high ≡ false → (gapAt rows at).first + 1 < 65536
+    pub plain_fits : AtMost highest_slot (ends (gaps_at rows count)) → high ≡ false → (gap_at rows at).first + 1 < 65536
     plain_fits low w =
         fits-less rows count at 1 fits h low
-        (plain-one ldc (gapAt rows at) (passes (plainEnds ldc) rows count p.plain at fits e h) (sym t ∙ w))
+        (plain_one ldc (gap_at rows at) (passes (plain_ends ldc) rows count p.plain at fits e h) (sym t ∙ w))
         (omega arith)
 
-    pub plain-met :
+    pub plain_met :
         (slot : ℕ) (after : GapTable) →
         high ≡ false →
-        (slot ≡ (gapAt rows at).first) × (after ≡ rowsLess 1 at rows) →
-        Answered (plainSlot ldc (slotsAt rows count p)) count rows after (Slot slot (record { odd = p.odd; wide = p.wide; plain = at }))
-    unfolding plainSlot slotsAt
-    plain-met slot after w r =
+        (slot ≡ (gap_at rows at).first) × (after ≡ rows_less 1 at rows) →
+        Answered (plain_slot ldc (slots_at_lem rows count p)) count rows after (Slot slot (record { odd = p.odd; wide = p.wide; plain = at }))
+    unfolding plain_slot slots_at_lem
+    plain_met slot after w r =
         answer-less rows count at 1 fits h
-        (plainSlot ldc (slotsAt rows count p))
+        (plain_slot ldc (slots_at_lem rows count p))
         (record { odd = p.odd; wide = p.wide; plain = at })
         slot
         after
         r
-        (rw (there, ← t, w, ← e, plainSlot))
+        (rw (there, ← t, w, ← e, plain_slot))
 
 -- NARROW
 
 -- the odd position stands here
-abbrev pub oddAt : ℕ → Positions → Positions
-oddAt at p = record { odd = at; wide = p.wide; plain = p.plain }
+abbrev pub odd_at : ℕ → Positions → Positions
+odd_at at p = record { odd = at; wide = p.wide; plain = p.plain }
 
 module _
     (rows : GapTable) (count : ℕ) (p : Positions) (ldc : Bool) (at : ℕ)
-    (fits : count ≤ length rows) (e : at ≡ scan isOdd p.odd (gapsAt rows count)) where
+    (fits : count ≤ length rows) (e : at ≡ scan is_odd p.odd (gaps_at rows count)) where
   -- with no odd gap, or one that is too high, the plain search from there decides
-  pub narrow-past :
+  pub narrow_past :
       (after : GapTable) (r : Allocated) →
       count ≤ at →
-      Answered (plainSlot ldc (slotsAt rows count (oddAt at p))) count rows after r →
-      Answered (narrowSlot ldc (slotsAt rows count p)) count rows after r
-  unfolding narrowSlot slotsAt
-  narrow-past after r h a = rw (nothing isOdd rows count p.odd at fits e h, ← e, narrowSlot) a
+      Answered (plain_slot ldc (slots_at_lem rows count (odd_at at p))) count rows after r →
+      Answered (narrow_slot ldc (slots_at_lem rows count p)) count rows after r
+  unfolding narrow_slot slots_at_lem
+  narrow_past after r h a = rw (nothing is_odd rows count p.odd at fits e h, ← e, narrow_slot) a
 
-  module _ (high : Bool) (t : high ≡ tooHigh ldc (gapAt rows at)) (h : at < count) where
-    odd-there : get_elem? (gapsAt rows count) (scan isOdd p.odd (gapsAt rows count)) ≡ some (gapAt rows at)
-    odd-there = something isOdd rows count p.odd at fits e h
+  module _ (high : Bool) (t : high ≡ too_high ldc (gap_at rows at)) (h : at < count) where
+    odd_there : get_elem? (gaps_at rows count) (scan is_odd p.odd (gaps_at rows count)) ≡ some (gap_at rows at)
+    odd_there = something is_odd rows count p.odd at fits e h
 
     pub narrow_high :
         (after : GapTable) (r : Allocated) →
         high ≡ true →
-        Answered (plainSlot ldc (slotsAt rows count (oddAt at p))) count rows after r →
-        Answered (narrowSlot ldc (slotsAt rows count p)) count rows after r
-    unfolding narrowSlot slotsAt
-    narrow_high after r w a = rw (odd-there, ← t, w, ← e, narrowSlot) a
+        Answered (plain_slot ldc (slots_at_lem rows count (odd_at at p))) count rows after r →
+        Answered (narrow_slot ldc (slots_at_lem rows count p)) count rows after r
+    unfolding narrow_slot slots_at_lem
+    narrow_high after r w a = rw (odd_there, ← t, w, ← e, narrow_slot) a
 
-    pub narrow-fits : AtMost highestSlot (ends (gapsAt rows count)) → (gapAt rows at).first + 1 < 65536
-    narrow-fits low =
-        fits-less rows count at 1 fits h low (odd-one (gapAt rows at) (passes isOdd rows count p.odd at fits e h)) (omega arith)
+    pub narrow_fits : AtMost highest_slot (ends (gaps_at rows count)) → (gap_at rows at).first + 1 < 65536
+    narrow_fits low =
+        fits-less rows count at 1 fits h low (odd_one (gap_at rows at) (passes is_odd rows count p.odd at fits e h)) (omega arith)
 
-    pub narrow-met :
+    pub narrow_met :
         (slot : ℕ) (after : GapTable) →
         high ≡ false →
-        (slot ≡ (gapAt rows at).first) × (after ≡ rowsLess 1 at rows) →
-        Answered (narrowSlot ldc (slotsAt rows count p)) count rows after (Slot slot (oddAt (at + 1) p))
-    unfolding narrowSlot slotsAt
-    narrow-met slot after w r =
+        (slot ≡ (gap_at rows at).first) × (after ≡ rows_less 1 at rows) →
+        Answered (narrow_slot ldc (slots_at_lem rows count p)) count rows after (Slot slot (odd_at (at + 1) p))
+    unfolding narrow_slot slots_at_lem
+    narrow_met slot after w r =
         answer-less rows count at 1 fits h
-        (narrowSlot ldc (slotsAt rows count p))
-        (oddAt (at + 1) p)
+        (narrow_slot ldc (slots_at_lem rows count p))
+        (odd_at (at + 1) p)
         slot
         after
         r
-        (rw (odd-there, ← t, w, ← e, add-one, narrowSlot))
+        (rw (odd_there, ← t, w, ← e, add-one, narrow_slot))

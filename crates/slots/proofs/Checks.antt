@@ -9,51 +9,51 @@ use native.Mathlib.Omega.{arith}
 use lib.ListN.{length, drop, drop_of_length-le}
 use borrow.Author.Tests.{leb-true}
 use Rattle.definition.specs.Basics.{every}
-use Rattle.definition.specs.Slots.{highestSlot, Gap, slotFor}
+use Rattle.definition.specs.Slots.{highest_slot, Gap, slot_for}
 use Rattle.facts.proofs.Lists.{both_true}
 use Rattle.slots.specs.declared.Positions.{Positions}
 use Rattle.slots.specs.declared.Allocated.{Allocated}
 use Rattle.slots.specs.declared.Allocated.TheVariants.{None}
-use Rattle.slots.specs.Gaps.{GapTable, gapAt, gapsAt, ends, AtMost, slotsAt, Answered, endFits, requested}
-use Rattle.slots.proofs.Rows.{gaps-length, gaps-from}
+use Rattle.slots.specs.Gaps.{GapTable, gap_at, gaps_at, ends, AtMost, slots_at_lem, Answered, end_fits, requested}
+use Rattle.slots.proofs.Rows.{gaps_length, gaps_from_lem}
 use Rattle.slots.proofs.Answers.{no_answer}
 
 -- the check's loop: the gaps from here on decide
 abbrev pub Left : GapTable → ℕ → Type 0
-Left rows i = every endFits (drop i (gapsAt rows (length rows))) ≡ every endFits (gapsAt rows (length rows))
+Left rows i = every end_fits (drop i (gaps_at rows (length rows))) ≡ every end_fits (gaps_at rows (length rows))
 
 module _ (rows : GapTable) (i : ℕ) (r : Left rows i) where
-  pub check-more : i < length rows → endFits (gapAt rows i) ≡ true → Left rows (i + 1)
+  pub check_more : i < length rows → end_fits (gap_at rows i) ≡ true → Left rows (i + 1)
   unfolding every
-  check-more h t =
+  check_more h t =
       rw add-one
-      (rw (gaps-from rows (length rows) i (le_refl (length rows)) h, t) at r)
+      (rw (gaps_from_lem rows (length rows) i (le_refl (length rows)) h, t) at r)
 
-  pub check-fails : i < length rows → endFits (gapAt rows i) ≡ false → false ≡ every endFits (gapsAt rows (length rows))
+  pub check_fails : i < length rows → end_fits (gap_at rows i) ≡ false → false ≡ every end_fits (gaps_at rows (length rows))
   unfolding every
-  check-fails h t = rw (gaps-from rows (length rows) i (le_refl (length rows)) h, t) at r
+  check_fails h t = rw (gaps_from_lem rows (length rows) i (le_refl (length rows)) h, t) at r
 
-  pub check-ends : length rows ≤ i → true ≡ every endFits (gapsAt rows (length rows))
+  pub check_ends : length rows ≤ i → true ≡ every end_fits (gaps_at rows (length rows))
   unfolding every
-  check-ends h =
-      let l : length (gapsAt rows (length rows)) ≤ i = rw (gaps-length rows (length rows) (le_refl (length rows))) h in
-      rw (drop_of_length-le (gapsAt rows (length rows)) {i = i} l) at r
+  check_ends h =
+      let l : length (gaps_at rows (length rows)) ≤ i = rw (gaps_length rows (length rows) (le_refl (length rows))) h in
+      rw (drop_of_length-le (gaps_at rows (length rows)) {i = i} l) at r
 
-pub checked : (gaps : List Gap) → every endFits gaps ≡ true → AtMost highestSlot (ends gaps)
-unfolding every endFits ends
+pub checked : (gaps : List Gap) → every end_fits gaps ≡ true → AtMost highest_slot (ends gaps)
+unfolding every end_fits ends
 checked [] e i = omega arith
-checked (g ∷ gaps) e zero = leb-true g.last highestSlot (both_true (endFits g) (every endFits gaps) e).0
-checked (g ∷ gaps) e (suc i) = checked gaps (both_true (endFits g) (every endFits gaps) e).1 i
+checked (g ∷ gaps) e zero = leb-true g.last highest_slot (both_true (end_fits g) (every end_fits gaps) e).0
+checked (g ∷ gaps) e (suc i) = checked gaps (both_true (end_fits g) (every end_fits gaps) e).1 i
 
-module _ (rows : GapTable) (p : Positions) (wide ldc ok : Bool) (e : ok ≡ every endFits (gapsAt rows (length rows))) where
-  pub request-met :
+module _ (rows : GapTable) (p : Positions) (wide ldc ok : Bool) (e : ok ≡ every end_fits (gaps_at rows (length rows))) where
+  pub request_met :
       (after : GapTable) (r : Allocated) →
       ok ≡ true →
-      Answered (slotFor wide ldc (slotsAt rows (length rows) p)) (length rows) rows after r →
-      Answered (requested wide ldc (slotsAt rows (length rows) p)) (length rows) rows after r
-  unfolding requested slotsAt
-  request-met after r t a = rw (← e, t, requested) a
+      Answered (slot_for wide ldc (slots_at_lem rows (length rows) p)) (length rows) rows after r →
+      Answered (requested wide ldc (slots_at_lem rows (length rows) p)) (length rows) rows after r
+  unfolding requested slots_at_lem
+  request_met after r t a = rw (← e, t, requested) a
 
-  pub request-none : ok ≡ false → Answered (requested wide ldc (slotsAt rows (length rows) p)) (length rows) rows rows None
-  unfolding requested slotsAt
-  request-none t = no_answer (requested wide ldc (slotsAt rows (length rows) p)) rows (length rows) (rw (← e, t, requested))
+  pub request_none : ok ≡ false → Answered (requested wide ldc (slots_at_lem rows (length rows) p)) (length rows) rows rows None
+  unfolding requested slots_at_lem
+  request_none t = no_answer (requested wide ldc (slots_at_lem rows (length rows) p)) rows (length rows) (rw (← e, t, requested))

@@ -12,29 +12,29 @@ use Rattle.facts.proofs.Lists.{none≢some, some_inj}
 use Rattle.slots.specs.declared.Allocated.{Allocated}
 use Rattle.slots.specs.declared.Allocated.TheVariants.{Slot, None}
 use Rattle.slots.specs.declared.Found.{Found}
-use Rattle.slots.specs.Gaps.{GapTable, gap_of, row_of, gapsAt, slotsAt, answer_of, Answered, foundIn, movedBy, Written}
+use Rattle.slots.specs.Gaps.{GapTable, gap_of, row_of, gaps_at, slots_at_lem, answer_of, Answered, found_in, moved_by, Written}
 use Rattle.slots.proofs.Walks.take_slot.Reads as take-slot
 use Rattle.slots.proofs.Walks.request_slot.Reads as request-slot
 use Rattle.slots.proofs.Walks.push_gap.Reads as push-gap
 
 -- a table is what its gaps in use say and what is behind them
-table-back : (count : ℕ) (rows : GapTable) → map row_of (gapsAt rows count) ++ drop count rows ≡ rows
-unfolding gapsAt gap_of row_of
-table-back zero rows = refl
-table-back (suc count) [] = refl
-table-back (suc count) (row ∷ rows) = ap (λ l. row ∷ l) (table-back count rows)
+table_back : (count : ℕ) (rows : GapTable) → map row_of (gaps_at rows count) ++ drop count rows ≡ rows
+unfolding gaps_at gap_of row_of
+table_back zero rows = refl
+table_back (suc count) [] = refl
+table_back (suc count) (row ∷ rows) = ap (λ l. row ∷ l) (table_back count rows)
 
 one_answer :
     {o : Option (ℕ × Slots)} {count : ℕ} {before after after' : GapTable} (r r' : Allocated) →
     Answered o count before after r → Answered o count before after' r' →
     (r ≡ r') × (after ≡ after')
-unfolding answer_of slotsAt
+unfolding answer_of slots_at_lem
 one_answer {count = count} {after = after} {after' = after'} (Slot n p) (Slot n' p') h h' =
     let same = some_inj (h.answer ∙ sym h'.answer) in (
       λ i. Slot (same i).0 (record { odd = (same i).1.odd; wide = (same i).1.wide; plain = (same i).1.plain }),
-      sym (table-back count after)
+      sym (table_back count after)
           ∙ (λ i. map row_of (same i).1.gaps ++ (h.alone ∙ sym h'.alone) i)
-          ∙ table-back count after',
+          ∙ table_back count after',
     )
 one_answer (Slot n p) None h h' = none≢some (h'.answer ∙ sym h.answer)
 one_answer None (Slot n p) h h' = none≢some (h.answer ∙ sym h'.answer)
@@ -47,9 +47,9 @@ one-writing :
 one-writing {before = before} {after = after} {after' = after'} r r' h h' =
     let same = h.counted ∙ sym h'.counted in (
       same,
-      sym (table-back r after)
+      sym (table_back r after)
           ∙ (λ i. map row_of ((h.read ∙ sym h'.read) i) ++ (h.behind ∙ ap (λ n. drop n before) same ∙ sym h'.behind) i)
-          ∙ table-back r' after',
+          ∙ table_back r' after',
     )
 
 pub one-take-slot :
@@ -58,7 +58,7 @@ pub one-take-slot :
     (r ≡ r') × (s.0.now ≡ s'.0.now) × (s.1.1.0.now ≡ s'.1.1.0.now)
 one-take-slot κs a r r' s s' h h' =
     let (same, table) = one_answer h.by_value h'.by_value h.answered h'.answered in
-    (h.found ∙ ap foundIn same ∙ sym h'.found, table, h.moved ∙ ap (λ o. movedBy o _) same ∙ sym h'.moved)
+    (h.found ∙ ap found_in same ∙ sym h'.found, table, h.moved ∙ ap (λ o. moved_by o _) same ∙ sym h'.moved)
 
 pub one-slot :
     (κs : Lfts 1) (a : _) (r r' : Allocated) (s s' : _) →

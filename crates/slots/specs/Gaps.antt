@@ -2,7 +2,7 @@
 use Rattle.std.specs.Prelude.{Bool, true, false, List, map, ◌≡◌, ℕ, ◌+◌, ◌≤◌, leb, length, get_or, take, drop, set}
 use Rattle.std.proofs.Math.Option.{Option, none, some}
 use Rattle.definition.specs.Basics.{every}
-use Rattle.definition.specs.Slots.{highestSlot, Gap, Slots, slotFor}
+use Rattle.definition.specs.Slots.{highest_slot, Gap, Slots, slot_for}
 use Rattle.slots.specs.declared.Gap.{Gap as Row}
 use Rattle.slots.specs.declared.Positions.{Positions}
 use Rattle.slots.specs.declared.Allocated.{Allocated}
@@ -22,16 +22,16 @@ unfoldable pub row_of : Gap → Row
 row_of g = record { first = g.first; last = g.last }
 
 -- a row that nothing was written to, which also stands for one past the end
-abbrev pub noGap : Row
-noGap = record { first = 0; last = 0 }
+abbrev pub no_gap : Row
+no_gap = record { first = 0; last = 0 }
 
 -- the gap at a place
-abbrev pub gapAt : GapTable → ℕ → Gap
-gapAt rows i = gap_of (get_or rows i noGap)
+abbrev pub gap_at : GapTable → ℕ → Gap
+gap_at rows i = gap_of (get_or rows i no_gap)
 
 -- the gaps in use, which are the first rows
-unfoldable pub gapsAt : GapTable → ℕ → List Gap
-gapsAt rows count = map gap_of (take count rows)
+unfoldable pub gaps_at : GapTable → ℕ → List Gap
+gaps_at rows count = map gap_of (take count rows)
 
 -- the gaps' last slots
 unfoldable pub ends : List Gap → List ℕ
@@ -42,26 +42,26 @@ abbrev pub AtMost : ℕ → List ℕ → Type 0
 AtMost limit ns = (i : ℕ) → get_or ns i 0 ≤ limit
 
 -- the table and the positions, as the definition has them
-unfoldable pub slotsAt : GapTable → ℕ → Positions → Slots
-slotsAt rows count p = record { gaps = gapsAt rows count; odd = p.odd; wide = p.wide; plain = p.plain }
+unfoldable pub slots_at_lem : GapTable → ℕ → Positions → Slots
+slots_at_lem rows count p = record { gaps = gaps_at rows count; odd = p.odd; wide = p.wide; plain = p.plain }
 
 -- the table once so many slots are taken from the front of the gap at a place
-unfoldable pub rowsLess : ℕ → ℕ → GapTable → GapTable
-rowsLess n at rows = set rows at (row_of (record { first = (gapAt rows at).first + n; last = (gapAt rows at).last }))
+unfoldable pub rows_less : ℕ → ℕ → GapTable → GapTable
+rows_less n at rows = set rows at (row_of (record { first = (gap_at rows at).first + n; last = (gap_at rows at).last }))
 
 -- a request's answer with the table that it left, as the definition has them
 unfoldable pub answer_of : GapTable → ℕ → Allocated → Option (ℕ × Slots)
-answer_of rows count (Slot n p) = some (n, slotsAt rows count p)
+answer_of rows count (Slot n p) = some (n, slots_at_lem rows count p)
 answer_of rows count None = none
 
 -- what is found, and the positions afterwards: as they were, if it is nothing
-unfoldable pub foundIn : Allocated → Found
-foundIn (Slot n p) = Found.Slot n
-foundIn None = Found.None
+unfoldable pub found_in : Allocated → Found
+found_in (Slot n p) = Found.Slot n
+found_in None = Found.None
 
-unfoldable pub movedBy : Allocated → Positions → Positions
-movedBy (Slot n after) before = after
-movedBy None before = before
+unfoldable pub moved_by : Allocated → Positions → Positions
+moved_by (Slot n after) before = after
+moved_by None before = before
 
 -- what a request leaves alone: the rows behind those in use, and if it finds no slot the whole table
 abbrev pub Alone : Allocated → ℕ → GapTable → GapTable → Type 0
@@ -72,24 +72,24 @@ Alone None count before after = after ≡ before
 pub record Answered (o : Option (ℕ × Slots)) (count : ℕ) (before after : GapTable) (r : Allocated) : Type 0 where
   pub answer : answer_of after count r ≡ o
   pub alone : Alone r count before after
-  pub same : ends (gapsAt after count) ≡ ends (gapsAt before count)
+  pub same : ends (gaps_at after count) ≡ ends (gaps_at before count)
 
 -- the same with the positions lent: p before, q after
 pub record Taken (o : Option (ℕ × Slots)) (count : ℕ) (before after : GapTable) (p q : Positions) (r : Found) : Type 0 where
   pub by_value : Allocated
   pub answered : Answered o count before after by_value
-  pub moved : q ≡ movedBy by_value p
-  pub found : r ≡ foundIn by_value
+  pub moved : q ≡ moved_by by_value p
+  pub found : r ≡ found_in by_value
 
 -- the first rows are written with these gaps, and nothing behind them
 pub record Written (gaps : List Gap) (before after : GapTable) (count : ℕ) : Type 0 where
   pub counted : count ≡ length gaps
-  pub read : gapsAt after count ≡ gaps
+  pub read : gaps_at after count ≡ gaps
   pub behind : drop count after ≡ drop count before
 
 -- a request over a table of any contents: none is met where a gap ends past the highest slot
-unfoldable pub endFits : Gap → Bool
-endFits g = leb g.last highestSlot
+unfoldable pub end_fits : Gap → Bool
+end_fits g = leb g.last highest_slot
 
 unfoldable pub requested : Bool → Bool → Slots → Option (ℕ × Slots)
-requested wide ldc s = elim (every endFits s.gaps) [ true ↦ slotFor wide ldc s | false ↦ none ]
+requested wide ldc s = elim (every end_fits s.gaps) [ true ↦ slot_for wide ldc s | false ↦ none ]

@@ -1,9 +1,9 @@
 // Slots: Krakatau's `ConstSlotAllocator`, over a lent table of gaps of which the first `count` are in use.
 ghost use Rattle.std.specs.Prelude.{◌++◌, ◌∷◌, [], ◌≡◌, ◌+◌, ◌-◌, ◌≤◌, ◌<◌, leb, length, replicate};
 ghost use Rattle.definition.specs.Basics.{every};
-ghost use Rattle.definition.specs.Slots.{highestSlot, size, scan, isOdd, tooHigh, plainEnds, gapBefore, plainSlot, narrowSlot, wideSlot, slotFor, countFrom};
+ghost use Rattle.definition.specs.Slots.{highest_slot, size, scan, is_odd, too_high, plain_ends, gap_before, plain_slot, narrow_slot, wide_slot, slot_for, count_from};
 ghost use Rattle.facts.specs.Lists.{Rising};
-ghost use Rattle.slots.specs.Gaps.{gap_of, noGap, gapAt, gapsAt, ends, AtMost, slotsAt, rowsLess, Answered, foundIn, movedBy, Taken, Written, endFits, requested};
+ghost use Rattle.slots.specs.Gaps.{gap_of, no_gap, gap_at, gaps_at, ends, AtMost, slots_at_lem, rows_less, Answered, found_in, moved_by, Taken, Written, end_fits, requested};
 
 // A run of free slots, shortened in place: empty once its first slot is past its last.
 #[repr(C)]
@@ -48,21 +48,21 @@ fn len(gap: Gap) -> u32
 
 // ldc can't name the gap's first slot.
 fn too_high(ldc: bool, gap: Gap) -> bool
-    ensures { result ≡ tooHigh ldc (gap_of gap) }
+    ensures { result ≡ too_high ldc (gap_of gap) }
 {
     ldc && gap.first > 255
 }
 
 // The search for an odd gap ends here.
 fn is_odd(gap: Gap) -> bool
-    ensures { result ≡ isOdd (gap_of gap) }
+    ensures { result ≡ is_odd (gap_of gap) }
 {
     len(gap) % 2 == 1
 }
 
 // The search for any gap ends here: at a slot, or where ldc can go no further.
 fn ends_plain(ldc: bool, gap: Gap) -> bool
-    ensures { result ≡ plainEnds ldc (gap_of gap) }
+    ensures { result ≡ plain_ends ldc (gap_of gap) }
 {
     too_high(ldc, gap) || len(gap) >= 1
 }
@@ -76,7 +76,7 @@ fn has_two(gap: Gap) -> bool
 
 // No slot of the gap is past the highest slot.
 fn end_fits(gap: Gap) -> bool
-    ensures { result ≡ endFits (gap_of gap) }
+    ensures { result ≡ end_fits (gap_of gap) }
 {
     gap.last <= 65534
 }
@@ -111,7 +111,7 @@ fn gap_before(first: u32, next: u32) -> Gap
 
 // A gap that nothing was written to.
 pub fn no_gap() -> Gap
-    ensures { result ≡ noGap }
+    ensures { result ≡ no_gap }
 {
     Gap { first: 0, last: 0 }
 }
@@ -120,7 +120,7 @@ pub fn no_gap() -> Gap
 
 fn find_odd(gaps: &[Gap], count: usize, at: usize) -> usize
     requires { count ≤ length gaps.now }
-    ensures { result ≡ scan isOdd at (gapsAt gaps.now count) }
+    ensures { result ≡ scan is_odd at (gaps_at gaps.now count) }
 {
     let mut i = at;
     while i < count {
@@ -134,7 +134,7 @@ fn find_odd(gaps: &[Gap], count: usize, at: usize) -> usize
 
 fn find_plain(gaps: &[Gap], count: usize, at: usize, ldc: bool) -> usize
     requires { count ≤ length gaps.now }
-    ensures { result ≡ scan (plainEnds ldc) at (gapsAt gaps.now count) }
+    ensures { result ≡ scan (plain_ends ldc) at (gaps_at gaps.now count) }
 {
     let mut i = at;
     while i < count {
@@ -148,7 +148,7 @@ fn find_plain(gaps: &[Gap], count: usize, at: usize, ldc: bool) -> usize
 
 fn find_wide(gaps: &[Gap], count: usize, at: usize) -> usize
     requires { count ≤ length gaps.now }
-    ensures { result ≡ scan (λ g. leb 2 (size g)) at (gapsAt gaps.now count) }
+    ensures { result ≡ scan (λ g. leb 2 (size g)) at (gaps_at gaps.now count) }
 {
     let mut i = at;
     while i < count {
@@ -162,8 +162,8 @@ fn find_wide(gaps: &[Gap], count: usize, at: usize) -> usize
 
 // Takes `n` slots from the front of the gap at a place, and gives the first of them.
 fn take_front(gaps: &mut [Gap], at: usize, n: u16) -> u16
-    requires { (at < length gaps.old) × ((gapAt gaps.old at).first + n < 65536) }
-    ensures { (result ≡ (gapAt gaps.old at).first) × (gaps.new ≡ rowsLess n at gaps.old) }
+    requires { (at < length gaps.old) × ((gap_at gaps.old at).first + n < 65536) }
+    ensures { (result ≡ (gap_at gaps.old at).first) × (gaps.new ≡ rows_less n at gaps.old) }
 {
     let gap = gaps[at];
     gaps[at] = shorter(gap, n);
@@ -215,8 +215,8 @@ fn plain_from(p: Positions, at: usize) -> Positions
 
 // A narrow slot from the first gap not empty.
 fn alloc_plain(gaps: &mut [Gap], count: usize, p: Positions, ldc: bool) -> Allocated
-    requires { (count ≤ length gaps.old) × AtMost highestSlot (ends (gapsAt gaps.old count)) }
-    ensures { Answered (plainSlot ldc (slotsAt gaps.old count p)) count gaps.old gaps.new result }
+    requires { (count ≤ length gaps.old) × AtMost highest_slot (ends (gaps_at gaps.old count)) }
+    ensures { Answered (plain_slot ldc (slots_at_lem gaps.old count p)) count gaps.old gaps.new result }
 {
     let plain = find_plain(gaps, count, p.plain, ldc);
     if plain < count && !too_high(ldc, gaps[plain]) {
@@ -230,8 +230,8 @@ fn alloc_plain(gaps: &mut [Gap], count: usize, p: Positions, ldc: bool) -> Alloc
 
 // A narrow slot: from an odd gap first, so that the even ones stay whole for wide constants.
 fn alloc(gaps: &mut [Gap], count: usize, p: Positions, ldc: bool) -> Allocated
-    requires { (count ≤ length gaps.old) × AtMost highestSlot (ends (gapsAt gaps.old count)) }
-    ensures { Answered (narrowSlot ldc (slotsAt gaps.old count p)) count gaps.old gaps.new result }
+    requires { (count ≤ length gaps.old) × AtMost highest_slot (ends (gaps_at gaps.old count)) }
+    ensures { Answered (narrow_slot ldc (slots_at_lem gaps.old count p)) count gaps.old gaps.new result }
 {
     let odd = find_odd(gaps, count, p.odd);
     if odd < count && !too_high(ldc, gaps[odd]) {
@@ -245,8 +245,8 @@ fn alloc(gaps: &mut [Gap], count: usize, p: Positions, ldc: bool) -> Allocated
 
 // Two slots in a row from the first gap that has two.
 fn alloc_wide(gaps: &mut [Gap], count: usize, p: Positions) -> Allocated
-    requires { (count ≤ length gaps.old) × AtMost highestSlot (ends (gapsAt gaps.old count)) }
-    ensures { Answered (wideSlot (slotsAt gaps.old count p)) count gaps.old gaps.new result }
+    requires { (count ≤ length gaps.old) × AtMost highest_slot (ends (gaps_at gaps.old count)) }
+    ensures { Answered (wide_slot (slots_at_lem gaps.old count p)) count gaps.old gaps.new result }
 {
     let wide = find_wide(gaps, count, p.wide);
     if wide < count {
@@ -260,8 +260,8 @@ fn alloc_wide(gaps: &mut [Gap], count: usize, p: Positions) -> Allocated
 
 // One request: two slots for a wide constant, else one.
 fn slot_for(gaps: &mut [Gap], count: usize, p: Positions, wide: bool, ldc: bool) -> Allocated
-    requires { (count ≤ length gaps.old) × AtMost highestSlot (ends (gapsAt gaps.old count)) }
-    ensures { Answered (slotFor wide ldc (slotsAt gaps.old count p)) count gaps.old gaps.new result }
+    requires { (count ≤ length gaps.old) × AtMost highest_slot (ends (gaps_at gaps.old count)) }
+    ensures { Answered (slot_for wide ldc (slots_at_lem gaps.old count p)) count gaps.old gaps.new result }
 {
     if wide {
         alloc_wide(gaps, count, p)
@@ -271,7 +271,7 @@ fn slot_for(gaps: &mut [Gap], count: usize, p: Positions, wide: bool, ldc: bool)
 }
 
 fn found_in(a: Allocated) -> Found
-    ensures { result ≡ foundIn a }
+    ensures { result ≡ found_in a }
 {
     match a {
         Allocated::Slot { slot, positions: _ } => Found::Slot(slot),
@@ -281,7 +281,7 @@ fn found_in(a: Allocated) -> Found
 
 // The positions behind a request: as they were, if there is no slot.
 fn moved(a: Allocated, p: Positions) -> Positions
-    ensures { result ≡ movedBy a p }
+    ensures { result ≡ moved_by a p }
 {
     match a {
         Allocated::Slot { slot: _, positions } => positions,
@@ -291,8 +291,8 @@ fn moved(a: Allocated, p: Positions) -> Positions
 
 // One request, with the positions lent to be changed.
 pub fn take_slot(gaps: &mut [Gap], count: usize, p: &mut Positions, wide: bool, ldc: bool) -> Found
-    requires { (count ≤ length gaps.old) × AtMost highestSlot (ends (gapsAt gaps.old count)) }
-    ensures { Taken (slotFor wide ldc (slotsAt gaps.old count p.old)) count gaps.old gaps.new p.old p.new result }
+    requires { (count ≤ length gaps.old) × AtMost highest_slot (ends (gaps_at gaps.old count)) }
+    ensures { Taken (slot_for wide ldc (slots_at_lem gaps.old count p.old)) count gaps.old gaps.new p.old p.new result }
 {
     let a = slot_for(gaps, count, *p, wide, ldc);
     *p = moved(a, *p);
@@ -301,7 +301,7 @@ pub fn take_slot(gaps: &mut [Gap], count: usize, p: &mut Positions, wide: bool, 
 
 // No gap ends past the highest slot.
 fn ends_fit(gaps: &[Gap]) -> bool
-    ensures { result ≡ every endFits (gapsAt gaps.now (length gaps.now)) }
+    ensures { result ≡ every end_fits (gaps_at gaps.now (length gaps.now)) }
 {
     let mut i = 0;
     while i < gaps.len() {
@@ -316,7 +316,7 @@ fn ends_fit(gaps: &[Gap]) -> bool
 // One request over a table of any contents, all of it in use. It is public only for crates/slots_test, which holds it to the Rust's
 // answers. A table with a gap that ends past the highest slot has no answer.
 pub fn request_slot(gaps: &mut [Gap], p: Positions, wide: bool, ldc: bool) -> Allocated
-    ensures { Answered (requested wide ldc (slotsAt gaps.old (length gaps.old) p)) (length gaps.old) gaps.old gaps.new result }
+    ensures { Answered (requested wide ldc (slots_at_lem gaps.old (length gaps.old) p)) (length gaps.old) gaps.old gaps.new result }
 {
     let count = gaps.len();
     if ends_fit(gaps) {
@@ -329,7 +329,7 @@ pub fn request_slot(gaps: &mut [Gap], p: Positions, wide: bool, ldc: bool) -> Al
 // Puts the gap from `first` to just before `next`, if it has a slot, behind those in use.
 pub fn push_gap(gaps: &mut [Gap], count: usize, first: u32, next: u32) -> usize
     requires { (count ≤ length gaps.old) × (first < next → count < length gaps.old) × (next ≤ 65536) }
-    ensures { Written (gapsAt gaps.old count ++ gapBefore first next []) gaps.old gaps.new result }
+    ensures { Written (gaps_at gaps.old count ++ gap_before first next []) gaps.old gaps.new result }
 {
     if first >= next {
         return count;
@@ -341,7 +341,7 @@ pub fn push_gap(gaps: &mut [Gap], count: usize, first: u32, next: u32) -> usize
 // The pool's count, if this gap is the last one: its first free slot if it ends at the highest slot, else the number past that slot.
 fn count_by(gap: Gap, top: u32) -> u32
     requires { top ≤ 65535 }
-    ensures { result ≡ countFrom top (gap_of gap ∷ []) }
+    ensures { result ≡ count_from top (gap_of gap ∷ []) }
 {
     if gap.last as u32 == top {
         gap.first as u32
@@ -352,8 +352,8 @@ fn count_by(gap: Gap, top: u32) -> u32
 
 // The pool's count, which the last gap tells.
 pub fn pool_count(gaps: &[Gap], count: usize, top: u32) -> u32
-    requires { (count ≤ length gaps.now) × Rising 0 top (ends (gapsAt gaps.now count)) × (top ≤ 65535) }
-    ensures { result ≡ countFrom top (gapsAt gaps.now count) }
+    requires { (count ≤ length gaps.now) × Rising 0 top (ends (gaps_at gaps.now count)) × (top ≤ 65535) }
+    ensures { result ≡ count_from top (gaps_at gaps.now count) }
 {
     if count == 0 {
         return top + 1;
@@ -364,7 +364,7 @@ pub fn pool_count(gaps: &[Gap], count: usize, top: u32) -> u32
 
 // Every gap as in a table that nothing was written to.
 pub fn clear_gaps(gaps: &mut [Gap])
-    ensures { gaps.new ≡ replicate (length gaps.old) noGap }
+    ensures { gaps.new ≡ replicate (length gaps.old) no_gap }
 {
     let gap = no_gap();
     let mut i = 0;

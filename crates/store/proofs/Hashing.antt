@@ -13,9 +13,9 @@ pub head_small : (heads key : ℕ) → key < heads → head_of heads key ≡ key
 unfolding head_of
 head_small heads key h = rw (lt-ltb key heads h, head_of)
 
-pub head-large : (heads key : ℕ) → heads ≤ key → head_of heads key ≡ key * 0x9e3779b1 % 4294967296 * (heads - 1) / 4294967296 + 1
+pub head_large : (heads key : ℕ) → heads ≤ key → head_of heads key ≡ key * 0x9e3779b1 % 4294967296 * (heads - 1) / 4294967296 + 1
 unfolding head_of
-head-large heads key h = rw (le-ltb key heads h, head_of)
+head_large heads key h = rw (le-ltb key heads h, head_of)
 
 -- a part of n in the ratio of a word to 2^32 is below n
 pub scaled-below : (x n : ℕ) → 0 < n → x % 4294967296 * n / 4294967296 < n
@@ -29,13 +29,13 @@ scaled_fits x n h =
     let a : x % 4294967296 < 4294967296 = mod-lt x (omega arith) in
     omega (arith, mul-le-mul_right n (le_of_lt a))
 
-pub head-lt : (heads key : ℕ) → 1 < heads → head_of heads key < heads
-head-lt heads key h =
+pub head_lt : (heads key : ℕ) → 1 < heads → head_of heads key < heads
+head_lt heads key h =
     ⊎_elim
     (λ (l : key < heads). rw (head_small heads key l) l)
-    (λ (l : heads ≤ key). rw (head-large heads key l) (omega (arith, scaled-below (key * 0x9e3779b1) (heads - 1) (omega arith))))
+    (λ (l : heads ≤ key). rw (head_large heads key l) (omega (arith, scaled-below (key * 0x9e3779b1) (heads - 1) (omega arith))))
     (order key heads)
 
 -- what the code's product is at most
-pub product-fits : (hash x : ℕ) → IsWord hash → IsWord x → (hash + x) * 0x5bd1e995 < 18446744073709551616
-product-fits hash x h k = omega arith
+pub product_fits : (hash x : ℕ) → IsWord hash → IsWord x → (hash + x) * 0x5bd1e995 < 18446744073709551616
+product_fits hash x h k = omega arith

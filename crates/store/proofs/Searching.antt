@@ -6,14 +6,14 @@ use native.Mathlib.Omega.{arith}
 use lib.ListN.{length, get_or}
 use Rattle.store.specs.Store.{Store, size}
 use Rattle.store.specs.Chains.{head_of, Sought, NumbersIn}
-use Rattle.store.proofs.Hashing.{head-lt}
-use Rattle.store.proofs.Walking.{Down, walk_start, walk-on}
+use Rattle.store.proofs.Hashing.{head_lt}
+use Rattle.store.proofs.Walking.{Down, walk_start, walk_on}
 
-pub sought-hit : (is : ℕ → Type 0) (n e : ℕ) → e ≤ n → 0 < e → is (e - 1) → Sought is n e
-sought-hit is n e l h t = record { low = l; hit = λ _. t; miss = λ z. absurd (omega arith) }
+pub sought_hit : (is : ℕ → Type 0) (n e : ℕ) → e ≤ n → 0 < e → is (e - 1) → Sought is n e
+sought_hit is n e l h t = record { low = l; hit = λ _. t; miss = λ z. absurd (omega arith) }
 
-pub sought-miss : (hash : ℕ → ℕ) (is : ℕ → Type 0) (k n e : ℕ) → e ≤ 0 → Down hash is k n e → Sought is n 0
-sought-miss hash is k n e z d =
+pub sought_miss : (hash : ℕ → ℕ) (is : ℕ → Type 0) (k n e : ℕ) → e ≤ 0 → Down hash is k n e → Sought is n 0
+sought_miss hash is k n e z d =
     record { low = omega arith; hit = λ l. absurd (omega arith); miss = λ _ i l. d.past i (omega arith) l }
 
 -- the walk for item numbers n, at e
@@ -37,12 +37,12 @@ module _ (p : List ℕ) (s : Store) (heads keys n : ℕ) where
       (λ i. get_or (s keys) i 0 ≡ n)
       g.0
       keyed
-      (omega (arith, head-lt (size p heads) n two))
+      (omega (arith, head_lt (size p heads) n two))
 
   module _ (e : ℕ) (h : 0 < e) (d : ForNumber p s heads keys n e) (t : get_or (s keys) (e - 1) 0 ≡ n → ⊥) (count : ℕ) (g : NumbersIn p s heads keys count) where
     next : Down (λ i. head_of (size p heads) (get_or (s keys) i 0)) (λ i. get_or (s keys) i 0 ≡ n) (head_of (size p heads) n) count (get_or (s (heads + 5)) (e - 1) 0) × (get_or (s (heads + 5)) (e - 1) 0 < e)
     next =
-        walk-on
+        walk_on
         (λ i. head_of (size p heads) (get_or (s keys) i 0))
         (s heads)
         (s (heads + 5))

@@ -14,13 +14,13 @@ use Rattle.facts.proofs.Lists.{order, equal}
 use Rattle.facts.proofs.Chunks.{length_from, from-same, from-get}
 use Rattle.store.specs.Store.{size, store, put, Laid, On}
 
-laid-long : (p : List ℕ) → Laid p → length p ≡ 33
+laid_long : (p : List ℕ) → Laid p → length p ≡ 33
 unfolding Laid
-laid-long p laid = laid.0
+laid_long p laid = laid.0
 
-laid-rises : (p : List ℕ) → Laid p → (k : ℕ) → k < 32 → get_or p k 0 ≤ get_or p (suc k) 0
+laid_rises : (p : List ℕ) → Laid p → (k : ℕ) → k < 32 → get_or p k 0 ≤ get_or p (suc k) 0
 unfolding Laid
-laid-rises p laid = laid.1
+laid_rises p laid = laid.1
 
 module _ (p : List ℕ) (laid : Laid p) where
   -- the end of a region is at or before the start of a later one
@@ -28,7 +28,7 @@ module _ (p : List ℕ) (laid : Laid p) where
   before j zero h = let e : j + 0 ≡ j = omega arith in rw e (omega arith)
   before j (suc d) h =
       let e : j + suc d ≡ suc (j + d) = omega arith in
-      rw e (omega (arith, before j d (omega arith), laid-rises p laid (j + d) (omega arith)))
+      rw e (omega (arith, before j d (omega arith), laid_rises p laid (j + d) (omega arith)))
 
   pub rising : (j k : ℕ) → j ≤ k → k < 33 → get_or p j 0 ≤ get_or p k 0
   rising j k h l = let e : j + (k - j) ≡ k = omega arith in subst (λ (x : ℕ). get_or p j 0 ≤ get_or p x 0) e (before j (k - j) (omega arith))
@@ -42,7 +42,7 @@ module _ (p : List ℕ) (laid : Laid p) where
   -- a region with a word is one of the first 32
   pub real : (k i : ℕ) → i < size p k → k < 32
   unfolding size
-  real k i h = ⊎_elim (λ (l : k < 32). l) (λ (l : 32 ≤ k). absurd (omega (arith, past p (suc k) (omega (arith, laid-long p laid))))) (order k 32)
+  real k i h = ⊎_elim (λ (l : k < 32). l) (λ (l : 32 ≤ k). absurd (omega (arith, past p (suc k) (omega (arith, laid_long p laid))))) (order k 32)
 
   -- two regions have no word in common
   pub apart : (j k i a : ℕ) → (j ≡ k → ⊥) → i < size p j → a < size p k → get_or p j 0 + i ≡ get_or p k 0 + a → ⊥
@@ -116,10 +116,10 @@ module _ (p w : List ℕ) (k i x : ℕ) (on : On p (length w)) (h : i < size p k
 
 -- what the code's indexes need
 pub in_words : (p : List ℕ) (words k i : ℕ) → On p words → i < size p k → (k < length p) × (get_or p k 0 + i < words)
-in_words p words k i on h = (omega (arith, real p on.0 k i h, laid-long p on.0), omega (arith, inside p on.0 k i h, on.1))
+in_words p words k i on h = (omega (arith, real p on.0 k i h, laid_long p on.0), omega (arith, inside p on.0 k i h, on.1))
 
-pub in-places : (p : List ℕ) (k : ℕ) → Laid p → k < 32 → (k + 1 < length p) × (get_or p k 0 ≤ get_or p (k + 1) 0)
-in-places p k laid h = (omega (arith, laid-long p laid), rw add-one (laid-rises p laid k h))
+pub in_places : (p : List ℕ) (k : ℕ) → Laid p → k < 32 → (k + 1 < length p) × (get_or p k 0 ≤ get_or p (k + 1) 0)
+in_places p k laid h = (omega (arith, laid_long p laid), rw add-one (laid_rises p laid k h))
 
 pub size_is : (p : List ℕ) (k : ℕ) → size p k ≡ get_or p (k + 1) 0 - get_or p k 0
 unfolding size

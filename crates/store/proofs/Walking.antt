@@ -81,8 +81,8 @@ module _ (hash : ℕ → ℕ) (hs xs : List ℕ) (n k : ℕ) (is : ℕ → Type 
   pub walk_start : k < length hs → Down hash is k n (get_or hs k 0)
   walk_start h = down n (get_or hs k 0) (omega arith) (λ j a b t. omega arith) (c.first k h)
 
-  pub walk-on : (e : ℕ) → 0 < e → Down hash is k n e → (is (e - 1) → ⊥) → Down hash is k n (get_or xs (e - 1) 0) × (get_or xs (e - 1) 0 < e)
-  walk-on e h d t = (down (e - 1) (get_or xs (e - 1) 0) (omega (arith, d.below)) past q, omega (arith, q, last-le (λ i. eqb (hash i) k) (e - 1)))
+  pub walk_on : (e : ℕ) → 0 < e → Down hash is k n e → (is (e - 1) → ⊥) → Down hash is k n (get_or xs (e - 1) 0) × (get_or xs (e - 1) 0 < e)
+  walk_on e h d t = (down (e - 1) (get_or xs (e - 1) 0) (omega (arith, d.below)) past q, omega (arith, q, last-le (λ i. eqb (hash i) k) (e - 1)))
     where
       s : suc (e - 1) ≡ e
       s = omega arith
@@ -101,8 +101,8 @@ module _ (hash hash' : ℕ → ℕ) (hs xs : List ℕ) (n k : ℕ) (c : Chains h
   same : (x m : ℕ) → m ≤ n → last (λ i. eqb (hash' i) x) m ≡ last (λ i. eqb (hash i) x) m
   same x m h = last-ext _ _ m (λ j l. ap (λ (y : ℕ). eqb y x) (old j (omega arith)))
 
-  pub chains-more : Chains hash' (set hs k (n + 1)) (set xs n (get_or hs k 0)) (n + 1)
-  chains-more =
+  pub chains_more : Chains hash' (set hs k (n + 1)) (set xs n (get_or hs k 0)) (n + 1)
+  chains_more =
       record {
         first =
             λ x h.

@@ -2,7 +2,7 @@
 use Rattle.std.specs.Prelude.{List, [], ◌∷◌, ◌≡◌, ℕ, ◌+◌, ◌*◌, ◌/◌, ◌≤◌, ◌<◌, length, get_or}
 use Rattle.job.specs.declared.JobCounts.{JobCounts}
 use Rattle.store.specs.Store.{size, store, On}
-use Rattle.store.specs.JobIn.{WellFormed, countsIn}
+use Rattle.store.specs.JobIn.{WellFormed, counts_in}
 
 -- regions, by the names that they have in the code, with - for _
 abbrev pub COUNTS : ℕ
@@ -168,11 +168,11 @@ places_of a [] = a ∷ []
 places_of a (n ∷ sizes) = a ∷ places_of (a + n) sizes
 
 -- how many entries a job has, and how many raw definitions, a raw constant counted as two
-abbrev pub entriesOf : JobCounts → ℕ
-entriesOf c = c.constants + c.bootstraps
+abbrev pub entries_of : JobCounts → ℕ
+entries_of c = c.constants + c.bootstraps
 
-abbrev pub rawsOf : JobCounts → ℕ
-rawsOf c = 2 * c.raw_constants + c.raw_bootstraps
+abbrev pub raws_of : JobCounts → ℕ
+raws_of c = 2 * c.raw_constants + c.raw_bootstraps
 
 -- counts so small that the places of their regions stay below 2^25
 pub record Few (c : JobCounts) : Type 0 where
@@ -180,41 +180,41 @@ pub record Few (c : JobCounts) : Type 0 where
   pub bootstraps : c.bootstraps ≤ 65536
   pub references : c.references ≤ 1048576
   pub names : c.names ≤ 1048576
-  pub raw-constants : c.raw_constants ≤ 1048576
-  pub raw-bootstraps : c.raw_bootstraps ≤ 1048576
+  pub raw_constants : c.raw_constants ≤ 1048576
+  pub raw_bootstraps : c.raw_bootstraps ≤ 1048576
   pub requests : c.requests ≤ 1048576
 
 -- the regions of a job that counts so much in so many bytes, in their order
-unfoldable pub sizesFor : JobCounts → ℕ → List ℕ
-sizesFor c bytes =
+unfoldable pub sizes_for : JobCounts → ℕ → List ℕ
+sizes_for c bytes =
     20  -- COUNTS
-    ∷ entriesOf c  -- MARKS
-    ∷ entriesOf c  -- GIVEN
+    ∷ entries_of c  -- MARKS
+    ∷ entries_of c  -- GIVEN
     ∷ c.bootstraps  -- INDEXES
     ∷ (c.names + 2)  -- NAME-HEADS
-    ∷ (2 * entriesOf c + 2)  -- NODE-HEADS
-    ∷ (rawsOf c + 2)  -- RAW-HEADS
+    ∷ (2 * entries_of c + 2)  -- NODE-HEADS
+    ∷ (raws_of c + 2)  -- RAW-HEADS
     ∷ (c.bootstraps + 2)  -- ROW-HEADS
-    ∷ (entriesOf c + 2)  -- OWNER-HEADS
+    ∷ (entries_of c + 2)  -- OWNER-HEADS
     ∷ c.names  -- NAME-LINKS
-    ∷ entriesOf c  -- NODE-LINKS
-    ∷ rawsOf c  -- RAW-LINKS
+    ∷ entries_of c  -- NODE-LINKS
+    ∷ raws_of c  -- RAW-LINKS
     ∷ c.bootstraps  -- ROW-LINKS
-    ∷ entriesOf c  -- OWNER-LINKS
-    ∷ entriesOf c  -- RECORDS
-    ∷ entriesOf c  -- OFFSETS
-    ∷ entriesOf c  -- FIRSTS
-    ∷ entriesOf c  -- SIZES
+    ∷ entries_of c  -- OWNER-LINKS
+    ∷ entries_of c  -- RECORDS
+    ∷ entries_of c  -- OFFSETS
+    ∷ entries_of c  -- FIRSTS
+    ∷ entries_of c  -- SIZES
     ∷ c.references  -- GOALS
     ∷ c.references  -- CHILDREN
     ∷ c.names  -- NAME-PLACES
     ∷ c.names  -- NAME-GOALS
-    ∷ rawsOf c  -- RAW-KEYS
-    ∷ rawsOf c  -- RAW-ENTRIES
-    ∷ rawsOf c  -- ORDER
-    ∷ entriesOf c  -- NODES
-    ∷ (entriesOf c + c.references + 1)  -- STACK
-    ∷ (entriesOf c + c.raw_constants)  -- PENDING
+    ∷ raws_of c  -- RAW-KEYS
+    ∷ raws_of c  -- RAW-ENTRIES
+    ∷ raws_of c  -- ORDER
+    ∷ entries_of c  -- NODES
+    ∷ (entries_of c + c.references + 1)  -- STACK
+    ∷ (entries_of c + c.raw_constants)  -- PENDING
     ∷ c.bootstraps  -- INLINE
     ∷ c.requests  -- ANSWERS
     ∷ c.requests  -- ORIGINS
@@ -223,11 +223,11 @@ sizesFor c bytes =
 
 -- the regions of a job that counts so much are laid out over the words, and those before NAME-LINKS are zeros
 pub record Started (c : JobCounts) (bytes : ℕ) (p before after : List ℕ) : Type 0 where
-  pub places : p ≡ places_of 0 (sizesFor c bytes)
+  pub places : p ≡ places_of 0 (sizes_for c bytes)
   pub long : length after ≡ length before
   pub on : On p (length after)
   pub zeros : (k : ℕ) → k < 9 → (i : ℕ) → i < size p k → get_or (store p after k) i 0 ≡ 0
 
 -- well-formed bytes, and the places of their job's regions. It is shut, as WellFormed is
 unfoldable pub Work : List ℕ → List ℕ → Type 0
-Work s p = WellFormed s × (p ≡ places_of 0 (sizesFor (countsIn s) (length s)))
+Work s p = WellFormed s × (p ≡ places_of 0 (sizes_for (counts_in s) (length s)))

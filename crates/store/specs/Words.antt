@@ -3,8 +3,8 @@ use Rattle.std.specs.Prelude.{Bool, true, false, List, ◌++◌, ◌⊎◌, ◌�
 use Rattle.definition.specs.Basics.{from}
 use Rattle.definition.specs.Bytes.{Parser, be4}
 use Rattle.definition.specs.Shapes.{constant, bootstrap, is_wide}
-use Rattle.definition.specs.Job.{Reference, raw, entry, name, shortName}
-use Rattle.definition.specs.Resolving.{Goal, rawNumber, tableEntry, refusal, Mark, fresh, underway, done, Item, enter, leave}
+use Rattle.definition.specs.Job.{Reference, raw, entry, name, short_name}
+use Rattle.definition.specs.Resolving.{Goal, raw_number, table_entry, refusal, Mark, fresh, underway, done, Item, enter, leave}
 use Rattle.job.specs.Stored.{Stands}
 
 -- a raw number is itself, and entry e of the one table, or as a child node e, is ENTRY + e
@@ -39,8 +39,8 @@ unfoldable pub label_at : List ℕ → ℕ → List ℕ
 label_at s at = take (get_or s at 0) (drop (at + 1) s)
 
 -- a reference's word, in a job of these bytes with so many constants
-unfoldable pub referenceWord : List ℕ → ℕ → ℕ → Reference
-referenceWord s constants x =
+unfoldable pub reference_word : List ℕ → ℕ → ℕ → Reference
+reference_word s constants x =
     elim (ltb x ENTRY) [
       | true ↦ raw x
       | false ↦
@@ -62,39 +62,39 @@ referenceWord s constants x =
 abbrev pub IsReference : List ℕ → ℕ → ℕ → Type 0
 IsReference s entries x =
     (x < ENTRY + entries)
-    ⊎ (((SYM ≤ x) × (x < BOOTSTRAP-SYM) × Stands shortName s (x - SYM)) ⊎ ((BOOTSTRAP-SYM ≤ x) × Stands shortName s (x - BOOTSTRAP-SYM)))
+    ⊎ (((SYM ≤ x) × (x < BOOTSTRAP-SYM) × Stands short_name s (x - SYM)) ⊎ ((BOOTSTRAP-SYM ≤ x) × Stands short_name s (x - BOOTSTRAP-SYM)))
 
-unfoldable pub goalWord : ℕ → Goal
-goalWord x =
+unfoldable pub goal_word : ℕ → Goal
+goal_word x =
     elim (ltb x ENTRY) [
-      | true ↦ rawNumber x
-      | false ↦ elim (ltb x REFUSED) [ true ↦ tableEntry (x - ENTRY) | false ↦ refusal (x - REFUSED) ]
+      | true ↦ raw_number x
+      | false ↦ elim (ltb x REFUSED) [ true ↦ table_entry (x - ENTRY) | false ↦ refusal (x - REFUSED) ]
     ]
 
 -- a goal's word, in a table of so many entries
 abbrev pub IsGoal : ℕ → ℕ → Type 0
 IsGoal entries x = (x < ENTRY + entries) ⊎ ((x ≡ REFUSED + 12) ⊎ (x ≡ REFUSED + 13))
 
-unfoldable pub itemWord : ℕ → Item
-itemWord x =
+unfoldable pub item_word : ℕ → Item
+item_word x =
     elim (ltb x LEAVE) [
-      | true ↦ enter (goalWord x)
-      | false ↦ elim (ltb x REFUSED) [ true ↦ leave (x - LEAVE) | false ↦ enter (goalWord x) ]
+      | true ↦ enter (goal_word x)
+      | false ↦ elim (ltb x REFUSED) [ true ↦ leave (x - LEAVE) | false ↦ enter (goal_word x) ]
     ]
 
-unfoldable pub markWord : ℕ → Mark
-markWord zero = fresh
-markWord (suc zero) = underway
-markWord (suc (suc k)) = done k
+unfoldable pub mark_word : ℕ → Mark
+mark_word zero = fresh
+mark_word (suc zero) = underway
+mark_word (suc (suc k)) = done k
 
 -- the bytes of a number with this tag: of its first word, and of a second one if it is wide
-unfoldable pub numberBytes : ℕ → ℕ → ℕ → List ℕ
-numberBytes tag first second = elim (is_wide tag) [ true ↦ be4 first ++ be4 second | false ↦ be4 first ]
+unfoldable pub number_bytes : ℕ → ℕ → ℕ → List ℕ
+number_bytes tag first second = elim (is_wide tag) [ true ↦ be4 first ++ be4 second | false ↦ be4 first ]
 
 -- n words from a place on
 abbrev pub cut : List ℕ → ℕ → ℕ → List ℕ
 cut l at n = from (λ i. get_or l (at + i) 0) 0 n
 
 -- the slot of a child: a raw number is itself, and a node has the slot that it was given, 0 while it has none
-unfoldable pub childSlot : List ℕ → ℕ → ℕ
-childSlot given child = elim (ltb child ENTRY) [ true ↦ child | false ↦ get_or given (child - ENTRY) 0 ]
+unfoldable pub child_slot : List ℕ → ℕ → ℕ
+child_slot given child = elim (ltb child ENTRY) [ true ↦ child | false ↦ get_or given (child - ENTRY) 0 ]

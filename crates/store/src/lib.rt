@@ -1,7 +1,7 @@
 // The lent words as regions: region k is the words from place k up to place k + 1, and only `load`, `save`, `size_of`, `lay` and
 // `start` touch words or places.
 ghost use Rattle.std.specs.Prelude.{◌≡◌, ℕ, ◌+◌, ◌-◌, ◌<◌, ◌≤◌, length, get_or};
-ghost use Rattle.store.specs.Regions.{places_of, sizesFor, Few, Started};
+ghost use Rattle.store.specs.Regions.{places_of, sizes_for, Few, Started};
 ghost use Rattle.store.specs.Store.{size, store, put, Laid, On, IsWord, Read};
 ghost use Rattle.store.specs.Chains.{mixed, head_of, Sought, Heads, linked, NumbersIn};
 
@@ -205,7 +205,7 @@ pub fn constants(p: &[usize]) -> usize
 // The sizes of the regions of a job of n bytes with these counts.
 fn sizes_for(c: JobCounts, n: usize) -> [usize; 32]
     requires { Few c }
-    ensures { result ≡ sizesFor c n }
+    ensures { result ≡ sizes_for c n }
 {
     let entries = c.constants + c.bootstraps;
     let raws = 2 * c.raw_constants + c.raw_bootstraps;
@@ -261,7 +261,7 @@ fn lay(p: &mut [usize], sizes: &[usize])
 
 // The places of a job of n bytes with these counts; the regions that start as zeros are zeros.
 pub fn start(w: &mut [u32], p: &mut [usize], c: JobCounts, n: usize)
-    requires { Few c × (length p.old ≡ 33) × (get_or (places_of 0 (sizesFor c n)) 32 0 ≤ length w.old) × (n ≤ 1048576) }
+    requires { Few c × (length p.old ≡ 33) × (get_or (places_of 0 (sizes_for c n)) 32 0 ≤ length w.old) × (n ≤ 1048576) }
     ensures { Started c n p.new w.old w.new }
 {
     let sizes = sizes_for(c, n);

@@ -7,53 +7,53 @@ use native.Mathlib.Omega.{arith}
 use lib.ListN.{length, get_or, take, drop, length-drop}
 use lib.Seq.{length-take-le}
 use Rattle.definition.specs.Basics.{same}
-use Rattle.definition.specs.Job.{shortName}
+use Rattle.definition.specs.Job.{short_name}
 use Rattle.definition.specs.Definitions.{Naming}
 use Rattle.facts.proofs.Lists.{same_true, same_refl}
 use Rattle.job.specs.Stored.{Stands}
 use Rattle.store.specs.Words.{label_at}
 use Rattle.store.proofs.Walking.{both}
-use Rattle.sym_refs.specs.Names.{kindByte, NamingAt}
+use Rattle.sym_refs.specs.Names.{kind_byte, NamingAt}
 use Rattle.sym_refs.specs.Leading.{Decides}
-use Rattle.sym_refs.proofs.Wording.{label-there, label_is}
-use Rattle.sym_refs.proofs.Namings.{NamingThere, naming-there}
+use Rattle.sym_refs.proofs.Wording.{label_there, label_is}
+use Rattle.sym_refs.proofs.Namings.{NamingThere, naming_there}
 
 -- a name has room
-pub name-room : (s : List ℕ) (at : ℕ) → Stands shortName s at → (at < length s) × (at + 1 + get_or s at 0 ≤ length s)
-name-room s at (l, next, f) = let t = label-there s at l next f in (t.1, omega (arith, t.2, t.3))
+pub name_room : (s : List ℕ) (at : ℕ) → Stands short_name s at → (at < length s) × (at + 1 + get_or s at 0 ≤ length s)
+name_room s at (l, next, f) = let t = label_there s at l next f in (t.1, omega (arith, t.2, t.3))
 
-pub naming-room : (s : List ℕ) (naming : ℕ) → ((x : Naming) × NamingAt s naming x) → (naming + 1 < length s) × (naming + 2 + get_or s (naming + 1) 0 ≤ length s)
-naming-room s naming (x, here) =
-    let g = naming-there s naming x here in
-    let t = label-there s (naming + 1) x.label g.mid g.label in
+pub naming_room : (s : List ℕ) (naming : ℕ) → ((x : Naming) × NamingAt s naming x) → (naming + 1 < length s) × (naming + 2 + get_or s (naming + 1) 0 ≤ length s)
+naming_room s naming (x, here) =
+    let g = naming_there s naming x here in
+    let t = label_there s (naming + 1) x.label g.mid g.label in
     (t.1, omega (arith, t.2, t.3))
 
-label-length : (s : List ℕ) (at : ℕ) → at + 1 + get_or s at 0 ≤ length s → length (label_at s at) ≡ get_or s at 0
-label-length s at h = rw (label_is s at) (length-take-le (get_or s at 0) (drop (at + 1) s) (omega (arith, length-drop (at + 1) s)))
+label_length : (s : List ℕ) (at : ℕ) → at + 1 + get_or s at 0 ≤ length s → length (label_at s at) ≡ get_or s at 0
+label_length s at h = rw (label_is s at) (length-take-le (get_or s at 0) (drop (at + 1) s) (omega (arith, length-drop (at + 1) s)))
 
-module _ (s : List ℕ) (naming at first : ℕ) (stands : Stands shortName s at) (x : Naming) (here : NamingAt s naming x) where
+module _ (s : List ℕ) (naming at first : ℕ) (stands : Stands short_name s at) (x : Naming) (here : NamingAt s naming x) where
   abbrev Same : Type 0
-  Same = (kindByte x.kind ≡ first) × (x.label ≡ label_at s at)
+  Same = (kind_byte x.kind ≡ first) × (x.label ≡ label_at s at)
 
   there : NamingThere s naming x
-  there = naming-there s naming x here
+  there = naming_there s naming x here
 
   label : label_at s (naming + 1) ≡ x.label
-  label = (label-there s (naming + 1) x.label there.mid there.label).0
+  label = (label_there s (naming + 1) x.label there.mid there.label).0
 
-  pub other-kind : (get_or s naming 0 ≡ first → ⊥) → Decides false Same
-  other-kind f = record { yes = λ z. absurd (both z refl); no = λ _ z. f (there.first ∙ z.0) }
+  pub other_kind : (get_or s naming 0 ≡ first → ⊥) → Decides false Same
+  other_kind f = record { yes = λ z. absurd (both z refl); no = λ _ z. f (there.first ∙ z.0) }
 
-  pub other-size : (get_or s (naming + 1) 0 ≡ get_or s at 0 → ⊥) → Decides false Same
-  other-size f =
+  pub other_size : (get_or s (naming + 1) 0 ≡ get_or s at 0 → ⊥) → Decides false Same
+  other_size f =
       record {
         yes = λ z. absurd (both z refl);
         no =
             λ _ z.
             f
-            (sym (label-length s (naming + 1) (omega (arith, (naming-room s naming (x, here)).1)))
+            (sym (label_length s (naming + 1) (omega (arith, (naming_room s naming (x, here)).1)))
             ∙ ap length (label ∙ z.1)
-            ∙ label-length s at (name-room s at stands).1);
+            ∙ label_length s at (name_room s at stands).1);
       }
 
   pub same_size :

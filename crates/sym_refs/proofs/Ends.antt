@@ -5,20 +5,20 @@ use mathlib.Core.Path.{◌≡◌, refl, sym, subst, ◌∙◌}
 use Prim.Native.Nat.{ℕ, suc, ◌+◌, ◌-◌, ◌≤◌, ◌<◌}
 use native.Mathlib.Omega.{arith}
 use lib.ListN.{length, get_or}
-use Rattle.definition.specs.Resolving.{goalOf}
+use Rattle.definition.specs.Resolving.{goal_of}
 use Rattle.facts.proofs.Lists.{found_inside, inside_found, order}
 use Rattle.store.specs.Store.{Store, put, Kept}
 use Rattle.store.specs.Chains.{Sought}
-use Rattle.store.specs.JobIn.{countsIn, entriesIn, constantsIn, namingsIn}
+use Rattle.store.specs.JobIn.{counts_in, entries_in, constants_in, namings_in}
 use Rattle.store.specs.Regions.{NAME-GOALS, GOALS}
-use Rattle.store.specs.Words.{ENTRY, SYM, REFUSED, NAME, referenceWord, IsReference, IsGoal}
+use Rattle.store.specs.Words.{ENTRY, SYM, REFUSED, NAME, reference_word, IsReference, IsGoal}
 use Rattle.store.proofs.Keeping.{kept_put, kept_then}
 use Rattle.sym_refs.specs.Names.{Names, Goals, Goes}
 use Rattle.sym_refs.specs.Leading.{NamedBy, end_of, Finished, Started, NamesFollowed, ReferencesLinked}
-use Rattle.sym_refs.proofs.Jumping.{ended_same, ended-circular}
+use Rattle.sym_refs.proofs.Jumping.{ended_same, ended_circular}
 use Rattle.sym_refs.proofs.Rounds.{each_set, Following}
-use Rattle.sym_refs.proofs.Wording.{follow-low, low_word, goal-12}
-use Rattle.sym_refs.proofs.Steps.{leads-from, symbol-name, cited-follow, missing-follow, goal-ended}
+use Rattle.sym_refs.proofs.Wording.{follow-low, low_word, goal_12}
+use Rattle.sym_refs.proofs.Steps.{leads_from_lem, symbol_name, cited_follow, missing_follow, goal_ended}
 
 -- ALL NAMES
 
@@ -26,60 +26,60 @@ end-goal : (entries x : ℕ) → (x < NAME → IsGoal entries x) → IsGoal entr
 end-goal entries x f =
     ⊎_elim
     (λ (z : x < NAME). rw (ended_same x z) (f z))
-    (λ (z : NAME ≤ x). rw (ended-circular x z) (inr (inr refl)))
+    (λ (z : NAME ≤ x). rw (ended_circular x z) (inr (inr refl)))
     (order x NAME)
 
 pub follow-end :
-    (s : List ℕ) (t u v w : Store) (n span : ℕ) → n ≡ length (namingsIn s) → Started s t u n → n < span → Following s u v n span → Finished v w n → NamesFollowed s t w
+    (s : List ℕ) (t u v w : Store) (n span : ℕ) → n ≡ length (namings_in s) → Started s t u n → n < span → Following s u v n span → Finished v w n → NamesFollowed s t w
 follow-end s t u v w n span all g wide f e =
     record {
       goals =
           record {
             goals =
                 λ i x d.
-                let l : i < n = omega (arith, found_inside (namingsIn s) i x d) in
-                rw (e.all i l) (goal-ended s i x d (get_or (v NAME-GOALS) i 0) span (f.lead i l) (omega arith));
+                let l : i < n = omega (arith, found_inside (namings_in s) i x d) in
+                rw (e.all i l) (goal_ended s i x d (get_or (v NAME-GOALS) i 0) span (f.lead i l) (omega arith));
             words =
                 λ i h.
                 let l : i < n = omega arith in
-                rw (e.all i l) (end-goal (entriesIn s) (get_or (v NAME-GOALS) i 0) (f.words (entriesIn s) (λ j k. (g.firsts j k).word) i l));
+                rw (e.all i l) (end-goal (entries_in s) (get_or (v NAME-GOALS) i 0) (f.words (entries_in s) (λ j k. (g.firsts j k).word) i l));
           };
       kept = kept_then (NAME-GOALS ∷ []) t u w g.kept (kept_then (NAME-GOALS ∷ []) u v w f.kept e.kept);
     }
 
 -- A REFERENCE
 
-pub goes-low : (s : List ℕ) (x : ℕ) → IsReference s (entriesIn s) x → x < SYM → Goes s x x
-unfolding goalOf
-goes-low s x is h =
+pub goes_low : (s : List ℕ) (x : ℕ) → IsReference s (entries_in s) x → x < SYM → Goes s x x
+unfolding goal_of
+goes_low s x is h =
     record {
-      leads = sym (follow-low (namingsIn s) (constantsIn s) s (suc (length (namingsIn s))) x h);
-      word = inl (low_word s (entriesIn s) x is h);
+      leads = sym (follow-low (namings_in s) (constants_in s) s (suc (length (namings_in s))) x h);
+      word = inl (low_word s (entries_in s) x is h);
     }
 
-module _ (h : ℕ) (s places heads links : List ℕ) (n : ℕ) (all : n ≡ length (namingsIn s)) (g : Names h s places heads links n) (x link : ℕ) (f : Sought (NamedBy s (referenceWord s (constantsIn s) x)) n link) where
-  pub goes_none : ENTRY + constantsIn s ≤ SYM → SYM ≤ x → link ≡ 0 → Goes s x (REFUSED + 12)
-  unfolding goalOf
+module _ (h : ℕ) (s places heads links : List ℕ) (n : ℕ) (all : n ≡ length (namings_in s)) (g : Names h s places heads links n) (x link : ℕ) (f : Sought (NamedBy s (reference_word s (constants_in s) x)) n link) where
+  pub goes_none : ENTRY + constants_in s ≤ SYM → SYM ≤ x → link ≡ 0 → Goes s x (REFUSED + 12)
+  unfolding goal_of
   goes_none few large z =
       record {
         leads =
-            goal-12
+            goal_12
             ∙ sym
-            (missing-follow h s places heads links n all g link (referenceWord s (constantsIn s) x) (symbol-name s (constantsIn s) x few large) f z (length (namingsIn s)));
+            (missing_follow h s places heads links n all g link (reference_word s (constants_in s) x) (symbol_name s (constants_in s) x few large) f z (length (namings_in s)));
         word = inr (inl refl);
       }
 
-  pub goes-name : (l : List ℕ) → Goals s l → 0 < link → Goes s x (get_or l (link - 1) 0)
-  unfolding goalOf
-  goes-name l goals more =
-      let low : link - 1 < length (namingsIn s) = omega (arith, f.low) in
-      let there = inside_found (namingsIn s) (link - 1) low in
+  pub goes_name : (l : List ℕ) → Goals s l → 0 < link → Goes s x (get_or l (link - 1) 0)
+  unfolding goal_of
+  goes_name l goals more =
+      let low : link - 1 < length (namings_in s) = omega (arith, f.low) in
+      let there = inside_found (namings_in s) (link - 1) low in
       record {
         leads =
             goals.goals (link - 1) there.0 there.1
             ∙ sym
-            (cited-follow h s places heads links n all g link (referenceWord s (constantsIn s) x) f more (suc (length (namingsIn s)))
-            ∙ leads-from s (suc (length (namingsIn s))) (link - 1) there.0 there.1);
+            (cited_follow h s places heads links n all g link (reference_word s (constants_in s) x) f more (suc (length (namings_in s)))
+            ∙ leads_from_lem s (suc (length (namings_in s))) (link - 1) there.0 there.1);
         word = goals.words (link - 1) low;
       }
 
@@ -90,13 +90,13 @@ pub record Linking (s : List ℕ) (t u : Store) (n i : ℕ) : Type 0 where
   pub rest : (j : ℕ) → i ≤ j → get_or (u GOALS) j 0 ≡ get_or (t GOALS) j 0
   pub kept : Kept (GOALS ∷ []) t u
 
-pub link-begin : (s : List ℕ) (t : Store) (n : ℕ) → Linking s t t n 0
-link-begin s t n = record { upto = omega arith; done = λ j h. absurd (omega arith); rest = λ j h. refl; kept = λ k f. refl }
+pub link_begin : (s : List ℕ) (t : Store) (n : ℕ) → Linking s t t n 0
+link_begin s t n = record { upto = omega arith; done = λ j h. absurd (omega arith); rest = λ j h. refl; kept = λ k f. refl }
 
-pub link-next :
+pub link_next :
     (s : List ℕ) (t u : Store) (n i x : ℕ) → Linking s t u n i → i < n → n ≤ length (u GOALS) → Goes s (get_or (u GOALS) i 0) x →
     Linking s t (put u GOALS i x) n (i + 1)
-link-next s t u n i x g h long e =
+link_next s t u n i x g h long e =
     record {
       upto = omega arith;
       done =
@@ -120,5 +120,5 @@ link-next s t u n i x g h long e =
       kept = kept_put (GOALS ∷ []) t u GOALS i x refl g.kept;
     }
 
-pub link-end : (s : List ℕ) (t u : Store) (n i : ℕ) → n ≡ (countsIn s).references → n ≤ i → Linking s t u n i → ReferencesLinked s t u
-link-end s t u n i all h g = record { goes = λ j l. g.done j (omega arith); kept = g.kept }
+pub link_end : (s : List ℕ) (t u : Store) (n i : ℕ) → n ≡ (counts_in s).references → n ≤ i → Linking s t u n i → ReferencesLinked s t u
+link_end s t u n i all h g = record { goes = λ j l. g.done j (omega arith); kept = g.kept }

@@ -8,87 +8,87 @@ use native.Mathlib.Omega.{arith}
 use lib.Dec.{eqb}
 use lib.ListN.{length, get_or, get_elem?}
 use Rattle.definition.specs.Shapes.{Kind, constant, bootstrap}
-use Rattle.definition.specs.Job.{shortName, reference}
+use Rattle.definition.specs.Job.{short_name, reference}
 use Rattle.definition.specs.Definitions.{Naming}
 use Rattle.job.specs.declared.Stretch.{Stretch}
 use Rattle.job.specs.Stored.{Spans, Stands, WhatStands, ReferenceStands}
 use Rattle.store.specs.Store.{Store, size}
 use Rattle.store.specs.Chains.{Sought}
-use Rattle.store.specs.JobIn.{entriesIn, constantsIn, namingsIn}
+use Rattle.store.specs.JobIn.{entries_in, constants_in, namings_in}
 use Rattle.store.specs.Regions.{NAME-HEADS, NAME-LINKS, NAME-PLACES, NAME-GOALS, Work}
-use Rattle.store.specs.Words.{SYM, REFUSED, NAME, referenceWord, IsReference}
-use Rattle.sym_refs.specs.Names.{kindByte, CitedIn, NamingAt, nameCount}
+use Rattle.store.specs.Words.{SYM, REFUSED, NAME, reference_word, IsReference}
+use Rattle.sym_refs.specs.Names.{kind_byte, CitedIn, NamingAt, name_count}
 use Rattle.sym_refs.specs.Leading.{flagged, WordFor, NamedBy, AllNames, First}
 use Rattle.sym_refs.proofs.Rooms.{Room, room}
 use Rattle.sym_refs.proofs.Wording.{low_word}
-use Rattle.sym_refs.proofs.Namings.{NamingThere, naming-there}
-use Rattle.sym_refs.proofs.Comparing.{naming-room}
-use Rattle.sym_refs.proofs.Lookup.{item-there}
-use Rattle.sym_refs.proofs.Steps.{first-low, first-name, first-none}
+use Rattle.sym_refs.proofs.Namings.{NamingThere, naming_there}
+use Rattle.sym_refs.proofs.Comparing.{naming_room}
+use Rattle.sym_refs.proofs.Lookup.{item_there}
+use Rattle.sym_refs.proofs.Steps.{first_low, first_name, first_none}
 
 -- the flag that a record's first byte gives tells its kind
-flag-kind : (kind : Kind) → flagged (eqb (kindByte kind) 0x42) ≡ kind
-unfolding flagged kindByte
-flag-kind constant = refl
-flag-kind bootstrap = refl
+flag_kind : (kind : Kind) → flagged (eqb (kind_byte kind) 0x42) ≡ kind
+unfolding flagged kind_byte
+flag_kind constant = refl
+flag_kind bootstrap = refl
 
 module _ (s p : List ℕ) (t : Store) (work : Work s p) (g : AllNames (size p NAME-HEADS) s t) (i at : ℕ) (low : i < size p NAME-GOALS) (place : at ≡ get_or (t NAME-PLACES) i 0) where
   m : Room s p
   m = room s p work
 
-  below : i < nameCount t
+  below : i < name_count t
   below = omega (arith, m.name_goals, g.1)
 
-  there : (x : Naming) × (get_elem? (namingsIn s) i ≡ some x) × NamingAt s at x
-  there = item-there (size p NAME-HEADS) s (t NAME-PLACES) (t NAME-HEADS) (t NAME-LINKS) (nameCount t) g.0 i at below place
+  there : (x : Naming) × (get_elem? (namings_in s) i ≡ some x) × NamingAt s at x
+  there = item_there (size p NAME-HEADS) s (t NAME-PLACES) (t NAME-HEADS) (t NAME-LINKS) (name_count t) g.0 i at below place
 
   abbrev x : Naming
   x = there.0
 
   stands : NamingThere s at x
-  stands = naming-there s at x there.2
+  stands = naming_there s at x there.2
 
-  pub first-inside : at + 1 < length s
-  first-inside = (naming-room s at (x, there.2)).0
+  pub first_inside : at + 1 < length s
+  first_inside = (naming_room s at (x, there.2)).0
 
-  pub first-name-stands : Stands shortName s (at + 1)
-  first-name-stands = (x.label, stands.mid, stands.label)
+  pub first_name_stands : Stands short_name s (at + 1)
+  first_name_stands = (x.label, stands.mid, stands.label)
 
-  module _ (r : Stretch) (spans : WhatStands shortName s (at + 1) (λ l next. Spans s r l × (r.end ≡ next))) where
+  module _ (r : Stretch) (spans : WhatStands short_name s (at + 1) (λ l next. Spans s r l × (r.end ≡ next))) where
     ending : r.end ≡ stands.mid
     ending = (spans x.label stands.mid stands.label).1
 
-    pub first-reference-stands : ReferenceStands s r.end
-    first-reference-stands = rw ending (x.kind, (x.target, stands.next, stands.target))
+    pub first_reference-stands : ReferenceStands s r.end
+    first_reference-stands = rw ending (x.kind, (x.target, stands.next, stands.target))
 
     module _ (b : ℕ) (byte : b ≡ get_or s at 0) (word : ℕ) (told : WhatStands (reference (flagged (eqb b 0x42))) s r.end (λ a next. CitedIn s a → WordFor s a word)) where
       kind-told : flagged (eqb b 0x42) ≡ x.kind
-      kind-told = ap (λ (n : ℕ). flagged (eqb n 0x42)) (byte ∙ stands.first) ∙ flag-kind x.kind
+      kind-told = ap (λ (n : ℕ). flagged (eqb n 0x42)) (byte ∙ stands.first) ∙ flag_kind x.kind
 
       worded : WordFor s x.target word
       worded = told x.target stands.next (rw (kind-told, ending) stands.target) there.2.2
 
-      pub first-is : IsReference s (entriesIn s) word
-      first-is = worded.1
+      pub first_is : IsReference s (entries_in s) word
+      first_is = worded.1
 
-      same_count : size p NAME-GOALS ≡ nameCount t
+      same_count : size p NAME-GOALS ≡ name_count t
       same_count = m.name_goals ∙ sym g.1
 
       pub first_small : word < SYM → First s (size p NAME-GOALS) i word
       first_small small =
           rw same_count
-          (first-low (size p NAME-HEADS) s (t NAME-PLACES) (t NAME-HEADS) (t NAME-LINKS) (nameCount t) g.1 g.0 i x there.1 below word worded.0 small
-          (inl (low_word s (entriesIn s) word first-is small)))
+          (first_low (size p NAME-HEADS) s (t NAME-PLACES) (t NAME-HEADS) (t NAME-LINKS) (name_count t) g.1 g.0 i x there.1 below word worded.0 small
+          (inl (low_word s (entries_in s) word first_is small)))
 
-      module _ (link : ℕ) (f : Sought (NamedBy s (referenceWord s (constantsIn s) word)) (nameCount t) link) where
-        pub first-undefined : SYM ≤ word → link ≡ 0 → First s (size p NAME-GOALS) i (REFUSED + 12)
-        first-undefined large z =
+      module _ (link : ℕ) (f : Sought (NamedBy s (reference_word s (constants_in s) word)) (name_count t) link) where
+        pub first_undefined : SYM ≤ word → link ≡ 0 → First s (size p NAME-GOALS) i (REFUSED + 12)
+        first_undefined large z =
             rw same_count
-            (first-none (size p NAME-HEADS) s (t NAME-PLACES) (t NAME-HEADS) (t NAME-LINKS) (nameCount t) g.1 g.0 i x there.1 below word worded.0 link f
+            (first_none (size p NAME-HEADS) s (t NAME-PLACES) (t NAME-HEADS) (t NAME-LINKS) (name_count t) g.1 g.0 i x there.1 below word worded.0 link f
             (omega (arith, m.both, m.entries)) large z)
 
-        pub first-named : (link ≡ 0 → ⊥) → First s (size p NAME-GOALS) i (NAME + link - 1)
-        first-named z =
+        pub first_named : (link ≡ 0 → ⊥) → First s (size p NAME-GOALS) i (NAME + link - 1)
+        first_named z =
             rw same_count
-            (first-name (size p NAME-HEADS) s (t NAME-PLACES) (t NAME-HEADS) (t NAME-LINKS) (nameCount t) g.1 g.0 i x there.1 below word worded.0 link f
+            (first_name (size p NAME-HEADS) s (t NAME-PLACES) (t NAME-HEADS) (t NAME-LINKS) (name_count t) g.1 g.0 i x there.1 below word worded.0 link f
             (omega arith))

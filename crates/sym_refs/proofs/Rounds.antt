@@ -11,8 +11,8 @@ use Rattle.store.specs.Store.{Store, put, Kept}
 use Rattle.store.specs.Regions.{NAME-GOALS}
 use Rattle.store.specs.Words.{NAME}
 use Rattle.store.proofs.Keeping.{kept_put, kept_then}
-use Rattle.sym_refs.specs.Leading.{Settled, AllLead, Inner, end_of, Jumped, Finished, leadsFrom, First, Started}
-use Rattle.sym_refs.proofs.Jumping.{leads-on, Turning}
+use Rattle.sym_refs.specs.Leading.{Settled, AllLead, Inner, end_of, Jumped, Finished, leads_from, First, Started}
+use Rattle.sym_refs.proofs.Jumping.{leads_on, Turning}
 use Rattle.facts.proofs.Lists.{equal}
 
 -- a fact of each word, after one is stored
@@ -29,21 +29,21 @@ pub record Starting (s : List ℕ) (t u : Store) (n i : ℕ) : Type 0 where
   pub firsts : (j : ℕ) → j < i → First s n j (get_or (u NAME-GOALS) j 0)
   pub kept : Kept (NAME-GOALS ∷ []) t u
 
-pub start-begin : (s : List ℕ) (t : Store) (n : ℕ) → Starting s t t n 0
-start-begin s t n = record { upto = omega arith; firsts = λ j h. absurd (omega arith); kept = λ k f. refl }
+pub start_begin : (s : List ℕ) (t : Store) (n : ℕ) → Starting s t t n 0
+start_begin s t n = record { upto = omega arith; firsts = λ j h. absurd (omega arith); kept = λ k f. refl }
 
-pub start-next :
+pub start_next :
     (s : List ℕ) (t u : Store) (n i x : ℕ) → Starting s t u n i → i < n → n ≤ length (u NAME-GOALS) → First s n i x →
     Starting s t (put u NAME-GOALS i x) n (i + 1)
-start-next s t u n i x g h long first =
+start_next s t u n i x g h long first =
     record {
       upto = omega arith;
       firsts = each_set (λ j y. j < i + 1 → First s n j y) (u NAME-GOALS) i x (omega arith) (λ _. first) (λ j e l. g.firsts j (omega arith));
       kept = kept_put (NAME-GOALS ∷ []) t u NAME-GOALS i x refl g.kept;
     }
 
-pub start-end : (s : List ℕ) (t u : Store) (n i : ℕ) → n ≤ i → Starting s t u n i → Started s t u n
-start-end s t u n i h g = record { firsts = λ j l. g.firsts j (omega arith); kept = g.kept }
+pub start_end : (s : List ℕ) (t u : Store) (n i : ℕ) → n ≤ i → Starting s t u n i → Started s t u n
+start_end s t u n i h g = record { firsts = λ j l. g.firsts j (omega arith); kept = g.kept }
 
 -- A ROUND
 pub round-end :
@@ -103,7 +103,7 @@ pub record Following (s : List ℕ) (t u : Store) (n span : ℕ) : Type 0 where
   pub low : 0 < span
   pub inner : Inner n (u NAME-GOALS)
   pub words : (entries : ℕ) → Settled entries n (t NAME-GOALS) → Settled entries n (u NAME-GOALS)
-  pub lead : AllLead (leadsFrom s) span n (u NAME-GOALS)
+  pub lead : AllLead (leads_from s) span n (u NAME-GOALS)
   pub kept : Kept (NAME-GOALS ∷ []) t u
 
 -- the loop speaks of the store where it began
@@ -130,14 +130,14 @@ follow-next s t u v n span left r g j a b =
         lead =
             λ i l.
             rw (a e)
-            (leads-on
-            (leadsFrom s)
+            (leads_on
+            (leads_from s)
             (span + span)
             (n + 1)
             i
             (get_or (v NAME-GOALS) i 0)
             (ltb-true (get_or (v NAME-GOALS) i 0) NAME (j.none e i l))
-            (j.twice (leadsFrom s) span g.lead i l));
+            (j.twice (leads_from s) span g.lead i l));
         kept = kept_then (NAME-GOALS ∷ []) t u v g.kept j.kept;
       },
       inr (omega (arith, a e)),
@@ -148,7 +148,7 @@ follow-next s t u v n span left r g j a b =
         low = omega (arith, b d, g.low);
         inner = j.inner;
         words = λ entries all. j.words entries (g.words entries all);
-        lead = rw (b d) (j.twice (leadsFrom s) span g.lead);
+        lead = rw (b d) (j.twice (leads_from s) span g.lead);
         kept = kept_then (NAME-GOALS ∷ []) t u v g.kept j.kept;
       },
       inl (omega (arith, b d, g.low)),

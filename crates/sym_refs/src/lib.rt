@@ -2,17 +2,17 @@
 ghost use Rattle.std.proofs.Math.Option.{some};
 ghost use Rattle.std.specs.Prelude.{◌≡◌, ℕ, ◌+◌, ◌<◌, ◌≤◌, length, get_or};
 ghost use Rattle.std.proofs.Math.ListN.{get_elem?};
-ghost use Rattle.definition.specs.Job.{shortName, reference};
+ghost use Rattle.definition.specs.Job.{short_name, reference};
 ghost use Rattle.definition.specs.Definitions.{Naming};
 ghost use Rattle.job.specs.Stored.{Stands, WhatStands, ReferenceStands};
 ghost use Rattle.store.specs.Store.{size, store, On, IsWord};
 ghost use Rattle.store.specs.Chains.{Sought};
-ghost use Rattle.store.specs.JobIn.{countsIn, entriesIn, constantsIn, namingsIn};
+ghost use Rattle.store.specs.JobIn.{counts_in, entries_in, constants_in, namings_in};
 ghost use Rattle.store.specs.Regions.{NAME-HEADS, NAME-GOALS, GOALS, Work};
-ghost use Rattle.store.specs.Words.{label_at, referenceWord, IsReference};
-ghost use Rattle.interner.specs.Nodes.{hashBytes};
-ghost use Rattle.sym_refs.specs.Names.{kindByte, CitedIn, NamingAt, nameCount, NamesIn, Tried, Goals, Goes};
-ghost use Rattle.sym_refs.specs.Leading.{flagged, WordFor, Named, NamedBy, AllNames, Decides, hopped, onName, end_of, Inner, Jumped, Finished, First, Started, NamesFollowed, ReferencesLinked};
+ghost use Rattle.store.specs.Words.{label_at, reference_word, IsReference};
+ghost use Rattle.interner.specs.Nodes.{hash_bytes};
+ghost use Rattle.sym_refs.specs.Names.{kind_byte, CitedIn, NamingAt, name_count, NamesIn, Tried, Goals, Goes};
+ghost use Rattle.sym_refs.specs.Leading.{flagged, WordFor, Named, NamedBy, AllNames, Decides, hopped, on_name, end_of, Inner, Jumped, Finished, First, Started, NamesFollowed, ReferencesLinked};
 
 use job::RefType;
 use store::{
@@ -46,8 +46,8 @@ pub fn reference_word(job: &[u8], p: &[usize], at: usize, bootstrap: bool) -> us
 
 // The hash of the name whose length byte stands at a place, of the kind that records of this first byte (41, 42) define.
 fn hash_name(job: &[u8], at: usize, first: u8) -> usize
-    requires { Stands shortName job.now at }
-    ensures { (result ≡ hashBytes first (label_at job.now at)) × IsWord result }
+    requires { Stands short_name job.now at }
+    ensures { (result ≡ hash_bytes first (label_at job.now at)) × IsWord result }
 {
     let n = writer::get_u8(job, at) as usize;
     interner::hash_bytes(job, at + 1, n, first as usize)
@@ -55,8 +55,8 @@ fn hash_name(job: &[u8], at: usize, first: u8) -> usize
 
 // The naming record at a place has this first byte and defines the name whose length byte stands at `at`.
 fn names_same(job: &[u8], naming: usize, at: usize, first: u8) -> bool
-    requires { ((x : Naming) × NamingAt job.now naming x) × Stands shortName job.now at }
-    ensures { (x : Naming) → NamingAt job.now naming x → Decides result ((kindByte x.kind ≡ first) × (x.label ≡ label_at job.now at)) }
+    requires { ((x : Naming) × NamingAt job.now naming x) × Stands short_name job.now at }
+    ensures { (x : Naming) → NamingAt job.now naming x → Decides result ((kind_byte x.kind ≡ first) × (x.label ≡ label_at job.now at)) }
 {
     let n = writer::get_u8(job, at);
     if writer::get_u8(job, naming) != first {
@@ -70,8 +70,8 @@ fn names_same(job: &[u8], naming: usize, at: usize, first: u8) -> bool
 
 // 1 + the name of this hash and first byte whose length byte stands at a place; 0 if there is none.
 fn find_name(job: &[u8], w: &[u32], p: &[usize], hash: usize, at: usize, first: u8) -> usize
-    requires { On p.now (length w.now) × Work job.now p.now × NamesIn (size p.now NAME-HEADS) job.now (store p.now w.now) × Stands shortName job.now at × (hash ≡ hashBytes first (label_at job.now at)) × IsWord hash }
-    ensures { Sought (Named job.now first (label_at job.now at)) (nameCount (store p.now w.now)) result }
+    requires { On p.now (length w.now) × Work job.now p.now × NamesIn (size p.now NAME-HEADS) job.now (store p.now w.now) × Stands short_name job.now at × (hash ≡ hash_bytes first (label_at job.now at)) × IsWord hash }
+    ensures { Sought (Named job.now first (label_at job.now at)) (name_count (store p.now w.now)) result }
 {
     let mut link = first_link(w, p, NAME_HEADS, hash);
     while 0 < link {
@@ -85,8 +85,8 @@ fn find_name(job: &[u8], w: &[u32], p: &[usize], hash: usize, at: usize, first: 
 
 // The naming record at a place becomes one name more, 0; 11 if the name is defined for its kind.
 pub fn add_name(job: &[u8], w: &mut [u32], p: &[usize], at: usize) -> usize
-    requires { On p.now (length w.old) × Work job.now p.now × NamesIn (size p.now NAME-HEADS) job.now (store p.now w.old) × ((x : Naming) × (get_elem? (namingsIn job.now) (nameCount (store p.now w.old)) ≡ some x) × NamingAt job.now at x) }
-    ensures { (x : Naming) → get_elem? (namingsIn job.now) (nameCount (store p.now w.old)) ≡ some x → Tried (size p.now NAME-HEADS) job.now (store p.now w.old) (store p.now w.new) x result }
+    requires { On p.now (length w.old) × Work job.now p.now × NamesIn (size p.now NAME-HEADS) job.now (store p.now w.old) × ((x : Naming) × (get_elem? (namings_in job.now) (name_count (store p.now w.old)) ≡ some x) × NamingAt job.now at x) }
+    ensures { (x : Naming) → get_elem? (namings_in job.now) (name_count (store p.now w.old)) ≡ some x → Tried (size p.now NAME-HEADS) job.now (store p.now w.old) (store p.now w.new) x result }
 {
     let first = writer::get_u8(job, at);
     let hash = hash_name(job, at + 1, first);
@@ -101,8 +101,8 @@ pub fn add_name(job: &[u8], w: &mut [u32], p: &[usize], at: usize) -> usize
 
 // 1 + the name that a symbol's word stands for, 0 if it isn't defined.
 fn find_symbol(job: &[u8], w: &[u32], p: &[usize], symbol: usize) -> usize
-    requires { On p.now (length w.now) × Work job.now p.now × NamesIn (size p.now NAME-HEADS) job.now (store p.now w.now) × IsReference job.now (entriesIn job.now) symbol × (1048576 ≤ symbol) }
-    ensures { Sought (NamedBy job.now (referenceWord job.now (constantsIn job.now) symbol)) (nameCount (store p.now w.now)) result }
+    requires { On p.now (length w.now) × Work job.now p.now × NamesIn (size p.now NAME-HEADS) job.now (store p.now w.now) × IsReference job.now (entries_in job.now) symbol × (1048576 ≤ symbol) }
+    ensures { Sought (NamedBy job.now (reference_word job.now (constants_in job.now) symbol)) (name_count (store p.now w.now)) result }
 {
     if symbol < BOOTSTRAP_SYM {
         let at = symbol - SYM;
@@ -160,7 +160,7 @@ fn hop(w: &[u32], p: &[usize], goal: usize) -> usize
 
 // 1 if a word leads to a name, else 0.
 fn on_name(goal: usize) -> usize
-    ensures { (result ≡ onName goal) × (result ≤ 1) }
+    ensures { (result ≡ on_name goal) × (result ≤ 1) }
 {
     if goal < NAME { 0 } else { 1 }
 }
@@ -229,7 +229,7 @@ pub fn resolve_names(job: &[u8], w: &mut [u32], p: &[usize])
 
 // Where a reference's word leads, once the names have goals.
 pub fn goal_of(job: &[u8], w: &[u32], p: &[usize], reference: usize) -> usize
-    requires { On p.now (length w.now) × Work job.now p.now × AllNames (size p.now NAME-HEADS) job.now (store p.now w.now) × Goals job.now (store p.now w.now NAME-GOALS) × IsReference job.now (entriesIn job.now) reference }
+    requires { On p.now (length w.now) × Work job.now p.now × AllNames (size p.now NAME-HEADS) job.now (store p.now w.now) × Goals job.now (store p.now w.now NAME-GOALS) × IsReference job.now (entries_in job.now) reference }
     ensures { Goes job.now reference result × IsWord result }
 {
     if reference < SYM {
@@ -245,7 +245,7 @@ pub fn goal_of(job: &[u8], w: &[u32], p: &[usize], reference: usize) -> usize
 
 // The references of all entries become goals.
 pub fn link_references(job: &[u8], w: &mut [u32], p: &[usize])
-    requires { On p.now (length w.old) × Work job.now p.now × AllNames (size p.now NAME-HEADS) job.now (store p.now w.old) × Goals job.now (store p.now w.old NAME-GOALS) × ((i : ℕ) → i < (countsIn job.now).references → IsReference job.now (entriesIn job.now) (get_or (store p.now w.old GOALS) i 0)) }
+    requires { On p.now (length w.old) × Work job.now p.now × AllNames (size p.now NAME-HEADS) job.now (store p.now w.old) × Goals job.now (store p.now w.old NAME-GOALS) × ((i : ℕ) → i < (counts_in job.now).references → IsReference job.now (entries_in job.now) (get_or (store p.now w.old GOALS) i 0)) }
     ensures { ReferencesLinked job.now (store p.now w.old) (store p.now w.new) }
 {
     let n = size_of(p, GOALS);

@@ -5,25 +5,25 @@ use Prim.Native.Nat.{ℕ}
 use lib.ListN.{length}
 use Rattle.definition.specs.Basics.{Result, good, bad, Refusal}
 use Rattle.definition.specs.Run.{overwrite}
-use Rattle.texts.specs.Answers.{length_of, outAfter, numbersOf, Told}
+use Rattle.texts.specs.Answers.{length_of, out_after, numbers_of, Told}
 use Rattle.texts.specs.declared.Numbers.{Numbers}
 
 module _ (result : Result Refusal (List ℕ)) (before : List ℕ) where
-  pub ends-bad : (r : Refusal) → result ≡ bad r → (bad r ≡ length_of result) × (before ≡ outAfter result before)
-  unfolding length_of outAfter
+  pub ends-bad : (r : Refusal) → result ≡ bad r → (bad r ≡ length_of result) × (before ≡ out_after result before)
+  unfolding length_of out_after
   ends-bad r e = (rw e, rw e)
 
   pub ends-good :
       (new after : List ℕ) (n : ℕ) → result ≡ good new → length new ≡ n → after ≡ overwrite new before →
-      (good n ≡ length_of result) × (after ≡ outAfter result before)
-  unfolding length_of outAfter
+      (good n ≡ length_of result) × (after ≡ out_after result before)
+  unfolding length_of out_after
   ends-good new after n e size written = (rw (e, size), rw e written)
 
 -- the forms for Rust and C
 pub told :
     (result : Result Refusal (List ℕ)) (before after : List ℕ) (answer : Result Refusal ℕ) (numbers : Numbers) →
-    (answer ≡ length_of result) × (after ≡ outAfter result before) → numbers ≡ numbersOf answer →
+    (answer ≡ length_of result) × (after ≡ out_after result before) → numbers ≡ numbers_of answer →
     Told result numbers.0 numbers.1 before after
 told result before after answer numbers ended e =
-    let all : numbers ≡ numbersOf (length_of result) = e ∙ ap numbersOf ended.0 in
+    let all : numbers ≡ numbers_of (length_of result) = e ∙ ap numbers_of ended.0 in
     record { code_is = ap (λ n. n.0) all; size_is = ap (λ n. n.1) all; after_is = ended.1 }

@@ -12,12 +12,12 @@ use lib.ListN.{length, get_or, set, take, drop, length-drop, take-append-drop}
 use lib.Seq.{take-suc, drop-cons, drop-drop, drop-length, set_at, append_snoc, length-take-le, take_all}
 use Rattle.definition.specs.Basics.{good, bad}
 use Rattle.definition.specs.Run.{overwrite}
-use Rattle.definition.specs.Texts.{unit, unitsOf, isText, readText}
+use Rattle.definition.specs.Texts.{unit, units_of, is_text, read_text}
 use Rattle.facts.proofs.Lists.{clash, none≢some, some_inj, true≢false}
 use Rattle.facts.proofs.Results.{passes, refuses}
-use Rattle.laws.proofs.texts.TextsBack.{read_by}
-use Rattle.texts.specs.Forms.{Begins, form_of, count_of, orNone, held}
-use Rattle.laws.proofs.texts.UnitsRead.{consed, units-end, units-next, units-none}
+use Rattle.laws.proofs.Texts.TextsBack.{read_by}
+use Rattle.texts.specs.Forms.{Begins, form_of, count_of, or_none, held}
+use Rattle.laws.proofs.Texts.UnitsRead.{consed, units-end, units-next, units-none}
 
 -- A FORM AT A PLACE OF THE TEXT
 
@@ -26,30 +26,30 @@ abbrev pub part : List ℕ → ℕ → List ℕ
 part text at = take (length text - at) (drop at text)
 
 module _ (text : List ℕ) (at : ℕ) where
-  part-is : part text at ≡ drop at text
-  part-is = let l = length-drop at text in take_all (length text - at) (drop at text) (omega arith)
+  part_is : part text at ≡ drop at text
+  part_is = let l = length-drop at text in take_all (length text - at) (drop at text) (omega arith)
 
-  pub part-some : at < length text → 0 < length (part text at)
-  part-some inside = let l = ap length part-is ∙ length-drop at text in omega arith
+  pub part_some : at < length text → 0 < length (part text at)
+  part_some inside = let l = ap length part_is ∙ length-drop at text in omega arith
 
   module _ (u size : ℕ) (b : Begins (part text at) u size) where
     reads : unit (drop at text) ≡ form_of (drop at text) u size
-    reads = subst (λ l. unit l ≡ form_of l u size) part-is b.reads
+    reads = subst (λ l. unit l ≡ form_of l u size) part_is b.reads
 
     pub form-inside : at ≤ length text → at + size ≤ length text
-    form-inside inside = let h = b.inside in let l = ap length part-is ∙ length-drop at text in omega arith
+    form-inside inside = let h = b.inside in let l = ap length part_is ∙ length-drop at text in omega arith
 
     -- no form: the bytes are no text
-    form-none : at < length text → size ≡ 0 → unitsOf (drop at text) ≡ none
+    form-none : at < length text → size ≡ 0 → units_of (drop at text) ≡ none
     form-none inside e =
         let l = length-drop at text in
         units-none (drop at text) (omega arith) (reads ∙ ap (form_of (drop at text) u) e)
 
   -- its unit, and the units behind it
-  form-next : (u size : ℕ) → Begins (part text at) u size → (size ≡ 0 → ⊥) → unitsOf (drop at text) ≡ consed u (unitsOf (drop (at + size) text))
+  form-next : (u size : ℕ) → Begins (part text at) u size → (size ≡ 0 → ⊥) → units_of (drop at text) ≡ consed u (units_of (drop (at + size) text))
   form-next u zero b more = absurd (more refl)
   form-next u (suc n) b more =
-      units-next (drop at text) u (drop (suc n) (drop at text)) (reads u (suc n) b) ∙ ap (λ l. consed u (unitsOf l)) (drop-drop (suc n) at text)
+      units-next (drop at text) u (drop (suc n) (drop at text)) (reads u (suc n) b) ∙ ap (λ l. consed u (units_of l)) (drop-drop (suc n) at text)
 
 -- COUNTING
 
@@ -58,51 +58,51 @@ abbrev pub counted : ℕ → Option (List ℕ) → Option ℕ
 counted n none = none
 counted n (some l) = some (n + length l)
 
-pub count-start : (text : List ℕ) → count_of (unitsOf text) ≡ counted 0 (unitsOf text)
+pub count_start : (text : List ℕ) → count_of (units_of text) ≡ counted 0 (units_of text)
 unfolding count_of
-count-start text = go (unitsOf text)
+count_start text = go (units_of text)
   where
     go : (o : Option (List ℕ)) → count_of o ≡ counted 0 o
     go none = refl
     go (some l) = ap some (omega arith)
 
 module _ (text : List ℕ) (at u size n : ℕ) (b : Begins (part text at) u size) where
-  pub count_next : (size ≡ 0 → ⊥) → counted n (unitsOf (drop at text)) ≡ counted (n + 1) (unitsOf (drop (at + size) text))
-  count_next more = ap (counted n) (form-next text at u size b more) ∙ go (unitsOf (drop (at + size) text))
+  pub count_next : (size ≡ 0 → ⊥) → counted n (units_of (drop at text)) ≡ counted (n + 1) (units_of (drop (at + size) text))
+  count_next more = ap (counted n) (form-next text at u size b more) ∙ go (units_of (drop (at + size) text))
     where
       go : (o : Option (List ℕ)) → counted n (consed u o) ≡ counted (n + 1) o
       go none = refl
       go (some l) = ap some (omega arith)
 
-  pub count_none : at < length text → size ≡ 0 → counted n (unitsOf (drop at text)) ≡ none
+  pub count_none : at < length text → size ≡ 0 → counted n (units_of (drop at text)) ≡ none
   count_none inside e = ap (counted n) (form-none text at u size b inside e)
 
-pub count-end : (text : List ℕ) (at n : ℕ) → at ≡ length text → counted n (unitsOf (drop at text)) ≡ some n
-count-end text at n e =
-    ap (λ k. counted n (unitsOf (drop k text))) e
-    ∙ ap (λ l. counted n (unitsOf l)) (drop-length text)
+pub count_end : (text : List ℕ) (at n : ℕ) → at ≡ length text → counted n (units_of (drop at text)) ≡ some n
+count_end text at n e =
+    ap (λ k. counted n (units_of (drop k text))) e
+    ∙ ap (λ l. counted n (units_of l)) (drop-length text)
     ∙ ap (counted n) units-end
     ∙ ap some (omega arith)
 
 -- WRITING
 
 -- a text's units are those that it is held to have
-pub text-held : (text : List ℕ) → isText text ≡ true → unitsOf text ≡ some (held text)
-unfolding isText orNone
-text-held text e = go (unitsOf text) refl
+pub text_held : (text : List ℕ) → is_text text ≡ true → units_of text ≡ some (held text)
+unfolding is_text or_none
+text_held text e = go (units_of text) refl
   where
-    go : (o : Option (List ℕ)) → unitsOf text ≡ o → unitsOf text ≡ some (orNone (unitsOf text))
+    go : (o : Option (List ℕ)) → units_of text ≡ o → units_of text ≡ some (or_none (units_of text))
     go none q = true≢false (sym e ∙ ap (λ o. elim o [ none ↦ false | some l ↦ true ]) q)
-    go (some l) q = q ∙ ap some (sym (ap orNone q))
+    go (some l) q = q ∙ ap some (sym (ap or_none q))
 
 -- a turn: l are all units, of which n are written
 pub record Turn (text l : List ℕ) (at u size n : ℕ) : Type 0 where
   pub moves : 0 < size
   pub within : n < length l
   pub unit-is : u ≡ get_or l n 0
-  pub left : unitsOf (drop (at + size) text) ≡ some (drop (n + 1) l)
+  pub left : units_of (drop (at + size) text) ≡ some (drop (n + 1) l)
 
-module _ (text l : List ℕ) (at u n : ℕ) (inside : at < length text) (left : unitsOf (drop at text) ≡ some (drop n l)) where
+module _ (text l : List ℕ) (at u n : ℕ) (inside : at < length text) (left : units_of (drop at text) ≡ some (drop n l)) where
   front : (rest : List ℕ) → u ∷ rest ≡ drop n l → (n < length l) × (u ≡ get_or l n 0) × (rest ≡ drop (n + 1) l)
   front rest e =
       let long : suc (length rest) ≡ length l - n = ap length e ∙ length-drop n l in
@@ -116,14 +116,14 @@ module _ (text l : List ℕ) (at u n : ℕ) (inside : at < length text) (left : 
       let (within, is, rest) = next in
       record { moves = omega arith; within = within; unit-is = is; left = rest }
     where
-      go : (o : Option (List ℕ)) → unitsOf (drop (at + suc k) text) ≡ o → (n < length l) × (u ≡ get_or l n 0) × (unitsOf (drop (at + suc k) text) ≡ some (drop (n + 1) l))
+      go : (o : Option (List ℕ)) → units_of (drop (at + suc k) text) ≡ o → (n < length l) × (u ≡ get_or l n 0) × (units_of (drop (at + suc k) text) ≡ some (drop (n + 1) l))
       go none q = none≢some (sym (ap (consed u) q) ∙ sym (form-next text at u (suc k) b (λ e. clash (omega arith))) ∙ left)
       go (some m) q =
           let f = front m (some_inj (sym (ap (consed u) q) ∙ sym (form-next text at u (suc k) b (λ e. clash (omega arith))) ∙ left)) in
           (f.0, f.1, q ∙ ap some f.2)
 
-      next : (n < length l) × (u ≡ get_or l n 0) × (unitsOf (drop (at + suc k) text) ≡ some (drop (n + 1) l))
-      next = go (unitsOf (drop (at + suc k) text)) refl
+      next : (n < length l) × (u ≡ get_or l n 0) × (units_of (drop (at + suc k) text) ≡ some (drop (n + 1) l))
+      next = go (units_of (drop (at + suc k) text)) refl
 
 -- one unit more is written
 pub put-more :
@@ -148,17 +148,17 @@ unfolding overwrite
 put-start l d = refl
 
 pub put_all :
-    (text l d : List ℕ) (at n : ℕ) → at ≡ length text → unitsOf (drop at text) ≡ some (drop n l) → overwrite (take n l) d ≡ overwrite l d
+    (text l d : List ℕ) (at n : ℕ) → at ≡ length text → units_of (drop at text) ≡ some (drop n l) → overwrite (take n l) d ≡ overwrite l d
 put_all text l d at n e left =
     let behind : drop at text ≡ [] = ap (λ k. drop k text) e ∙ drop-length text in
-    let nothing : [] ≡ drop n l = some_inj (sym units-end ∙ ap unitsOf (sym behind) ∙ left) in
+    let nothing : [] ≡ drop n l = some_inj (sym units-end ∙ ap units_of (sym behind) ∙ left) in
     ap (λ t. overwrite t d) (sym (append-nil (take n l)) ∙ ap (λ t. take n l ++ t) nothing ∙ take-append-drop n l)
 
 -- THE ENDS
 
 module _ (room : ℕ) (text : List ℕ) where
-  counted-units : (n : ℕ) (o : Option (List ℕ)) → some n ≡ count_of o → (o ≡ some (orNone o)) × (length (orNone o) ≡ n)
-  unfolding count_of orNone
+  counted-units : (n : ℕ) (o : Option (List ℕ)) → some n ≡ count_of o → (o ≡ some (or_none o)) × (length (or_none o) ≡ n)
+  unfolding count_of or_none
   counted-units n none e = none≢some (sym e)
   counted-units n (some l) e = (refl, sym (some_inj e))
 
@@ -167,34 +167,34 @@ module _ (room : ℕ) (text : List ℕ) where
   not-counted none e = refl
   not-counted (some l) e = none≢some e
 
-  pub read-not : none ≡ count_of (unitsOf text) → readText room text ≡ bad (record { code = 25; place = 0 })
-  unfolding readText
-  read-not e = ap (read_by room) (not-counted (unitsOf text) e)
+  pub read_not : none ≡ count_of (units_of text) → read_text room text ≡ bad (record { code = 25; place = 0 })
+  unfolding read_text
+  read_not e = ap (read_by room) (not-counted (units_of text) e)
 
   -- n units
-  module _ (n : ℕ) (e : some n ≡ count_of (unitsOf text)) where
-    pub is_held : unitsOf text ≡ some (held text)
-    is_held = (counted-units n (unitsOf text) e).0
+  module _ (n : ℕ) (e : some n ≡ count_of (units_of text)) where
+    pub is_held : units_of text ≡ some (held text)
+    is_held = (counted-units n (units_of text) e).0
 
     pub held-length : length (held text) ≡ n
-    held-length = (counted-units n (unitsOf text) e).1
+    held-length = (counted-units n (units_of text) e).1
 
-    pub is-text : isText text ≡ true
-    unfolding isText
-    is-text = ap (λ o. elim o [ none ↦ false | some l ↦ true ]) is_held
+    pub is_text_lem : is_text text ≡ true
+    unfolding is_text
+    is_text_lem = ap (λ o. elim o [ none ↦ false | some l ↦ true ]) is_held
 
-    pub read-narrow : room < n → readText room text ≡ bad (record { code = 18; place = 0 })
-    unfolding readText
-    read-narrow narrow =
+    pub read_narrow_lem : room < n → read_text room text ≡ bad (record { code = 18; place = 0 })
+    unfolding read_text
+    read_narrow_lem narrow =
         let h = held-length in
         ap (read_by room) is_held ∙ refuses 0 18 (good (held text)) (leb (length (held text)) room) (lt-leb (length (held text)) room (omega arith))
 
-    pub read-good : n ≤ room → readText room text ≡ good (held text)
-    unfolding readText
-    read-good fits =
+    pub read_good : n ≤ room → read_text room text ≡ good (held text)
+    unfolding read_text
+    read_good fits =
         let h = held-length in
         ap (read_by room) is_held ∙ passes 0 18 (good (held text)) (leb (length (held text)) room) (le-leb (length (held text)) room (omega arith))
 
-  pub not-text : none ≡ count_of (unitsOf text) → isText text ≡ false
-  unfolding isText
-  not-text e = ap (λ o. elim o [ none ↦ false | some l ↦ true ]) (not-counted (unitsOf text) e)
+  pub not-text : none ≡ count_of (units_of text) → is_text text ≡ false
+  unfolding is_text
+  not-text e = ap (λ o. elim o [ none ↦ false | some l ↦ true ]) (not-counted (units_of text) e)

@@ -8,18 +8,18 @@ use Rattle.texts.specs.declared.Numbers.{Numbers}
 use Rattle.texts.specs.declared.TextRead.{TextRead}
 use Rattle.texts.specs.declared.TextWritten.{TextWritten}
 
-unfoldable pub countAnswer : Counted → Option ℕ
-countAnswer (Counted.Units n) = some n
-countAnswer Counted.NotText = none
+unfoldable pub count_answer : Counted → Option ℕ
+count_answer (Counted.Units n) = some n
+count_answer Counted.NotText = none
 
-unfoldable pub readAnswer : TextRead → Result Refusal ℕ
-readAnswer (TextRead.Read n) = good n
-readAnswer TextRead.NotText = bad (record { code = 25; place = 0 })
-readAnswer TextRead.NoRoom = bad (record { code = 18; place = 0 })
+unfoldable pub read_answer : TextRead → Result Refusal ℕ
+read_answer (TextRead.Read n) = good n
+read_answer TextRead.NotText = bad (record { code = 25; place = 0 })
+read_answer TextRead.NoRoom = bad (record { code = 18; place = 0 })
 
-unfoldable pub writtenAnswer : TextWritten → Result Refusal ℕ
-writtenAnswer (TextWritten.Written n) = good n
-writtenAnswer TextWritten.NoRoom = bad (record { code = 18; place = 0 })
+unfoldable pub written_answer : TextWritten → Result Refusal ℕ
+written_answer (TextWritten.Written n) = good n
+written_answer TextWritten.NoRoom = bad (record { code = 18; place = 0 })
 
 -- the definition's result, with its units or bytes told by their number
 unfoldable pub length_of : Result Refusal (List ℕ) → Result Refusal ℕ
@@ -27,17 +27,17 @@ length_of (good l) = good (length l)
 length_of (bad r) = bad r
 
 -- the output afterwards: success writes a prefix and nothing behind it, refusal nothing
-unfoldable pub outAfter : Result Refusal (List ℕ) → List ℕ → List ℕ
-outAfter (good new) before = overwrite new before
-outAfter (bad r) before = before
+unfoldable pub out_after : Result Refusal (List ℕ) → List ℕ → List ℕ
+out_after (good new) before = overwrite new before
+out_after (bad r) before = before
 
 -- the same as numbers: 0 for success, and 0 for whatever isn't there
-unfoldable pub numbersOf : Result Refusal ℕ → Numbers
-numbersOf (good n) = (0, n)
-numbersOf (bad r) = (r.code, 0)
+unfoldable pub numbers_of : Result Refusal ℕ → Numbers
+numbers_of (good n) = (0, n)
+numbers_of (bad r) = (r.code, 0)
 
 -- what the forms for Rust and C return and leave in their places, after the definition's result
 pub record Told (result : Result Refusal (List ℕ)) (code size : ℕ) (before after : List ℕ) : Type 0 where
-  pub code_is : code ≡ (numbersOf (length_of result)).0
-  pub size_is : size ≡ (numbersOf (length_of result)).1
-  pub after_is : after ≡ outAfter result before
+  pub code_is : code ≡ (numbers_of (length_of result)).0
+  pub size_is : size ≡ (numbers_of (length_of result)).1
+  pub after_is : after ≡ out_after result before

@@ -2,9 +2,9 @@
 ghost use Rattle.std.specs.Prelude.{◌≡◌, true, ◌+◌, ◌-◌, ◌<◌, ◌≤◌, length, get_or};
 ghost use Rattle.std.proofs.Math.Seq.{paste};
 ghost use Rattle.definition.specs.Run.{overwrite};
-ghost use Rattle.definition.specs.Texts.{unitsOf, isText, unitBytes, text_of, readText, writeText};
-ghost use Rattle.texts.specs.Answers.{countAnswer, readAnswer, writtenAnswer, length_of, outAfter, numbersOf, Told};
-ghost use Rattle.texts.specs.Forms.{Begins, hasSix, count_of, held, inTwo, inThree};
+ghost use Rattle.definition.specs.Texts.{units_of, is_text, unit_bytes, text_of, read_text, write_text};
+ghost use Rattle.texts.specs.Answers.{count_answer, read_answer, written_answer, length_of, out_after, numbers_of, Told};
+ghost use Rattle.texts.specs.Forms.{Begins, has_six, count_of, held, in_two, in_three};
 
 // The form that a text begins with: its unit, and how many bytes it takes. No form takes 0 bytes: where none begins, size is 0.
 #[derive(Drop)]
@@ -45,7 +45,7 @@ fn bits_at(bytes: &[u8], at: usize, mark: u16) -> u16
 
 // Whether a byte that follows in a form stands at a place: 80 to BF.
 fn has_six(bytes: &[u8], at: usize) -> bool
-    ensures { result ≡ hasSix bytes.now at }
+    ensures { result ≡ has_six bytes.now at }
 {
     if bytes.len() <= at {
         return false;
@@ -117,7 +117,7 @@ fn first_form(bytes: &[u8]) -> Form
 }
 
 fn count_units(text: &[u8]) -> Counted
-    ensures { countAnswer result ≡ count_of (unitsOf text.now) }
+    ensures { count_answer result ≡ count_of (units_of text.now) }
 {
     let mut at = 0;
     let mut n = 0;
@@ -134,7 +134,7 @@ fn count_units(text: &[u8]) -> Counted
 
 // Writes the units of a text.
 fn put_units(text: &[u8], units: &mut [u16])
-    requires { (isText text.now ≡ true) × (length (held text.now) ≤ length units.old) }
+    requires { (is_text text.now ≡ true) × (length (held text.now) ≤ length units.old) }
     ensures { units.new ≡ overwrite (held text.now) units.old }
 {
     let mut at = 0;
@@ -149,7 +149,7 @@ fn put_units(text: &[u8], units: &mut [u16])
 
 // Whether bytes pass JVMS 4.4.7.
 pub fn is_text(bytes: &[u8]) -> bool
-    ensures { result ≡ isText bytes.now }
+    ensures { result ≡ is_text bytes.now }
 {
     match count_units(bytes) {
         Counted::Units(_) => true,
@@ -159,8 +159,8 @@ pub fn is_text(bytes: &[u8]) -> bool
 
 // The units of a text, which are counted before the first is written.
 pub fn read_text(text: &[u8], units: &mut [u16]) -> TextRead
-    ensures result_value { readAnswer result ≡ length_of (readText (length units.old) text.now) }
-    ensures units_after { units.new ≡ outAfter (readText (length units.old) text.now) units.old }
+    ensures result_value { read_answer result ≡ length_of (read_text (length units.old) text.now) }
+    ensures units_after { units.new ≡ out_after (read_text (length units.old) text.now) units.old }
 {
     let Counted::Units(count) = count_units(text) else {
         return TextRead::NotText;
@@ -174,7 +174,7 @@ pub fn read_text(text: &[u8], units: &mut [u16]) -> TextRead
 
 // How many bytes a unit's form takes: 0001 to 007F one, 0000 and 0080 to 07FF two, the others three.
 fn form_size(unit: u16) -> usize
-    ensures { result ≡ length (unitBytes unit) }
+    ensures { result ≡ length (unit_bytes unit) }
 {
     if unit == 0 {
         return 2;
@@ -187,7 +187,7 @@ fn form_size(unit: u16) -> usize
 
 fn put_two(text: &mut [u8], at: usize, unit: u16)
     requires { (unit < 0x800) × (at + 2 ≤ length text.old) }
-    ensures { text.new ≡ paste text.old at (inTwo unit) 2 }
+    ensures { text.new ≡ paste text.old at (in_two unit) 2 }
 {
     writer::put_u8(text, at, (0xc0 + unit / 64) as u8);
     writer::put_u8(text, at + 1, (0x80 + unit % 64) as u8);
@@ -195,7 +195,7 @@ fn put_two(text: &mut [u8], at: usize, unit: u16)
 
 fn put_three(text: &mut [u8], at: usize, unit: u16)
     requires { at + 3 ≤ length text.old }
-    ensures { text.new ≡ paste text.old at (inThree unit) 3 }
+    ensures { text.new ≡ paste text.old at (in_three unit) 3 }
 {
     writer::put_u8(text, at, (0xe0 + unit / 4096) as u8);
     writer::put_u8(text, at + 1, (0x80 + unit / 64 % 64) as u8);
@@ -204,9 +204,9 @@ fn put_three(text: &mut [u8], at: usize, unit: u16)
 
 // Writes a unit's form, and returns the place behind it.
 fn put_form(text: &mut [u8], at: usize, unit: u16) -> usize
-    requires { at + length (unitBytes unit) ≤ length text.old }
-    ensures value { result ≡ at + length (unitBytes unit) }
-    ensures text_after { text.new ≡ paste text.old at (unitBytes unit) (length (unitBytes unit)) }
+    requires { at + length (unit_bytes unit) ≤ length text.old }
+    ensures value { result ≡ at + length (unit_bytes unit) }
+    ensures text_after { text.new ≡ paste text.old at (unit_bytes unit) (length (unit_bytes unit)) }
 {
     let size = form_size(unit);
     if size == 1 {
@@ -223,7 +223,7 @@ fn put_form(text: &mut [u8], at: usize, unit: u16) -> usize
 
 // What writing units into so much room comes to. What is counted never passes the room, so that no sum is too large for a usize.
 fn measure(units: &[u16], room: usize) -> TextWritten
-    ensures { writtenAnswer result ≡ length_of (writeText room units.now) }
+    ensures { written_answer result ≡ length_of (write_text room units.now) }
 {
     let mut size = 0;
     let mut i = 0;
@@ -252,8 +252,8 @@ fn put_text(units: &[u16], text: &mut [u8])
 
 // Any row of units as a text, which is measured before its first byte is written.
 pub fn write_text(units: &[u16], text: &mut [u8]) -> TextWritten
-    ensures result_value { writtenAnswer result ≡ length_of (writeText (length text.old) units.now) }
-    ensures text_after { text.new ≡ outAfter (writeText (length text.old) units.now) text.old }
+    ensures result_value { written_answer result ≡ length_of (write_text (length text.old) units.now) }
+    ensures text_after { text.new ≡ out_after (write_text (length text.old) units.now) text.old }
 {
     let TextWritten::Written(size) = measure(units, text.len()) else {
         return TextWritten::NoRoom;
@@ -267,7 +267,7 @@ pub fn write_text(units: &[u16], text: &mut [u8]) -> TextWritten
 struct Numbers(u32, usize);
 
 fn read_numbers(answer: TextRead) -> Numbers
-    ensures { result ≡ numbersOf (readAnswer answer) }
+    ensures { result ≡ numbers_of (read_answer answer) }
 {
     match answer {
         TextRead::Read(n) => Numbers(0, n),
@@ -277,7 +277,7 @@ fn read_numbers(answer: TextRead) -> Numbers
 }
 
 fn written_numbers(answer: TextWritten) -> Numbers
-    ensures { result ≡ numbersOf (writtenAnswer answer) }
+    ensures { result ≡ numbers_of (written_answer answer) }
 {
     match answer {
         TextWritten::Written(n) => Numbers(0, n),
@@ -288,7 +288,7 @@ fn written_numbers(answer: TextWritten) -> Numbers
 // read_text for Rust and C: returns the number, and writes how many units there are.
 #[unsafe(no_mangle)]
 pub extern "C" fn texts_read(text: &[u8], units: &mut [u16], size: &mut usize) -> u32
-    ensures { Told (readText (length units.old) text.now)
+    ensures { Told (read_text (length units.old) text.now)
         result size.new units.old units.new }
 {
     let n = read_numbers(read_text(text, units));
@@ -299,7 +299,7 @@ pub extern "C" fn texts_read(text: &[u8], units: &mut [u16], size: &mut usize) -
 // write_text for Rust and C, in the same way: the size is the text's length.
 #[unsafe(no_mangle)]
 pub extern "C" fn texts_write(units: &[u16], text: &mut [u8], size: &mut usize) -> u32
-    ensures { Told (writeText (length text.old) units.now)
+    ensures { Told (write_text (length text.old) units.now)
         result size.new text.old text.new }
 {
     let n = written_numbers(write_text(units, text));

@@ -7,7 +7,7 @@ use native.Mathlib.Omega.{arith}
 use lib.Dec.{leb}
 use borrow.Author.Tests.{le-leb, lt-leb}
 use Rattle.facts.proofs.Lists.{true≢false, order}
-use Rattle.trace.specs.Trace.{some-from, behind-last, how-many}
+use Rattle.trace.specs.Trace.{some-from, behind-last, how_many}
 use Rattle.trace.specs.Step.{one}
 
 module _ (p : ℕ → Bool) where
@@ -49,11 +49,11 @@ module _ (p : ℕ → Bool) where
   unfolding behind-last
   behind-before n e = rw (behind-last, e)
 
-  pub many_more : (n : ℕ) → how-many p (suc n) ≡ how-many p n + one (p n)
-  unfolding how-many one
+  pub many_more : (n : ℕ) → how_many p (suc n) ≡ how_many p n + one (p n)
+  unfolding how_many one
   many_more n = ways (p n)
     where
-      ways : (b : Bool) → elim b [ true ↦ suc (how-many p n) | false ↦ how-many p n ] ≡ how-many p n + one b
+      ways : (b : Bool) → elim b [ true ↦ suc (how_many p n) | false ↦ how_many p n ] ≡ how_many p n + one b
       ways true = omega arith
       ways false = omega arith
 
@@ -62,24 +62,24 @@ unfolding one
 one-le true = omega arith
 one-le false = omega arith
 
-pub many-le : (p : ℕ → Bool) (n : ℕ) → how-many p n ≤ n
-unfolding how-many
+pub many-le : (p : ℕ → Bool) (n : ℕ) → how_many p n ≤ n
+unfolding how_many
 many-le p zero = omega arith
 many-le p (suc n) = let h = many-le p n in omega (arith, many_more p n, one-le (p n))
 
-pub many-none : (p : ℕ → Bool) → ((i : ℕ) → p i ≡ false) → (n : ℕ) → how-many p n ≡ 0
-unfolding how-many one
+pub many-none : (p : ℕ → Bool) → ((i : ℕ) → p i ≡ false) → (n : ℕ) → how_many p n ≡ 0
+unfolding how_many one
 many-none p h zero = refl
 many-none p h (suc n) = many_more p n ∙ rw (h n, many-none p h n)
 
 module _ (p q : ℕ → Bool) where
-  pub many-mono : ((i : ℕ) → one (p i) ≤ one (q i)) → (n : ℕ) → how-many p n ≤ how-many q n
-  unfolding how-many
+  pub many-mono : ((i : ℕ) → one (p i) ≤ one (q i)) → (n : ℕ) → how_many p n ≤ how_many q n
+  unfolding how_many
   many-mono h zero = omega arith
   many-mono h (suc n) = omega (arith, many_more p n, many_more q n, h n, many-mono h n)
 
-  pub many-both : (r : ℕ → Bool) → ((i : ℕ) → one (p i) + one (q i) ≡ one (r i)) → (n : ℕ) → how-many p n + how-many q n ≡ how-many r n
-  unfolding how-many
+  pub many-both : (r : ℕ → Bool) → ((i : ℕ) → one (p i) + one (q i) ≡ one (r i)) → (n : ℕ) → how_many p n + how_many q n ≡ how_many r n
+  unfolding how_many
   many-both r h zero = refl
   many-both r h (suc n) = omega (arith, many_more p n, many_more q n, many_more r n, h n, many-both r h n)
 

@@ -7,13 +7,13 @@ use Prim.Native.Nat.{ℕ}
 use lib.ListN.{length}
 use borrow.Author.Tests.{eq-eqb}
 use Rattle.definition.specs.Basics.{good, bad, from}
-use Rattle.jvms.specs.Pool.{u1, u2, u4, array, structures, structure, cp-info, takes_two, slots, constant-pool, wholly, read-pool, Slot, usable, unusable, Utf8, Class, Long}
+use Rattle.jvms.specs.Pool.{u1, u2, u4, array, structures, structure, cp_info_lem, takes_two, slots, constant_pool, wholly, read_pool_lem, Slot, usable, unusable, Utf8, Class, Long}
 use Rattle.places.specs.Standing.{tag, slot_of}
-use Rattle.trace.specs.Trace.{some-from, behind-last, how-many, begins, holds, well-formed, clears-at, left, finds-at, flag, succeeds, fails, rests, report, run-over, run-read, run}
+use Rattle.trace.specs.Trace.{some-from, behind-last, how_many, begins, holds, well_formed, clears-at, left, finds_at, flag, succeeds, fails, rests, report, run-over, run-read, run}
 
-unfoldable all-of-it : Unit {0}
-unfolding from u1 u2 u4 array structures structure cp-info takes_two slots constant-pool wholly read-pool tag slot_of some-from behind-last how-many begins well-formed clears-at left finds-at flag succeeds fails rests report run-over run-read run
-all-of-it = tt
+unfoldable all_of_it : Unit {0}
+unfolding from u1 u2 u4 array structures structure cp_info_lem takes_two slots constant_pool wholly read_pool_lem tag slot_of some-from behind-last how_many begins well_formed clears-at left finds_at flag succeeds fails rests report run-over run-read run
+all_of_it = tt
 
 -- a text at slot 1, a class at 2, and at 3 a long, which takes 4 too
 pool : List ℕ
@@ -22,9 +22,9 @@ pool = 0 ∷ 5 ∷ 1 ∷ 0 ∷ 1 ∷ 65 ∷ 7 ∷ 0 ∷ 1 ∷ 5 ∷ 0 ∷ 0 ∷ 
 standing : List Slot
 standing = usable (Utf8 (65 ∷ [])) ∷ usable (Class 1) ∷ usable (Long 0 9) ∷ unusable ∷ []
 
-pool-read : read-pool pool ≡ some standing
-unfolding all-of-it pool standing
-pool-read = refl
+pool_read : read_pool_lem pool ≡ some standing
+unfolding all_of_it pool standing
+pool_read = refl
 
 -- flags of the slots 0 to 5: 0, 2 and 4 are set at the start
 lent : List ℕ
@@ -50,32 +50,32 @@ trace =
     ∷ []
 
 told : report (holds standing) trace lent
-    ≡ record { good-ones = 8; failed-ones = 3; resting-ones = 3; flags = 7 ∷ 1 ∷ 9 ∷ 1 ∷ 0 ∷ 0 ∷ [] }
-unfolding all-of-it standing lent trace
+    ≡ record { good_ones = 8; failed_ones = 3; resting_ones = 3; flags = 7 ∷ 1 ∷ 9 ∷ 1 ∷ 0 ∷ 0 ∷ [] }
+unfolding all_of_it standing lent trace
 told = refl
 
 -- over this pool it is run from any 65,536 flags
-fits : well-formed trace ≡ true
-unfolding all-of-it trace
+fits : well_formed trace ≡ true
+unfolding all_of_it trace
 fits = refl
 
 accepted : (flags : List ℕ) → length flags ≡ 65536 → run pool trace flags ≡ good (report (holds standing) trace flags)
 unfolding run run-read run-over
-accepted flags many = rw (pool-read, fits, eq-eqb (length flags) 65536 many, run-over)
+accepted flags many = rw (pool_read, fits, eq-eqb (length flags) 65536 many, run-over)
 
 -- the pool comes first, then a cut trace, an unknown action and too few flags
-no-pool : run (0 ∷ []) (0 ∷ []) lent ≡ bad 21
-unfolding all-of-it
-no-pool = refl
+no_pool_lem : run (0 ∷ []) (0 ∷ []) lent ≡ bad 21
+unfolding all_of_it
+no_pool_lem = refl
 
 cut : run pool (0 ∷ 1 ∷ 0 ∷ []) [] ≡ bad 28
-unfolding all-of-it pool
+unfolding all_of_it pool
 cut = refl
 
-few-flags : run pool (0 ∷ 1 ∷ 0 ∷ 1 ∷ []) lent ≡ bad 28
-unfolding all-of-it pool lent
-few-flags = refl
+few_flags : run pool (0 ∷ 1 ∷ 0 ∷ 1 ∷ []) lent ≡ bad 28
+unfolding all_of_it pool lent
+few_flags = refl
 
-unknown-action : well-formed (0 ∷ 1 ∷ 0 ∷ 1 ∷ 2 ∷ 1 ∷ 0 ∷ 1 ∷ []) ≡ false
-unfolding all-of-it
-unknown-action = refl
+unknown_action : well_formed (0 ∷ 1 ∷ 0 ∷ 1 ∷ 2 ∷ 1 ∷ 0 ∷ 1 ∷ []) ≡ false
+unfolding all_of_it
+unknown_action = refl

@@ -14,25 +14,25 @@ use Rattle.trace.specs.Trace.{begins, holds}
 use Rattle.trace.specs.Answers.{held}
 
 -- no constant has the tag 0
-has-tag : (c : Constant) → eqb (tag c) 0 ≡ false
+has_tag : (c : Constant) → eqb (tag c) 0 ≡ false
 unfolding tag
-has-tag (Utf8 bytes) = refl
-has-tag (Integer bytes) = refl
-has-tag (Float bytes) = refl
-has-tag (Long high-bytes low-bytes) = refl
-has-tag (Double high-bytes low-bytes) = refl
-has-tag (Class name-index) = refl
-has-tag (String string-index) = refl
-has-tag (Fieldref class-index name-and-type-index) = refl
-has-tag (Methodref class-index name-and-type-index) = refl
-has-tag (InterfaceMethodref class-index name-and-type-index) = refl
-has-tag (NameAndType name-index descriptor-index) = refl
-has-tag (MethodHandle reference-kind reference-index) = refl
-has-tag (MethodType descriptor-index) = refl
-has-tag (Dynamic bootstrap-method-attr-index name-and-type-index) = refl
-has-tag (InvokeDynamic bootstrap-method-attr-index name-and-type-index) = refl
-has-tag (Module name-index) = refl
-has-tag (Package name-index) = refl
+has_tag (Utf8 bytes) = refl
+has_tag (Integer bytes) = refl
+has_tag (Float bytes) = refl
+has_tag (Long high-bytes low-bytes) = refl
+has_tag (Double high-bytes low-bytes) = refl
+has_tag (Class name-index) = refl
+has_tag (String string-index) = refl
+has_tag (Fieldref class-index name-and-type-index) = refl
+has_tag (Methodref class-index name-and-type-index) = refl
+has_tag (InterfaceMethodref class-index name-and-type-index) = refl
+has_tag (NameAndType name-index descriptor-index) = refl
+has_tag (MethodHandle reference-kind reference-index) = refl
+has_tag (MethodType descriptor-index) = refl
+has_tag (Dynamic bootstrap-method-attr-index name-and-type-index) = refl
+has_tag (InvokeDynamic bootstrap-method-attr-index name-and-type-index) = refl
+has_tag (Module name-index) = refl
+has_tag (Package name-index) = refl
 
 tag-zero : (t : ℕ) → (not (eqb t 0) && eqb 0 t) ≡ false
 tag-zero zero = refl
@@ -48,7 +48,7 @@ module _ {pool : List ℕ} {slots : List Slot} {places : List ℕ} (noted : Note
   held-there s t none e = rw (tag-none noted s (λ c is. none≢some (sym e ∙ is))) (tag-zero t)
   held-there s t (some unusable) e =
       rw (tag-none noted s (λ c is. let z : ◌≡◌ {A = ℕ} 0 1 = cc in omega arith)) (tag-zero t)
-  held-there s t (some (usable c)) e = rw (tag-found noted s c e) (tag-any (tag c) t (has-tag c))
+  held-there s t (some (usable c)) e = rw (tag-found noted s c e) (tag-any (tag c) t (has_tag c))
 
   pub held-holds : held pool places ≡ holds slots
   held-holds k s t = held-there s t (slot_of slots s) refl k

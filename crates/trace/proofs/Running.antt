@@ -12,49 +12,49 @@ use lib.Seq.{drop-cons, drop-length}
 use borrow.Author.Tests.{eq-eqb, ne_eqb}
 use Rattle.definition.specs.Basics.{Result, good, bad}
 use Rattle.facts.proofs.Lists.{order}
-use Rattle.jvms.specs.Pool.{wholly, read-pool}
+use Rattle.jvms.specs.Pool.{wholly, read_pool_lem}
 use Rattle.places.specs.declared.PoolRead.{PoolRead}
 use Rattle.places.specs.declared.PoolRead.TheVariants.{Good, Bad}
 use Rattle.places.specs.Noting.{Blank, PoolNoted}
-use Rattle.places.proofs.Rows.{pool-table}
+use Rattle.places.proofs.Rows.{pool_table}
 use Rattle.trace.specs.declared.Traced.{Traced}
 use Rattle.trace.specs.declared.Traced.TheVariants.{Refused}
-use Rattle.trace.specs.Trace.{steps, unknown-action, well-formed, Report, report, run-over, run-read, run, flags-after}
+use Rattle.trace.specs.Trace.{steps, unknown_action, well_formed, Report, report, run-over, run-read, run, flags_after}
 use Rattle.trace.specs.Answers.{counted, answer, held}
 use Rattle.trace.proofs.Holding.{held-holds}
 
 -- what is answered for a result, and left in the flags
 abbrev pub Gave : Result ℕ Report → List ℕ → List ℕ → Traced → Type 0
-Gave result lent later r = (r ≡ answer result) × (later ≡ flags-after result lent)
+Gave result lent later r = (r ≡ answer result) × (later ≡ flags_after result lent)
 
 refused : (result : Result ℕ Report) (lent : List ℕ) (code : ℕ) → result ≡ bad code → Gave result lent lent (Refused code)
-unfolding answer flags-after
+unfolding answer flags_after
 refused result lent code e = (rw e, rw e)
 
 -- THE TRACE AND THE FLAGS
 
 module _ (holds : ℕ → ℕ → Bool) (trace lent : List ℕ) where
-  unfit : (well-formed trace && eqb (length lent) 65536) ≡ false → Gave (run-over holds trace lent) lent lent (Refused 28)
+  unfit : (well_formed trace && eqb (length lent) 65536) ≡ false → Gave (run-over holds trace lent) lent lent (Refused 28)
   unfolding run-over
   unfit e = refused (run-over holds trace lent) lent 28 (rw (e, run-over))
 
   pub cut : (length trace % 4 ≡ 0 → ⊥) → Gave (run-over holds trace lent) lent lent (Refused 28)
-  unfolding well-formed
+  unfolding well_formed
   cut h = unfit (rw (ne_eqb (length trace % 4) 0 h))
 
-  pub few-flags : (length lent ≡ 65536 → ⊥) → Gave (run-over holds trace lent) lent lent (Refused 28)
-  few-flags h = unfit (rw (ne_eqb (length lent) 65536 h) (and-false (well-formed trace)))
+  pub few_flags : (length lent ≡ 65536 → ⊥) → Gave (run-over holds trace lent) lent lent (Refused 28)
+  few_flags h = unfit (rw (ne_eqb (length lent) 65536 h) (and-false (well_formed trace)))
 
-  pub strange : unknown-action trace (steps trace) ≡ true → Gave (run-over holds trace lent) lent lent (Refused 28)
-  unfolding well-formed
+  pub strange : unknown_action trace (steps trace) ≡ true → Gave (run-over holds trace lent) lent lent (Refused 28)
+  unfolding well_formed
   strange h = unfit (rw (h, and-false (eqb (length trace % 4) 0)))
 
-  pub formed : (later : List ℕ) (r : Traced) → length trace % 4 ≡ 0 → length lent ≡ 65536 → unknown-action trace (steps trace) ≡ false →
+  pub formed : (later : List ℕ) (r : Traced) → length trace % 4 ≡ 0 → length lent ≡ 65536 → unknown_action trace (steps trace) ≡ false →
       (r ≡ counted (report holds trace lent)) × (later ≡ (report holds trace lent).flags) → Gave (run-over holds trace lent) lent later r
-  unfolding answer flags-after run-over well-formed
-  formed later r whole many known (told, left) = (told ∙ sym (ap answer goes), left ∙ sym (ap (λ x. flags-after x lent) goes))
+  unfolding answer flags_after run-over well_formed
+  formed later r whole many known (told, left) = (told ∙ sym (ap answer goes), left ∙ sym (ap (λ x. flags_after x lent) goes))
     where
-      fit : (well-formed trace && eqb (length lent) 65536) ≡ true
+      fit : (well_formed trace && eqb (length lent) 65536) ≡ true
       fit = rw (eq-eqb (length trace % 4) 0 whole, known, eq-eqb (length lent) 65536 many)
 
       goes : run-over holds trace lent ≡ good (report holds trace lent)
@@ -63,22 +63,22 @@ module _ (holds : ℕ → ℕ → Bool) (trace lent : List ℕ) where
 -- THE POOL
 
 module _ (pool trace lent : List ℕ) where
-  no-pool : read-pool pool ≡ none → Gave (run pool trace lent) lent lent (Refused 21)
+  no_pool_lem : read_pool_lem pool ≡ none → Gave (run pool trace lent) lent lent (Refused 21)
   unfolding run run-read
-  no-pool e = refused (run pool trace lent) lent 21 (rw e)
+  no_pool_lem e = refused (run pool trace lent) lent 21 (rw e)
 
   module _ (before after : List ℕ) (result : PoolRead) (noted : PoolNoted pool 0 before after result) where
     pub unread : result ≡ Bad → Gave (run pool trace lent) lent lent (Refused 21)
-    unfolding read-pool wholly
-    unread e = no-pool (ap wholly (subst (PoolNoted pool 0 before after) e noted).0)
+    unfolding read_pool_lem wholly
+    unread e = no_pool_lem (ap wholly (subst (PoolNoted pool 0 before after) e noted).0)
 
     module _ (next : ℕ) (e : result ≡ Good next) where
       read : PoolNoted pool 0 before after (Good next)
       read = subst (PoolNoted pool 0 before after) e noted
 
       pub more-behind : (next ≡ length pool → ⊥) → Gave (run pool trace lent) lent lent (Refused 21)
-      unfolding read-pool wholly
-      more-behind h = no-pool (ap wholly read.1 ∙ ways (order next (length pool)))
+      unfolding read_pool_lem wholly
+      more-behind h = no_pool_lem (ap wholly read.1 ∙ ways (order next (length pool)))
         where
           ways : (next < length pool) ⊎ (length pool ≤ next) → wholly (some (read.0, drop next pool)) ≡ none
           ways (inl k) = rw (drop-cons pool next 0 k)
@@ -87,11 +87,11 @@ module _ (pool trace lent : List ℕ) where
       -- a pool that was read whole is run over by the table of its places
       pub goes_on : Blank before → next ≡ length pool → (later : List ℕ) (r : Traced) → Gave (run-over (held pool after) trace lent) lent later r →
           Gave (run pool trace lent) lent later r
-      unfolding run run-read read-pool wholly
+      unfolding run run-read read_pool_lem wholly
       goes_on blank whole later r gave = rw same gave
         where
-          all : read-pool pool ≡ some read.0
+          all : read_pool_lem pool ≡ some read.0
           all = ap wholly read.1 ∙ ap (λ l. wholly (some (read.0, l))) (ap (λ n. drop n pool) whole ∙ drop-length pool)
 
           same : run pool trace lent ≡ run-over (held pool after) trace lent
-          same = ap (λ o. run-read o trace lent) all ∙ ap (λ h. run-over h trace lent) (sym (held-holds (pool-table pool 0 before after next blank read)))
+          same = ap (λ o. run-read o trace lent) all ∙ ap (λ h. run-over h trace lent) (sym (held-holds (pool_table pool 0 before after next blank read)))

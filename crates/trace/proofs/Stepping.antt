@@ -12,8 +12,8 @@ use lib.Seq.{set-get_or}
 use borrow.Author.Tests.{ne_eqb, lt-ltb, le-ltb}
 use Rattle.facts.proofs.Lists.{order, true≢false}
 use Rattle.places.specs.Noting.{tag_at}
-use Rattle.trace.specs.Trace.{some-from, action, steps, unknown-action}
-use Rattle.trace.specs.Step.{next, flag-behind, passes-by}
+use Rattle.trace.specs.Trace.{some-from, action, steps, unknown_action}
+use Rattle.trace.specs.Step.{next, flag_behind, passes_by}
 use Rattle.trace.specs.Answers.{held}
 use Rattle.trace.proofs.Counting.{from_more, from_found}
 use Rattle.trace.proofs.Flags.{set-stays}
@@ -21,9 +21,9 @@ use Rattle.trace.proofs.Flags.{set-stays}
 -- WHAT BEGINS AT A SLOT
 
 module _ (pool places : List ℕ) (s : ℕ) where
-  pub never-zero : (t : ℕ) → t ≡ 0 → false ≡ held pool places s t
+  pub never_zero : (t : ℕ) → t ≡ 0 → false ≡ held pool places s t
   unfolding held
-  never-zero t e = rw e
+  never_zero t e = rw e
 
   pub held-other : (t r : ℕ) → (t ≡ 0 → ⊥) → r ≡ tag_at pool places s → eqb r t ≡ held pool places s t
   unfolding held
@@ -34,7 +34,7 @@ module _ (pool places : List ℕ) (s : ℕ) where
 module _ (a s : ℕ) (l : List ℕ) where
   -- what a step of action a over slot s says and leaves
   abbrev Stepped : Bool → Bool → List ℕ → Type 0
-  Stepped r says after = (says ≡ passes-by a r (get_or l s 0)) × (after ≡ set l s (flag-behind a r (get_or l s 0)))
+  Stepped r says after = (says ≡ passes_by a r (get_or l s 0)) × (after ≡ set l s (flag_behind a r (get_or l s 0)))
 
   pub step-clears : (r : Bool) → a ≡ 1 → Stepped r false (set l s 0)
   unfolding next
@@ -56,10 +56,10 @@ module _ (a s : ℕ) (l : List ℕ) where
         clear : eqb (get_or l s 0) 0 ≡ false
         clear = ne_eqb (get_or l s 0) 0 f
 
-        says : (q : Bool) → true ≡ passes-by 0 q (get_or l s 0)
+        says : (q : Bool) → true ≡ passes_by 0 q (get_or l s 0)
         says q = rw clear
 
-        leaves : (q : Bool) → l ≡ set l s (flag-behind 0 q (get_or l s 0))
+        leaves : (q : Bool) → l ≡ set l s (flag_behind 0 q (get_or l s 0))
         leaves true = rw (set-stays (get_or l s 0) clear) (sym (set-get_or l s 0))
         leaves false = sym (set-get_or l s 0)
 
@@ -74,20 +74,20 @@ module _ (a s : ℕ) (l : List ℕ) where
 -- THE ACTIONS OF A TRACE
 
 module _ (trace : List ℕ) where
-  pub known-first : unknown-action trace 0 ≡ false
+  pub known-first : unknown_action trace 0 ≡ false
   unfolding some-from
   known-first = refl
 
-  pub known_more : (i : ℕ) → unknown-action trace i ≡ false → action trace i ≤ 1 → unknown-action trace (i + 1) ≡ false
+  pub known_more : (i : ℕ) → unknown_action trace i ≡ false → action trace i ≤ 1 → unknown_action trace (i + 1) ≡ false
   known_more i k h = rw (add-one i, from_more (λ k. ltb 1 (action trace k)) 0 i (omega arith), le-ltb 1 (action trace i) h) k
 
-  pub unknown : (i : ℕ) → i < steps trace → 1 < action trace i → unknown-action trace (steps trace) ≡ true
+  pub unknown : (i : ℕ) → i < steps trace → 1 < action trace i → unknown_action trace (steps trace) ≡ true
   unknown i h u = from_found (λ k. ltb 1 (action trace k)) 0 i (steps trace) (omega arith) h (lt-ltb 1 (action trace i) u)
 
-  pub known-all : (i : ℕ) → unknown-action trace i ≡ false → i ≤ steps trace → steps trace ≤ i → true ≡ not (unknown-action trace (steps trace))
+  pub known-all : (i : ℕ) → unknown_action trace i ≡ false → i ≤ steps trace → steps trace ≤ i → true ≡ not (unknown_action trace (steps trace))
   known-all i k h l = let e : i ≡ steps trace = omega arith in rw (← e, k)
 
-  pub known_at : (i : ℕ) → unknown-action trace (steps trace) ≡ false → i < steps trace → action trace i ≤ 1
+  pub known_at : (i : ℕ) → unknown_action trace (steps trace) ≡ false → i < steps trace → action trace i ≤ 1
   known_at i k h = ways (order 1 (action trace i))
     where
       ways : (1 < action trace i) ⊎ (action trace i ≤ 1) → action trace i ≤ 1

@@ -6,11 +6,11 @@ use Rattle.trace.specs.declared.Traced.{Traced}
 use Rattle.trace.specs.declared.Traced.TheVariants.{Counts, Refused}
 use Rattle.trace.specs.declared.Marks.{Marks}
 use Rattle.trace.specs.Trace.{action, slot, right, Report}
-use Rattle.trace.specs.Step.{flag-behind, passes-by, one}
+use Rattle.trace.specs.Step.{flag_behind, passes_by, one}
 
 -- the counts of a report, or a refusal's number
 abbrev pub counted : Report → Traced
-counted r = Counts r.good-ones r.failed-ones r.resting-ones
+counted r = Counts r.good_ones r.failed_ones r.resting_ones
 
 unfoldable pub answer : Result ℕ Report → Traced
 answer (good r) = counted r
@@ -23,10 +23,10 @@ held pool places s t = not (eqb t 0) && eqb (tag_at pool places s) t
 -- what step i adds to the counts and leaves in two tables of flags, the lent ones and those of a start with all flags clear
 pub record OneStep (holds : ℕ → ℕ → Bool) (trace : List ℕ) (i : ℕ) (flags clear flags' clear' : List ℕ) (m : Marks) : Type 0 where
   pub in_table : slot trace i < 65536
-  pub good-is : m.good ≡ one (passes-by (action trace i) (right holds trace i) (get_or flags (slot trace i) 0))
-  pub failed-is : m.failed ≡ one (eqb (action trace i) 0 && not (passes-by (action trace i) (right holds trace i) (get_or flags (slot trace i) 0)))
-  pub rested-is : m.rested
-      ≡ one (passes-by (action trace i) (right holds trace i) (get_or flags (slot trace i) 0)
-      && not (passes-by (action trace i) (right holds trace i) (get_or clear (slot trace i) 0)))
-  pub flags-are : flags' ≡ set flags (slot trace i) (flag-behind (action trace i) (right holds trace i) (get_or flags (slot trace i) 0))
-  pub clear-are : clear' ≡ set clear (slot trace i) (flag-behind (action trace i) (right holds trace i) (get_or clear (slot trace i) 0))
+  pub good_is : m.good ≡ one (passes_by (action trace i) (right holds trace i) (get_or flags (slot trace i) 0))
+  pub failed_is : m.failed ≡ one (eqb (action trace i) 0 && not (passes_by (action trace i) (right holds trace i) (get_or flags (slot trace i) 0)))
+  pub rested_is : m.rested
+      ≡ one (passes_by (action trace i) (right holds trace i) (get_or flags (slot trace i) 0)
+      && not (passes_by (action trace i) (right holds trace i) (get_or clear (slot trace i) 0)))
+  pub flags_are : flags' ≡ set flags (slot trace i) (flag_behind (action trace i) (right holds trace i) (get_or flags (slot trace i) 0))
+  pub clear_are : clear' ≡ set clear (slot trace i) (flag_behind (action trace i) (right holds trace i) (get_or clear (slot trace i) 0))

@@ -8,12 +8,12 @@ next false true x = elim (eqb x 0) [ true ↦ 1 | false ↦ x ]
 next false false x = x
 
 -- the flag of the step's own slot behind a step, by its action and whether its tag is right
-abbrev pub flag-behind : ℕ → Bool → ℕ → ℕ
-flag-behind action right x = next (eqb action 1) (eqb action 0 && right) x
+abbrev pub flag_behind : ℕ → Bool → ℕ → ℕ
+flag_behind action right x = next (eqb action 1) (eqb action 0 && right) x
 
 -- a step is a look-up that succeeds
-abbrev pub passes-by : ℕ → Bool → ℕ → Bool
-passes-by action right x = eqb action 0 && (not (eqb x 0) || right)
+abbrev pub passes_by : ℕ → Bool → ℕ → Bool
+passes_by action right x = eqb action 0 && (not (eqb x 0) || right)
 
 -- what a step adds to a count
 unfoldable pub one : Bool → ℕ

@@ -1,7 +1,7 @@
 // A loader's trace over a finished pool (document 02, No. 12).
 ghost use Rattle.std.specs.Prelude.{false, not, ◌&&◌, ◌≡◌, ℕ, ◌≤◌, ◌<◌, eqb, length, get_or, set};
-ghost use Rattle.trace.specs.Trace.{action, steps, unknown-action, report, run-over, run, flags-after};
-ghost use Rattle.trace.specs.Step.{flag-behind, passes-by, one};
+ghost use Rattle.trace.specs.Trace.{action, steps, unknown_action, report, run-over, run, flags_after};
+ghost use Rattle.trace.specs.Step.{flag_behind, passes_by, one};
 ghost use Rattle.trace.specs.Answers.{counted, answer, held, OneStep};
 
 use places::PoolRead;
@@ -28,7 +28,7 @@ const SLOTS: usize = 65536;
 
 // Whether the action of each step is known.
 fn known_actions(trace: &[u8]) -> bool
-    ensures { result ≡ not (unknown-action trace.now (steps trace.now)) }
+    ensures { result ≡ not (unknown_action trace.now (steps trace.now)) }
 {
     let n = trace.len() / STEP;
     let mut i = 0;
@@ -54,8 +54,8 @@ fn is_right(pool: &[u8], places: &[usize; 65536], slot: u16, tag: u8) -> bool
 // Runs a step over a table of flags. Whether it is a look-up that succeeds.
 fn run_step(flags: &mut [u8], action: u8, slot: usize, right: bool) -> bool
     requires { (action ≤ 1) × (slot < length flags.old) }
-    ensures value { result ≡ passes-by action right (get_or flags.old slot 0) }
-    ensures flags_after { flags.new ≡ set flags.old slot (flag-behind action right (get_or flags.old slot 0)) }
+    ensures value { result ≡ passes_by action right (get_or flags.old slot 0) }
+    ensures flags_after { flags.new ≡ set flags.old slot (flag_behind action right (get_or flags.old slot 0)) }
 {
     if action == CLEAR {
         flags[slot] = 0;
@@ -143,7 +143,7 @@ fn run_steps(
     flags: &mut [u8],
     clear: &mut [u8],
 ) -> Traced
-    requires trace_value { unknown-action trace.now (steps trace.now) ≡ false }
+    requires trace_value { unknown_action trace.now (steps trace.now) ≡ false }
     requires flags_len { (length flags.old ≡ 65536) × (length clear.old ≡ 65536) × ((s : ℕ) → get_or clear.old s 0 ≡ 0) }
     ensures value { result ≡ counted (report (held pool.now places.now) trace.now flags.old) }
     ensures flags_after { flags.new ≡ (report (held pool.now places.now) trace.now flags.old).flags }
@@ -171,7 +171,7 @@ fn run_steps(
 fn run_over(pool: &[u8], places: &[usize; 65536], trace: &[u8], flags: &mut [u8]) -> Traced
     ensures value { result ≡ answer (run-over (held pool.now places.now) trace.now flags.old) }
     ensures flags_after { flags.new
-        ≡ flags-after (run-over (held pool.now places.now) trace.now flags.old) flags.old }
+        ≡ flags_after (run-over (held pool.now places.now) trace.now flags.old) flags.old }
 {
     if trace.len() % STEP != 0 {
         return Traced::Refused(28);
@@ -189,7 +189,7 @@ fn run_over(pool: &[u8], places: &[usize; 65536], trace: &[u8], flags: &mut [u8]
 // Runs a trace over a pool, from a flag for each slot that the caller lends, and leaves the flags as the trace ends.
 pub fn run_trace(pool: &[u8], trace: &[u8], flags: &mut [u8]) -> Traced
     ensures value { result ≡ answer (run pool.now trace.now flags.old) }
-    ensures flags_after { flags.new ≡ flags-after (run pool.now trace.now flags.old) flags.old }
+    ensures flags_after { flags.new ≡ flags_after (run pool.now trace.now flags.old) flags.old }
 {
     let mut places = [0usize; 65536];
     let PoolRead::Good { next } = places::note_pool(pool, 0, &mut places) else {

@@ -96,5 +96,5 @@ module _ {A : Type 0} (a : A) where
   pub fill_more : (i : ℕ) (d : List A) → i < length d → set (replicate i a ++ drop i d) i a ≡ replicate (i + 1) a ++ drop (i + 1) d
   fill_more i d l = rw (add-one i) (fill_suc i d l)
 
-  pub fill-all : (i : ℕ) (d : List A) → length d ≡ i → replicate i a ++ drop i d ≡ replicate (length d) a
-  fill-all i d e = rw (← e) (ap (λ l. replicate (length d) a ++ l) (drop-length d) ∙ append-nil (replicate (length d) a))
+  pub fill_all : (i : ℕ) (d : List A) → length d ≡ i → replicate i a ++ drop i d ≡ replicate (length d) a
+  fill_all i d e = rw (← e) (ap (λ l. replicate (length d) a ++ l) (drop-length d) ∙ append-nil (replicate (length d) a))

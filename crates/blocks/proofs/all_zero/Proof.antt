@@ -4,7 +4,7 @@ use Prim.Native.Nat.{◌≤◌, ◌-◌}
 use native.Mathlib.Omega.{arith}
 use borrow.Author.Rules.{rules}
 use lib.ListN.{length}
-use Rattle.blocks.proofs.Right.{Rest, rest_more, rest-not, rest-none}
+use Rattle.blocks.proofs.Right.{Rest, rest_more, rest_not, rest_none}
 use Rattle.blocks.proofs.all_zero.Statement.{statement}
 use Rattle.blocks.proofs.all_zero.Tie as tie
 
@@ -23,7 +23,7 @@ shared-slice-read-if1 c = search rules
 returns : tie.Need-returns invariant-loop decreases-loop
 returns c =
     let head = c.before.before.before in
-    rest-not head.before.args.bytes.now head.loop.i head.loop.invariant.1 (omega arith) c.if1.true
+    rest_not head.before.args.bytes.now head.loop.i head.loop.invariant.1 (omega arith) c.if1.true
 
 add-i : tie.Need-overflow-add-i invariant-loop decreases-loop
 add-i c = search rules
@@ -39,7 +39,7 @@ loop-again c =
 returns-2 : tie.Need-returns-2 invariant-loop decreases-loop
 returns-2 c =
     let head = c.before in
-    rest-none head.before.args.bytes.now head.loop.i head.loop.invariant.1 (omega arith)
+    rest_none head.before.args.bytes.now head.loop.i head.loop.invariant.1 (omega arith)
 
 pub all-zero-spec : {M : Type 1} → statement M
 all-zero-spec =

@@ -1,7 +1,7 @@
 -- `blocks::blocks_for` meets its contract. By cases on the length, as the definition. Assumes nothing.
 use borrow.Author.Rules.{rules}
-use Rattle.definition.specs.Blocks.{blocksFor}
-use Rattle.blocks.proofs.Writing.{blocks-for-some}
+use Rattle.definition.specs.Blocks.{blocks_for}
+use Rattle.blocks.proofs.Writing.{blocks_for-some}
 use Rattle.blocks.proofs.blocks_for.Statement.{statement}
 use Rattle.blocks.proofs.blocks_for.Tie as tie
 
@@ -12,11 +12,11 @@ add-result : tie.Need-overflow-add-result
 add-result c = search rules
 
 returns : tie.Need-returns
-unfolding blocksFor
+unfolding blocks_for
 returns c = search rules
 
 returns-2 : tie.Need-returns-2
-returns-2 c = blocks-for-some c.before.args.size c.if1.false
+returns-2 c = blocks_for-some c.before.args.size c.if1.false
 
 pub blocks-for-spec : {M : Type 1} → statement M
 blocks-for-spec = tie.close (tie.spec sub-result add-result returns returns-2)

@@ -1,8 +1,8 @@
 -- `blocks::blocks_read` meets its contract. What read_blocks ensures, told by numbers. Assumes nothing.
 use borrow.Author.Rules.{rules}
 use lib.ListN.{length}
-use Rattle.definition.specs.Blocks.{readBlocks}
-use Rattle.blocks.specs.Answers.{readAnswer}
+use Rattle.definition.specs.Blocks.{read_blocks}
+use Rattle.blocks.specs.Answers.{read_answer}
 use Rattle.blocks.proofs.Ends.{told}
 use Rattle.blocks.proofs.blocks_read.Statement.{statement}
 use Rattle.blocks.proofs.blocks_read.Tie as tie
@@ -21,10 +21,10 @@ returns c =
     let ended = c.before.before.before in
     let args = ended.before.before.before.before.args in
     told
-    (readBlocks (length args.out.now) args.file.now)
+    (read_blocks (length args.out.now) args.file.now)
     args.out.now
     ended.read-blocks.new.1.0
-    (readAnswer ended.read-blocks.result)
+    (read_answer ended.read-blocks.result)
     c.read-numbers.result
     ended.read-blocks.ensures
     c.read-numbers.ensures

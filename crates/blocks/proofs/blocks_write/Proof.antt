@@ -1,8 +1,8 @@
 -- `blocks::blocks_write` meets its contract. What write_blocks ensures, told by numbers. Assumes nothing.
 use borrow.Author.Rules.{rules}
 use lib.ListN.{length}
-use Rattle.definition.specs.Blocks.{writeBlocks}
-use Rattle.blocks.specs.Answers.{writtenAnswer}
+use Rattle.definition.specs.Blocks.{write_blocks}
+use Rattle.blocks.specs.Answers.{written_answer}
 use Rattle.blocks.proofs.Ends.{told}
 use Rattle.blocks.proofs.blocks_write.Statement.{statement}
 use Rattle.blocks.proofs.blocks_write.Tie as tie
@@ -21,10 +21,10 @@ returns c =
     let ended = c.before.before.before in
     let args = ended.before.before.before.before.args in
     told
-    (writeBlocks (length args.out.now) args.job.now)
+    (write_blocks (length args.out.now) args.job.now)
     args.out.now
     ended.write-blocks.new.1.0
-    (writtenAnswer ended.write-blocks.result)
+    (written_answer ended.write-blocks.result)
     c.written-numbers.result
     ended.write-blocks.ensures
     c.written-numbers.ensures

@@ -6,7 +6,7 @@ use native.Mathlib.Omega.{arith}
 use borrow.Author.Count.{below_none, below_more}
 use borrow.Author.Rules.{rules}
 use borrow.Author.Tests.{not-true, not-false}
-use Rattle.definition.specs.Blocks.{rightBlock}
+use Rattle.definition.specs.Blocks.{right_block}
 use Rattle.blocks.specs.File.{RightBelow}
 use Rattle.blocks.proofs.first_wrong.Statement.{statement}
 use Rattle.blocks.proofs.first_wrong.Tie as tie
@@ -23,7 +23,7 @@ sub-last c = search rules
 loop-holds : tie.Need-loop-init invariant-loop decreases-loop
 loop-holds c =
     let args = c.before.args in
-    (search rules, below_none (λ j. rightBlock args.n args.file.now j ≡ true))
+    (search rules, below_none (λ j. right_block args.n args.file.now j ≡ true))
 
 right-block-requires : tie.Need-right-block-requires invariant-loop decreases-loop
 right-block-requires c κs = search rules
@@ -34,7 +34,7 @@ returns c =
     let head = tested.before.before in
     let args = head.before.before.args in
     let whole : args.n ≡ suc (args.n - 1) = omega arith in
-    let wrong = ap (λ n. rightBlock n args.file.now head.loop.k) whole ∙ sym tested.right-block.ensures ∙ not-true tested.right-block.result c.if1.true in
+    let wrong = ap (λ n. right_block n args.file.now head.loop.k) whole ∙ sym tested.right-block.ensures ∙ not-true tested.right-block.result c.if1.true in
     (search rules, head.loop.invariant.1, λ _. wrong)
 
 add-k : tie.Need-overflow-add-k invariant-loop decreases-loop
@@ -49,8 +49,8 @@ loop-again c =
     let head = tested.before.before in
     let args = head.before.before.args in
     let whole : args.n ≡ suc (args.n - 1) = omega arith in
-    let right = ap (λ n. rightBlock n args.file.now head.loop.k) whole ∙ sym tested.right-block.ensures ∙ not-false tested.right-block.result c.if1.false in
-    (search rules, below_more (λ j. rightBlock args.n args.file.now j ≡ true) head.loop.k head.loop.invariant.1 right)
+    let right = ap (λ n. right_block n args.file.now head.loop.k) whole ∙ sym tested.right-block.ensures ∙ not-false tested.right-block.result c.if1.false in
+    (search rules, below_more (λ j. right_block args.n args.file.now j ≡ true) head.loop.k head.loop.invariant.1 right)
 
 returns-2 : tie.Need-returns-2 invariant-loop decreases-loop
 returns-2 c = (search rules, c.before.loop.invariant.1, λ more. absurd (omega arith))

@@ -3,7 +3,7 @@ use mathlib.Core.Path.{◌∙◌, ap, sym}
 use Prim.Native.Nat.{◌+◌, ◌*◌, ◌-◌}
 use native.Mathlib.Omega.{arith}
 use borrow.Author.Rules.{rules}
-use Rattle.blocks.proofs.Joined.{used-small, job-length}
+use Rattle.blocks.proofs.Joined.{used_small, job_length}
 use Rattle.blocks.proofs.job_size.Statement.{statement}
 use Rattle.blocks.proofs.job_size.Tie as tie
 
@@ -23,14 +23,14 @@ add-result : tie.Need-overflow-add-result
 add-result c =
     let start = c.before.before in
     let args = start.args in
-    omega (arith, used-small args.n args.file.now start.requires.2 start.requires.3 (args.n - 1) (omega arith))
+    omega (arith, used_small args.n args.file.now start.requires.2 start.requires.3 (args.n - 1) (omega arith))
 
 returns : tie.Need-returns
 returns c =
     let start = c.before.before in
     let args = start.args in
     ap (λ u. 504 * (args.n - 1) + u) c.used-in.ensures
-    ∙ sym (job-length args.n args.file.now start.requires.2 start.requires.3 (args.n - 1) (omega arith))
+    ∙ sym (job_length args.n args.file.now start.requires.2 start.requires.3 (args.n - 1) (omega arith))
 
 pub job-size-spec : {M : Type 1} → statement M
 job-size-spec =

@@ -5,7 +5,7 @@ use native.Mathlib.Omega.{arith}
 use borrow.Author.Rules.{rules}
 use lib.ListN.{length, replicate}
 use lib.Seq.{paste, paste-zero}
-use Rattle.facts.proofs.Copies.{pad-more}
+use Rattle.facts.proofs.Copies.{pad_more}
 use Rattle.blocks.proofs.pad.Statement.{statement}
 use Rattle.blocks.proofs.pad.Tie as tie
 
@@ -36,7 +36,7 @@ loop-again : tie.Need-loop-preserved invariant-loop decreases-loop
 loop-again c =
     let head = c.before in
     let args = head.before.args in
-    let more = pad-more args.d.now args.at args.n head.loop.i (omega arith) (omega arith) in
+    let more = pad_more args.d.now args.at args.n head.loop.i (omega arith) (omega arith) in
     (search rules, rw head.loop.invariant.1 more, search rules)
 
 same_length : tie.Need-same-length invariant-loop decreases-loop

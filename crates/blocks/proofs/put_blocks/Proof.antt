@@ -4,7 +4,7 @@ use Prim.Native.Nat.{◌≤◌, ◌-◌}
 use native.Mathlib.Omega.{arith}
 use borrow.Author.Rules.{rules}
 use lib.ListN.{length}
-use Rattle.definition.specs.Blocks.{writtenBlock}
+use Rattle.definition.specs.Blocks.{written_block}
 use Rattle.definition.specs.Run.{overwrite}
 use Rattle.facts.proofs.Chunks.{joined}
 use Rattle.facts.proofs.Copies.{joined-none}
@@ -13,7 +13,7 @@ use Rattle.blocks.proofs.put_blocks.Statement.{statement}
 use Rattle.blocks.proofs.put_blocks.Tie as tie
 
 abbrev invariant-loop : tie.invariant-loop
-invariant-loop job out₀ n k₀ out k = (k ≤ n) × (out ≡ overwrite (joined (writtenBlock job) k) out₀) × (length out ≡ length out₀)
+invariant-loop job out₀ n k₀ out k = (k ≤ n) × (out ≡ overwrite (joined (written_block job) k) out₀) × (length out ≡ length out₀)
 
 abbrev decreases-loop : tie.decreases-loop
 decreases-loop job out₀ n k₀ out k = n - k
@@ -21,7 +21,7 @@ decreases-loop job out₀ n k₀ out k = n - k
 loop-holds : tie.Need-loop-init invariant-loop decreases-loop
 loop-holds c =
     let args = c.before.before.args in
-    (search rules, joined-none (writtenBlock args.job.now) args.out.now, search rules)
+    (search rules, joined-none (written_block args.job.now) args.out.now, search rules)
 
 put-block-requires : tie.Need-put-block-requires invariant-loop decreases-loop
 put-block-requires c κs = search rules
@@ -50,7 +50,7 @@ returns c =
     let head = c.before in
     let args = head.before.before.before.args in
     let all : head.loop.k ≡ args.n = omega arith in
-    head.loop.invariant.1 ∙ ap (λ n. overwrite (joined (writtenBlock args.job.now) n) args.out.now) all
+    head.loop.invariant.1 ∙ ap (λ n. overwrite (joined (written_block args.job.now) n) args.out.now) all
 
 pub put-blocks-spec : {M : Type 1} → statement M
 put-blocks-spec =

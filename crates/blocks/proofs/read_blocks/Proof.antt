@@ -4,33 +4,33 @@ use Prim.Native.Nat.{◌/◌}
 use native.Mathlib.Omega.{arith}
 use borrow.Author.Rules.{rules}
 use lib.ListN.{length}
-use Rattle.definition.specs.Blocks.{readBlocks}
-use Rattle.blocks.specs.Answers.{readAnswer}
+use Rattle.definition.specs.Blocks.{read_blocks}
+use Rattle.blocks.specs.Answers.{read_answer}
 use Rattle.blocks.specs.File.{data_of}
 use Rattle.blocks.proofs.Ends.{ends-bad, ends-good}
 use Rattle.facts.proofs.Chunks.{joined}
-use Rattle.blocks.proofs.Reading.{read-empty, read-odd, read-many, read-wrong, read-long, read-narrow, read-good}
+use Rattle.blocks.proofs.Reading.{read_empty, read_odd, read_many, read_wrong, read_long, read_narrow_lem, read_good}
 use Rattle.blocks.proofs.read_blocks.Statement.{statement}
 use Rattle.blocks.proofs.read_blocks.Tie as tie
 
 returns : tie.Need-returns
-unfolding readAnswer
+unfolding read_answer
 returns c =
     let args = c.before.before.before.args in
     let room = length args.out.now in
     let file = args.file.now in
-    ends-bad (readBlocks room file) args.out.now (record { code = 20; place = 0 }) (read-empty room file c.if1.true)
+    ends-bad (read_blocks room file) args.out.now (record { code = 20; place = 0 }) (read_empty room file c.if1.true)
 
 returns-2 : tie.Need-returns-2
-unfolding readAnswer
+unfolding read_answer
 returns-2 c =
     let args = c.before.before.before.before.args in
     let room = length args.out.now in
     let file = args.file.now in
-    ends-bad (readBlocks room file) args.out.now (record { code = 20; place = 0 }) (read-odd room file c.if2.true)
+    ends-bad (read_blocks room file) args.out.now (record { code = 20; place = 0 }) (read_odd room file c.if2.true)
 
 returns-3 : tie.Need-returns-3
-unfolding readAnswer
+unfolding read_answer
 returns-3 c =
     let whole = c.before in
     let some = whole.before in
@@ -38,16 +38,16 @@ returns-3 c =
     let room = length args.out.now in
     let file = args.file.now in
     ends-bad
-    (readBlocks room file)
+    (read_blocks room file)
     args.out.now
     (record { code = 1; place = 0 })
-    (read-many room file some.if1.false whole.if2.false c.if3.true)
+    (read_many room file some.if1.false whole.if2.false c.if3.true)
 
 first-wrong-requires : tie.Need-first-wrong-requires
 first-wrong-requires c κs = search rules
 
 returns-4 : tie.Need-returns-4
-unfolding readAnswer
+unfolding read_answer
 returns-4 c =
     let judged = c.before in
     let few = judged.before in
@@ -58,10 +58,10 @@ returns-4 c =
     let file = args.file.now in
     let found = judged.first-wrong in
     ends-bad
-    (readBlocks room file)
+    (read_blocks room file)
     args.out.now
     (record { code = 19; place = found.result })
-    (read-wrong
+    (read_wrong
     room
     file
     some.if1.false
@@ -76,7 +76,7 @@ job-size-requires : tie.Need-job-size-requires
 job-size-requires c κs = (omega arith, omega arith, omega arith, λ j h. c.before.first-wrong.ensures.1 j (omega arith))
 
 returns-5 : tie.Need-returns-5
-unfolding readAnswer
+unfolding read_answer
 returns-5 c =
     let sized = c.before in
     let judged = sized.before.before in
@@ -88,10 +88,10 @@ returns-5 c =
     let file = args.file.now in
     let size = sized.job-size in
     ends-bad
-    (readBlocks room file)
+    (read_blocks room file)
     args.out.now
     (record { code = 1; place = 0 })
-    (read-long
+    (read_long
     room
     file
     some.if1.false
@@ -103,7 +103,7 @@ returns-5 c =
     c.if5.true)
 
 returns-6 : tie.Need-returns-6
-unfolding readAnswer
+unfolding read_answer
 returns-6 c =
     let short = c.before in
     let sized = short.before in
@@ -116,10 +116,10 @@ returns-6 c =
     let file = args.file.now in
     let size = sized.job-size in
     ends-bad
-    (readBlocks room file)
+    (read_blocks room file)
     args.out.now
     (record { code = 18; place = 0 })
-    (read-narrow
+    (read_narrow_lem
     room
     file
     some.if1.false
@@ -138,7 +138,7 @@ same_length : tie.Need-same-length
 same_length c = search rules
 
 returns-7 : tie.Need-returns-7
-unfolding readAnswer
+unfolding read_answer
 returns-7 c =
     let taken = c.before.before in
     let fits = taken.before.before in
@@ -153,12 +153,12 @@ returns-7 c =
     let file = args.file.now in
     let size = sized.job-size in
     ends-good
-    (readBlocks room file)
+    (read_blocks room file)
     args.out.now
     (joined (data_of file) (length file / 512))
     taken.take-blocks.new.1.0
     size.result
-    (read-good
+    (read_good
     room
     file
     some.if1.false

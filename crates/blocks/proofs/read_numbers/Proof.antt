@@ -1,6 +1,6 @@
 -- `blocks::read_numbers` meets its contract. By cases on the answer. Assumes nothing.
 use borrow.Author.Rules.{rules}
-use Rattle.blocks.specs.Answers.{readAnswer, numbersOf}
+use Rattle.blocks.specs.Answers.{read_answer, numbers_of}
 use Rattle.blocks.proofs.read_numbers.Statement.{statement}
 use Rattle.blocks.proofs.read_numbers.Tie as tie
 
@@ -20,23 +20,23 @@ enum-told-3 : tie.Need-enum-told-3
 enum-told-3 c = search rules
 
 returns : tie.Need-returns
-unfolding readAnswer numbersOf
+unfolding read_answer numbers_of
 returns c = cc
 
 returns-2 : tie.Need-returns-2
-unfolding readAnswer numbersOf
+unfolding read_answer numbers_of
 returns-2 c = cc
 
 returns-3 : tie.Need-returns-3
-unfolding readAnswer numbersOf
+unfolding read_answer numbers_of
 returns-3 c = cc
 
 returns-4 : tie.Need-returns-4
-unfolding readAnswer numbersOf
+unfolding read_answer numbers_of
 returns-4 c = cc
 
 returns-5 : tie.Need-returns-5
-unfolding readAnswer numbersOf
+unfolding read_answer numbers_of
 returns-5 c = cc
 
 pub read-numbers-spec : {M : Type 1} → statement M

@@ -4,7 +4,7 @@ use Prim.Native.Nat.{suc}
 use native.Mathlib.Omega.{arith}
 use borrow.Author.Rules.{rules}
 use borrow.Author.Tests.{not-true, not-false}
-use Rattle.blocks.proofs.Right.{wrong-check, wrong-number, wrong-use, as-padding, use-fits}
+use Rattle.blocks.proofs.Right.{wrong_check, wrong_number, wrong_use, as_padding, use_fits}
 use Rattle.blocks.proofs.right_block.Statement.{statement}
 use Rattle.blocks.proofs.right_block.Tie as tie
 
@@ -35,7 +35,7 @@ returns c =
     let checked = summed.before.before in
     let known = checked.before in
     let start = known.before in
-    wrong-check
+    wrong_check
     start.args.file.now
     start.args.k
     (λ i. (known.shared-slice-known.given i).fits)
@@ -63,7 +63,7 @@ returns-2 c =
     let checked = summed.before.before in
     let known = checked.before in
     let start = known.before in
-    wrong-number
+    wrong_number
     start.args.file.now
     start.args.k
     (λ i. (known.shared-slice-known.given i).fits)
@@ -97,7 +97,7 @@ returns-3 c =
     let checked = summed.before.before in
     let known = checked.before in
     let start = known.before in
-    wrong-use
+    wrong_use
     start.args.file.now
     start.args.k
     (λ i. (known.shared-slice-known.given i).fits)
@@ -115,15 +115,15 @@ returns-3 c =
     tested'.if2.false
     used.used-in.result
     used.used-in.ensures
-    (sym uses.right-use.ensures ∙ not-true uses.right-use.result c.if3.true)
+    (sym uses.right_use_lem.ensures ∙ not-true uses.right_use_lem.result c.if3.true)
 
 zero-padding-requires : tie.Need-zero-padding-requires
 zero-padding-requires c κs =
     let uses = c.before in
     let used = uses.before in
     let start = used.before.before.before.before.before.before.before.before in
-    let right = sym uses.right-use.ensures ∙ not-false uses.right-use.result c.if3.false in
-    (search rules, omega (arith, used.used-in.ensures, use-fits (suc start.args.last) start.args.k used.used-in.result right))
+    let right = sym uses.right_use_lem.ensures ∙ not-false uses.right_use_lem.result c.if3.false in
+    (search rules, omega (arith, used.used-in.ensures, use_fits (suc start.args.last) start.args.k used.used-in.result right))
 
 returns-4 : tie.Need-returns-4
 returns-4 c =
@@ -138,7 +138,7 @@ returns-4 c =
     let known = checked.before in
     let start = known.before in
     c.zero-padding.ensures
-    ∙ as-padding
+    ∙ as_padding
     start.args.file.now
     start.args.k
     (λ i. (known.shared-slice-known.given i).fits)
@@ -156,7 +156,7 @@ returns-4 c =
     tested'.if2.false
     used.used-in.result
     used.used-in.ensures
-    (sym uses.right-use.ensures ∙ not-false uses.right-use.result right.if3.false)
+    (sym uses.right_use_lem.ensures ∙ not-false uses.right_use_lem.result right.if3.false)
 
 pub right-block-spec : {M : Type 1} → statement M
 right-block-spec =

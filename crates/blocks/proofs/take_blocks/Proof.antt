@@ -6,7 +6,7 @@ use borrow.Author.Rules.{rules}
 use lib.ListN.{length}
 use Rattle.definition.specs.Run.{overwrite}
 use Rattle.blocks.specs.File.{data_of}
-use Rattle.blocks.proofs.Joined.{used-small, inside-job, take_more}
+use Rattle.blocks.proofs.Joined.{used_small, inside_job, take_more}
 use Rattle.facts.proofs.Chunks.{joined}
 use Rattle.facts.proofs.Copies.{joined-none}
 use Rattle.blocks.proofs.take_blocks.Statement.{statement}
@@ -44,8 +44,8 @@ copy-requires c κs =
     let file = start.args.file.now in
     omega (
       arith,
-      used-small n file start.requires.0 start.requires.1 k (omega arith),
-      inside-job n file start.requires.0 start.requires.1 k (omega arith),
+      used_small n file start.requires.0 start.requires.1 k (omega arith),
+      inside_job n file start.requires.0 start.requires.1 k (omega arith),
     )
 
 add-k : tie.Need-overflow-add-k invariant-loop decreases-loop

@@ -1,7 +1,7 @@
 -- `blocks::used_in` meets its contract. The use is read where the block has it. Assumes nothing.
 use mathlib.Core.Path.{◌∙◌}
 use borrow.Author.Rules.{rules}
-use Rattle.blocks.proofs.Right.{used-is}
+use Rattle.blocks.proofs.Right.{used_is}
 use Rattle.blocks.proofs.used_in.Statement.{statement}
 use Rattle.blocks.proofs.used_in.Tie as tie
 
@@ -18,7 +18,7 @@ cast-result : tie.Need-overflow-cast-result
 cast-result c = search rules
 
 returns : tie.Need-returns
-returns c = c.get-u16.ensures ∙ used-is c.before.before.args.file.now c.before.before.args.k
+returns c = c.get-u16.ensures ∙ used_is c.before.before.args.file.now c.before.before.args.k
 
 pub used-in-spec : {M : Type 1} → statement M
 used-in-spec = tie.close (tie.spec mul-get-u16 add-get-u16 get-u16-requires cast-result returns)

@@ -1,6 +1,6 @@
 -- `blocks::written_numbers` meets its contract. By cases on the answer. Assumes nothing.
 use borrow.Author.Rules.{rules}
-use Rattle.blocks.specs.Answers.{writtenAnswer, numbersOf}
+use Rattle.blocks.specs.Answers.{written_answer, numbers_of}
 use Rattle.blocks.proofs.written_numbers.Statement.{statement}
 use Rattle.blocks.proofs.written_numbers.Tie as tie
 
@@ -14,15 +14,15 @@ enum-told-2 : tie.Need-enum-told-2
 enum-told-2 c = search rules
 
 returns : tie.Need-returns
-unfolding writtenAnswer numbersOf
+unfolding written_answer numbers_of
 returns c = cc
 
 returns-2 : tie.Need-returns-2
-unfolding writtenAnswer numbersOf
+unfolding written_answer numbers_of
 returns-2 c = cc
 
 returns-3 : tie.Need-returns-3
-unfolding writtenAnswer numbersOf
+unfolding written_answer numbers_of
 returns-3 c = cc
 
 pub written-numbers-spec : {M : Type 1} → statement M

@@ -2,7 +2,7 @@
 use mathlib.Core.Path.{ap, ◌∙◌}
 use native.Mathlib.Omega.{arith}
 use borrow.Author.Rules.{rules}
-use Rattle.definition.specs.Blocks.{allZero}
+use Rattle.definition.specs.Blocks.{all_zero}
 use Rattle.blocks.proofs.Right.{padding-is}
 use Rattle.blocks.proofs.zero_padding.Statement.{statement}
 use Rattle.blocks.proofs.zero_padding.Tie as tie
@@ -39,7 +39,7 @@ returns c =
     let used = c.before.before in
     let start = used.before.before in
     c.all-zero.ensures
-    ∙ ap allZero
+    ∙ ap all_zero
     (padding-is start.args.file.now start.args.k used.used-in.result start.requires.0 used.used-in.ensures (omega (arith, used.used-in.ensures)))
 
 pub zero-padding-spec : {M : Type 1} → statement M

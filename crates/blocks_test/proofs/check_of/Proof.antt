@@ -1,7 +1,7 @@
 -- `blocks_test::check_of` meets its contract. Both products are bounded. Assumes nothing.
 use native.Mathlib.Omega.{arith}
 use borrow.Author.Rules.{rules}
-use Rattle.blocks_test.proofs.Products.{weights-low, weights-high, bytes_high}
+use Rattle.blocks_test.proofs.Products.{weights_low, weights_high, bytes_high}
 use Rattle.blocks_test.proofs.check_of.Statement.{statement}
 use Rattle.blocks_test.proofs.check_of.Tie as tie
 
@@ -12,10 +12,10 @@ add-weights-2 : tie.Need-overflow-add-weights-2
 add-weights-2 c = search rules
 
 mul-weights : tie.Need-overflow-mul-weights
-mul-weights c = omega (arith, weights-high c.args.used c.requires.1)
+mul-weights c = omega (arith, weights_high c.args.used c.requires.1)
 
 sub-weights : tie.Need-overflow-sub-weights
-sub-weights c = omega (arith, weights-low c.args.used)
+sub-weights c = omega (arith, weights_low c.args.used)
 
 mul-result : tie.Need-overflow-mul-result
 mul-result c = search rules

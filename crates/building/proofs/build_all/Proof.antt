@@ -1,7 +1,7 @@
 -- `building::build_all` meets its contract. Assumes nothing.
 mod Lts
 mod Tie
-use Rattle.building.proofs.Whole.{standing-first, raws-refused, working-first, owners-first, built}
+use Rattle.building.proofs.Whole.{standing_first, raws_refused, working_first, owners_first, built}
 use Rattle.store.proofs.Stores.{length-store}
 use Rattle.store.specs.Regions.{NODES}
 use Rattle.store.specs.Store.{store}
@@ -10,7 +10,7 @@ use Rattle.building.proofs.build_all.Statement.{statement}
 use Rattle.building.proofs.build_all.Proof.Tie as tie
 
 slot-raw-rows-requires : tie.Need-slot-raw-rows-requires
-slot-raw-rows-requires c κs = let a = c.before.before.before.before.before.args in let q = c.before.before.before.before.before.requires in let s = a.job.now in let p = a.p.now in let t = store p a.w.now in (search rules, q.1, standing-first s p a.version t a.gaps.now q.1 q.2, q.2.live)
+slot-raw-rows-requires c κs = let a = c.before.before.before.before.before.args in let q = c.before.before.before.before.before.requires in let s = a.job.now in let p = a.p.now in let t = store p a.w.now in (search rules, q.1, standing_first s p a.version t a.gaps.now q.1 q.2, q.2.live)
 
 same_length : tie.Need-same-length
 same_length c = search rules
@@ -19,10 +19,10 @@ same-length-2 : tie.Need-same-length-2
 same-length-2 c = search rules
 
 returns : tie.Need-returns
-returns c = let a = c.before.before.before.before.before.before.before.before.before.before.args in let q = c.before.before.before.before.before.before.before.before.before.before.requires in let s = a.job.now in let p = a.p.now in let t = store p a.w.now in let x = c.before.before.before.before.slot-raw-rows in let u = store p x.new.1.0 in let h = x.new.1.1.1.0 in raws-refused s p a.version t a.gaps.now q.1 q.2 u h x.result x.ensures c.if1.true
+returns c = let a = c.before.before.before.before.before.before.before.before.before.before.args in let q = c.before.before.before.before.before.before.before.before.before.before.requires in let s = a.job.now in let p = a.p.now in let t = store p a.w.now in let x = c.before.before.before.before.slot-raw-rows in let u = store p x.new.1.0 in let h = x.new.1.1.1.0 in raws_refused s p a.version t a.gaps.now q.1 q.2 u h x.result x.ensures c.if1.true
 
 drain-requires : tie.Need-drain-requires
-drain-requires c κs = let a = c.before.before.before.before.before.before.before.before.before.before.before.before.args in let q = c.before.before.before.before.before.before.before.before.before.before.before.before.requires in let s = a.job.now in let p = a.p.now in let t = store p a.w.now in let x = c.before.before.before.before.before.before.slot-raw-rows in let u = store p x.new.1.0 in let h = x.new.1.1.1.0 in (search rules, q.1, working-first s p a.version t a.gaps.now q.1 q.2 u h x.result x.ensures c.before.before.if1.false, owners-first s p a.version t a.gaps.now q.1 q.2 u h x.result x.ensures c.before.before.if1.false)
+drain-requires c κs = let a = c.before.before.before.before.before.before.before.before.before.before.before.before.args in let q = c.before.before.before.before.before.before.before.before.before.before.before.before.requires in let s = a.job.now in let p = a.p.now in let t = store p a.w.now in let x = c.before.before.before.before.before.before.slot-raw-rows in let u = store p x.new.1.0 in let h = x.new.1.1.1.0 in (search rules, q.1, working_first s p a.version t a.gaps.now q.1 q.2 u h x.result x.ensures c.before.before.if1.false, owners_first s p a.version t a.gaps.now q.1 q.2 u h x.result x.ensures c.before.before.if1.false)
 
 same-length-3 : tie.Need-same-length-3
 same-length-3 c = search rules

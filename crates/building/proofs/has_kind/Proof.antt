@@ -17,7 +17,7 @@ is-known-requires : tie.Need-is-known-requires
 is-known-requires c κs = search rules
 
 returns-2 : tie.Need-returns-2
-returns-2 c = c.is_Known.ensures ∙ ap (known _) c.before.node-tag.ensures
+returns-2 c = c.is_Known.ensures ∙ ap (known _) c.before.node_tag.ensures
 
 pub has-kind-spec : {M : Type 1} → statement M
 has-kind-spec = tie.close (tie.spec returns node-tag-requires is-known-requires returns-2)

@@ -2,8 +2,8 @@
 mod Lts
 mod Tie
 use Rattle.building.proofs.Emptying.{judged-not, judged-so}
-use Rattle.building.proofs.Lasting.{there-now}
-use Rattle.pool.proofs.Nodal.{record-asks}
+use Rattle.building.proofs.Lasting.{there_now}
+use Rattle.pool.proofs.Nodal.{record_asks}
 use Rattle.store.specs.Store.{store}
 use mathlib.Core.Path.{sym, ◌∙◌}
 use borrow.Author.Rules.{rules}
@@ -15,7 +15,7 @@ has-kind-requires c κs =
     let start = c.before.before.before.before in
     let a = start.args in
     let q = start.requires in
-    (search rules, there-now a.job.now a.p.now (store a.p.now a.w.now) q.1 q.2.standing, q.3)
+    (search rules, there_now a.job.now a.p.now (store a.p.now a.w.now) q.1 q.2.standing, q.3)
 
 finish-requires : tie.Need-finish-requires
 finish-requires c κs = let q = c.before.before.before.before.before.before.before.before.requires in (search rules, q.1, q.2, q.3)
@@ -42,7 +42,7 @@ refuse-at-requires c κs =
     let a = start.args in
     let q = start.requires in
     let t = store a.p.now a.w.now in
-    let asks = record-asks a.job.now a.p.now t (there-now a.job.now a.p.now t q.1 q.2.standing) a.k q.3 in
+    let asks = record_asks a.job.now a.p.now t (there_now a.job.now a.p.now t q.1 q.2.standing) a.k q.3 in
     (search rules, asks.0, asks.1, asks.2)
 
 same-length-3 : tie.Need-same-length-3

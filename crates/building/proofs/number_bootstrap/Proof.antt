@@ -1,9 +1,9 @@
 -- `building::number_bootstrap` meets its contract. Assumes nothing.
 mod Lts
 mod Tie
-use Rattle.building.proofs.Stepping.{bootstrap-had, bootstrap-refused, unindexed-tells, bootstrap-unindexed, bootstrap-indexed}
-use Rattle.building.proofs.Kids.{kids-now}
-use Rattle.building.proofs.Lasting.{there-now, working-goes, boot-goes}
+use Rattle.building.proofs.Stepping.{bootstrap_had, bootstrap_refused, unindexed_tells, bootstrap_unindexed, bootstrap_indexed}
+use Rattle.building.proofs.Kids.{kids_now}
+use Rattle.building.proofs.Lasting.{there_now, working_goes, boot_goes}
 use Rattle.rows.proofs.Starting.{row_room}
 use Rattle.store.proofs.Stores.{length-store}
 use Rattle.store.specs.Regions.{NODES}
@@ -15,16 +15,16 @@ use Rattle.building.proofs.number_bootstrap.Statement.{statement}
 use Rattle.building.proofs.number_bootstrap.Proof.Tie as tie
 
 has-index-requires : tie.Need-has-index-requires
-has-index-requires c κs = let a = c.before.before.before.before.args in let q = c.before.before.before.before.requires in let s = a.job.now in let p = a.p.now in let t = store p a.w.now in (search rules, row_room s p q.1, kids-now s p t q.1 q.2.standing (length-store p a.w.now NODES), q.3)
+has-index-requires c κs = let a = c.before.before.before.before.args in let q = c.before.before.before.before.requires in let s = a.job.now in let p = a.p.now in let t = store p a.w.now in (search rules, row_room s p q.1, kids_now s p t q.1 q.2.standing (length-store p a.w.now NODES), q.3)
 
 same_length : tie.Need-same-length
 same_length c = search rules
 
 returns : tie.Need-returns
-returns c = let a = c.before.before.before.before.before.before.args in let q = c.before.before.before.before.before.before.requires in let p = a.p.now in bootstrap-had a.job.now p (store p a.w.now) a.gaps.now q.1 q.2 (length-store p a.w.now NODES) a.k q.3 (ltb-true _ _ (sym c.before.has-index.ensures ∙ c.if1.true))
+returns c = let a = c.before.before.before.before.before.before.args in let q = c.before.before.before.before.before.before.requires in let p = a.p.now in bootstrap_had a.job.now p (store p a.w.now) a.gaps.now q.1 q.2 (length-store p a.w.now NODES) a.k q.3 (ltb-true _ _ (sym c.before.has-index.ensures ∙ c.if1.true))
 
 slots-of-requires : tie.Need-slots-of-requires
-slots-of-requires c κs = let a = c.before.before.before.before.before.before.before.before.args in let q = c.before.before.before.before.before.before.before.before.requires in let s = a.job.now in let p = a.p.now in (search rules, there-now s p (store p a.w.now) q.1 q.2.standing, q.2.live, q.3.made, q.2.standing.kids a.k q.3.made)
+slots-of-requires c κs = let a = c.before.before.before.before.before.before.before.before.args in let q = c.before.before.before.before.before.before.before.before.requires in let s = a.job.now in let p = a.p.now in (search rules, there_now s p (store p a.w.now) q.1 q.2.standing, q.2.live, q.3.made, q.2.standing.kids a.k q.3.made)
 
 same-length-2 : tie.Need-same-length-2
 same-length-2 c = search rules
@@ -33,7 +33,7 @@ same-length-3 : tie.Need-same-length-3
 same-length-3 c = search rules
 
 returns-2 : tie.Need-returns-2
-returns-2 c = let a = c.before.before.before.before.before.before.before.before.before.before.before.before.before.args in let q = c.before.before.before.before.before.before.before.before.before.before.before.before.before.requires in let p = a.p.now in let x = c.before.before.before.before.slots-of in bootstrap-refused a.job.now p (store p a.w.now) a.gaps.now q.1 q.2 (length-store p a.w.now NODES) a.k q.3 (store p x.new.1.0) x.new.1.1.1.0 x.result x.ensures c.if2.true
+returns-2 c = let a = c.before.before.before.before.before.before.before.before.before.before.before.before.before.args in let q = c.before.before.before.before.before.before.before.before.before.before.before.before.before.requires in let p = a.p.now in let x = c.before.before.before.before.slots-of in bootstrap_refused a.job.now p (store p a.w.now) a.gaps.now q.1 q.2 (length-store p a.w.now NODES) a.k q.3 (store p x.new.1.0) x.new.1.1.1.0 x.result x.ensures c.if2.true
 
 row-index-requires : tie.Need-row-index-requires
 row-index-requires c κs =
@@ -50,8 +50,8 @@ row-index-requires c κs =
     let fine = c.before.if2.false in
     let long' = length-store p x.new.1.0 NODES in
     let goes = x.ensures.goes fine in
-    let w = working-goes s p t u a.gaps.now h goes q.2 in
-    (search rules, row_room s p q.1, kids-now s p u q.1 w.standing long', w.standing.raws, w.rowed.1.words, boot-goes s p t u a.gaps.now h goes a.k q.3)
+    let w = working_goes s p t u a.gaps.now h goes q.2 in
+    (search rules, row_room s p q.1, kids_now s p u q.1 w.standing long', w.standing.raws, w.rowed.1.words, boot_goes s p t u a.gaps.now h goes a.k q.3)
 
 refuse-at-requires : tie.Need-refuse-at-requires
 refuse-at-requires c κs =
@@ -69,7 +69,7 @@ refuse-at-requires c κs =
     let long' = length-store p x.new.1.0 NODES in
     let y = c.before.before.before.before.row-index in
     let v = store p y.new.0 in
-    let asks = unindexed-tells s p t a.gaps.now q.1 q.2 long a.k q.3 u h x.result x.ensures fine long' v y.result y.ensures in
+    let asks = unindexed_tells s p t a.gaps.now q.1 q.2 long a.k q.3 u h x.result x.ensures fine long' v y.result y.ensures in
     (search rules, asks.0, asks.1, asks.2)
 
 same-length-4 : tie.Need-same-length-4
@@ -95,7 +95,7 @@ returns-3 c =
     let y = c.before.before.before.before.before.before.before.row-index in
     let v = store p y.new.0 in
     let told = c.before.before.refuse-at in
-    bootstrap-unindexed s p t a.gaps.now q.1 q.2 long a.k q.3 u h x.result x.ensures fine long' v y.result y.ensures
+    bootstrap_unindexed s p t a.gaps.now q.1 q.2 long a.k q.3 u h x.result x.ensures fine long' v y.result y.ensures
     c.before.before.before.before.if3.true
     (store p told.new.0)
     told.result
@@ -123,8 +123,8 @@ returns-4 c =
     let long' = length-store p x.new.1.0 NODES in
     let y = c.before.before.before.row-index in
     let v = store p y.new.0 in
-    bootstrap-indexed s p t a.gaps.now q.1 q.2 long a.k q.3 u h x.result x.ensures fine long' v y.result y.ensures
-    (boot-goes s p t u a.gaps.now h (x.ensures.goes fine) a.k q.3)
+    bootstrap_indexed s p t a.gaps.now q.1 q.2 long a.k q.3 u h x.result x.ensures fine long' v y.result y.ensures
+    (boot_goes s p t u a.gaps.now h (x.ensures.goes fine) a.k q.3)
     c.if3.false
 
 pub number-bootstrap-spec : {M : Type 1} → statement M

@@ -3,7 +3,7 @@ use borrow.Author.Rules.{rules}
 use native.Mathlib.Omega.{arith}
 use Prim.Native.Nat.{◌-◌}
 use lib.ListN.{length}
-use Rattle.class_file.proofs.Telling.{tells-equal}
+use Rattle.class_file.proofs.Telling.{tells_equal}
 use Rattle.class_file.proofs.has_attribute.Statement.{statement}
 use Rattle.class_file.proofs.has_attribute.Tie as tie
 
@@ -31,7 +31,7 @@ sub-result-2 c = search rules
 returns-2 : tie.Need-returns-2
 returns-2 c =
     let start = c.before.before.before in
-    tells-equal c.get-u32.result (length start.args.file.now - start.args.at - 6)
+    tells_equal c.get-u32.result (length start.args.file.now - start.args.at - 6)
     (λ e. (omega arith, omega (arith, c.get-u32.ensures)))
     (λ h. omega (arith, c.get-u32.ensures, h.1))
 

@@ -5,7 +5,7 @@ use mathlib.Core.Path.{sym, ap, ◌∙◌}
 use Prim.Native.Nat.{◌+◌, ◌-◌}
 use lib.Dec.{leb}
 use borrow.Author.Tests.{lt-leb}
-use Rattle.class_file.specs.Answers.{frameSize}
+use Rattle.class_file.specs.Answers.{frame_size}
 use Rattle.class_file.proofs.Pieces.{fits-left}
 use Rattle.class_file.proofs.has_room.Statement.{statement}
 use Rattle.class_file.proofs.has_room.Tie as tie
@@ -16,12 +16,12 @@ frame-size-requires c κs = search rules
 returns : tie.Need-returns
 returns c =
     let args = c.before.before.args in
-    sym (lt-leb (frameSize args.name + args.pool + args.bootstraps) args.room (omega (arith, c.before.frame-size.ensures)))
+    sym (lt-leb (frame_size args.name + args.pool + args.bootstraps) args.room (omega (arith, c.before.frame-size.ensures)))
 
 returns-2 : tie.Need-returns-2
 returns-2 c =
     let args = c.before.before.before.args in
-    sym (lt-leb (frameSize args.name + args.pool + args.bootstraps) args.room (omega (arith, c.before.before.frame-size.ensures)))
+    sym (lt-leb (frame_size args.name + args.pool + args.bootstraps) args.room (omega (arith, c.before.before.frame-size.ensures)))
 
 sub-result : tie.Need-overflow-sub-result
 sub-result c = search rules

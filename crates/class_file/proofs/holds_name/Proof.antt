@@ -4,7 +4,7 @@ use borrow.Author.Rules.{rules}
 use mathlib.Core.Path.{sym, ◌∙◌}
 use native.Mathlib.Omega.{arith}
 use lib.ListN.{get_or}
-use Rattle.class_file.proofs.Naming.{name-cut, name-nowhere, name-there}
+use Rattle.class_file.proofs.Naming.{name_cut, name_nowhere, name_there}
 use Rattle.class_file.proofs.holds_name.Statement.{statement}
 use Rattle.class_file.proofs.holds_name.Tie as tie
 
@@ -17,14 +17,14 @@ element-copy-out-at c = search rules
 returns : tie.Need-returns
 returns c slots noted =
     let args = c.before.before.before.args in
-    sym (name-nowhere args.bytes.now slots args.places.now noted args.name c.if1.true)
+    sym (name_nowhere args.bytes.now slots args.places.now noted args.name c.if1.true)
 
 returns-2 : tie.Need-returns-2
 returns-2 c slots noted =
     let start = c.before.before.before.before in
     let args = start.args in
-    let there = name-there args.bytes.now slots args.places.now noted args.name (λ i. (c.before.before.before.shared-slice-known.given i).fits) (omega arith) in
-    sym (there ∙ name-cut args.bytes.now (get_or args.places.now args.name 0) (omega arith))
+    let there = name_there args.bytes.now slots args.places.now noted args.name (λ i. (c.before.before.before.shared-slice-known.given i).fits) (omega arith) in
+    sym (there ∙ name_cut args.bytes.now (get_or args.places.now args.name 0) (omega arith))
 
 sub-if3 : tie.Need-overflow-sub-if3
 sub-if3 c = search rules
@@ -33,8 +33,8 @@ returns-3 : tie.Need-returns-3
 returns-3 c slots noted =
     let start = c.before.before.before.before.before in
     let args = start.args in
-    let there = name-there args.bytes.now slots args.places.now noted args.name (λ i. (c.before.before.before.before.shared-slice-known.given i).fits) (omega arith) in
-    sym (there ∙ name-cut args.bytes.now (get_or args.places.now args.name 0) (omega arith))
+    let there = name_there args.bytes.now slots args.places.now noted args.name (λ i. (c.before.before.before.before.shared-slice-known.given i).fits) (omega arith) in
+    sym (there ∙ name_cut args.bytes.now (get_or args.places.now args.name 0) (omega arith))
 
 spells-name-requires : tie.Need-spells-name-requires
 spells-name-requires c κs = search rules
@@ -43,7 +43,7 @@ returns-4 : tie.Need-returns-4
 returns-4 c slots noted =
     let start = c.before.before.before.before.before.before in
     let args = start.args in
-    let there = name-there args.bytes.now slots args.places.now noted args.name (λ i. (c.before.before.before.before.before.shared-slice-known.given i).fits) (omega arith) in
+    let there = name_there args.bytes.now slots args.places.now noted args.name (λ i. (c.before.before.before.before.before.shared-slice-known.given i).fits) (omega arith) in
     c.spells-name.ensures ∙ sym there
 
 pub holds-name-spec : {M : Type 1} → statement M

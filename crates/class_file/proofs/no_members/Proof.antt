@@ -2,7 +2,7 @@
 use borrow.Author.Rules.{rules}
 use native.Mathlib.Omega.{arith}
 use mathlib.Core.Path.{sym, ◌∙◌}
-use Rattle.class_file.proofs.Telling.{tells-equal}
+use Rattle.class_file.proofs.Telling.{tells_equal}
 use Rattle.class_file.proofs.no_members.Statement.{statement}
 use Rattle.class_file.proofs.no_members.Tie as tie
 
@@ -41,7 +41,7 @@ returns-4 c =
     let interfaces = sym c.before.before.before.before.get-u16.ensures ∙ c.before.before.before.if2.false in
     let fields = sym c.before.before.get-u162.ensures ∙ c.before.if3.false in
     let methods = c.get-u163.ensures in
-    tells-equal c.get-u163.result 0 (λ e. (omega arith, interfaces, fields, sym methods ∙ e)) (λ h. methods ∙ h.3)
+    tells_equal c.get-u163.result 0 (λ e. (omega arith, interfaces, fields, sym methods ∙ e)) (λ h. methods ∙ h.3)
 
 pub no-members-spec : {M : Type 1} → statement M
 no-members-spec = tie.close (tie.spec sub-if1 returns add-get-u16 get-u16-requires returns-2 add-get-u16-2 get-u16-requires-2 returns-3 add-get-u16-3 get-u16-requires-3 returns-4)

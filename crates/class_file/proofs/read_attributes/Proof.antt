@@ -3,7 +3,7 @@ use borrow.Author.Rules.{rules}
 use native.Mathlib.Omega.{arith}
 use mathlib.Core.Path.{sym, ◌∙◌}
 use Rattle.class_file.proofs.Refusing.{many-attributes, left_over}
-use Rattle.class_file.proofs.Accepting.{accepts-none}
+use Rattle.class_file.proofs.Accepting.{accepts_none}
 use Rattle.class_file.proofs.read_attributes.Statement.{statement}
 use Rattle.class_file.proofs.read_attributes.Tie as tie
 
@@ -47,7 +47,7 @@ returns-4 c =
     let start = c.before.before.before.before.before.before in
     let a = start.args in
     let got = c.before.before.before.before.get-u16.ensures in
-    c.parts_at.ensures ∙ accepts-none a.file.now (λ i. (c.before.before.before.before.before.shared-slice-known.given i).fits) a.end a.table.now start.requires (sym got ∙ c.before.before.if2.false) c.before.if3.false
+    c.parts_at.ensures ∙ accepts_none a.file.now (λ i. (c.before.before.before.before.before.shared-slice-known.given i).fits) a.end a.table.now start.requires (sym got ∙ c.before.before.if2.false) c.before.if3.false
 
 pub read-attributes-spec : {M : Type 1} → statement M
 read-attributes-spec = tie.close (tie.spec add-get-u16 get-u16-requires read-attribute-requires returns returns-2 add-if3 returns-3 add-parts-at parts-at-requires returns-4)

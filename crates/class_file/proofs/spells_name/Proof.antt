@@ -3,9 +3,9 @@ use borrow.Author.Rules.{rules}
 use native.Mathlib.Omega.{arith}
 use Prim.Native.Nat.{◌-◌, ◌≤◌}
 use Rattle.definition.specs.Ascii.{ascii}
-use Rattle.jvms.specs.Written.{bytes2, constant-bytes}
-use Rattle.class_file.specs.ClassFile.{nameConstant}
-use Rattle.class_file.proofs.Naming.{Begun, begun-none, begun_more, begun_all, begun-not}
+use Rattle.jvms.specs.Written.{bytes2, constant_bytes}
+use Rattle.class_file.specs.ClassFile.{name_constant}
+use Rattle.class_file.proofs.Naming.{Begun, begun_none, begun_more, begun_all, begun_not}
 use Rattle.class_file.proofs.spells_name.Statement.{statement}
 use Rattle.class_file.proofs.spells_name.Tie as tie
 
@@ -16,7 +16,7 @@ abbrev decreases-loop : tie.decreases-loop
 decreases-loop bytes at i₀ i = 19 - i
 
 loop-holds : tie.Need-loop-init invariant-loop decreases-loop
-loop-holds c = (search rules, begun-none c.args.bytes.now c.args.at)
+loop-holds c = (search rules, begun_none c.args.bytes.now c.args.at)
 
 add-if1 : tie.Need-overflow-add-if1 invariant-loop decreases-loop
 add-if1 c = search rules
@@ -28,10 +28,10 @@ array-read-if1 : tie.Need-array-read-if1 invariant-loop decreases-loop
 array-read-if1 c = search rules
 
 returns : tie.Need-returns invariant-loop decreases-loop
-unfolding nameConstant constant-bytes bytes2 ascii
+unfolding name_constant constant_bytes bytes2 ascii
 returns c =
     let head = c.before.before.before in
-    begun-not head.before.args.bytes.now head.before.args.at head.loop.i (omega arith) c.if1.true
+    begun_not head.before.args.bytes.now head.before.args.at head.loop.i (omega arith) c.if1.true
 
 add-i : tie.Need-overflow-add-i invariant-loop decreases-loop
 add-i c = search rules
@@ -40,13 +40,13 @@ loop-less : tie.Need-loop-smaller invariant-loop decreases-loop
 loop-less c = search rules
 
 loop-again : tie.Need-loop-preserved invariant-loop decreases-loop
-unfolding nameConstant constant-bytes bytes2 ascii
+unfolding name_constant constant_bytes bytes2 ascii
 loop-again c =
     let head = c.before.before.before in
     (search rules, begun_more head.before.args.bytes.now head.before.args.at head.loop.i head.loop.invariant.1 c.if1.false)
 
 returns-2 : tie.Need-returns-2 invariant-loop decreases-loop
-unfolding nameConstant constant-bytes bytes2 ascii
+unfolding name_constant constant_bytes bytes2 ascii
 returns-2 c =
     let head = c.before in
     begun_all head.before.args.bytes.now head.before.args.at head.loop.i (omega arith) head.before.requires head.loop.invariant.1

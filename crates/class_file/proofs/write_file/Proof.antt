@@ -5,19 +5,19 @@ use Prim.Native.Nat.{◌+◌, ◌≤◌}
 use lib.ListN.{length}
 use Rattle.jvms.specs.Written.{bytes2, bytes4}
 use Rattle.raw_const.proofs.Writes.{wrote_then, wrote_as}
-use Rattle.class_file.specs.Answers.{attributesOf}
-use Rattle.class_file.proofs.Pieces.{file-pieces, length-file}
+use Rattle.class_file.specs.Answers.{attributes_of}
+use Rattle.class_file.proofs.Pieces.{file_pieces, length-file}
 use Rattle.class_file.proofs.write_file.Statement.{statement}
 use Rattle.class_file.proofs.write_file.Tie as tie
 
 -- the room that the file takes
-room : (c : tie.Start) → 20 + length c.args.pool.now + length (attributesOf c.args.name c.args.count c.args.bootstraps.now) ≤ length c.args.out.now
+room : (c : tie.Start) → 20 + length c.args.pool.now + length (attributes_of c.args.name c.args.count c.args.bootstraps.now) ≤ length c.args.out.now
 room c =
     let args = c.args in
     omega (
       arith,
       c.requires.1,
-      length-file args.minor args.major args.pool.now args.access-flags args.this-class args.super-class args.name args.count args.bootstraps.now,
+      length-file args.minor args.major args.pool.now args.access_flags args.this_class args.super_class args.name args.count args.bootstraps.now,
     )
 
 write-head-requires : tie.Need-write-head-requires
@@ -47,7 +47,7 @@ returns c =
     let head = pool.before.before.before.before in
     let start = head.before.before.before.before.before in
     let args = start.args in
-    let pieces = file-pieces args.minor args.major args.pool.now args.access-flags args.this-class args.super-class args.name args.count args.bootstraps.now in
+    let pieces = file_pieces args.minor args.major args.pool.now args.access_flags args.this_class args.super_class args.name args.count args.bootstraps.now in
     let fits = room start in
     let two = wrote_then head.write-head.ensures (omega (arith, fits)) pool.write_bytes.ensures in
     let three = wrote_then two (omega (arith, fits)) members.write-members.ensures in

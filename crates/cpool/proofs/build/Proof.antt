@@ -7,7 +7,7 @@ use native.Mathlib.Omega.{arith}
 use Rattle.store.proofs.Laying.{work-sizes}
 use Rattle.cpool.specs.Stages.{outputs}
 use Rattle.cpool.proofs.Refusals.{layout-word}
-use Rattle.cpool.proofs.Ending.{gave-unlaid, gave-laid}
+use Rattle.cpool.proofs.Ending.{gave_unlaid, gave_laid}
 use Rattle.cpool.proofs.build.Statement.{statement}
 use Rattle.cpool.proofs.build.Proof.Tie as tie
 
@@ -30,7 +30,7 @@ same-length-2 : tie.Need-same-length-2
 same-length-2 c = search rules
 
 returns : tie.Need-returns
-returns c = let a = c.before.before.before.before.before.before.before.before.before.before.before.before.before.before.before.before.before.before.before.args in let l = c.before.before.before.before.before.before.before.before.lay-out.ensures in gave-unlaid a.job.now c.before.before.before.before.before.before.before.before.before.before.before.before.before.before.before.before.before.before.before.requires.0 (outputs a.answers.now a.marks.now a.pool.now a.bootstraps.now a.class-name.now) _ _ (l.refused (omega (arith, c.before.before.before.if1.true))) c.refused.ensures
+returns c = let a = c.before.before.before.before.before.before.before.before.before.before.before.before.before.before.before.before.before.before.before.args in let l = c.before.before.before.before.before.before.before.before.lay-out.ensures in gave_unlaid a.job.now c.before.before.before.before.before.before.before.before.before.before.before.before.before.before.before.before.before.before.before.requires.0 (outputs a.answers.now a.marks.now a.pool.now a.bootstraps.now a.class-name.now) _ _ (l.refused (omega (arith, c.before.before.before.if1.true))) c.refused.ensures
 
 slice-aggregate-give-out : tie.Need-slice-aggregate-give-out
 slice-aggregate-give-out c = search rules
@@ -60,7 +60,7 @@ same-length-9 : tie.Need-same-length-9
 same-length-9 c = search rules
 
 returns-2 : tie.Need-returns-2
-returns-2 c = let a = c.before.before.before.before.before.before.before.before.before.before.before.before.before.before.before.before.before.before.before.before.before.before.before.before.before.before.before.before.before.before.before.before.before.before.args in let l = c.before.before.before.before.before.before.before.before.before.before.before.before.before.before.before.before.before.before.before.before.before.before.before.lay-out.ensures in let t = l.through c.before.before.before.before.before.before.before.before.before.before.before.before.before.before.before.before.before.before.if1.false in let g = c.before.before.before.before.before.before.before.before.before.before.give-out in gave-laid a.job.now c.before.before.before.before.before.before.before.before.before.before.before.before.before.before.before.before.before.before.before.before.before.before.before.before.before.before.before.before.before.before.before.before.before.before.requires.0 (outputs a.answers.now a.marks.now a.pool.now a.bootstraps.now a.class-name.now) _ _ _ t.0 (outputs g.new.1.1.1.0 g.new.1.1.1.1.0 g.new.1.1.1.1.1.0 g.new.1.1.1.1.1.1.0 g.new.1.1.1.1.1.1.1.0) t.1 t.2 (g.ensures _ t.2)
+returns-2 c = let a = c.before.before.before.before.before.before.before.before.before.before.before.before.before.before.before.before.before.before.before.before.before.before.before.before.before.before.before.before.before.before.before.before.before.before.args in let l = c.before.before.before.before.before.before.before.before.before.before.before.before.before.before.before.before.before.before.before.before.before.before.before.lay-out.ensures in let t = l.through c.before.before.before.before.before.before.before.before.before.before.before.before.before.before.before.before.before.before.if1.false in let g = c.before.before.before.before.before.before.before.before.before.before.give-out in gave_laid a.job.now c.before.before.before.before.before.before.before.before.before.before.before.before.before.before.before.before.before.before.before.before.before.before.before.before.before.before.before.before.before.before.before.before.before.before.requires.0 (outputs a.answers.now a.marks.now a.pool.now a.bootstraps.now a.class-name.now) _ _ _ t.0 (outputs g.new.1.1.1.0 g.new.1.1.1.1.0 g.new.1.1.1.1.1.0 g.new.1.1.1.1.1.1.0 g.new.1.1.1.1.1.1.1.0) t.1 t.2 (g.ensures _ t.2)
 
 pub build-spec : {M : Type 1} → statement M
 build-spec =

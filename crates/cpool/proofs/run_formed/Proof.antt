@@ -4,7 +4,7 @@ mod Tie
 use borrow.Author.Rules.{rules}
 use mathlib.Core.Path.{◌∙◌, sym}
 use Rattle.cpool.specs.Stages.{outputs}
-use Rattle.cpool.proofs.Ending.{counted, gave-unformed}
+use Rattle.cpool.proofs.Ending.{counted, gave_unformed}
 use Rattle.cpool.proofs.run_formed.Statement.{statement}
 use Rattle.cpool.proofs.run_formed.Proof.Tie as tie
 
@@ -45,7 +45,7 @@ returns : tie.Need-returns
 returns c = c.before.before.before.before.before.before.before.before.before.before.before.before.before.build.ensures
 
 returns-2 : tie.Need-returns-2
-returns-2 c = let a = c.before.before.before.before.before.before.before.before.before.before.before.args in gave-unformed a.job.now (outputs a.answers.now a.marks.now a.pool.now a.bootstraps.now a.class-name.now) _ _ (sym c.before.code.given.1 ∙ c.before.before.before.form.ensures)
+returns-2 c = let a = c.before.before.before.before.before.before.before.before.before.before.before.args in gave_unformed a.job.now (outputs a.answers.now a.marks.now a.pool.now a.bootstraps.now a.class-name.now) _ _ (sym c.before.code.given.1 ∙ c.before.before.before.form.ensures)
 
 pub run-formed-spec : {M : Type 1} → statement M
 run-formed-spec =

@@ -17,7 +17,7 @@ enum-known-outcome-2 : tie.Need-enum-known-outcome-2
 enum-known-outcome-2 c = search rules
 
 returns : tie.Need-returns
-returns c = let g = c.before.before.before.before.outcome.given in listed-built c.before.before.before.before.before.before.args.outcome _ _ _ _ _ _ _ _ _ g.1 c.before.before.class-given.ensures c.before.class-bytes.ensures
+returns c = let g = c.before.before.before.before.outcome.given in listed-built c.before.before.before.before.before.before.args.outcome _ _ _ _ _ _ _ _ _ g.1 c.before.before.class_given_lem.ensures c.before.class_bytes_lem.ensures
 
 returns-2 : tie.Need-returns-2
 returns-2 c = let g = c.before.before.outcome2.given in listed-refused c.before.before.before.before.args.outcome _ _ g.1

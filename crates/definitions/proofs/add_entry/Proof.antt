@@ -1,5 +1,5 @@
 -- `definitions::add_entry` meets its contract. Assumes nothing.
-use Rattle.definitions.proofs.Adding.{has-kids, enters_none, enters-kids}
+use Rattle.definitions.proofs.Adding.{has_kids, enters_none, enters_kids}
 use Rattle.definitions.proofs.Rooms.{room}
 use Rattle.store.specs.Store.{store}
 use native.Mathlib.Omega.{arith}
@@ -26,13 +26,13 @@ returns : tie.Need-returns
 returns c = let a = c.before.before.before.before.before.before.before.before.before.before.before.before.before.before.args in λ x next can. let n = c.before.before.before.before.before.before.before.before.before.before.reference-count.ensures x next can.stands in rw (c.before.before.before.before.take-references.ensures.1, c.before.before.before.before.take-references.ensures.0, c.before.before.before.before.before.before.before.before.put-entry.ensures) (enters_none a.job.now (store a.p.now a.w.now) a.at a.e c.before.before.before.before.before.before.before.before.before.before.reference-count.result x next can n c.after-literal.result c.before.if1.true (c.after-literal.ensures x next can.stands (omega (arith, n, c.before.if1.true))))
 
 read-references-requires : tie.Need-read-references-requires
-read-references-requires c κs = let a = c.before.before.before.before.before.before.before.before.before.before.before.before.before.before.args in let h = c.before.before.before.before.before.before.before.before.before.before.before.before.before.before.requires.2 in let m = room a.job.now a.p.now c.before.before.before.before.before.before.before.before.before.before.before.before.before.before.requires.1 in let n = c.before.before.before.before.before.before.before.before.before.before.reference-count.ensures h.0 h.1 h.2.stands in (search rules, c.before.before.before.before.before.before.before.before.before.before.before.before.before.before.requires.1, (h.0, h.1, has-kids a.job.now (store a.p.now a.w.now) a.at a.e c.before.before.before.before.before.before.before.before.before.before.reference-count.result h.0 h.1 h.2 n), omega (arith, c.before.if1.false), rw (c.before.before.before.before.take-references.ensures.0, c.before.before.before.before.before.before.before.before.put-entry.ensures) (omega (arith, m.goals, h.2.room, n)))
+read-references-requires c κs = let a = c.before.before.before.before.before.before.before.before.before.before.before.before.before.before.args in let h = c.before.before.before.before.before.before.before.before.before.before.before.before.before.before.requires.2 in let m = room a.job.now a.p.now c.before.before.before.before.before.before.before.before.before.before.before.before.before.before.requires.1 in let n = c.before.before.before.before.before.before.before.before.before.before.reference-count.ensures h.0 h.1 h.2.stands in (search rules, c.before.before.before.before.before.before.before.before.before.before.before.before.before.before.requires.1, (h.0, h.1, has_kids a.job.now (store a.p.now a.w.now) a.at a.e c.before.before.before.before.before.before.before.before.before.before.reference-count.result h.0 h.1 h.2 n), omega (arith, c.before.if1.false), rw (c.before.before.before.before.take-references.ensures.0, c.before.before.before.before.before.before.before.before.put-entry.ensures) (omega (arith, m.goals, h.2.room, n)))
 
 same-length-2 : tie.Need-same-length-2
 same-length-2 c = search rules
 
 returns-2 : tie.Need-returns-2
-returns-2 c = let a = c.before.before.before.before.before.before.before.before.before.before.before.before.before.before.before.before.before.args in λ x next can. let n = c.before.before.before.before.before.before.before.before.before.before.before.before.before.reference-count.ensures x next can.stands in enters-kids a.job.now (store a.p.now a.w.now) a.at a.e c.before.before.before.before.before.before.before.before.before.before.before.before.before.reference-count.result x next can n _ c.before.before.read-references.result (rw (c.before.before.before.before.before.before.before.take-references.ensures.1, c.before.before.before.before.before.before.before.take-references.ensures.0, c.before.before.before.before.before.before.before.before.before.before.before.put-entry.ensures) at c.before.before.read-references.ensures)
+returns-2 c = let a = c.before.before.before.before.before.before.before.before.before.before.before.before.before.before.before.before.before.args in λ x next can. let n = c.before.before.before.before.before.before.before.before.before.before.before.before.before.reference-count.ensures x next can.stands in enters_kids a.job.now (store a.p.now a.w.now) a.at a.e c.before.before.before.before.before.before.before.before.before.before.before.before.before.reference-count.result x next can n _ c.before.before.read-references.result (rw (c.before.before.before.before.before.before.before.take-references.ensures.1, c.before.before.before.before.before.before.before.take-references.ensures.0, c.before.before.before.before.before.before.before.before.before.before.before.put-entry.ensures) at c.before.before.read-references.ensures)
 
 pub add-entry-spec : {M : Type 1} → statement M
 add-entry-spec =

@@ -1,5 +1,5 @@
 -- `definitions::after_literal` meets its contract. Assumes nothing.
-use Rattle.definitions.proofs.Reading.{text-end, wide-end, narrow-end}
+use Rattle.definitions.proofs.Reading.{text_end, wide_end, narrow_end}
 use mathlib.Core.Path.{sym, ◌∙◌}
 use Rattle.definition.specs.Job.{define}
 use native.Mathlib.Omega.{arith}
@@ -38,9 +38,9 @@ get-u16-requires c κs =
     let start = tag.before.before.before.before in
     let plain = sym tag.before.before.is-worked.ensures ∙ tag.before.if1.false in
     let h = start.requires.0 in
-    let is = eqb-true tag.tag_at.result 1 (sym text.is-text.ensures ∙ c.if2.true) in
+    let is = eqb-true tag.tag_at.result 1 (sym text.is_text_lem.ensures ∙ c.if2.true) in
     omega
-    (arith, text-end start.args.job.now start.args.at tag.tag_at.result tag.tag_at.ensures plain is h.0 h.1 h.2 h.3, h.2.within)
+    (arith, text_end start.args.job.now start.args.at tag.tag_at.result tag.tag_at.ensures plain is h.0 h.1 h.2 h.3, h.2.within)
 
 cast-result : tie.Need-overflow-cast-result
 cast-result c = search rules
@@ -55,8 +55,8 @@ returns-2 c =
     let tag = text.before in
     let start = tag.before.before.before.before in
     let plain = sym tag.before.before.is-worked.ensures ∙ tag.before.if1.false in
-    let is = eqb-true tag.tag_at.result 1 (sym text.is-text.ensures ∙ branch.if2.true) in
-    rw c.get-u16.ensures (text-end start.args.job.now start.args.at tag.tag_at.result tag.tag_at.ensures plain is)
+    let is = eqb-true tag.tag_at.result 1 (sym text.is_text_lem.ensures ∙ branch.if2.true) in
+    rw c.get-u16.ensures (text_end start.args.job.now start.args.at tag.tag_at.result tag.tag_at.ensures plain is)
 
 is-long-requires : tie.Need-is-long-requires
 is-long-requires c κs = search rules
@@ -75,8 +75,8 @@ returns-3 c =
     let tag = text.before in
     let start = tag.before.before.before.before in
     let plain = sym tag.before.before.is-worked.ensures ∙ tag.before.if1.false in
-    let other = eqb-false tag.tag_at.result 1 (sym text.is-text.ensures ∙ branch.if2.false) in
-    wide-end start.args.job.now start.args.at tag.tag_at.result tag.tag_at.ensures plain other (sym long.is-long.ensures ∙ c.if3.true)
+    let other = eqb-false tag.tag_at.result 1 (sym text.is_text_lem.ensures ∙ branch.if2.false) in
+    wide_end start.args.job.now start.args.at tag.tag_at.result tag.tag_at.ensures plain other (sym long.is-long.ensures ∙ c.if3.true)
 
 returns-4 : tie.Need-returns-4
 returns-4 c =
@@ -86,8 +86,8 @@ returns-4 c =
     let tag = text.before in
     let start = tag.before.before.before.before in
     let plain = sym tag.before.before.is-worked.ensures ∙ tag.before.if1.false in
-    let other = eqb-false tag.tag_at.result 1 (sym text.is-text.ensures ∙ branch.if2.false) in
-    narrow-end start.args.job.now start.args.at tag.tag_at.result tag.tag_at.ensures plain other (sym long.is-long.ensures ∙ c.if3.false)
+    let other = eqb-false tag.tag_at.result 1 (sym text.is_text_lem.ensures ∙ branch.if2.false) in
+    narrow_end start.args.job.now start.args.at tag.tag_at.result tag.tag_at.ensures plain other (sym long.is-long.ensures ∙ c.if3.false)
 
 pub after-literal-spec : {M : Type 1} → statement M
 after-literal-spec =

@@ -1,7 +1,7 @@
 -- `ending::end_pool` meets its contract: the count goes by the gaps that the name leaves. Assumes nothing.
 mod Lts
 mod Tie
-use Rattle.ending.proofs.Counting.{can-name, count-asks, count_small, ended}
+use Rattle.ending.proofs.Counting.{can_name, count_asks, count_small, ended}
 use Rattle.store.proofs.Laying.{work-sizes}
 use Rattle.store.proofs.Stores.{length-store}
 use Rattle.store.specs.Regions.{COUNTS}
@@ -12,7 +12,7 @@ use Rattle.ending.proofs.end_pool.Statement.{statement}
 use Rattle.ending.proofs.end_pool.Proof.Tie as tie
 
 name-slot-requires : tie.Need-name-slot-requires
-name-slot-requires c κs = let a = c.before.before.before.before.before.args in let q = c.before.before.before.before.before.requires in (q.0, can-name a.job.now a.p.now a.top (store a.p.now a.w.now) a.gaps.now q.1)
+name-slot-requires c κs = let a = c.before.before.before.before.before.args in let q = c.before.before.before.before.before.requires in (q.0, can_name a.job.now a.p.now a.top (store a.p.now a.w.now) a.gaps.now q.1)
 
 load-requires : tie.Need-load-requires
 load-requires c κs = let a = c.before.before.before.before.before.before.before.before.before.before.args in let q = c.before.before.before.before.before.before.before.before.before.before.requires in (search rules, omega (arith, (work-sizes a.job.now a.p.now q.1.nodes.0).counts))
@@ -21,7 +21,7 @@ cast-pool-count : tie.Need-overflow-cast-pool-count
 cast-pool-count c = omega (arith, c.before.before.before.before.before.before.before.before.before.before.before.before.requires.1.few)
 
 pool-count-requires : tie.Need-pool-count-requires
-pool-count-requires c κs = let a = c.before.before.before.before.before.before.before.before.before.before.before.before.args in let q = c.before.before.before.before.before.before.before.before.before.before.before.before.requires.1 in let v = store a.p.now c.before.before.before.before.before.before.name-slot.new.1.0 in let h = c.before.before.before.before.before.before.name-slot.new.1.1.1.0 in count-asks a.job.now a.p.now a.top (store a.p.now a.w.now) v a.gaps.now h c.before.before.before.before.before.before.name-slot.result q c.before.before.before.before.before.before.name-slot.ensures c.before.load.result c.before.load.ensures.word
+pool-count-requires c κs = let a = c.before.before.before.before.before.before.before.before.before.before.before.before.args in let q = c.before.before.before.before.before.before.before.before.before.before.before.before.requires.1 in let v = store a.p.now c.before.before.before.before.before.before.name-slot.new.1.0 in let h = c.before.before.before.before.before.before.name-slot.new.1.1.1.0 in count_asks a.job.now a.p.now a.top (store a.p.now a.w.now) v a.gaps.now h c.before.before.before.before.before.before.name-slot.result q c.before.before.before.before.before.before.name-slot.ensures c.before.load.result c.before.load.ensures.word
 
 cast-save : tie.Need-overflow-cast-save
 cast-save c = omega arith

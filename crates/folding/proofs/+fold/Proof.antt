@@ -1,5 +1,5 @@
 -- `folding::fold` meets its contract. Assumes nothing.
-use Rattle.folding.proofs.Folds.{read_low, leaf-read, folds-none, first_reads, second_reads, opening-leaf, opening-sign, opening-neither, leaf-arm, neither-arm, first-arm, second-arm, join-arm}
+use Rattle.folding.proofs.Folds.{read_low, leaf_read, folds_none, first_reads, second_reads, opening_leaf, opening_sign, opening_neither, leaf_arm, neither_arm, first_arm, second-arm, join_arm}
 use Rattle.folding.specs.Folding.{kind_of, sign_of, Folds}
 use lib.ListN.{get_or}
 use borrow.Author.Rules.{rules}
@@ -45,7 +45,7 @@ fold-returns : (t : ℕ) → fold-lts.Need-returns (
   join-reads.Asked,
   join-reads.Learnt,
 ) (fold_at t) fold.Post
-fold-returns t c = rw c.if1.true (folds-none c.before.before.args.job.now c.before.before.args.at 0)
+fold-returns t c = rw c.if1.true (folds_none c.before.before.args.job.now c.before.before.args.at 0)
 
 fold-get-u8-requires : (t : ℕ) → fold-lts.Need-get-u8-requires (
   get-u8-reads.Asked,
@@ -151,8 +151,8 @@ fold-leaf-at-requires t c κs =
     let at = entry.args.at in
     let h = entry.requires.1 in
     let k = c.before.kind.given in
-    let o = opening-leaf c.before.before.before.Opens-of.result c.before.before.before.before.get-u8.result (get_or s at 0) c.before.before.before.Opens-of.ensures c.before.before.before.before.get-u8.ensures k.0.0 k.1 in
-    (leaf-read s at (kind_of k.0.0) o h.fuel h.what h.rest h.read).0
+    let o = opening_leaf c.before.before.before.Opens-of.result c.before.before.before.before.get-u8.result (get_or s at 0) c.before.before.before.Opens-of.ensures c.before.before.before.before.get-u8.ensures k.0.0 k.1 in
+    (leaf_read s at (kind_of k.0.0) o h.fuel h.what h.rest h.read).0
 
 fold-add-t18 : (t : ℕ) → fold-lts.Need-overflow-add-t18 (
   get-u8-reads.Asked,
@@ -217,8 +217,8 @@ fold-add-t20 t c =
     let at = entry.args.at in
     let h = entry.requires.1 in
     let k = c.before.before.before.kind.given in
-    let o = opening-leaf c.before.before.before.before.before.Opens-of.result c.before.before.before.before.before.before.get-u8.result (get_or s at 0) c.before.before.before.before.before.Opens-of.ensures c.before.before.before.before.before.before.get-u8.ensures k.0.0 k.1 in
-    omega (arith, (leaf-read s at (kind_of k.0.0) o h.fuel h.what h.rest h.read).0, c.size_of.ensures)
+    let o = opening_leaf c.before.before.before.before.before.Opens-of.result c.before.before.before.before.before.before.get-u8.result (get_or s at 0) c.before.before.before.before.before.Opens-of.ensures c.before.before.before.before.before.before.get-u8.ensures k.0.0 k.1 in
+    omega (arith, (leaf_read s at (kind_of k.0.0) o h.fuel h.what h.rest h.read).0, c.size_of.ensures)
 
 fold-enum-known-sign : (t : ℕ) → fold-lts.Need-enum-known-sign (
   get-u8-reads.Asked,
@@ -302,7 +302,7 @@ fold-fold-requires t c κs =
     let deep = entry.args.deep in
     let h = entry.requires.1 in
     let g = c.before.sign.given in
-    let o = opening-sign c.before.before.before.Opens-of.result c.before.before.before.before.get-u8.result (get_or s at 0) c.before.before.before.Opens-of.ensures c.before.before.before.before.get-u8.ensures g.0.0 g.1 in
+    let o = opening_sign c.before.before.before.Opens-of.result c.before.before.before.before.get-u8.result (get_or s at 0) c.before.before.before.Opens-of.ensures c.before.before.before.before.get-u8.ensures g.0.0 g.1 in
     (omega (arith, entry.requires.0, c.before.before.before.before.before.if1.false), first_reads s at (deep - 1) (sign_of g.0.0) o h)
 
 fold-enum-known-v : (t : ℕ) → fold-lts.Need-enum-known-v (
@@ -364,7 +364,7 @@ fold-fold-requires-2 t c κs =
     let deep = entry.args.deep in
     let h = entry.requires.1 in
     let g = c.before.before.before.before.before.sign.given in
-    let o = opening-sign c.before.before.before.before.before.before.before.Opens-of.result c.before.before.before.before.before.before.before.before.get-u8.result (get_or s at 0) c.before.before.before.before.before.before.before.Opens-of.ensures c.before.before.before.before.before.before.before.before.get-u8.ensures g.0.0 g.1 in
+    let o = opening_sign c.before.before.before.before.before.before.before.Opens-of.result c.before.before.before.before.before.before.before.before.get-u8.result (get_or s at 0) c.before.before.before.before.before.before.before.Opens-of.ensures c.before.before.before.before.before.before.before.before.get-u8.ensures g.0.0 g.1 in
     let v = c.before.v.given in
     let f = subst (λ r. Folds s (at + 1) (deep - 1) r) v.1 c.before.before.before.fold.ensures in
     (omega (arith, entry.requires.0, c.before.before.before.before.before.before.before.before.before.if1.false), second_reads s at (deep - 1) (sign_of g.0.0) o v.0.0 v.0.1.0 v.0.1.1.0 f h)
@@ -499,8 +499,8 @@ fold-returns-2 t c =
     let at = entry.args.at in
     let deep = entry.args.deep in
     let k = c.before.before.before.kind.given in
-    let o = opening-leaf c.before.before.before.before.before.Opens-of.result c.before.before.before.before.before.before.get-u8.result (get_or s at 0) c.before.before.before.before.before.Opens-of.ensures c.before.before.before.before.before.before.get-u8.ensures k.0.0 k.1 in
-    leaf-arm s at deep c.before.before.before.before.before.before.before.if1.false (kind_of k.0.0) o c.before.leaf-at.result c.before.leaf-at.ensures c.size_of.result c.size_of.ensures
+    let o = opening_leaf c.before.before.before.before.before.Opens-of.result c.before.before.before.before.before.before.get-u8.result (get_or s at 0) c.before.before.before.before.before.Opens-of.ensures c.before.before.before.before.before.before.get-u8.ensures k.0.0 k.1 in
+    leaf_arm s at deep c.before.before.before.before.before.before.before.if1.false (kind_of k.0.0) o c.before.leaf-at.result c.before.leaf-at.ensures c.size_of.result c.size_of.ensures
 
 fold-returns-3 : (t : ℕ) → fold-lts.Need-returns-3 (
   get-u8-reads.Asked,
@@ -524,12 +524,12 @@ fold-returns-3 t c =
     let at = entry.args.at in
     let deep = entry.args.deep in
     let g = c.before.before.before.before.before.before.before.before.before.before.before.sign.given in
-    let o = opening-sign c.before.before.before.before.before.before.before.before.before.before.before.before.before.Opens-of.result c.before.before.before.before.before.before.before.before.before.before.before.before.before.before.get-u8.result (get_or s at 0) c.before.before.before.before.before.before.before.before.before.before.before.before.before.Opens-of.ensures c.before.before.before.before.before.before.before.before.before.before.before.before.before.before.get-u8.ensures g.0.0 g.1 in
+    let o = opening_sign c.before.before.before.before.before.before.before.before.before.before.before.before.before.Opens-of.result c.before.before.before.before.before.before.before.before.before.before.before.before.before.before.get-u8.result (get_or s at 0) c.before.before.before.before.before.before.before.before.before.before.before.before.before.Opens-of.ensures c.before.before.before.before.before.before.before.before.before.before.before.before.before.before.get-u8.ensures g.0.0 g.1 in
     let v = c.before.before.before.before.before.before.before.v.given in
     let f = subst (λ r. Folds s (at + 1) (deep - 1) r) v.1 c.before.before.before.before.before.before.before.before.before.fold.ensures in
     let w = c.before.before.before.w.given in
     let f' = subst (λ r. Folds s v.0.1.0 (deep - 1) r) w.1 c.before.before.before.before.before.fold2.ensures in
-    join-arm s at deep c.before.before.before.before.before.before.before.before.before.before.before.before.before.before.before.if1.false (sign_of g.0.0) o v.0.0 v.0.1.0 v.0.1.1.0 f w.0.0 w.0.1.0 w.0.1.1.0 f' c.before.combine.result c.before.combine.ensures c.join.result c.join.ensures
+    join_arm s at deep c.before.before.before.before.before.before.before.before.before.before.before.before.before.before.before.if1.false (sign_of g.0.0) o v.0.0 v.0.1.0 v.0.1.1.0 f w.0.0 w.0.1.0 w.0.1.1.0 f' c.before.combine.result c.before.combine.ensures c.join.result c.join.ensures
 
 fold-returns-4 : (t : ℕ) → fold-lts.Need-returns-4 (
   get-u8-reads.Asked,
@@ -553,7 +553,7 @@ fold-returns-4 t c =
     let at = entry.args.at in
     let deep = entry.args.deep in
     let g = c.before.before.before.before.before.before.before.before.sign.given in
-    let o = opening-sign c.before.before.before.before.before.before.before.before.before.before.Opens-of.result c.before.before.before.before.before.before.before.before.before.before.before.get-u8.result (get_or s at 0) c.before.before.before.before.before.before.before.before.before.before.Opens-of.ensures c.before.before.before.before.before.before.before.before.before.before.before.get-u8.ensures g.0.0 g.1 in
+    let o = opening_sign c.before.before.before.before.before.before.before.before.before.before.Opens-of.result c.before.before.before.before.before.before.before.before.before.before.before.get-u8.result (get_or s at 0) c.before.before.before.before.before.before.before.before.before.before.Opens-of.ensures c.before.before.before.before.before.before.before.before.before.before.before.get-u8.ensures g.0.0 g.1 in
     let v = c.before.before.before.before.v.given in
     let f = subst (λ r. Folds s (at + 1) (deep - 1) r) v.1 c.before.before.before.before.before.before.fold.ensures in
     second-arm s at deep c.before.before.before.before.before.before.before.before.before.before.before.before.if1.false (sign_of g.0.0) o v.0.0 v.0.1.0 v.0.1.1.0 f (subst (λ r. Folds s v.0.1.0 (deep - 1) r) c.enum_told.given.1 c.before.before.fold2.ensures)
@@ -580,8 +580,8 @@ fold-returns-5 t c =
     let at = entry.args.at in
     let deep = entry.args.deep in
     let g = c.before.before.before.before.sign.given in
-    let o = opening-sign c.before.before.before.before.before.before.Opens-of.result c.before.before.before.before.before.before.before.get-u8.result (get_or s at 0) c.before.before.before.before.before.before.Opens-of.ensures c.before.before.before.before.before.before.before.get-u8.ensures g.0.0 g.1 in
-    first-arm s at deep c.before.before.before.before.before.before.before.before.if1.false (sign_of g.0.0) o (subst (λ r. Folds s (at + 1) (deep - 1) r) c.enum-told2.given.1 c.before.before.fold.ensures)
+    let o = opening_sign c.before.before.before.before.before.before.Opens-of.result c.before.before.before.before.before.before.before.get-u8.result (get_or s at 0) c.before.before.before.before.before.before.Opens-of.ensures c.before.before.before.before.before.before.before.get-u8.ensures g.0.0 g.1 in
+    first_arm s at deep c.before.before.before.before.before.before.before.before.if1.false (sign_of g.0.0) o (subst (λ r. Folds s (at + 1) (deep - 1) r) c.enum-told2.given.1 c.before.before.fold.ensures)
 
 fold-returns-6 : (t : ℕ) → fold-lts.Need-returns-6 (
   get-u8-reads.Asked,
@@ -604,7 +604,7 @@ fold-returns-6 t c =
     let s = entry.args.job.now in
     let at = entry.args.at in
     let deep = entry.args.deep in
-    neither-arm s at deep c.before.before.before.before.if1.false (opening-neither c.before.before.Opens-of.result c.before.before.before.get-u8.result (get_or s at 0) c.before.before.Opens-of.ensures c.before.before.before.get-u8.ensures c.enum-told3.given.1)
+    neither_arm s at deep c.before.before.before.before.if1.false (opening_neither c.before.before.Opens-of.result c.before.before.before.get-u8.result (get_or s at 0) c.before.before.Opens-of.ensures c.before.before.before.get-u8.ensures c.enum-told3.given.1)
 
 pub +fold-spec : {M : Type 1} → statement M
 +fold-spec = close μ-fold λ t. fold-lts.spec (

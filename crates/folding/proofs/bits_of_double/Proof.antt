@@ -1,5 +1,5 @@
 -- `folding::bits_of_double` meets its contract. Assumes nothing.
-use Rattle.folding.proofs.Floats.{no_nan, bits-of-nan-64}
+use Rattle.folding.proofs.Floats.{no_nan, bits_of-nan-64}
 use borrow.Author.Rules.{rules}
 use Rattle.folding.proofs.bits_of_double.Statement.{statement}
 use Rattle.folding.proofs.bits_of_double.Tie as tie
@@ -8,7 +8,7 @@ float-to-bits-result : tie.Need-float-to-bits-result
 float-to-bits-result c = no_nan c.before.args.x c.if1.false
 
 returns : tie.Need-returns
-returns c = bits-of-nan-64 c.before.args.x c.if1.true
+returns c = bits_of-nan-64 c.before.args.x c.if1.true
 
 returns-2 : tie.Need-returns-2
 returns-2 c = search rules

@@ -1,5 +1,5 @@
 -- `folding::bits_of_float` meets its contract. Assumes nothing.
-use Rattle.folding.proofs.Floats.{no_nan, bits-of-nan-32}
+use Rattle.folding.proofs.Floats.{no_nan, bits_of-nan-32}
 use borrow.Author.Rules.{rules}
 use Rattle.folding.proofs.bits_of_float.Statement.{statement}
 use Rattle.folding.proofs.bits_of_float.Tie as tie
@@ -8,7 +8,7 @@ float-to-bits-result : tie.Need-float-to-bits-result
 float-to-bits-result c = no_nan c.before.args.x c.if1.false
 
 returns : tie.Need-returns
-returns c = bits-of-nan-32 c.before.args.x c.if1.true
+returns c = bits_of-nan-32 c.before.args.x c.if1.true
 
 returns-2 : tie.Need-returns-2
 returns-2 c = search rules

@@ -3,7 +3,7 @@ use lib.ListN.{drop}
 use mathlib.Core.Path.{subst}
 use borrow.Author.Rules.{rules}
 use Rattle.folding.specs.Folding.{Spans}
-use Rattle.folding.proofs.Constants.{ends-reads, whole-constant, cut-constant, bad-constant}
+use Rattle.folding.proofs.Constants.{ends-reads, whole-constant, cut-constant, bad_constant}
 use Rattle.folding.proofs.constant_at.Statement.{statement}
 use Rattle.folding.proofs.constant_at.Tie as tie
 
@@ -46,7 +46,7 @@ returns-3 c =
     let called = c.before.before in
     let from = called.before.before.args in
     let g = c.enum-told3.given in
-    bad-constant from.job.now from.at (drop g.0.0 from.job.now)
+    bad_constant from.job.now from.at (drop g.0.0 from.job.now)
     (subst (λ r. Spans from.job.now from.at r) g.1 called.end_of.ensures).0
 
 pub constant-at-spec : {M : Type 1} → statement M

@@ -1,7 +1,7 @@
 -- `folding::constant_of` meets its contract. Assumes nothing.
 use Rattle.definition.specs.Expression.{tag_of}
 use Rattle.folding.specs.declared.Constant.TheVariants as constant
-use Rattle.folding.specs.Folding.{number_of, bits_of, constantAs}
+use Rattle.folding.specs.Folding.{number_of, bits_of, constant_as}
 use mathlib.Core.Path.{refl, ap}
 use borrow.Author.Rules.{rules}
 use Rattle.folding.proofs.constant_of.Statement.{statement}
@@ -32,19 +32,19 @@ bits-of-double-requires : tie.Need-bits-of-double-requires
 bits-of-double-requires c κs = search rules
 
 returns : tie.Need-returns
-unfolding constantAs number_of bits_of tag_of
+unfolding constant_as number_of bits_of tag_of
 returns c = rw c.before.v.given.1 refl
 
 returns-2 : tie.Need-returns-2
-unfolding constantAs number_of bits_of tag_of
+unfolding constant_as number_of bits_of tag_of
 returns-2 c = rw c.before.before.v2.given.1 (ap (constant.Of 4) c.bits-of-float.ensures)
 
 returns-3 : tie.Need-returns-3
-unfolding constantAs number_of bits_of tag_of
+unfolding constant_as number_of bits_of tag_of
 returns-3 c = rw c.before.v3.given.1 refl
 
 returns-4 : tie.Need-returns-4
-unfolding constantAs number_of bits_of tag_of
+unfolding constant_as number_of bits_of tag_of
 returns-4 c = rw c.before.before.v4.given.1 (ap (constant.Of 6) c.bits-of-double.ensures)
 
 pub constant-of-spec : {M : Type 1} → statement M

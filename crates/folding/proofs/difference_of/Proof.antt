@@ -14,10 +14,10 @@ add-result-2 : tie.Need-overflow-add-result-2
 add-result-2 c = search rules
 
 returns : tie.Need-returns
-returns c = integers.difference-fits c.before.args.last c.before.args.a c.before.args.b c.before.requires.0 c.before.requires.1 c.if1.true
+returns c = integers.difference_fits c.before.args.last c.before.args.a c.before.args.b c.before.requires.0 c.before.requires.1 c.if1.true
 
 returns-2 : tie.Need-returns-2
-returns-2 c = integers.difference-wraps c.before.args.last c.before.args.a c.before.args.b c.before.requires.0 c.before.requires.1 c.if1.false
+returns-2 c = integers.difference_wraps c.before.args.last c.before.args.a c.before.args.b c.before.requires.0 c.before.requires.1 c.if1.false
 
 pub difference-of-spec : {M : Type 1} → statement M
 difference-of-spec = tie.close (tie.spec sub-result add-result add-result-2 returns returns-2)

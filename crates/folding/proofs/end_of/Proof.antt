@@ -1,5 +1,5 @@
 -- `folding::end_of` meets its contract. Assumes nothing.
-use Rattle.folding.proofs.Parts.{part_none, part-bad, part_end}
+use Rattle.folding.proofs.Parts.{part_none, part_bad, part_end}
 use Rattle.folding.specs.Folding.{parts}
 use borrow.Author.Rules.{rules}
 use lib.ListN.{length, drop}
@@ -56,7 +56,7 @@ returns-2 c =
     let start = entry.args.start in
     let m = rw c.before.next2.given.1 at c.before.before.before.token-at.ensures in
     let i = c.before.before.before.before.before.loop.invariant in
-    (part-bad s start c.before.next2.given.0.0 (sym (i.4 ∙ m.0)), omega (arith, m.1, i.0), m.2)
+    (part_bad s start c.before.next2.given.0.0 (sym (i.4 ∙ m.0)), omega (arith, m.1, i.0), m.2)
 
 returns-3 : tie.Need-returns-3 invariant-loop decreases-loop
 unfolding parts

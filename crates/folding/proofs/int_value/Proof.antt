@@ -1,6 +1,6 @@
 -- `folding::int_value` meets its contract. Assumes nothing.
 use native.Mathlib.Omega.{arith}
-use Rattle.folding.specs.Folding.{combinedInt}
+use Rattle.folding.specs.Folding.{combined_int}
 use mathlib.Core.Path.{refl}
 use borrow.Author.Rules.{rules}
 use Rattle.folding.proofs.int_value.Statement.{statement}
@@ -16,11 +16,11 @@ enum_told : tie.Need-enum-told
 enum_told c = search rules
 
 returns : tie.Need-returns
-unfolding combinedInt
+unfolding combined_int
 returns c = rw c.before.n.given.1 refl
 
 returns-2 : tie.Need-returns-2
-unfolding combinedInt
+unfolding combined_int
 returns-2 c = rw c.enum_told.given.1 refl
 
 pub int-value-spec : {M : Type 1} → statement M

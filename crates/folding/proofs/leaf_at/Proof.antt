@@ -1,7 +1,7 @@
 -- `folding::leaf_at` meets its contract. Assumes nothing.
 use lib.Ieee.{binary32, binary64, of_bits}
 use Rattle.folding.specs.declared.Value.TheVariants as value
-use Rattle.folding.specs.Folding.{kind_of, ofNumber, size_of, bits_at}
+use Rattle.folding.specs.Folding.{kind_of, of_number, size_of, bits_at}
 use mathlib.Core.Path.{ap, ◌∙◌}
 use borrow.Author.Rules.{rules}
 use Rattle.folding.proofs.leaf_at.Statement.{statement}
@@ -42,19 +42,19 @@ double-of-bits-requires : tie.Need-double-of-bits-requires
 double-of-bits-requires c κs = search rules
 
 returns : tie.Need-returns
-unfolding ofNumber bits_at kind_of
+unfolding of_number bits_at kind_of
 returns c = rw c.before.enum_told.given.1 (ap value.Int c.get-u32.ensures)
 
 returns-2 : tie.Need-returns-2
-unfolding ofNumber bits_at kind_of
+unfolding of_number bits_at kind_of
 returns-2 c = rw c.before.before.enum-told2.given.1 (ap value.Float (c.float-of-bits.ensures ∙ ap (of_bits binary32) c.before.get-u322.ensures))
 
 returns-3 : tie.Need-returns-3
-unfolding ofNumber bits_at kind_of
+unfolding of_number bits_at kind_of
 returns-3 c = rw c.before.enum-told3.given.1 (ap value.Long c.get-u64.ensures)
 
 returns-4 : tie.Need-returns-4
-unfolding ofNumber bits_at kind_of
+unfolding of_number bits_at kind_of
 returns-4 c = rw c.before.before.enum-told4.given.1 (ap value.Double (c.double-of-bits.ensures ∙ ap (of_bits binary64) c.before.get-u642.ensures))
 
 pub leaf-at-spec : {M : Type 1} → statement M

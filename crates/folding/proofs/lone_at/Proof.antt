@@ -1,7 +1,7 @@
 -- `folding::lone_at` meets its contract. Assumes nothing.
 use Rattle.definition.specs.Expression.{tag_of}
 use Rattle.folding.specs.declared.Constant.TheVariants as constant
-use Rattle.folding.specs.Folding.{kind_of, size_of, bits_at, constantAs}
+use Rattle.folding.specs.Folding.{kind_of, size_of, bits_at, constant_as}
 use mathlib.Core.Path.{ap}
 use borrow.Author.Rules.{rules}
 use Rattle.folding.proofs.lone_at.Statement.{statement}
@@ -42,19 +42,19 @@ unfolding size_of kind_of
 get-u64-requires-2 c κs = rw c.enum-told4.given.1 at c.before.before.before.requires
 
 returns : tie.Need-returns
-unfolding constantAs bits_at kind_of tag_of
+unfolding constant_as bits_at kind_of tag_of
 returns c = rw c.before.enum_told.given.1 (ap (constant.Of 3) c.get-u32.ensures)
 
 returns-2 : tie.Need-returns-2
-unfolding constantAs bits_at kind_of tag_of
+unfolding constant_as bits_at kind_of tag_of
 returns-2 c = rw c.before.enum-told2.given.1 (ap (constant.Of 4) c.get-u322.ensures)
 
 returns-3 : tie.Need-returns-3
-unfolding constantAs bits_at kind_of tag_of
+unfolding constant_as bits_at kind_of tag_of
 returns-3 c = rw c.before.enum-told3.given.1 (ap (constant.Of 5) c.get-u64.ensures)
 
 returns-4 : tie.Need-returns-4
-unfolding constantAs bits_at kind_of tag_of
+unfolding constant_as bits_at kind_of tag_of
 returns-4 c = rw c.before.enum-told4.given.1 (ap (constant.Of 6) c.get-u642.ensures)
 
 pub lone-at-spec : {M : Type 1} → statement M

@@ -1,5 +1,5 @@
 -- `folding::opens_of` meets its contract. Assumes nothing.
-use Rattle.folding.proofs.Reading.{no-opening}
+use Rattle.folding.proofs.Reading.{no_opening}
 use Rattle.definition.specs.Basics.{lookup}
 use Rattle.folding.specs.Folding.{opens, kind_of, sign_of}
 use Rattle.definition.specs.Expression.{openings}
@@ -43,7 +43,7 @@ returns-9 : tie.Need-returns-9
 unfolding opens
 returns-9 c =
     let other = c.match.rest in
-    no-opening c.before.args.first other.0.0.0.0.0.0.0.1 other.0.0.0.0.0.0.1 other.0.0.0.0.0.1 other.0.0.0.0.1 other.0.0.0.1 other.0.0.1 other.0.1 other.1
+    no_opening c.before.args.first other.0.0.0.0.0.0.0.1 other.0.0.0.0.0.0.1 other.0.0.0.0.0.1 other.0.0.0.0.1 other.0.0.0.1 other.0.0.1 other.0.1 other.1
 
 pub opens-of-spec : {M : Type 1} → statement M
 opens-of-spec =

@@ -1,5 +1,5 @@
 -- `folding::token_at` meets its contract. Assumes nothing.
-use Rattle.folding.proofs.Folds.{opening-leaf, opening-sign, opening-neither}
+use Rattle.folding.proofs.Folds.{opening_leaf, opening_sign, opening_neither}
 use Rattle.folding.proofs.Parts.{steps-none, steps-cut, steps-leaf, steps-sign, steps-bad}
 use Rattle.folding.specs.Folding.{kind_of, sign_of}
 use lib.ListN.{length, get_or}
@@ -53,7 +53,7 @@ returns-2 c =
     let left = entry.args.left in
     let p = entry.requires in
     let k = c.before.before.before.kind.given in
-    let o = opening-leaf c.before.before.before.before.before.Opens-of.result c.before.before.before.before.before.before.get-u8.result (get_or s at 0) c.before.before.before.before.before.Opens-of.ensures c.before.before.before.before.before.before.get-u8.ensures k.0.0 k.1 in
+    let o = opening_leaf c.before.before.before.before.before.Opens-of.result c.before.before.before.before.before.before.get-u8.result (get_or s at 0) c.before.before.before.before.before.Opens-of.ensures c.before.before.before.before.before.before.get-u8.ensures k.0.0 k.1 in
     let low : at < length s = omega arith in
     steps-cut s at left p.0 p.1 p.2 low (kind_of k.0.0) c.before.size_of.result o c.before.size_of.ensures c.if2.true
 
@@ -78,7 +78,7 @@ returns-3 c =
     let p = entry.requires in
     let low : at < length s = omega arith in
     let g = c.enum_told.given in
-    steps-sign s at left p.0 p.1 p.2 low (sign_of g.0.0) (opening-sign c.before.before.Opens-of.result c.before.before.before.get-u8.result (get_or s at 0) c.before.before.Opens-of.ensures c.before.before.before.get-u8.ensures g.0.0 g.1)
+    steps-sign s at left p.0 p.1 p.2 low (sign_of g.0.0) (opening_sign c.before.before.Opens-of.result c.before.before.before.get-u8.result (get_or s at 0) c.before.before.Opens-of.ensures c.before.before.before.get-u8.ensures g.0.0 g.1)
 
 returns-4 : tie.Need-returns-4
 returns-4 c =
@@ -88,7 +88,7 @@ returns-4 c =
     let left = entry.args.left in
     let p = entry.requires in
     let k = c.before.before.before.kind.given in
-    let o = opening-leaf c.before.before.before.before.before.Opens-of.result c.before.before.before.before.before.before.get-u8.result (get_or s at 0) c.before.before.before.before.before.Opens-of.ensures c.before.before.before.before.before.before.get-u8.ensures k.0.0 k.1 in
+    let o = opening_leaf c.before.before.before.before.before.Opens-of.result c.before.before.before.before.before.before.get-u8.result (get_or s at 0) c.before.before.before.before.before.Opens-of.ensures c.before.before.before.before.before.before.get-u8.ensures k.0.0 k.1 in
     let low : at < length s = omega arith in
     steps-leaf s at left p.0 p.1 p.2 low (kind_of k.0.0) c.before.size_of.result o c.before.size_of.ensures c.if2.false
 
@@ -100,7 +100,7 @@ returns-5 c =
     let left = entry.args.left in
     let p = entry.requires in
     let low : at < length s = omega arith in
-    steps-bad s at left p.0 p.1 p.2 low (opening-neither c.before.before.Opens-of.result c.before.before.before.get-u8.result (get_or s at 0) c.before.before.Opens-of.ensures c.before.before.before.get-u8.ensures c.enum-told2.given.1)
+    steps-bad s at left p.0 p.1 p.2 low (opening_neither c.before.before.Opens-of.result c.before.before.before.get-u8.result (get_or s at 0) c.before.before.Opens-of.ensures c.before.before.before.get-u8.ensures c.enum-told2.given.1)
 
 pub token-at-spec : {M : Type 1} → statement M
 token-at-spec =

@@ -2,7 +2,7 @@
 use Prim.Native.Nat.{◌+◌}
 use Rattle.folding.proofs.Integers as integers
 use Rattle.folding.specs.declared.Whole.TheVariants as whole
-use Rattle.folding.specs.Folding.{sign_of, asWhole}
+use Rattle.folding.specs.Folding.{sign_of, as_whole}
 use Rattle.definition.specs.Value.{integer}
 use mathlib.Core.Path.{ap}
 use borrow.Author.Rules.{rules}
@@ -34,15 +34,15 @@ quotient-of-requires : tie.Need-quotient-of-requires
 quotient-of-requires c κs = search rules
 
 returns : tie.Need-returns
-unfolding asWhole integer sign_of
+unfolding as_whole integer sign_of
 returns c = rw c.before.enum_told.given.1 (ap whole.Of c.sum_of.ensures)
 
 returns-2 : tie.Need-returns-2
-unfolding asWhole integer sign_of
+unfolding as_whole integer sign_of
 returns-2 c = rw c.before.enum-told2.given.1 (ap whole.Of c.difference-of.ensures)
 
 returns-3 : tie.Need-returns-3
-unfolding asWhole integer sign_of
+unfolding as_whole integer sign_of
 returns-3 c = rw c.before.enum-told3.given.1 (ap whole.Of c.product-of.ensures)
 
 returns-4 : tie.Need-returns-4

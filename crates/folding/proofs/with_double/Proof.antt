@@ -23,7 +23,7 @@ enum-told-3 : tie.Need-enum-told-3
 enum-told-3 c = search rules
 
 returns : tie.Need-returns
-returns c = rw (c.double-op.ensures, c.before.before.w.given.1) (values.combines-double (sign_of c.before.before.before.before.args.sign) c.before.before.before.before.args.a c.before.before.w.given.0.0)
+returns c = rw (c.double-op.ensures, c.before.before.w.given.1) (values.combines_double (sign_of c.before.before.before.before.args.sign) c.before.before.before.before.args.a c.before.before.w.given.0.0)
 
 returns-2 : tie.Need-returns-2
 unfolding alike number_of tag_of

@@ -26,7 +26,7 @@ enum-told-3 : tie.Need-enum-told-3
 enum-told-3 c = search rules
 
 returns : tie.Need-returns
-returns c = rw (c.long-value.ensures, c.before.whole_of.ensures, c.before.before.before.w.given.1) (values.combines-long (sign_of c.before.before.before.before.before.args.sign) c.before.before.before.before.before.args.a c.before.before.before.w.given.0.0)
+returns c = rw (c.long-value.ensures, c.before.whole_of.ensures, c.before.before.before.w.given.1) (values.combines_long (sign_of c.before.before.before.before.before.args.sign) c.before.before.before.before.before.args.a c.before.before.before.w.given.0.0)
 
 returns-2 : tie.Need-returns-2
 unfolding alike number_of tag_of

@@ -1,7 +1,7 @@
 -- `frames::next_or_skipped` meets its contract. Assumes nothing.
 use native.Mathlib.Omega.{arith}
 use borrow.Author.Rules.{rules}
-use Rattle.frames.proofs.Streams.{no_block, late-block}
+use Rattle.frames.proofs.Streams.{no_block, late_block}
 use Rattle.frames.proofs.next_or_skipped.Statement.{statement}
 use Rattle.frames.proofs.next_or_skipped.Tie as tie
 
@@ -23,7 +23,7 @@ returns-2 : tie.Need-returns-2
 returns-2 c =
     let s = c.before.before.before.before.before.before.before.before.args.s.now in
     let skipped = c.before.before.skip in
-    (skipped.ensures.1, late-block s skipped.new.0 skipped.result skipped.ensures.0)
+    (skipped.ensures.1, late_block s skipped.new.0 skipped.result skipped.ensures.0)
 
 read-block-requires : tie.Need-read-block-requires
 read-block-requires c κs = search rules

@@ -2,7 +2,7 @@
 use mathlib.Core.Path.{ap, ◌∙◌}
 use borrow.Author.Rules.{rules}
 use Rattle.definition.specs.Ascii.{ascii}
-use Rattle.frames.specs.Line.{putNumber}
+use Rattle.frames.specs.Line.{put_number}
 use Rattle.frames.proofs.put_refusal.Statement.{statement}
 use Rattle.frames.proofs.put_refusal.Tie as tie
 
@@ -22,7 +22,7 @@ returns : tie.Need-returns
 unfolding ascii
 returns c =
     let code = c.before.before.before.before.before.before.before.before.before.before.args.code in
-    c.before.before.put-number.ensures ∙ ap (λ l. putNumber l code) c.before.before.before.before.before.before.put_word.ensures
+    c.before.before.put-number.ensures ∙ ap (λ l. put_number l code) c.before.before.before.before.before.before.put_word.ensures
 
 pub put-refusal-spec : {M : Type 1} → statement M
 put-refusal-spec =

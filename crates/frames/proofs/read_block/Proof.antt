@@ -1,6 +1,6 @@
 -- `frames::read_block` meets its contract. Assumes nothing.
 use borrow.Author.Rules.{rules}
-use Rattle.frames.proofs.Streams.{all-block, cut-block}
+use Rattle.frames.proofs.Streams.{all_block, cut-block}
 use Rattle.frames.proofs.read_block.Statement.{statement}
 use Rattle.frames.proofs.read_block.Tie as tie
 
@@ -14,7 +14,7 @@ returns : tie.Need-returns
 returns c =
     let start = c.before.before.before.before.before.before in
     let part = c.before.before.before.read-part in
-    all-block start.args.s.now part.new.0 start.args.n part.result start.requires part.ensures c.if1.true
+    all_block start.args.s.now part.new.0 start.args.n part.result start.requires part.ensures c.if1.true
 
 same-length-2 : tie.Need-same-length-2
 same-length-2 c = search rules

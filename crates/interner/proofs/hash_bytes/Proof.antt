@@ -1,5 +1,5 @@
 -- `interner::hash_bytes` meets its contract: the bytes that are left make the hash into that of all. Assumes nothing.
-use Rattle.interner.proofs.Runs.{Hashing, hashing-begin, hashing-one, hashing-four, hashing-end}
+use Rattle.interner.proofs.Runs.{Hashing, hashing_begin, hashing_one, hashing_four, hashing_end}
 use Prim.Native.Nat.{◌-◌}
 use native.Mathlib.Omega.{arith}
 use borrow.Author.Rules.{rules}
@@ -16,7 +16,7 @@ mix-requires : tie.Need-mix-requires invariant-loop decreases-loop
 mix-requires c κs = search rules
 
 loop-holds : tie.Need-loop-init invariant-loop decreases-loop
-loop-holds c = let a = c.before.before.args in hashing-begin a.s.now a.start a.n a.seed c.before.before.requires.0 c.mix.result c.mix.ensures.0 c.mix.ensures.1
+loop-holds c = let a = c.before.before.args in hashing_begin a.s.now a.start a.n a.seed c.before.before.requires.0 c.mix.result c.mix.ensures.0 c.mix.ensures.1
 
 sub-if1 : tie.Need-overflow-sub-if1 invariant-loop decreases-loop
 sub-if1 c = omega arith
@@ -40,7 +40,7 @@ loop-less : tie.Need-loop-smaller invariant-loop decreases-loop
 loop-less c = omega arith
 
 loop-again : tie.Need-loop-preserved invariant-loop decreases-loop
-loop-again c = let a = c.before.before.before.before.before.before.before.args in let l = c.before.before.before.before.loop in hashing-one a.s.now a.start a.n a.seed c.before.before.before.before.before.before.before.requires.0 l.hash l.i l.invariant c.before.before.before.loop-test.true c.before.before.if1.true c.mix2.result (rw c.before.get-u8.ensures at c.mix2.ensures.0) c.mix2.ensures.1
+loop-again c = let a = c.before.before.before.before.before.before.before.args in let l = c.before.before.before.before.loop in hashing_one a.s.now a.start a.n a.seed c.before.before.before.before.before.before.before.requires.0 l.hash l.i l.invariant c.before.before.before.loop-test.true c.before.before.if1.true c.mix2.result (rw c.before.get-u8.ensures at c.mix2.ensures.0) c.mix2.ensures.1
 
 add-get-u32 : tie.Need-overflow-add-get-u32 invariant-loop decreases-loop
 add-get-u32 c = omega (arith, c.before.before.before.before.before.requires.0)
@@ -61,10 +61,10 @@ loop-less-2 : tie.Need-loop-smaller-2 invariant-loop decreases-loop
 loop-less-2 c = omega arith
 
 loop-again-2 : tie.Need-loop-preserved-2 invariant-loop decreases-loop
-loop-again-2 c = let a = c.before.before.before.before.before.before.before.args in let l = c.before.before.before.before.loop in hashing-four a.s.now a.start a.n a.seed c.before.before.before.before.before.before.before.requires.0 l.hash l.i l.invariant c.before.before.before.loop-test.true c.before.before.if1.false c.mix3.result (rw c.before.get-u32.ensures at c.mix3.ensures.0) c.mix3.ensures.1
+loop-again-2 c = let a = c.before.before.before.before.before.before.before.args in let l = c.before.before.before.before.loop in hashing_four a.s.now a.start a.n a.seed c.before.before.before.before.before.before.before.requires.0 l.hash l.i l.invariant c.before.before.before.loop-test.true c.before.before.if1.false c.mix3.result (rw c.before.get-u32.ensures at c.mix3.ensures.0) c.mix3.ensures.1
 
 returns : tie.Need-returns invariant-loop decreases-loop
-returns c = let a = c.before.before.before.before.args in let l = c.before.loop in hashing-end a.s.now a.start a.n a.seed c.before.before.before.before.requires.0 l.hash l.i l.invariant c.loop-test.false
+returns c = let a = c.before.before.before.before.args in let l = c.before.loop in hashing_end a.s.now a.start a.n a.seed c.before.before.before.before.requires.0 l.hash l.i l.invariant c.loop-test.false
 
 pub hash-bytes-spec : {M : Type 1} → statement M
 hash-bytes-spec =

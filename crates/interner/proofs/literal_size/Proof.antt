@@ -1,13 +1,13 @@
 -- `interner::literal_size` meets its contract. Assumes nothing.
 use native.Mathlib.Omega.{arith}
 use mathlib.Core.Path.{sym, ◌∙◌}
-use Rattle.interner.proofs.Runs.{spans-long}
-use Rattle.interner.proofs.Words.{stands-inside, size-wide, size-narrow}
+use Rattle.interner.proofs.Runs.{spans_long}
+use Rattle.interner.proofs.Words.{stands_inside, size-wide, size-narrow}
 use Rattle.interner.proofs.literal_size.Statement.{statement}
 use Rattle.interner.proofs.literal_size.Tie as tie
 
 is-worked-requires : tie.Need-is-worked-requires
-is-worked-requires c κs = stands-inside c.before.args.job.now c.before.args.at c.before.requires
+is-worked-requires c κs = stands_inside c.before.args.job.now c.before.args.at c.before.requires
 
 tag-at-requires : tie.Need-tag-at-requires
 tag-at-requires c κs = c.before.before.before.requires
@@ -25,10 +25,10 @@ literal-at-requires : tie.Need-literal-at-requires
 literal-at-requires c κs = (c.before.before.before.requires, sym c.before.is-worked.ensures ∙ c.if1.false)
 
 sub-result : tie.Need-overflow-sub-result
-sub-result c = let h = c.before.before.before.before.before.requires in (c.before.literal-at.ensures h.0 h.1 h.2).rising
+sub-result c = let h = c.before.before.before.before.before.requires in (c.before.literal_at_lem.ensures h.0 h.1 h.2).rising
 
 returns-3 : tie.Need-returns-3
-returns-3 c = λ x next f. sym (spans-long c.before.before.before.before.before.args.job.now c.before.literal-at.result x.literal (c.before.literal-at.ensures x next f))
+returns-3 c = λ x next f. sym (spans_long c.before.before.before.before.before.args.job.now c.before.literal_at_lem.result x.literal (c.before.literal_at_lem.ensures x next f))
 
 pub literal-size-spec : {M : Type 1} → statement M
 literal-size-spec =

@@ -1,7 +1,7 @@
 -- `job::after_reference` meets its contract. Assumes nothing.
 use native.Mathlib.Omega.{arith}
 use mathlib.Core.Path.{◌∙◌}
-use Rattle.job.proofs.Stored.{number-room, number_behind, name-stands, name-behind}
+use Rattle.job.proofs.Stored.{number-room, number_behind, name_stands, name_behind}
 use borrow.Author.Rules.{rules}
 use Rattle.job.proofs.after_reference.Statement.{statement}
 use Rattle.job.proofs.after_reference.Tie as tie
@@ -16,7 +16,7 @@ name-at-requires : tie.Need-name-at-requires
 name-at-requires c κs = let a = c.before.before.before.args in
     let e = c.match.keys1 in
     let g = c.before.get-u8.ensures in
-    name-stands a.job.now a.at (λ z. absurd (omega arith)) (λ z. absurd (omega arith)) c.before.before.before.requires
+    name_stands a.job.now a.at (λ z. absurd (omega arith)) (λ z. absurd (omega arith)) c.before.before.before.requires
 
 add-result : tie.Need-overflow-add-result
 add-result c = let a = c.before.before.before.args in
@@ -28,7 +28,7 @@ returns : tie.Need-returns
 returns c = let a = c.before.before.before.before.args in
     let e = c.before.match.keys1 in
     let g = c.before.before.get-u8.ensures in
-    name-behind a.job.now a.at (λ z. absurd (omega arith)) (λ z. absurd (omega arith)) _ c.name-at.ensures
+    name_behind a.job.now a.at (λ z. absurd (omega arith)) (λ z. absurd (omega arith)) _ c.name_at.ensures
 
 returns-2 : tie.Need-returns-2
 returns-2 c = let a = c.before.before.before.args in

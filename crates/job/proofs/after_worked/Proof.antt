@@ -3,17 +3,17 @@ use mathlib.Core.Path.{subst}
 use Prim.Native.Nat.{◌+◌}
 use mathlib.Core.Option.{none, some}
 use Rattle.folding.specs.Folding.{Spans}
-use Rattle.job.proofs.Stored.{entry-room}
+use Rattle.job.proofs.Stored.{entry_room}
 use Rattle.job.proofs.Working.{worked-end, worked-uncut}
 use borrow.Author.Rules.{rules}
 use Rattle.job.proofs.after_worked.Statement.{statement}
 use Rattle.job.proofs.after_worked.Tie as tie
 
 add-end-of : tie.Need-overflow-add-end-of
-add-end-of c = let low = entry-room _ _ c.before.requires.0 in search rules
+add-end-of c = let low = entry_room _ _ c.before.requires.0 in search rules
 
 end-of-requires : tie.Need-end-of-requires
-end-of-requires c κs = let low = entry-room _ _ c.before.requires.0 in search rules
+end-of-requires c κs = let low = entry_room _ _ c.before.requires.0 in search rules
 
 enum-known-next : tie.Need-enum-known-next
 enum-known-next c = search rules

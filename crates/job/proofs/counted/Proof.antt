@@ -1,6 +1,6 @@
 -- `job::counted` meets its contract. Assumes nothing.
 use native.Mathlib.Nat.{add-zero}
-use Rattle.job.specs.Forms.{countedAs}
+use Rattle.job.specs.Forms.{counted_as}
 use borrow.Author.Rules.{rules}
 use Rattle.job.proofs.counted.Statement.{statement}
 use Rattle.job.proofs.counted.Tie as tie
@@ -69,43 +69,43 @@ add-c-11 : tie.Need-overflow-add-c-11
 add-c-11 c = search rules
 
 returns : tie.Need-returns
-unfolding countedAs
+unfolding counted_as
 returns c = rw c.before.enum_told.given.1 (simp add-zero)
 
 returns-2 : tie.Need-returns-2
-unfolding countedAs
+unfolding counted_as
 returns-2 c = rw c.before.enum-told2.given.1 (simp add-zero)
 
 returns-3 : tie.Need-returns-3
-unfolding countedAs
+unfolding counted_as
 returns-3 c = rw c.before.enum-told3.given.1 (simp add-zero)
 
 returns-4 : tie.Need-returns-4
-unfolding countedAs
+unfolding counted_as
 returns-4 c = rw c.before.enum-told4.given.1 (simp add-zero)
 
 returns-5 : tie.Need-returns-5
-unfolding countedAs
+unfolding counted_as
 returns-5 c = rw c.before.enum-told5.given.1 (simp add-zero)
 
 returns-6 : tie.Need-returns-6
-unfolding countedAs
+unfolding counted_as
 returns-6 c = rw c.before.enum-told6.given.1 (simp add-zero)
 
 returns-7 : tie.Need-returns-7
-unfolding countedAs
+unfolding counted_as
 returns-7 c = rw c.before.enum-told7.given.1 (simp add-zero)
 
 returns-8 : tie.Need-returns-8
-unfolding countedAs
+unfolding counted_as
 returns-8 c = rw c.before.enum-told8.given.1 (simp add-zero)
 
 returns-9 : tie.Need-returns-9
-unfolding countedAs
+unfolding counted_as
 returns-9 c = rw c.enum-told9.given.1 (simp add-zero)
 
 returns-10 : tie.Need-returns-10
-unfolding countedAs
+unfolding counted_as
 returns-10 c = rw c.before.enum-told10.given.1 (simp add-zero)
 
 pub counted_spec : {M : Type 1} → statement M

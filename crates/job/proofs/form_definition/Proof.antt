@@ -1,7 +1,7 @@
 -- `job::form_definition` meets its contract. Assumes nothing.
 use mathlib.Core.Path.{sym, subst, ◌∙◌}
 use Rattle.job.specs.Forms.{Opens}
-use Rattle.job.proofs.Faults.{setting-rest}
+use Rattle.job.proofs.Faults.{setting_rest}
 use borrow.Author.Rules.{rules}
 use Rattle.job.proofs.form_definition.Statement.{statement}
 use Rattle.job.proofs.form_definition.Tie as tie
@@ -37,7 +37,7 @@ form-setting-requires c κs = let p = c.before.before.before.before.before.befor
       p.0,
       p.1,
       rw c.before.before.before.before.get-u8.ensures at o.ensures,
-      setting-rest o.result (sym c.before.before.is_plain.ensures ∙ c.before.if1.false) c.match.keys2,
+      setting_rest o.result (sym c.before.before.is_plain.ensures ∙ c.before.if1.false) c.match.keys2,
     )
 
 returns-2 : tie.Need-returns-2

@@ -6,17 +6,17 @@ use mathlib.Core.Option.{Option, none}
 use mathlib.Core.Path.{◌≡◌, sym, ◌∙◌}
 use lib.ListN.{length}
 use Rattle.definition.specs.Basics.{only}
-use Rattle.definition.specs.Form.{nothingYet, formDefinitions}
-use Rattle.definition.specs.Settings.{highestOf}
-use Rattle.definition.specs.Numbering.{entries, constantsOf, bootstrapsOf, settings}
-use Rattle.job.specs.Forms.{Bounded, countsOf, referencesIn, versionFrom, tallied}
-use Rattle.job.proofs.Passes.{DefinitionsLeft, brokenBehind, definitions-start, definitions-end, definitions-bad, definitions-free, definitions-none}
+use Rattle.definition.specs.Form.{nothing_yet, form_definitions}
+use Rattle.definition.specs.Settings.{highest_of}
+use Rattle.definition.specs.Numbering.{entries, constants_of, bootstraps_of, settings}
+use Rattle.job.specs.Forms.{Bounded, counts_of, references_in, version_from, tallied}
+use Rattle.job.proofs.Passes.{DefinitionsLeft, broken_behind, definitions_start, definitions_end, definitions_bad, definitions_free, definitions_none}
 use borrow.Author.Rules.{rules}
 use Rattle.job.proofs.form_definitions.Statement.{statement}
 use Rattle.job.proofs.form_definitions.Tie as tie
 
 abbrev invariant-loop : tie.invariant-loop
-invariant-loop job at₀ counts₀ at counts = (at ≤ length job) × Bounded at counts × (b : Option ℕ) × (DefinitionsLeft job at counts b ≡ tallied (countsOf [] 0) (formDefinitions (length job) nothingYet 0 job))
+invariant-loop job at₀ counts₀ at counts = (at ≤ length job) × Bounded at counts × (b : Option ℕ) × (DefinitionsLeft job at counts b ≡ tallied (counts_of [] 0) (form_definitions (length job) nothing_yet 0 job))
 
 abbrev decreases-loop : tie.decreases-loop
 decreases-loop job at₀ counts₀ at counts = length job - at
@@ -25,8 +25,8 @@ nothing-yet-requires : tie.Need-nothing-yet-requires invariant-loop decreases-lo
 nothing-yet-requires c κs = search rules
 
 loop-holds : tie.Need-loop-init invariant-loop decreases-loop
-unfolding countsOf constantsOf bootstrapsOf entries only referencesIn versionFrom settings highestOf
-loop-holds c = rw c.nothing_yet.ensures (omega arith, omega arith, none, definitions-start c.before.before.args.job.now)
+unfolding counts_of constants_of bootstraps_of entries only references_in version_from settings highest_of
+loop-holds c = rw c.nothing_yet.ensures (omega arith, omega arith, none, definitions_start c.before.before.args.job.now)
 
 get-u8-requires : tie.Need-get-u8-requires invariant-loop decreases-loop
 get-u8-requires c κs = search rules
@@ -37,7 +37,7 @@ add-t10 c = search rules
 returns : tie.Need-returns invariant-loop decreases-loop
 returns c = let s = c.before.before.before.before.before.before.args.job.now in
     let l = c.before.before.before.loop in (
-      sym l.invariant.3 ∙ definitions-end s l.at l.counts l.invariant.2 c.before.before.loop-test.true (omega (arith, l.invariant.1)) (sym c.before.get-u8.ensures ∙ c.if1.true),
+      sym l.invariant.3 ∙ definitions_end s l.at l.counts l.invariant.2 c.before.before.loop-test.true (omega (arith, l.invariant.1)) (sym c.before.get-u8.ensures ∙ c.if1.true),
       (omega arith, omega (arith, l.invariant.1)),
     )
 
@@ -64,8 +64,8 @@ loop-again c = let s = c.before.before.before.before.before.before.before.before
     let m = rw g.1 at c.before.before.before.before.before.form-definition.ensures in (
       m.within,
       m.bounded,
-      brokenBehind l.counts.definitions m.value l.invariant.2,
-      sym (definitions-free s l.at l.counts l.invariant.2 c.before.before.before.before.before.before.before.before.loop-test.true (omega (arith, l.invariant.1))
+      broken_behind l.counts.definitions m.value l.invariant.2,
+      sym (definitions_free s l.at l.counts l.invariant.2 c.before.before.before.before.before.before.before.before.loop-test.true (omega (arith, l.invariant.1))
           (λ e. c.before.before.before.before.before.before.if1.false (c.before.before.before.before.before.before.before.get-u8.ensures ∙ e)) g.0.0 g.0.1.0 m c.if2.false) ∙ l.invariant.3,
     )
 
@@ -76,7 +76,7 @@ returns-3 : tie.Need-returns-3 invariant-loop decreases-loop
 returns-3 c = let s = c.before.before.before.before.before.before.before.before.before.before.args.job.now in
     let l = c.before.before.before.before.before.before.before.loop in
     let g = c.before.code.given in (
-      sym l.invariant.3 ∙ definitions-bad s l.at l.counts l.invariant.2 c.before.before.before.before.before.before.loop-test.true (omega (arith, l.invariant.1))
+      sym l.invariant.3 ∙ definitions_bad s l.at l.counts l.invariant.2 c.before.before.before.before.before.before.loop-test.true (omega (arith, l.invariant.1))
           (λ e. c.before.before.before.before.if1.false (c.before.before.before.before.before.get-u8.ensures ∙ e)) g.0.0
           (rw g.1 at c.before.before.before.form-definition.ensures),
       tt,
@@ -85,7 +85,7 @@ returns-3 c = let s = c.before.before.before.before.before.before.before.before.
 returns-4 : tie.Need-returns-4 invariant-loop decreases-loop
 returns-4 c = let s = c.before.before.before.before.args.job.now in
     let l = c.before.loop in
-    (sym l.invariant.3 ∙ definitions-none s l.at l.counts l.invariant.2 c.loop-test.false, tt)
+    (sym l.invariant.3 ∙ definitions_none s l.at l.counts l.invariant.2 c.loop-test.false, tt)
 
 pub form-definitions-spec : {M : Type 1} → statement M
 form-definitions-spec =

@@ -6,17 +6,17 @@ use mathlib.Core.Path.{◌≡◌, sym, ◌∙◌}
 use lib.ListN.{length}
 use borrow.Author.Tests.{not-true, not-false}
 use Rattle.definition.specs.Basics.{only}
-use Rattle.definition.specs.Form.{nothingYet, formDefinitions}
-use Rattle.definition.specs.Settings.{highestOf}
-use Rattle.definition.specs.Numbering.{entries, constantsOf, bootstrapsOf, settings}
-use Rattle.job.specs.Forms.{Bounded, countsOf, referencesIn, versionFrom, asBroken, tallied}
-use Rattle.job.proofs.Passes.{DefinitionsLeft, definitions-start, definitions-end, definitions-bad, definitions-held, definitions-broken, definitions-none, moved-text}
+use Rattle.definition.specs.Form.{nothing_yet, form_definitions}
+use Rattle.definition.specs.Settings.{highest_of}
+use Rattle.definition.specs.Numbering.{entries, constants_of, bootstraps_of, settings}
+use Rattle.job.specs.Forms.{Bounded, counts_of, references_in, version_from, as_broken, tallied}
+use Rattle.job.proofs.Passes.{DefinitionsLeft, definitions_start, definitions_end, definitions_bad, definitions_held, definitions_broken, definitions_none, moved_text}
 use borrow.Author.Rules.{rules}
 use Rattle.job.proofs.form_held.Statement.{statement}
 use Rattle.job.proofs.form_held.Tie as tie
 
 abbrev invariant-loop : tie.invariant-loop
-invariant-loop job at₀ counts₀ broken₀ at counts broken = (at ≤ length job) × Bounded at counts × (DefinitionsLeft job at counts (asBroken broken) ≡ tallied (countsOf [] 0) (formDefinitions (length job) nothingYet 0 job))
+invariant-loop job at₀ counts₀ broken₀ at counts broken = (at ≤ length job) × Bounded at counts × (DefinitionsLeft job at counts (as_broken broken) ≡ tallied (counts_of [] 0) (form_definitions (length job) nothing_yet 0 job))
 
 abbrev decreases-loop : tie.decreases-loop
 decreases-loop job at₀ counts₀ broken₀ at counts broken = length job - at
@@ -25,8 +25,8 @@ nothing-yet-requires : tie.Need-nothing-yet-requires invariant-loop decreases-lo
 nothing-yet-requires c κs = search rules
 
 loop-holds : tie.Need-loop-init invariant-loop decreases-loop
-unfolding countsOf constantsOf bootstrapsOf entries only referencesIn versionFrom settings highestOf asBroken
-loop-holds c = rw c.nothing_yet.ensures (omega arith, omega arith, definitions-start c.before.before.args.job.now)
+unfolding counts_of constants_of bootstraps_of entries only references_in version_from settings highest_of as_broken
+loop-holds c = rw c.nothing_yet.ensures (omega arith, omega arith, definitions_start c.before.before.args.job.now)
 
 get-u8-requires : tie.Need-get-u8-requires invariant-loop decreases-loop
 get-u8-requires c κs = search rules
@@ -37,7 +37,7 @@ add-t12 c = search rules
 returns : tie.Need-returns invariant-loop decreases-loop
 returns c = let s = c.before.before.before.before.before.before.args.job.now in
     let l = c.before.before.before.loop in (
-      sym l.invariant.2 ∙ definitions-end s l.at l.counts (asBroken l.broken) c.before.before.loop-test.true (omega (arith, l.invariant.1)) (sym c.before.get-u8.ensures ∙ c.if1.true),
+      sym l.invariant.2 ∙ definitions_end s l.at l.counts (as_broken l.broken) c.before.before.loop-test.true (omega (arith, l.invariant.1)) (sym c.before.get-u8.ensures ∙ c.if1.true),
       (omega arith, omega (arith, l.invariant.1)),
     )
 
@@ -53,12 +53,12 @@ is-broken-requires c κs = let g = c.before.next.given in
     let l = c.before.before.before.before.before.before.before.loop in (
       c.before.before.before.before.before.before.loop-test.true,
       m.within,
-      moved-text c.before.before.before.before.before.before.before.before.before.before.args.job.now l.at l.counts c.before.before.before.before.before.before.loop-test.true (omega (arith, l.invariant.1))
+      moved_text c.before.before.before.before.before.before.before.before.before.before.args.job.now l.at l.counts c.before.before.before.before.before.before.loop-test.true (omega (arith, l.invariant.1))
           (λ e. c.before.before.before.before.if1.false (c.before.before.before.before.before.get-u8.ensures ∙ e)) g.0.0 g.0.1.0 m,
     )
 
 first-broken-requires : tie.Need-first-broken-requires invariant-loop decreases-loop
-first-broken-requires c κs = let l = c.before.before.before.before.before.before.before.before.loop in omega (arith, l.invariant.1, c.before.before.before.before.before.before.before.loop-test.true, c.before.before.before.before.before.before.before.before.before.before.before.well-formed)
+first-broken-requires c κs = let l = c.before.before.before.before.before.before.before.before.loop in omega (arith, l.invariant.1, c.before.before.before.before.before.before.before.loop-test.true, c.before.before.before.before.before.before.before.before.before.before.before.well_formed)
 
 texts-hold-requires : tie.Need-texts-hold-requires invariant-loop decreases-loop
 texts-hold-requires c κs = search rules
@@ -68,7 +68,7 @@ sub-t16 c = let s = c.before.before.before.before.before.before.before.before.be
     let l = c.before.before.before.before.before.before.before.before.before.before.before.loop in
     let g = c.before.before.before.before.before.next.given in
     let m = rw g.1 at c.before.before.before.before.before.before.before.form-definition.ensures in
-    (definitions-broken s l.at l.counts c.before.before.before.before.before.before.before.before.before.before.loop-test.true (omega (arith, l.invariant.1))
+    (definitions_broken s l.at l.counts c.before.before.before.before.before.before.before.before.before.before.loop-test.true (omega (arith, l.invariant.1))
     (λ e. c.before.before.before.before.before.before.before.before.if1.false (c.before.before.before.before.before.before.before.before.before.get-u8.ensures ∙ e)) g.0.0 g.0.1.0 m l.broken c.before.before.before.is-broken.result c.before.before.first-broken.result c.before.before.before.is-broken.ensures c.before.before.first-broken.ensures
     (sym c.before.texts-hold.ensures ∙ not-true c.before.texts-hold.result c.if2.true)).0
 
@@ -77,7 +77,7 @@ returns-2 c = let s = c.before.before.before.before.before.before.before.before.
     let l = c.before.before.before.before.before.before.before.before.before.before.before.loop in
     let g = c.before.before.before.before.before.next.given in
     let m = rw g.1 at c.before.before.before.before.before.before.before.form-definition.ensures in (
-      sym l.invariant.2 ∙ (definitions-broken s l.at l.counts c.before.before.before.before.before.before.before.before.before.before.loop-test.true (omega (arith, l.invariant.1))
+      sym l.invariant.2 ∙ (definitions_broken s l.at l.counts c.before.before.before.before.before.before.before.before.before.before.loop-test.true (omega (arith, l.invariant.1))
           (λ e. c.before.before.before.before.before.before.before.before.if1.false (c.before.before.before.before.before.before.before.before.before.get-u8.ensures ∙ e)) g.0.0 g.0.1.0 m l.broken c.before.before.before.is-broken.result c.before.before.first-broken.result c.before.before.before.is-broken.ensures c.before.before.first-broken.ensures
           (sym c.before.texts-hold.ensures ∙ not-true c.before.texts-hold.result c.if2.true)).1,
       tt,
@@ -94,7 +94,7 @@ loop-again c = let s = c.before.before.before.before.before.before.before.before
     let m = rw g.1 at c.before.before.before.before.before.before.before.form-definition.ensures in (
       m.within,
       m.bounded,
-      sym (definitions-held s l.at l.counts c.before.before.before.before.before.before.before.before.before.before.loop-test.true (omega (arith, l.invariant.1))
+      sym (definitions_held s l.at l.counts c.before.before.before.before.before.before.before.before.before.before.loop-test.true (omega (arith, l.invariant.1))
           (λ e. c.before.before.before.before.before.before.before.before.if1.false (c.before.before.before.before.before.before.before.before.before.get-u8.ensures ∙ e)) g.0.0 g.0.1.0 m l.broken c.before.before.before.is-broken.result c.before.before.first-broken.result c.before.before.before.is-broken.ensures c.before.before.first-broken.ensures
           (sym c.before.texts-hold.ensures ∙ not-false c.before.texts-hold.result c.if2.false)) ∙ l.invariant.2,
     )
@@ -106,7 +106,7 @@ returns-3 : tie.Need-returns-3 invariant-loop decreases-loop
 returns-3 c = let s = c.before.before.before.before.before.before.before.before.before.before.args.job.now in
     let l = c.before.before.before.before.before.before.before.loop in
     let g = c.before.code.given in (
-      sym l.invariant.2 ∙ definitions-bad s l.at l.counts (asBroken l.broken) c.before.before.before.before.before.before.loop-test.true (omega (arith, l.invariant.1))
+      sym l.invariant.2 ∙ definitions_bad s l.at l.counts (as_broken l.broken) c.before.before.before.before.before.before.loop-test.true (omega (arith, l.invariant.1))
           (λ e. c.before.before.before.before.if1.false (c.before.before.before.before.before.get-u8.ensures ∙ e)) g.0.0
           (rw g.1 at c.before.before.before.form-definition.ensures),
       tt,
@@ -115,7 +115,7 @@ returns-3 c = let s = c.before.before.before.before.before.before.before.before.
 returns-4 : tie.Need-returns-4 invariant-loop decreases-loop
 returns-4 c = let s = c.before.before.before.before.args.job.now in
     let l = c.before.loop in
-    (sym l.invariant.2 ∙ definitions-none s l.at l.counts (asBroken l.broken) c.loop-test.false, tt)
+    (sym l.invariant.2 ∙ definitions_none s l.at l.counts (as_broken l.broken) c.loop-test.false, tt)
 
 pub form-held-spec : {M : Type 1} → statement M
 form-held-spec =

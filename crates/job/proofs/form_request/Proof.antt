@@ -1,6 +1,6 @@
 -- `job::form_request` meets its contract. Assumes nothing.
-use Rattle.job.proofs.Asking.{request-cut, request-missing, request-good}
-use Rattle.job.specs.Forms.{tablesIn}
+use Rattle.job.proofs.Asking.{request_cut, request_missing, request_good}
+use Rattle.job.specs.Forms.{tables_in}
 use borrow.Author.Tests.{not-true, not-false}
 use mathlib.Core.Path.{refl}
 use borrow.Author.Rules.{rules}
@@ -22,8 +22,8 @@ enum-known-next c = search rules
 returns : tie.Need-returns
 returns c = let a = c.before.before.before.before.before.before.before.args in
     let g = c.before.before.next.given in
-    request-missing a.counts a.job.now a.at g.0.0 g.0.1.0 g.0.1.1.0
-    (rw (g.1, c.before.before.before.before.before.get-u8.ensures) at (c.before.before.before.before.skip-request.ensures (tablesIn a.counts) refl))
+    request_missing a.counts a.job.now a.at g.0.0 g.0.1.0 g.0.1.1.0
+    (rw (g.1, c.before.before.before.before.before.get-u8.ensures) at (c.before.before.before.before.skip-request.ensures (tables_in a.counts) refl))
     (not-true g.0.1.0 c.if1.true)
 
 add-c : tie.Need-overflow-add-c
@@ -35,15 +35,15 @@ enum_told c = search rules
 returns-2 : tie.Need-returns-2
 returns-2 c = let a = c.before.before.before.before.before.before.before.before.args in
     let g = c.before.before.before.next.given in
-    request-good a.counts a.job.now a.at g.0.0 g.0.1.0 g.0.1.1.0
-    (rw (g.1, c.before.before.before.before.before.before.get-u8.ensures) at (c.before.before.before.before.before.skip-request.ensures (tablesIn a.counts) refl))
+    request_good a.counts a.job.now a.at g.0.0 g.0.1.0 g.0.1.1.0
+    (rw (g.1, c.before.before.before.before.before.before.get-u8.ensures) at (c.before.before.before.before.before.skip-request.ensures (tables_in a.counts) refl))
     (not-false g.0.1.0 c.before.if1.false)
     c.before.before.before.before.before.before.before.before.requires.1
 
 returns-3 : tie.Need-returns-3
 returns-3 c = let a = c.before.before.before.before.before.args in
-    request-cut a.counts a.job.now a.at
-    (rw (c.enum_told.given.1, c.before.before.before.get-u8.ensures) at (c.before.before.skip-request.ensures (tablesIn a.counts) refl))
+    request_cut a.counts a.job.now a.at
+    (rw (c.enum_told.given.1, c.before.before.before.get-u8.ensures) at (c.before.before.skip-request.ensures (tables_in a.counts) refl))
 
 pub form-request-spec : {M : Type 1} → statement M
 form-request-spec =

@@ -1,5 +1,5 @@
 -- `job::form_requests` meets its contract. Assumes nothing.
-use Rattle.job.proofs.Passes.{RequestsLeft, requests-end, requests-bad, requests-next, requests-none}
+use Rattle.job.proofs.Passes.{RequestsLeft, requests_end, requests_bad, requests_next, requests_none}
 use Rattle.job.specs.Forms.{Bounded}
 use lib.ListN.{length}
 use mathlib.Core.Path.{◌≡◌, refl, sym, ◌∙◌}
@@ -31,7 +31,7 @@ returns : tie.Need-returns invariant-loop decreases-loop
 returns c = let s = c.before.before.before.before.before.before.args.job.now in
     let l = c.before.before.before.before.loop in
     c.form-build.ensures
-    ∙ sym (requests-end s l.at l.counts c.before.before.before.loop-test.true (omega (arith, l.invariant.1)) (sym c.before.before.get-u8.ensures ∙ c.before.if1.true))
+    ∙ sym (requests_end s l.at l.counts c.before.before.before.loop-test.true (omega (arith, l.invariant.1)) (sym c.before.before.get-u8.ensures ∙ c.before.if1.true))
     ∙ l.invariant.2
 
 form-request-requires : tie.Need-form-request-requires invariant-loop decreases-loop
@@ -50,7 +50,7 @@ loop-again c = let s = c.before.before.before.before.before.before.before.before
     let m = rw g.1 at c.before.before.before.form-request.ensures in (
       m.within,
       m.bounded,
-      sym (requests-next s l.at l.counts c.before.before.before.before.before.before.loop-test.true (omega (arith, l.invariant.1)) g.0.0 g.0.1.0 (λ e. c.before.before.before.before.if1.false (c.before.before.before.before.before.get-u8.ensures ∙ e)) m)
+      sym (requests_next s l.at l.counts c.before.before.before.before.before.before.loop-test.true (omega (arith, l.invariant.1)) g.0.0 g.0.1.0 (λ e. c.before.before.before.before.if1.false (c.before.before.before.before.before.get-u8.ensures ∙ e)) m)
           ∙ l.invariant.2,
     )
 
@@ -58,24 +58,24 @@ enum-known-code : tie.Need-enum-known-code invariant-loop decreases-loop
 enum-known-code c = search rules
 
 place-of-requires : tie.Need-place-of-requires invariant-loop decreases-loop
-place-of-requires c κs = let l = c.before.before.before.before.before.before.before.loop in omega (arith, l.invariant.0, l.invariant.1, c.before.before.before.before.before.before.before.before.before.well-formed)
+place-of-requires c κs = let l = c.before.before.before.before.before.before.before.loop in omega (arith, l.invariant.0, l.invariant.1, c.before.before.before.before.before.before.before.before.before.well_formed)
 
 returns-2 : tie.Need-returns-2 invariant-loop decreases-loop
 returns-2 c = let s = c.before.before.before.before.before.before.before.before.before.before.args.job.now in
     let l = c.before.before.before.before.before.before.before.before.loop in
     let g = c.before.before.code.given in
     rw c.place_of.ensures
-    (sym (requests-bad s l.at l.counts c.before.before.before.before.before.before.before.loop-test.true (omega (arith, l.invariant.1)) g.0.0 (λ e. c.before.before.before.before.before.if1.false (c.before.before.before.before.before.before.get-u8.ensures ∙ e))
+    (sym (requests_bad s l.at l.counts c.before.before.before.before.before.before.before.loop-test.true (omega (arith, l.invariant.1)) g.0.0 (λ e. c.before.before.before.before.before.if1.false (c.before.before.before.before.before.before.get-u8.ensures ∙ e))
     (rw g.1 at c.before.before.before.before.form-request.ensures))
     ∙ l.invariant.2)
 
 place-of-requires-2 : tie.Need-place-of-requires-2 invariant-loop decreases-loop
-place-of-requires-2 c κs = let l = c.before.loop in omega (arith, l.invariant.0, l.invariant.1, c.before.before.before.well-formed)
+place-of-requires-2 c κs = let l = c.before.loop in omega (arith, l.invariant.0, l.invariant.1, c.before.before.before.well_formed)
 
 returns-3 : tie.Need-returns-3 invariant-loop decreases-loop
 returns-3 c = let l = c.before.before.loop in
     rw c.place-of2.ensures
-    (sym (requests-none c.before.before.before.before.args.job.now l.at l.counts c.before.loop-test.false) ∙ l.invariant.2)
+    (sym (requests_none c.before.before.before.before.args.job.now l.at l.counts c.before.loop-test.false) ∙ l.invariant.2)
 
 pub form-requests-spec : {M : Type 1} → statement M
 form-requests-spec =

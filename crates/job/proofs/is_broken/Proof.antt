@@ -2,7 +2,7 @@
 use mathlib.Core.Path.{sym, ◌∙◌}
 use lib.ListN.{get_or}
 use borrow.Author.Tests.{eq-eqb, ne_eqb}
-use Rattle.job.specs.Forms.{brokenAt}
+use Rattle.job.specs.Forms.{broken_at}
 use borrow.Author.Rules.{rules}
 use Rattle.job.proofs.is_broken.Statement.{statement}
 use Rattle.job.proofs.is_broken.Tie as tie
@@ -26,11 +26,11 @@ is-text-requires : tie.Need-is-text-requires
 is-text-requires c κs = search rules
 
 returns : tie.Need-returns
-unfolding brokenAt
-returns c = let a = c.before.before.before.before.before.args in rw (eq-eqb (get_or a.job.now a.at 0) 1 (sym c.before.before.before.get-u8.ensures ∙ c.before.before.if1.true), c.is-text.ensures)
+unfolding broken_at
+returns c = let a = c.before.before.before.before.before.args in rw (eq-eqb (get_or a.job.now a.at 0) 1 (sym c.before.before.before.get-u8.ensures ∙ c.before.before.if1.true), c.is_text_lem.ensures)
 
 returns-2 : tie.Need-returns-2
-unfolding brokenAt
+unfolding broken_at
 returns-2 c = let a = c.before.before.before.args in rw (ne_eqb (get_or a.job.now a.at 0) 1 (λ e. c.if1.false (c.before.get-u8.ensures ∙ e)))
 
 pub is-broken-spec : {M : Type 1} → statement M

@@ -1,5 +1,5 @@
 -- `job::kind_byte` meets its contract. Assumes nothing.
-use Rattle.job.proofs.Stored.{bootstrap-byte, handle-room, handle-byte, no_byte}
+use Rattle.job.proofs.Stored.{bootstrap_byte, handle_room, handle_byte, no_byte}
 use borrow.Author.Rules.{rules}
 use Rattle.job.proofs.kind_byte.Statement.{statement}
 use Rattle.job.proofs.kind_byte.Tie as tie
@@ -15,7 +15,7 @@ enum-known-shape c = search rules
 
 returns : tie.Need-returns
 returns c = let a = c.before.before.before.before.args in
-    bootstrap-byte a.job.now a.at _ _ c.before.before.tag_at.ensures c.before.Opening-of.ensures.0 c.match.keys2
+    bootstrap_byte a.job.now a.at _ _ c.before.before.tag_at.ensures c.before.Opening-of.ensures.0 c.match.keys2
 
 enum_told : tie.Need-enum-told
 enum_told c = search rules
@@ -26,12 +26,12 @@ add-get-u8 c = search rules
 get-u8-requires : tie.Need-get-u8-requires
 get-u8-requires c κs = let a = c.before.before.before.before.before.before.before.before.args in
     let g = c.before.before.before.shape.given in
-    handle-room a.job.now a.at _ _ c.before.before.before.before.before.before.tag_at.ensures c.before.before.before.before.before.Opening-of.ensures.0 g.0.0 g.1 c.enum_told.given.1 c.before.before.before.before.before.before.before.before.requires
+    handle_room a.job.now a.at _ _ c.before.before.before.before.before.before.tag_at.ensures c.before.before.before.before.before.Opening-of.ensures.0 g.0.0 g.1 c.enum_told.given.1 c.before.before.before.before.before.before.before.before.requires
 
 returns-2 : tie.Need-returns-2
 returns-2 c = let a = c.before.before.before.before.before.before.before.before.before.args in
     let g = c.before.before.before.before.shape.given in
-    rw c.get-u8.ensures (handle-byte a.job.now a.at _ _ c.before.before.before.before.before.before.before.tag_at.ensures c.before.before.before.before.before.before.Opening-of.ensures.0 g.0.0 g.1 c.before.enum_told.given.1)
+    rw c.get-u8.ensures (handle_byte a.job.now a.at _ _ c.before.before.before.before.before.before.before.tag_at.ensures c.before.before.before.before.before.before.Opening-of.ensures.0 g.0.0 g.1 c.before.enum_told.given.1)
 
 returns-3 : tie.Need-returns-3
 returns-3 c = let a = c.before.before.before.before.before.before.before.args in

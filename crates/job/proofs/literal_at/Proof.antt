@@ -1,6 +1,6 @@
 -- `job::literal_at` meets its contract. Assumes nothing.
 use native.Mathlib.Omega.{arith}
-use Rattle.job.proofs.Stored.{bootstrap-literal, text-room, text-literal, bits-room, bits-literal, no-literal}
+use Rattle.job.proofs.Stored.{bootstrap_literal, text_room, text_literal, bits-room, bits-literal, no_literal_lem}
 use borrow.Author.Rules.{rules}
 use Rattle.job.proofs.literal_at.Statement.{statement}
 use Rattle.job.proofs.literal_at.Tie as tie
@@ -16,7 +16,7 @@ enum-known-shape c = search rules
 
 returns : tie.Need-returns
 returns c = let a = c.before.before.before.before.args in
-    bootstrap-literal a.job.now a.at _ _ c.before.before.tag_at.ensures c.before.Opening-of.ensures.0 c.match.keys2
+    bootstrap_literal a.job.now a.at _ _ c.before.before.tag_at.ensures c.before.Opening-of.ensures.0 c.match.keys2
 
 enum_told : tie.Need-enum-told
 enum_told c = search rules
@@ -30,7 +30,7 @@ add-get-u16 c = search rules
 get-u16-requires : tie.Need-get-u16-requires
 get-u16-requires c κs = let a = c.before.before.before.before.before.before.before.before.args in
     let g = c.before.before.before.shape.given in
-    omega (arith, text-room a.job.now a.at _ _ c.before.before.before.before.before.before.tag_at.ensures c.before.before.before.before.before.Opening-of.ensures.0 g.0.0 g.1 c.enum_told.given.1 c.before.before.before.before.before.before.before.before.requires.0)
+    omega (arith, text_room a.job.now a.at _ _ c.before.before.before.before.before.before.tag_at.ensures c.before.before.before.before.before.Opening-of.ensures.0 g.0.0 g.1 c.enum_told.given.1 c.before.before.before.before.before.before.before.before.requires.0)
 
 cast-n : tie.Need-overflow-cast-n
 cast-n c = search rules
@@ -38,7 +38,7 @@ cast-n c = search rules
 add-t11 : tie.Need-overflow-add-t11
 add-t11 c = let a = c.before.before.before.before.before.before.before.before.before.args in
     let g = c.before.before.before.before.shape.given in
-    omega (arith, c.get-u16.ensures, text-room a.job.now a.at _ _ c.before.before.before.before.before.before.before.tag_at.ensures c.before.before.before.before.before.before.Opening-of.ensures.0 g.0.0 g.1 c.before.enum_told.given.1 c.before.before.before.before.before.before.before.before.before.requires.0)
+    omega (arith, c.get-u16.ensures, text_room a.job.now a.at _ _ c.before.before.before.before.before.before.before.tag_at.ensures c.before.before.before.before.before.before.Opening-of.ensures.0 g.0.0 g.1 c.before.enum_told.given.1 c.before.before.before.before.before.before.before.before.before.requires.0)
 
 enum-known-shape-2 : tie.Need-enum-known-shape-2
 enum-known-shape-2 c = search rules
@@ -61,7 +61,7 @@ add-t15 c = let a = c.before.before.before.before.before.before.before.before.be
 returns-2 : tie.Need-returns-2
 returns-2 c = let a = c.before.before.before.before.before.before.before.before.before.args in
     let g = c.before.before.before.before.shape.given in
-    rw c.get-u16.ensures (text-literal a.job.now a.at _ _ c.before.before.before.before.before.before.before.tag_at.ensures c.before.before.before.before.before.before.Opening-of.ensures.0 g.0.0 g.1 c.before.enum_told.given.1)
+    rw c.get-u16.ensures (text_literal a.job.now a.at _ _ c.before.before.before.before.before.before.before.tag_at.ensures c.before.before.before.before.before.before.Opening-of.ensures.0 g.0.0 g.1 c.before.enum_told.given.1)
 
 returns-3 : tie.Need-returns-3
 returns-3 c = let a = c.before.before.before.before.before.before.before.before.before.args in
@@ -72,7 +72,7 @@ returns-3 c = let a = c.before.before.before.before.before.before.before.before.
 returns-4 : tie.Need-returns-4
 returns-4 c = let a = c.before.before.before.before.before.before.before.args in
     let g = c.before.before.shape.given in
-    no-literal a.job.now a.at _ _ c.before.before.before.before.before.tag_at.ensures c.before.before.before.before.Opening-of.ensures.0 g.0.0 g.1 c.match2.keys3
+    no_literal_lem a.job.now a.at _ _ c.before.before.before.before.before.tag_at.ensures c.before.before.before.before.Opening-of.ensures.0 g.0.0 g.1 c.match2.keys3
 
 pub literal-at-spec : {M : Type 1} → statement M
 literal-at-spec =

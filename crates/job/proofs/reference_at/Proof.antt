@@ -1,7 +1,7 @@
 -- `job::reference_at` meets its contract. Assumes nothing.
 use native.Mathlib.Omega.{arith}
 use mathlib.Core.Path.{sym, ◌∙◌}
-use Rattle.job.proofs.Stored.{number-room, name-stands, raw-cited, number-cited, name-cited}
+use Rattle.job.proofs.Stored.{number-room, name_stands, raw_cited, number-cited, name_cited}
 use borrow.Author.Rules.{rules}
 use Rattle.job.proofs.reference_at.Statement.{statement}
 use Rattle.job.proofs.reference_at.Tie as tie
@@ -33,11 +33,11 @@ add-name-at c = search rules
 name-at-requires : tie.Need-name-at-requires
 name-at-requires c κs = let a = c.before.before.before.args in
     let g = c.before.get-u8.ensures in
-    name-stands a.job.now a.at (λ z. c.match.rest.0.1 (g ∙ z)) (λ z. c.match.rest.1 (g ∙ z)) c.before.before.before.requires
+    name_stands a.job.now a.at (λ z. c.match.rest.0.1 (g ∙ z)) (λ z. c.match.rest.1 (g ∙ z)) c.before.before.before.requires
 
 returns : tie.Need-returns
 returns c = let a = c.before.before.before.before.args in
-    rw c.get-u16.ensures (raw-cited a.job.now a.at (sym c.before.before.get-u8.ensures ∙ c.before.match.keys1))
+    rw c.get-u16.ensures (raw_cited a.job.now a.at (sym c.before.before.get-u8.ensures ∙ c.before.match.keys1))
 
 returns-2 : tie.Need-returns-2
 returns-2 c = let a = c.before.before.before.before.args in
@@ -46,7 +46,7 @@ returns-2 c = let a = c.before.before.before.before.args in
 returns-3 : tie.Need-returns-3
 returns-3 c = let a = c.before.before.before.before.args in
     let g = c.before.before.get-u8.ensures in
-    name-cited a.job.now a.at (λ z. c.before.match.rest.0.1 (g ∙ z)) (λ z. c.before.match.rest.1 (g ∙ z)) _ c.name-at.ensures
+    name_cited a.job.now a.at (λ z. c.before.match.rest.0.1 (g ∙ z)) (λ z. c.before.match.rest.1 (g ∙ z)) _ c.name_at.ensures
 
 pub reference-at-spec : {M : Type 1} → statement M
 reference-at-spec =

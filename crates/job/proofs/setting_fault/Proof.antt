@@ -1,6 +1,6 @@
 -- `job::setting_fault` meets its contract. Assumes nothing.
-use Rattle.job.proofs.Faults.{fault-other}
-use Rattle.job.specs.Forms.{settingFault}
+use Rattle.job.proofs.Faults.{fault_other}
+use Rattle.job.specs.Forms.{setting_fault}
 use borrow.Author.Rules.{rules}
 use Rattle.job.proofs.setting_fault.Statement.{statement}
 use Rattle.job.proofs.setting_fault.Tie as tie
@@ -24,19 +24,19 @@ highest-fault-requires : tie.Need-highest-fault-requires
 highest-fault-requires c κs = search rules
 
 returns : tie.Need-returns
-unfolding settingFault
+unfolding setting_fault
 returns c = rw c.before.enum_told.given.1 c.once.ensures
 
 returns-2 : tie.Need-returns-2
-unfolding settingFault
+unfolding setting_fault
 returns-2 c = rw c.before.enum-told2.given.1 c.once2.ensures
 
 returns-3 : tie.Need-returns-3
-unfolding settingFault
+unfolding setting_fault
 returns-3 c = rw c.before.enum-told3.given.1 c.highest-fault.ensures
 
 returns-4 : tie.Need-returns-4
-returns-4 c = let a = c.before.args in fault-other a.opening a.number a.counts c.match.keys4
+returns-4 c = let a = c.before.args in fault_other a.opening a.number a.counts c.match.keys4
 
 pub setting-fault-spec : {M : Type 1} → statement M
 setting-fault-spec =

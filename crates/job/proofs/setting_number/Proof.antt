@@ -1,6 +1,6 @@
 -- `job::setting_number` meets its contract. Assumes nothing.
 use Rattle.job.proofs.Faults.{number-other}
-use Rattle.job.specs.Forms.{numberOpened}
+use Rattle.job.specs.Forms.{number_opened}
 use borrow.Author.Rules.{rules}
 use Rattle.job.proofs.setting_number.Statement.{statement}
 use Rattle.job.proofs.setting_number.Tie as tie
@@ -24,11 +24,11 @@ cast-result-2 : tie.Need-overflow-cast-result-2
 cast-result-2 c = search rules
 
 returns : tie.Need-returns
-unfolding numberOpened
+unfolding number_opened
 returns c = rw c.before.enum_told.given.1 c.get-u16.ensures
 
 returns-2 : tie.Need-returns-2
-unfolding numberOpened
+unfolding number_opened
 returns-2 c = rw c.before.enum-told2.given.1 c.get-u162.ensures
 
 returns-3 : tie.Need-returns-3

@@ -1,7 +1,7 @@
 -- `job::skip_bootstrap` meets its contract. Assumes nothing.
 use Prim.Native.Nat.{◌+◌}
-use Rattle.job.proofs.Entries.{reference-bounds, several-bounds, to-cut, bootstrap-to, bootstrap-cut, arguments-cut}
-use Rattle.definition.specs.Shapes.{constant, toMany, bootstrapShape}
+use Rattle.job.proofs.Entries.{reference-bounds, several_bounds, to_cut, bootstrap_to, bootstrap_cut, arguments-cut}
+use Rattle.definition.specs.Shapes.{constant, to_many, bootstrap_shape}
 use Rattle.definition.specs.Form.{count_of}
 use mathlib.Core.List.{[], ◌∷◌}
 use native.Mathlib.Omega.{arith}
@@ -19,9 +19,9 @@ enum_told : tie.Need-enum-told
 enum_told c = search rules
 
 returns : tie.Need-returns
-unfolding count_of bootstrapShape
+unfolding count_of bootstrap_shape
 returns c = λ n e.
-    to-cut n c.before.before.before.before.args.job.now c.before.before.before.before.args.at constant (toMany ∷ []) (rw c.enum_told.given.1 at (c.before.before.skip-reference.ensures constant n e))
+    to_cut n c.before.before.before.before.args.job.now c.before.before.before.before.args.at constant (to_many ∷ []) (rw c.enum_told.given.1 at (c.before.before.skip-reference.ensures constant n e))
 
 sub-if1 : tie.Need-overflow-sub-if1
 sub-if1 c = let g = c.before.next.given in
@@ -33,7 +33,7 @@ unfolding count_of
 returns-2 c = λ n e.
     let g = c.before.before.next.given in
     let a = c.before.before.before.before.before.before.args in
-    bootstrap-cut n a.job.now a.at g.0.0 g.0.1.0 g.0.1.1.0 (rw g.1 at (c.before.before.before.before.skip-reference.ensures constant n e)) c.if1.true
+    bootstrap_cut n a.job.now a.at g.0.0 g.0.1.0 g.0.1.1.0 (rw g.1 at (c.before.before.before.before.skip-reference.ensures constant n e)) c.if1.true
 
 get-u16-requires : tie.Need-get-u16-requires
 get-u16-requires c κs = search rules
@@ -54,8 +54,8 @@ add-t18 : tie.Need-overflow-add-t18
 add-t18 c = let g = c.before.before.before.before.before.before.before.next.given in
     let h = c.before.end.given in
     let a = c.before.before.before.before.before.before.before.before.before.before.before.args in
-    let b = several-bounds a.entries c.before.before.before.before.get-u16.result a.job.now (g.0.0 + 2) h.0.0 h.0.1.0 h.0.1.1.0 (rw h.1 at c.before.before.before.skip-references.ensures) in
-    omega (arith, c.before.before.before.before.before.before.before.before.before.before.before.well-formed)
+    let b = several_bounds a.entries c.before.before.before.before.get-u16.result a.job.now (g.0.0 + 2) h.0.0 h.0.1.0 h.0.1.1.0 (rw h.1 at c.before.before.before.skip-references.ensures) in
+    omega (arith, c.before.before.before.before.before.before.before.before.before.before.before.well_formed)
 
 enum-told-2 : tie.Need-enum-told-2
 enum-told-2 c = search rules
@@ -66,7 +66,7 @@ returns-3 c = λ n e.
     let g = c.before.before.before.before.before.before.before.next.given in
     let h = c.before.end.given in
     let a = c.before.before.before.before.before.before.before.before.before.before.before.args in
-    bootstrap-to n a.job.now a.at g.0.0 g.0.1.0 g.0.1.1.0 (rw g.1 at (c.before.before.before.before.before.before.before.before.before.skip-reference.ensures constant n e))
+    bootstrap_to n a.job.now a.at g.0.0 g.0.1.0 g.0.1.1.0 (rw g.1 at (c.before.before.before.before.before.before.before.before.before.skip-reference.ensures constant n e))
     h.0.0 h.0.1.0 h.0.1.1.0 (omega arith)
     (rw (h.1, c.before.before.before.before.get-u16.ensures) at (c.before.before.before.skip-references.ensures n e))
 

@@ -1,5 +1,5 @@
 -- `job::skip_build` meets its contract. Assumes nothing.
-use Rattle.job.proofs.Asking.{build-cut, build-name, build-to, class-slot, class-request, class-unknown}
+use Rattle.job.proofs.Asking.{build-cut, build-name, build-to, class_slot, class_request, class_unknown}
 use Rattle.job.specs.declared.Skipped.TheVariants.{Cut}
 use lib.ListN.{drop}
 use Prim.Native.Nat.{◌+◌}
@@ -42,18 +42,18 @@ returns-3 : tie.Need-returns-3
 returns-3 c = let a = c.before.before.before.before.before.before.before.args in
     let r = c.skip-raw-slot.result in
     build-to a.job.now a.at a.requests r (omega arith) (rw c.before.before.before.before.get-u8.ensures at c.before.before.before.if2.false)
-    (rw (← c.before.before.get-u82.ensures, c.before.match.keys1) (class-slot a.job.now (a.at + 2) a.requests r c.skip-raw-slot.ensures))
+    (rw (← c.before.before.get-u82.ensures, c.before.match.keys1) (class_slot a.job.now (a.at + 2) a.requests r c.skip-raw-slot.ensures))
 
 returns-4 : tie.Need-returns-4
 returns-4 c = let a = c.before.before.before.before.before.before.before.args in
     let r = c.skip-number.result in
     build-to a.job.now a.at a.requests r (omega arith) (rw c.before.before.before.before.get-u8.ensures at c.before.before.before.if2.false)
-    (rw (← c.before.before.get-u82.ensures, c.before.match.keys2) (class-request a.job.now (a.at + 2) a.requests r c.skip-number.ensures))
+    (rw (← c.before.before.get-u82.ensures, c.before.match.keys2) (class_request a.job.now (a.at + 2) a.requests r c.skip-number.ensures))
 
 returns-5 : tie.Need-returns-5
 returns-5 c = let a = c.before.before.before.before.before.before.args in
     build-to a.job.now a.at a.requests Cut (omega arith) (rw c.before.before.before.get-u8.ensures at c.before.before.if2.false)
-    (rw (← c.before.get-u82.ensures) (class-unknown c.before.get-u82.result (drop (a.at + 2) a.job.now) (omega arith)))
+    (rw (← c.before.get-u82.ensures) (class_unknown c.before.get-u82.result (drop (a.at + 2) a.job.now) (omega arith)))
 
 pub skip-build-spec : {M : Type 1} → statement M
 skip-build-spec =

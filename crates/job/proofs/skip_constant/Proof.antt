@@ -2,8 +2,8 @@
 use mathlib.Core.List.{[], ◌∷◌}
 use Rattle.definition.specs.Form.{count_of}
 use Rattle.definition.specs.Shapes.{constant, bootstrap, text, bits, byte, to}
-use Rattle.job.specs.Forms.{entryBody}
-use Rattle.job.proofs.Records.{entry-to, unknown-cut}
+use Rattle.job.specs.Forms.{entry_body}
+use Rattle.job.proofs.Records.{entry_to, unknown_cut}
 use Rattle.job.proofs.Entries.{bits-to, one-to}
 use borrow.Author.Rules.{rules}
 use Rattle.job.proofs.skip_constant.Statement.{statement}
@@ -52,41 +52,41 @@ enum-told-6 : tie.Need-enum-told-6
 enum-told-6 c = search rules
 
 returns : tie.Need-returns
-unfolding entryBody
+unfolding entry_body
 returns c = let a = c.before.before.before.before.args in
-    λ n e f. rw c.before.enum_told.given.1 (entry-to n a.job.now a.at (text ∷ []) c.skip-text.result (c.skip-text.ensures n))
+    λ n e f. rw c.before.enum_told.given.1 (entry_to n a.job.now a.at (text ∷ []) c.skip-text.result (c.skip-text.ensures n))
 
 returns-2 : tie.Need-returns-2
-unfolding entryBody
+unfolding entry_body
 returns-2 c = let a = c.before.before.before.before.before.args in
     let g = c.before.before.shape.given in
-    λ n e f. rw g.1 (entry-to n a.job.now a.at (bits g.0.0 ∷ []) c.skip-bytes.result (bits-to n a.job.now a.at g.0.0 c.skip-bytes.result c.skip-bytes.ensures))
+    λ n e f. rw g.1 (entry_to n a.job.now a.at (bits g.0.0 ∷ []) c.skip-bytes.result (bits-to n a.job.now a.at g.0.0 c.skip-bytes.result c.skip-bytes.ensures))
 
 returns-3 : tie.Need-returns-3
-unfolding entryBody count_of
+unfolding entry_body count_of
 returns-3 c = let a = c.before.before.before.before.args in
     λ n e f. rw c.before.enum-told2.given.1
-    (entry-to n a.job.now a.at (to constant ∷ []) c.skip-reference.result (one-to n a.job.now a.at constant c.skip-reference.result (c.skip-reference.ensures constant n e)))
+    (entry_to n a.job.now a.at (to constant ∷ []) c.skip-reference.result (one-to n a.job.now a.at constant c.skip-reference.result (c.skip-reference.ensures constant n e)))
 
 returns-4 : tie.Need-returns-4
-unfolding entryBody count_of
+unfolding entry_body count_of
 returns-4 c = let a = c.before.before.before.before.args in
-    λ n e f. rw c.before.enum-told3.given.1 (entry-to n a.job.now a.at (to constant ∷ to constant ∷ []) c.skip-pair.result (c.skip-pair.ensures constant constant n e e))
+    λ n e f. rw c.before.enum-told3.given.1 (entry_to n a.job.now a.at (to constant ∷ to constant ∷ []) c.skip-pair.result (c.skip-pair.ensures constant constant n e e))
 
 returns-5 : tie.Need-returns-5
-unfolding entryBody
+unfolding entry_body
 returns-5 c = let a = c.before.before.before.before.args in
-    λ n e f. rw c.before.enum-told4.given.1 (entry-to n a.job.now a.at (byte ∷ to constant ∷ []) c.skip-handle.result (c.skip-handle.ensures n e))
+    λ n e f. rw c.before.enum-told4.given.1 (entry_to n a.job.now a.at (byte ∷ to constant ∷ []) c.skip-handle.result (c.skip-handle.ensures n e))
 
 returns-6 : tie.Need-returns-6
-unfolding entryBody count_of
+unfolding entry_body count_of
 returns-6 c = let a = c.before.before.before.before.args in
-    λ n e f. rw c.before.enum-told5.given.1 (entry-to n a.job.now a.at (to bootstrap ∷ to constant ∷ []) c.skip-pair2.result (c.skip-pair2.ensures bootstrap constant n f e))
+    λ n e f. rw c.before.enum-told5.given.1 (entry_to n a.job.now a.at (to bootstrap ∷ to constant ∷ []) c.skip-pair2.result (c.skip-pair2.ensures bootstrap constant n f e))
 
 returns-7 : tie.Need-returns-7
-unfolding entryBody
+unfolding entry_body
 returns-7 c = let a = c.before.before.before.args in
-    λ n e f. rw c.enum-told6.given.1 (unknown-cut n a.job.now a.at)
+    λ n e f. rw c.enum-told6.given.1 (unknown_cut n a.job.now a.at)
 
 pub skip-constant-spec : {M : Type 1} → statement M
 skip-constant-spec =

@@ -1,9 +1,9 @@
 -- `job::skip_definition` meets its contract. Assumes nothing.
 use Rattle.definition.specs.Form.{count_of}
-use Rattle.definition.specs.Shapes.{constant, bootstrap, bootstrapShape}
+use Rattle.definition.specs.Shapes.{constant, bootstrap, bootstrap_shape}
 use Rattle.definition.specs.Settings.{version, texts, highest}
 use Rattle.job.specs.Forms.{body_of}
-use Rattle.job.proofs.Records.{entry-to, number-to, nothing-to, expression-to}
+use Rattle.job.proofs.Records.{entry_to, number-to, nothing_to, expression-to}
 use borrow.Author.Rules.{rules}
 use Rattle.job.proofs.skip_definition.Statement.{statement}
 use Rattle.job.proofs.skip_definition.Tie as tie
@@ -72,7 +72,7 @@ returns c = let g = c.before.before.opening.given in rw g.1 c.skip-constant.ensu
 returns-2 : tie.Need-returns-2
 unfolding body_of
 returns-2 c = let a = c.before.before.before.before.args in
-    λ n e f. rw c.before.enum_told.given.1 (entry-to n a.job.now a.at bootstrapShape c.skip-bootstrap.result (c.skip-bootstrap.ensures n e))
+    λ n e f. rw c.before.enum_told.given.1 (entry_to n a.job.now a.at bootstrap_shape c.skip-bootstrap.result (c.skip-bootstrap.ensures n e))
 
 returns-3 : tie.Need-returns-3
 unfolding body_of count_of
@@ -97,7 +97,7 @@ returns-7 c = let a = c.before.before.before.before.args in
 
 returns-8 : tie.Need-returns-8
 unfolding body_of
-returns-8 c = let a = c.before.before.before.args in λ n e f. rw c.enum-told7.given.1 (nothing-to n a.job.now a.at texts c.before.before.before.requires)
+returns-8 c = let a = c.before.before.before.args in λ n e f. rw c.enum-told7.given.1 (nothing_to n a.job.now a.at texts c.before.before.before.requires)
 
 returns-9 : tie.Need-returns-9
 unfolding body_of

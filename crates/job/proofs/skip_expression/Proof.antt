@@ -1,7 +1,7 @@
 -- `job::skip_expression` meets its contract. Assumes nothing.
 use mathlib.Core.Path.{subst}
 use Rattle.folding.specs.Folding.{Spans}
-use Rattle.job.proofs.Records.{whole-expression, bad-expression}
+use Rattle.job.proofs.Records.{whole-expression, bad_expression}
 use borrow.Author.Rules.{rules}
 use Rattle.job.proofs.skip_expression.Statement.{statement}
 use Rattle.job.proofs.skip_expression.Tie as tie
@@ -27,7 +27,7 @@ returns-2 : tie.Need-returns-2
 returns-2 c = let a = c.before.before.before.before.before.args in
     let g = c.before.next2.given in
     let h = subst (Spans a.job.now a.at) g.1 c.before.before.before.end_of.ensures in
-    bad-expression a.job.now a.at g.0.0 h.0 h.1 h.2
+    bad_expression a.job.now a.at g.0.0 h.0 h.1 h.2
 
 returns-3 : tie.Need-returns-3
 returns-3 c = let a = c.before.before.before.before.args in

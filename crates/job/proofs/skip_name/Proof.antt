@@ -1,6 +1,6 @@
 -- `job::skip_name` meets its contract. Assumes nothing.
 use Rattle.job.proofs.Laws.{then_one, none-one}
-use Rattle.definition.specs.Job.{shortName}
+use Rattle.definition.specs.Job.{short_name}
 use Rattle.definition.specs.Bytes.{one, many}
 use mathlib.Core.Bool.{true}
 use native.Mathlib.Omega.{arith}
@@ -9,7 +9,7 @@ use Rattle.job.proofs.skip_name.Statement.{statement}
 use Rattle.job.proofs.skip_name.Tie as tie
 
 returns : tie.Need-returns
-unfolding shortName
+unfolding short_name
 returns c = none-one (λ _. true) (λ _. 0) c.before.before.args.job.now c.before.before.args.at (λ size. many size one) (omega arith)
 
 get-u8-requires : tie.Need-get-u8-requires
@@ -25,7 +25,7 @@ skip-bytes-requires : tie.Need-skip-bytes-requires
 skip-bytes-requires c κs = search rules
 
 returns-2 : tie.Need-returns-2
-unfolding shortName
+unfolding short_name
 returns-2 c = then_one (λ _. true) (λ _. 0) c.before.before.before.before.args.job.now c.before.before.before.before.args.at (λ size. many size one) c.skip-bytes.result (omega arith)
     (rw c.before.get-u8.ensures at c.skip-bytes.ensures)
 

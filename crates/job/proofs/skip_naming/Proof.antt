@@ -1,5 +1,5 @@
 -- `job::skip_naming` meets its contract. Assumes nothing.
-use Rattle.job.proofs.Records.{name-cut, naming-to, naming-cut}
+use Rattle.job.proofs.Records.{name_cut, naming_to, naming_cut}
 use borrow.Author.Rules.{rules}
 use Rattle.job.proofs.skip_naming.Statement.{statement}
 use Rattle.job.proofs.skip_naming.Tie as tie
@@ -14,7 +14,7 @@ enum_told : tie.Need-enum-told
 enum_told c = search rules
 
 returns : tie.Need-returns
-returns c = λ kind n e. name-cut n c.before.before.before.before.args.job.now c.before.before.before.before.args.at kind (rw c.enum_told.given.1 at c.before.before.skip-name.ensures)
+returns c = λ kind n e. name_cut n c.before.before.before.before.args.job.now c.before.before.before.before.args.at kind (rw c.enum_told.given.1 at c.before.before.skip-name.ensures)
 
 skip-reference-requires : tie.Need-skip-reference-requires
 skip-reference-requires c κs = let g = c.before.next.given in let v = rw g.1 at c.before.before.before.skip-name.ensures in v.within
@@ -30,14 +30,14 @@ returns-2 c = λ kind n e.
     let a = c.before.before.before.before.before.before.before.before.before.args in
     let g = c.before.before.before.before.before.next.given in
     let h = c.before.end.given in
-    naming-to n a.job.now a.at kind g.0.0 g.0.1.0 g.0.1.1.0 (rw g.1 at c.before.before.before.before.before.before.before.skip-name.ensures) h.0.0 h.0.1.0 h.0.1.1.0
+    naming_to n a.job.now a.at kind g.0.0 g.0.1.0 g.0.1.1.0 (rw g.1 at c.before.before.before.before.before.before.before.skip-name.ensures) h.0.0 h.0.1.0 h.0.1.1.0
     (rw h.1 at (c.before.before.before.skip-reference.ensures kind n e))
 
 returns-3 : tie.Need-returns-3
 returns-3 c = λ kind n e.
     let a = c.before.before.before.before.before.before.before.before.args in
     let g = c.before.before.before.before.next.given in
-    naming-cut n a.job.now a.at kind g.0.0 g.0.1.0 g.0.1.1.0 (rw g.1 at c.before.before.before.before.before.before.skip-name.ensures)
+    naming_cut n a.job.now a.at kind g.0.0 g.0.1.0 g.0.1.1.0 (rw g.1 at c.before.before.before.before.before.before.skip-name.ensures)
     (rw c.enum-told2.given.1 at (c.before.before.skip-reference.ensures kind n e))
 
 pub skip-naming-spec : {M : Type 1} → statement M

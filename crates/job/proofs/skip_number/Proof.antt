@@ -1,5 +1,5 @@
 -- `job::skip_number` meets its contract. Assumes nothing.
-use Rattle.job.proofs.Laws.{skips-two, two-cut}
+use Rattle.job.proofs.Laws.{skips_two, two-cut}
 use lib.Dec.{ltb}
 use native.Mathlib.Omega.{arith}
 use borrow.Author.Rules.{rules}
@@ -22,7 +22,7 @@ add-t5 : tie.Need-overflow-add-t5
 add-t5 c = search rules
 
 returns-2 : tie.Need-returns-2
-returns-2 c = rw c.get-u16.ensures (skips-two c.before.before.before.args.job.now c.before.before.before.args.at (λ m. ltb m c.before.before.before.args.entries) (omega arith))
+returns-2 c = rw c.get-u16.ensures (skips_two c.before.before.before.args.job.now c.before.before.before.args.at (λ m. ltb m c.before.before.before.args.entries) (omega arith))
 
 pub skip-number-spec : {M : Type 1} → statement M
 skip-number-spec =

@@ -1,5 +1,5 @@
 -- `job::skip_pair` meets its contract. Assumes nothing.
-use Rattle.job.proofs.Entries.{reference-bounds, to-cut, pair-to, pair-cut}
+use Rattle.job.proofs.Entries.{reference-bounds, to_cut, pair_to, pair_cut}
 use mathlib.Core.List.{[], ◌∷◌}
 use Rattle.definition.specs.Shapes.{to}
 use borrow.Author.Rules.{rules}
@@ -31,18 +31,18 @@ returns c = λ k l n e f.
     let a = c.before.before.before.before.before.before.before.before.before.args in
     let g = c.before.before.before.before.before.next.given in
     let h = c.before.end.given in
-    pair-to n a.job.now a.at k l g.0.0 g.0.1.0 g.0.1.1.0 (rw g.1 at (c.before.before.before.before.before.before.before.skip-reference.ensures k n e))
+    pair_to n a.job.now a.at k l g.0.0 g.0.1.0 g.0.1.1.0 (rw g.1 at (c.before.before.before.before.before.before.before.skip-reference.ensures k n e))
     h.0.0 h.0.1.0 h.0.1.1.0 (rw h.1 at (c.before.before.before.skip-reference2.ensures l n f))
 
 returns-2 : tie.Need-returns-2
 returns-2 c = λ k l n e f.
     let a = c.before.before.before.before.before.before.before.before.args in
     let g = c.before.before.before.before.next.given in
-    pair-cut n a.job.now a.at k l g.0.0 g.0.1.0 g.0.1.1.0 (rw g.1 at (c.before.before.before.before.before.before.skip-reference.ensures k n e))
+    pair_cut n a.job.now a.at k l g.0.0 g.0.1.0 g.0.1.1.0 (rw g.1 at (c.before.before.before.before.before.before.skip-reference.ensures k n e))
     (rw c.enum_told.given.1 at (c.before.before.skip-reference2.ensures l n f))
 
 returns-3 : tie.Need-returns-3
-returns-3 c = λ k l n e f. to-cut n c.before.before.before.before.args.job.now c.before.before.before.before.args.at k (to l ∷ []) (rw c.enum-told2.given.1 at (c.before.before.skip-reference.ensures k n e))
+returns-3 c = λ k l n e f. to_cut n c.before.before.before.before.args.job.now c.before.before.before.before.args.at k (to l ∷ []) (rw c.enum-told2.given.1 at (c.before.before.skip-reference.ensures k n e))
 
 pub skip-pair-spec : {M : Type 1} → statement M
 skip-pair-spec =

@@ -1,7 +1,7 @@
 -- `job::skip_reference` meets its contract. Assumes nothing.
 use Rattle.job.specs.declared.Skipped.TheVariants.{Cut}
 use Rattle.job.proofs.Laws.{none-one, then_one, reference-to}
-use Rattle.definition.specs.Job.{reference, referenceForm}
+use Rattle.definition.specs.Job.{reference, reference_form}
 use Rattle.definition.specs.Form.{cites}
 use native.Mathlib.Omega.{arith}
 use borrow.Author.Rules.{rules}
@@ -10,7 +10,7 @@ use Rattle.job.proofs.skip_reference.Tie as tie
 
 returns : tie.Need-returns
 unfolding reference
-returns c = λ kind n e. none-one (cites n) (λ _. 1) c.before.before.args.job.now c.before.before.args.at (referenceForm kind) (omega arith)
+returns c = λ kind n e. none-one (cites n) (λ _. 1) c.before.before.args.job.now c.before.before.args.at (reference_form kind) (omega arith)
 
 get-u8-requires : tie.Need-get-u8-requires
 get-u8-requires c κs = search rules
@@ -36,7 +36,7 @@ returns-2 c = λ kind n e.
 returns-3 : tie.Need-returns-3
 unfolding reference
 returns-3 c = λ kind n e.
-    then_one (cites n) (λ _. 1) c.before.before.before.before.before.before.args.job.now c.before.before.before.before.before.before.args.at (referenceForm kind) Cut (omega arith)
+    then_one (cites n) (λ _. 1) c.before.before.before.before.before.before.args.job.now c.before.before.before.before.before.before.args.at (reference_form kind) Cut (omega arith)
     (rw (c.enum_told.given.1, c.before.before.before.get-u8.ensures) at (c.before.before.skip-form.ensures kind n e))
 
 pub skip-reference-spec : {M : Type 1} → statement M

@@ -1,5 +1,5 @@
 -- `job::skip_references` meets its contract. Assumes nothing.
-use Rattle.job.proofs.Several.{Passed, none_passed, one-passed, passed-cut, all-passed}
+use Rattle.job.proofs.Several.{Passed, none_passed, one-passed, passed-cut, all_passed}
 use Rattle.job.proofs.Entries.{reference-bounds}
 use Rattle.definition.specs.Shapes.{constant}
 use Rattle.definition.specs.Form.{Counts, count_of}
@@ -61,7 +61,7 @@ returns-2 : tie.Need-returns-2 invariant-loop decreases-loop
 returns-2 c = λ n e.
     let a = c.before.before.before.args in
     let l = c.before.loop in
-    all-passed n a.job.now a.at a.n l.i l.next l.cited (l.invariant.3 n e) (omega arith) l.invariant.1 l.invariant.2
+    all_passed n a.job.now a.at a.n l.i l.next l.cited (l.invariant.3 n e) (omega arith) l.invariant.1 l.invariant.2
 
 pub skip-references-spec : {M : Type 1} → statement M
 skip-references-spec =

@@ -1,17 +1,17 @@
 -- `job::tag_at` meets its contract. Assumes nothing.
 use mathlib.Core.Path.{sym, ◌∙◌}
 use borrow.Author.Tests.{eq-eqb, ne_eqb}
-use Rattle.job.proofs.Stored.{entry-room, tag-found}
+use Rattle.job.proofs.Stored.{entry_room, tag-found}
 use Rattle.job.proofs.Working.{worked-kind, worked-tag}
 use borrow.Author.Rules.{rules}
 use Rattle.job.proofs.tag_at.Statement.{statement}
 use Rattle.job.proofs.tag_at.Tie as tie
 
 get-u8-requires : tie.Need-get-u8-requires
-get-u8-requires c κs = entry-room _ _ c.before.requires
+get-u8-requires c κs = entry_room _ _ c.before.requires
 
 add-tag-at : tie.Need-overflow-add-tag-at
-add-tag-at c = let low = entry-room _ _ c.before.before.before.requires in search rules
+add-tag-at c = let low = entry_room _ _ c.before.before.before.requires in search rules
 
 tag-at-requires : tie.Need-tag-at-requires
 tag-at-requires c κs = let a = c.before.before.before.args in

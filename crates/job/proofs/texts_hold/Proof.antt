@@ -1,11 +1,11 @@
 -- `job::texts_hold` meets its contract. Assumes nothing.
-use Rattle.job.specs.Forms.{textsHold}
+use Rattle.job.specs.Forms.{texts_hold}
 use borrow.Author.Rules.{rules}
 use Rattle.job.proofs.texts_hold.Statement.{statement}
 use Rattle.job.proofs.texts_hold.Tie as tie
 
 returns : tie.Need-returns
-unfolding textsHold
+unfolding texts_hold
 returns c = search rules
 
 pub texts-hold-spec : {M : Type 1} → statement M

@@ -1,15 +1,15 @@
 -- `job::worked_at` meets its contract. Assumes nothing.
-use Rattle.job.proofs.Stored.{entry-room}
+use Rattle.job.proofs.Stored.{entry_room}
 use Rattle.job.proofs.Working.{worked-words, worked-never}
 use borrow.Author.Rules.{rules}
 use Rattle.job.proofs.worked_at.Statement.{statement}
 use Rattle.job.proofs.worked_at.Tie as tie
 
 add-constant-at : tie.Need-overflow-add-constant-at
-add-constant-at c = let low = entry-room _ _ c.before.requires.0 in search rules
+add-constant-at c = let low = entry_room _ _ c.before.requires.0 in search rules
 
 constant-at-requires : tie.Need-constant-at-requires
-constant-at-requires c κs = let low = entry-room _ _ c.before.requires.0 in search rules
+constant-at-requires c κs = let low = entry_room _ _ c.before.requires.0 in search rules
 
 enum-known-bits : tie.Need-enum-known-bits
 enum-known-bits c = search rules

@@ -5,8 +5,8 @@ use native.Mathlib.Omega.{arith}
 use lib.ListN.{replicate}
 use borrow.Author.Rules.{rules}
 use Rattle.places.specs.Noting.{PoolNoted, MethodsPut}
-use Rattle.places.proofs.Rows.{blank-zeros}
-use Rattle.listing.proofs.Answered.{refused, no-pool, left_over, views}
+use Rattle.places.proofs.Rows.{blank_zeros}
+use Rattle.listing.proofs.Answered.{refused, no_pool_lem, left_over, views}
 use Rattle.listing.proofs.list.Statement.{statement}
 use Rattle.listing.proofs.list.Tie as tie
 
@@ -24,7 +24,7 @@ returns c =
     let a = c.before.before.before.before.before.before.before.args in
     let n = c.before.before.note-pool in
     let bad = subst (PoolNoted a.pool.now 0 (replicate 65536 0) n.new.1.1.0) c.enum_told.given.1 n.ensures in
-    refused a.pool.now a.count a.methods.now a.out.now (inl (no-pool a.pool.now bad.0))
+    refused a.pool.now a.count a.methods.now a.out.now (inl (no_pool_lem a.pool.now bad.0))
 
 returns-2 : tie.Need-returns-2
 returns-2 c =
@@ -43,7 +43,7 @@ list-read-requires c κs =
     let m = c.before.before.before.before.note-methods in
     let noted = subst (PoolNoted a.pool.now 0 (replicate 65536 0) n.new.1.1.0) c.before.before.before.before.before.before.before.before.next.given.1 n.ensures in
     let put = subst (MethodsPut a.methods.now a.count (replicate 65536 0) m.new.1.1.0) c.before.before.before.if2.true m.ensures in
-    views a.pool.now a.count a.methods.now (replicate 65536 0) n.new.1.1.0 (replicate 65536 0) m.new.1.1.0 c.before.before.before.before.before.before.before.before.next.given.0.0 blank-zeros noted c.before.before.before.before.before.before.if1.false blank-zeros.0 (omega arith) put
+    views a.pool.now a.count a.methods.now (replicate 65536 0) n.new.1.1.0 (replicate 65536 0) m.new.1.1.0 c.before.before.before.before.before.before.before.before.next.given.0.0 blank_zeros noted c.before.before.before.before.before.before.if1.false blank_zeros.0 (omega arith) put
 
 same_length : tie.Need-same-length
 same_length c = c.before.before.List-read.auto.1.1.1.1.1.0

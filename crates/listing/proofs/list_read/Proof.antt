@@ -7,7 +7,7 @@ use Rattle.listing.specs.Listing.{lines}
 use Rattle.listing.specs.Views.{finished}
 use Rattle.listing.specs.Lists.{Lists}
 use Rattle.listing.specs.declared.Listed.TheVariants.{Refused}
-use Rattle.listing.proofs.Answered.{none_lent, too_long, all-written}
+use Rattle.listing.proofs.Answered.{none_lent, too_long, all_written}
 use Rattle.listing.proofs.list_read.Statement.{statement}
 use Rattle.listing.proofs.list_read.Tie as tie
 
@@ -51,7 +51,7 @@ returns-2 c =
     let same = none_lent p.new.1.1.1.1.1.0 a.out.now p.ensures.same in
     let text = lines (finished a.pool.now a.count a.methods.now) in
     let written = subst (λ l. Printed l (length a.out.now) 0 text q.new.1.1.1.1.1.0 q.result) same q.ensures in
-    all-written c.before.before.before.before.before.before.before.before.before.before.before.before.requires a.out.now p.ensures c.before.before.before.before.if1.false written
+    all_written c.before.before.before.before.before.before.before.before.before.before.before.before.requires a.out.now p.ensures c.before.before.before.before.if1.false written
 
 pub list-read-spec : {M : Type 1} → statement M
 list-read-spec = tie.close (tie.spec slice-relend-prefix-put-lines slice-aggregate-put-lines put-lines-requires same_length returns put-lines-requires-2 same-length-2 returns-2)

@@ -5,7 +5,7 @@ use lib.ListN.{get_or}
 use Rattle.printing.proofs.Printing.{then, ready, reworded, nothing}
 use borrow.Author.Rules.{rules}
 use Rattle.listing.specs.Views.{finished}
-use Rattle.listing.proofs.Lines.{no_line, inside, the-line}
+use Rattle.listing.proofs.Lines.{no_line, inside, the_line}
 use Rattle.listing.proofs.put_line.Statement.{statement}
 use Rattle.listing.proofs.put_line.Tie as tie
 
@@ -65,7 +65,7 @@ returns-2 c =
     let can3 = ready can2 kind in
     let can4 = ready can3 to in
     let f = finished a.pool.now a.count a.methods.now in
-    let shown = the-line f v.noted a.slot (omega (arith, c.before.before.before.before.before.before.before.before.before.before.before.before.before.before.before.before.before.before.before.before.before.before.before.before.before.if1.false)) (get_or a.pool.now (get_or a.places.now a.slot 0) 0) refl in
+    let shown = the_line f v.noted a.slot (omega (arith, c.before.before.before.before.before.before.before.before.before.before.before.before.before.before.before.before.before.before.before.before.before.before.before.before.before.if1.false)) (get_or a.pool.now (get_or a.places.now a.slot 0) 0) refl in
     reworded shown (then can number (then can1 space (then can2 kind (then can3 to (then can4 held c.before.before.put3.ensures)))))
 
 pub put-line-spec : {M : Type 1} → statement M

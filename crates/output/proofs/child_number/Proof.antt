@@ -12,7 +12,7 @@ returns : tie.Need-returns
 returns c = let a = c.before.before.before.args in let t = store a.p.now a.w.now in sym (number_raw (size a.p.now MARKS - size a.p.now INDEXES) (t GIVEN) (t INDEXES) (t NODES) a.child c.if1.true)
 
 load-requires : tie.Need-load-requires
-load-requires c κs = (c.before.before.before.requires.0, omega (arith, c.before.before.before.requires.1.nodes-there))
+load-requires c κs = (c.before.before.before.requires.0, omega (arith, c.before.before.before.requires.1.nodes_there))
 
 constants-requires : tie.Need-constants-requires
 constants-requires c κs = (c.before.before.before.before.requires.0.0, c.before.before.before.before.requires.1.fewer)

@@ -2,15 +2,15 @@
 use mathlib.Core.Path.{ap, ◌∙◌}
 use Rattle.definition.specs.Shapes.{is_wide}
 use Rattle.store.specs.Store.{store}
-use Rattle.output.proofs.Showing.{node-places, node-stands, tag_read}
+use Rattle.output.proofs.Showing.{node_places, node_stands, tag_read}
 use Rattle.output.proofs.node_is_wide.Statement.{statement}
 use Rattle.output.proofs.node_is_wide.Tie as tie
 
 node-at-requires : tie.Need-node-at-requires
-node-at-requires c κs = let a = c.before.before.before.args in let q = c.before.before.before.requires in let z = node-places a.job.now (store a.p.now a.w.now) a.k q.2 q.3 a.p.now q.1 in (q.0, z.node, z.offset)
+node-at-requires c κs = let a = c.before.before.before.args in let q = c.before.before.before.requires in let z = node_places a.job.now (store a.p.now a.w.now) a.k q.2 q.3 a.p.now q.1 in (q.0, z.node, z.offset)
 
 tag-at-requires : tie.Need-tag-at-requires
-tag-at-requires c κs = let a = c.before.before.before.before.args in let q = c.before.before.before.before.requires in node-stands a.job.now (store a.p.now a.w.now) a.k q.2 q.3 c.node_at.result c.node_at.ensures.word
+tag-at-requires c κs = let a = c.before.before.before.before.args in let q = c.before.before.before.before.requires in node_stands a.job.now (store a.p.now a.w.now) a.k q.2 q.3 c.node_at.result c.node_at.ensures.word
 
 is-long-requires : tie.Need-is-long-requires
 is-long-requires c κs = tt

@@ -1,6 +1,6 @@
 -- `output::write_empty` meets its contract. Assumes nothing.
 use borrow.Author.Rules.{rules}
-use Rattle.output.proofs.Shown.{wrote-empty}
+use Rattle.output.proofs.Shown.{wrote_empty}
 use Rattle.output.proofs.write_empty.Statement.{statement}
 use Rattle.output.proofs.write_empty.Tie as tie
 
@@ -20,7 +20,7 @@ same_length : tie.Need-same-length
 same_length c = search rules
 
 returns : tie.Need-returns
-returns c = let a = c.before.before.before.before.before.before.before.before.before.args in wrote-empty a.pool.now c.before.before.before.before.before.before.put-u8.new.0 c.before.before.put-u16.new.0 a.at c.before.before.before.before.before.before.before.before.before.requires c.before.before.before.before.before.before.put-u8.ensures c.before.before.put-u16.ensures
+returns c = let a = c.before.before.before.before.before.before.before.before.before.args in wrote_empty a.pool.now c.before.before.before.before.before.before.put-u8.new.0 c.before.before.put-u16.new.0 a.at c.before.before.before.before.before.before.before.before.before.requires c.before.before.before.before.before.before.put-u8.ensures c.before.before.put-u16.ensures
 
 pub write-empty-spec : {M : Type 1} → statement M
 write-empty-spec =

@@ -8,7 +8,7 @@ use borrow.Author.Rules.{rules}
 use Rattle.store.specs.Store.{store}
 use Rattle.store.specs.Regions.{ORIGINS}
 use Rattle.store.proofs.Stores.{length-store}
-use Rattle.output.proofs.Rowing.{answers_next, answers-end}
+use Rattle.output.proofs.Rowing.{answers_next, answers_end}
 use Rattle.output.proofs.write_marks.Statement.{statement}
 use Rattle.output.proofs.write_marks.Tie as tie
 
@@ -46,7 +46,7 @@ same_length : tie.Need-same-length invariant-loop decreases-loop
 same_length c = c.before.loop.invariant.0
 
 returns : tie.Need-returns invariant-loop decreases-loop
-returns c = let a = c.before.before.before.before.before.before.args in let l = c.before.loop in answers-end a.marks.now (store a.p.now a.w.now ORIGINS) l.i l.marks (omega (arith, length-store a.p.now a.w.now ORIGINS, c.before.before.size_of.ensures, l.invariant.1, c.loop-test.false)) l.invariant.2
+returns c = let a = c.before.before.before.before.before.before.args in let l = c.before.loop in answers_end a.marks.now (store a.p.now a.w.now ORIGINS) l.i l.marks (omega (arith, length-store a.p.now a.w.now ORIGINS, c.before.before.size_of.ensures, l.invariant.1, c.loop-test.false)) l.invariant.2
 
 pub write-marks-spec : {M : Type 1} → statement M
 write-marks-spec =

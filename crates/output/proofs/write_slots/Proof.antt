@@ -7,14 +7,14 @@ use Rattle.store.specs.Store.{store}
 use Rattle.store.specs.Regions.{GIVEN, CHILDREN}
 use Rattle.store.proofs.Stores.{in_words}
 use Rattle.raw_const.specs.Entries.{Wrote}
-use Rattle.store.specs.Words.{childSlot}
-use Rattle.output.specs.Rows.{slotsFrom}
+use Rattle.store.specs.Words.{child_slot}
+use Rattle.output.specs.Rows.{slots_from}
 use Rattle.output.proofs.Rowing.{shorts, slots-none, slots-more, slots_length}
 use Rattle.output.proofs.write_slots.Statement.{statement}
 use Rattle.output.proofs.write_slots.Tie as tie
 
 abbrev invariant-loop : tie.invariant-loop
-invariant-loop out₀ start w p first n at₀ i₀ out at i = (length out ≡ length out₀) × (i ≤ n) × Wrote out₀ start (shorts (slotsFrom (store p w GIVEN) (store p w CHILDREN) first i)) out at
+invariant-loop out₀ start w p first n at₀ i₀ out at i = (length out ≡ length out₀) × (i ≤ n) × Wrote out₀ start (shorts (slots_from (store p w GIVEN) (store p w CHILDREN) first i)) out at
 
 abbrev decreases-loop : tie.decreases-loop
 decreases-loop out₀ start w p first n at₀ i₀ out at i = n - i
@@ -47,7 +47,7 @@ loop-less : tie.Need-loop-smaller invariant-loop decreases-loop
 loop-less c = omega (arith, c.before.before.before.before.before.before.loop-test.true)
 
 loop-again : tie.Need-loop-preserved invariant-loop decreases-loop
-loop-again c = let a = c.before.before.before.before.before.before.before.before.before.before.before.args in let l = c.before.before.before.before.before.before.before.loop in let t = store a.p.now a.w.now in (c.before.before.put-u16.auto.0 ∙ l.invariant.0, omega (arith, c.before.before.before.before.before.before.loop-test.true), slots-more (t GIVEN) (t CHILDREN) a.first l.i c.before.before.before.before.child-slot.result (omega (arith, c.before.before.before.before.before.before.before.before.before.before.before.requires.3, c.before.before.before.before.before.before.loop-test.true)) (c.before.before.before.before.child-slot.ensures ∙ ap (childSlot (t GIVEN)) c.before.before.before.before.before.load.ensures.word) l.invariant.2 c.before.before.put-u16.ensures)
+loop-again c = let a = c.before.before.before.before.before.before.before.before.before.before.before.args in let l = c.before.before.before.before.before.before.before.loop in let t = store a.p.now a.w.now in (c.before.before.put-u16.auto.0 ∙ l.invariant.0, omega (arith, c.before.before.before.before.before.before.loop-test.true), slots-more (t GIVEN) (t CHILDREN) a.first l.i c.before.before.before.before.child-slot.result (omega (arith, c.before.before.before.before.before.before.before.before.before.before.before.requires.3, c.before.before.before.before.before.before.loop-test.true)) (c.before.before.before.before.child-slot.ensures ∙ ap (child_slot (t GIVEN)) c.before.before.before.before.before.load.ensures.word) l.invariant.2 c.before.before.put-u16.ensures)
 
 same_length : tie.Need-same-length invariant-loop decreases-loop
 same_length c = c.before.loop.invariant.0

@@ -1,18 +1,18 @@
 -- `places::note_pool` meets its contract: a count that is there and not 0, and then the slots. Assumes nothing.
 use borrow.Author.Rules.{rules}
 use native.Mathlib.Omega.{arith}
-use Rattle.places.proofs.Counting.{no-count, zero-count, pool-noted}
+use Rattle.places.proofs.Counting.{no_count, zero-count, pool_noted}
 use Rattle.places.proofs.note_pool.Statement.{statement}
 use Rattle.places.proofs.note_pool.Tie as tie
 
 returns : tie.Need-returns
-returns c = let args = c.before.before.args in no-count args.bytes.now args.at args.places.now (omega arith)
+returns c = let args = c.before.before.args in no_count args.bytes.now args.at args.places.now (omega arith)
 
 sub-if2 : tie.Need-overflow-sub-if2
 sub-if2 c = search rules
 
 returns-2 : tie.Need-returns-2
-returns-2 c = let args = c.before.before.before.args in no-count args.bytes.now args.at args.places.now (omega arith)
+returns-2 c = let args = c.before.before.before.args in no_count args.bytes.now args.at args.places.now (omega arith)
 
 get-u16-requires : tie.Need-get-u16-requires
 get-u16-requires c κs = search rules
@@ -36,7 +36,7 @@ returns-4 c =
     let args = c.before.before.before.before.before.before.before.args in
     let count = c.before.before.before.get-u16 in
     let slots = c.note-slots in
-    pool-noted
+    pool_noted
     args.bytes.now
     args.at
     count.result

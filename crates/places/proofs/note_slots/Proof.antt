@@ -9,7 +9,7 @@ use Rattle.raw_const.specs.declared.Extent.TheVariants.{Entry as Whole, Bad as N
 use Rattle.places.specs.Noting.{SlotsNoted}
 use Rattle.places.specs.declared.PoolRead.TheVariants.{Bad}
 use Rattle.laws.specs.Statements.{IsBytes}
-use Rattle.places.proofs.Passing.{Passed, passed_none, passed-bad, passed-all, passed-turn, width_small, entry_read, entry-bad}
+use Rattle.places.proofs.Passing.{Passed, passed_none, passed-bad, passed-all, passed-turn, width_small, entry_read, entry_bad}
 use Rattle.places.proofs.note_slots.Statement.{statement}
 use Rattle.places.proofs.note_slots.Tie as tie
 
@@ -39,7 +39,7 @@ returns c =
     let bytes = c.before.before.before.before.before.before.args.bytes.now in
     let head = c.before.before.before.before.loop in
     let read : ReadAt bytes head.at NoEntry = subst (λ r. ReadAt bytes head.at r) c.enum_told.given.1 c.before.before.read-entry.ensures in
-    let bad = entry-bad bytes (λ i. (c.before.before.before.before.before.shared-slice-known.given i).fits) head.at read in
+    let bad = entry_bad bytes (λ i. (c.before.before.before.before.before.shared-slice-known.given i).fits) head.at read in
     passed-bad head.invariant.0 bad (c.before.before.before.before.before.before.args.count - 1) (omega arith)
 
 mul-places : tie.Need-overflow-mul-places invariant-loop decreases-loop

@@ -2,7 +2,7 @@
 use borrow.Author.Rules.{rules}
 use mathlib.Core.Path.{sym, ap}
 use native.Mathlib.Omega.{arith}
-use Rattle.places.specs.Noting.{tagFrom}
+use Rattle.places.specs.Noting.{tag_from}
 use Rattle.places.proofs.Tags.{tag-past, tag-byte}
 use Rattle.places.proofs.tag_at.Statement.{statement}
 use Rattle.places.proofs.tag_at.Tie as tie
@@ -14,7 +14,7 @@ element-copy-out-place : tie.Need-element-copy-out-place
 element-copy-out-place c = search rules
 
 returns : tie.Need-returns
-returns c = ap (tagFrom c.before.before.args.bytes.now) (sym c.if1.true)
+returns c = ap (tag_from c.before.before.args.bytes.now) (sym c.if1.true)
 
 returns-2 : tie.Need-returns-2
 returns-2 c = tag-past c.before.before.before.args.bytes.now _ c.if2.true

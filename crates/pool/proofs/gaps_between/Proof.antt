@@ -4,9 +4,9 @@ mod Tie
 use Rattle.store.proofs.Stores.{length-store}
 use Rattle.store.specs.Store.{store}
 use Rattle.store.specs.Regions.{RAW-KEYS, ORDER}
-use Rattle.pool.proofs.Gapping.{Between, between_start, key-low, push-asks, push_goes, last-asks, last_goes}
-use Rattle.pool.specs.Starting.{orderKeys}
-use Rattle.definition.specs.Slots.{gapsFrom}
+use Rattle.pool.proofs.Gapping.{Between, between_start, key_low, push_asks, push_goes, last-asks, last_goes}
+use Rattle.pool.specs.Starting.{order_keys}
+use Rattle.definition.specs.Slots.{gaps_from}
 use native.Mathlib.Omega.{arith}
 use Prim.Native.Nat.{◌-◌}
 use borrow.Author.Rules.{rules}
@@ -14,7 +14,7 @@ use Rattle.pool.proofs.gaps_between.Statement.{statement}
 use Rattle.pool.proofs.gaps_between.Proof.Tie as tie
 
 abbrev invariant-loop : tie.invariant-loop
-invariant-loop gaps₀ w p n top count₀ first₀ i₀ gaps count first i = Between (gapsFrom top 1 (orderKeys (store p w RAW-KEYS) (store p w ORDER) n)) (orderKeys (store p w RAW-KEYS) (store p w ORDER) n) top gaps₀ gaps i count first
+invariant-loop gaps₀ w p n top count₀ first₀ i₀ gaps count first i = Between (gaps_from top 1 (order_keys (store p w RAW-KEYS) (store p w ORDER) n)) (order_keys (store p w RAW-KEYS) (store p w ORDER) n) top gaps₀ gaps i count first
 
 abbrev decreases-loop : tie.decreases-loop
 decreases-loop gaps₀ w p n top count₀ first₀ i₀ gaps count first i = n - i
@@ -29,10 +29,10 @@ cast-next : tie.Need-overflow-cast-next invariant-loop decreases-loop
 cast-next c = search rules
 
 push-gap-requires : tie.Need-push-gap-requires invariant-loop decreases-loop
-push-gap-requires c κs = let a = c.before.before.before.before.before.before.args in let q = c.before.before.before.before.before.before.requires in let l = c.before.before.before.loop in push-asks (store a.p.now a.w.now RAW-KEYS) (store a.p.now a.w.now ORDER) a.n a.top (omega (arith, q.0.1, length-store a.p.now a.w.now ORDER)) q.0.3 a.gaps.now l.gaps l.i l.count l.first l.invariant q.1 c.before.before.loop-test.true c.before.raw-key.result c.before.raw-key.ensures.word
+push-gap-requires c κs = let a = c.before.before.before.before.before.before.args in let q = c.before.before.before.before.before.before.requires in let l = c.before.before.before.loop in push_asks (store a.p.now a.w.now RAW-KEYS) (store a.p.now a.w.now ORDER) a.n a.top (omega (arith, q.0.1, length-store a.p.now a.w.now ORDER)) q.0.3 a.gaps.now l.gaps l.i l.count l.first l.invariant q.1 c.before.before.loop-test.true c.before.raw-key.result c.before.raw-key.ensures.word
 
 add-first : tie.Need-overflow-add-first invariant-loop decreases-loop
-add-first c = let a = c.before.before.before.before.before.before.before.before.args in let q = c.before.before.before.before.before.before.before.before.requires in let l = c.before.before.before.before.before.loop in omega (arith, key-low (store a.p.now a.w.now RAW-KEYS) (store a.p.now a.w.now ORDER) a.n a.top (omega (arith, q.0.1, length-store a.p.now a.w.now ORDER)) q.0.3 a.gaps.now l.gaps l.i l.count l.first l.invariant q.1 c.before.before.before.before.loop-test.true c.before.before.before.raw-key.result c.before.before.before.raw-key.ensures.word)
+add-first c = let a = c.before.before.before.before.before.before.before.before.args in let q = c.before.before.before.before.before.before.before.before.requires in let l = c.before.before.before.before.before.loop in omega (arith, key_low (store a.p.now a.w.now RAW-KEYS) (store a.p.now a.w.now ORDER) a.n a.top (omega (arith, q.0.1, length-store a.p.now a.w.now ORDER)) q.0.3 a.gaps.now l.gaps l.i l.count l.first l.invariant q.1 c.before.before.before.before.loop-test.true c.before.before.before.raw-key.result c.before.before.before.raw-key.ensures.word)
 
 add-i : tie.Need-overflow-add-i invariant-loop decreases-loop
 add-i c = omega (arith, c.before.before.before.before.loop-test.true)

@@ -10,7 +10,7 @@ no-slot-requires : tie.Need-no-slot-requires
 no-slot-requires c κs = tt
 
 returns : tie.Need-returns
-returns c = inl (c.before.if1.true, c.no-slot.ensures, refl)
+returns c = inl (c.before.if1.true, c.no_slot_lem.ensures, refl)
 
 save-requires : tie.Need-save-requires
 save-requires c κs = search rules

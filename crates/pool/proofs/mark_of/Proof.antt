@@ -1,5 +1,5 @@
 -- `pool::mark_of` meets its contract. By cases. Assumes nothing.
-use Rattle.pool.specs.Pooled.{markIn}
+use Rattle.pool.specs.Pooled.{mark_in}
 use borrow.Author.Rules.{rules}
 use Rattle.pool.proofs.mark_of.Statement.{statement}
 use Rattle.pool.proofs.mark_of.Tie as tie
@@ -17,19 +17,19 @@ enum-told-4 : tie.Need-enum-told-4
 enum-told-4 c = search rules
 
 returns : tie.Need-returns
-unfolding markIn
+unfolding mark_in
 returns c = search rules
 
 returns-2 : tie.Need-returns-2
-unfolding markIn
+unfolding mark_in
 returns-2 c = search rules
 
 returns-3 : tie.Need-returns-3
-unfolding markIn
+unfolding mark_in
 returns-3 c = search rules
 
 returns-4 : tie.Need-returns-4
-unfolding markIn
+unfolding mark_in
 returns-4 c = search rules
 
 pub mark-of-spec : {M : Type 1} → statement M

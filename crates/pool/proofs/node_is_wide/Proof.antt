@@ -12,7 +12,7 @@ is-long-requires : tie.Need-is-long-requires
 is-long-requires c κs = search rules
 
 returns : tie.Need-returns
-returns c = c.is-long.ensures ∙ ap is_wide c.before.node-tag.ensures
+returns c = c.is-long.ensures ∙ ap is_wide c.before.node_tag.ensures
 
 pub node-is-wide-spec : {M : Type 1} → statement M
 node-is-wide-spec = tie.close (tie.spec node-tag-requires is-long-requires returns)

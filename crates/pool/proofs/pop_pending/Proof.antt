@@ -4,7 +4,7 @@ use mathlib.Core.Path.{refl}
 use Rattle.store.proofs.Stores.{length-store}
 use Rattle.store.specs.Store.{store}
 use Rattle.store.specs.Regions.{COUNTS, PENDING}
-use Rattle.pool.proofs.Popping.{popped-all}
+use Rattle.pool.proofs.Popping.{popped_all}
 use borrow.Author.Rules.{rules}
 use Rattle.pool.proofs.pop_pending.Statement.{statement}
 use Rattle.pool.proofs.pop_pending.Tie as tie
@@ -25,7 +25,7 @@ same_length : tie.Need-same-length
 same_length c = search rules
 
 returns : tie.Need-returns
-returns c = let a = c.before.before.before.before.before.before.before.before.before.before.args in let q = c.before.before.before.before.before.before.before.before.before.before.requires in popped-all (store a.p.now a.w.now) _ _ c.before.before.before.before.before.before.load.result c.load2.result (omega (arith, q.1, length-store a.p.now a.w.now COUNTS)) c.before.before.before.before.before.before.load.ensures.word q.2 refl (omega (arith, q.3, length-store a.p.now a.w.now PENDING)) c.before.before.before.before.save.ensures c.load2.ensures.word
+returns c = let a = c.before.before.before.before.before.before.before.before.before.before.args in let q = c.before.before.before.before.before.before.before.before.before.before.requires in popped_all (store a.p.now a.w.now) _ _ c.before.before.before.before.before.before.load.result c.load2.result (omega (arith, q.1, length-store a.p.now a.w.now COUNTS)) c.before.before.before.before.before.before.load.ensures.word q.2 refl (omega (arith, q.3, length-store a.p.now a.w.now PENDING)) c.before.before.before.before.save.ensures c.load2.ensures.word
 
 pub pop-pending-spec : {M : Type 1} → statement M
 pop-pending-spec =

@@ -4,7 +4,7 @@ use native.Mathlib.Omega.{arith}
 use Rattle.store.proofs.Stores.{length-store}
 use Rattle.store.specs.Store.{store}
 use Rattle.store.specs.Regions.{COUNTS}
-use Rattle.pool.proofs.Nodal.{place-told}
+use Rattle.pool.proofs.Nodal.{place_told}
 use borrow.Author.Rules.{rules}
 use Rattle.pool.proofs.refuse_at.Statement.{statement}
 use Rattle.pool.proofs.refuse_at.Tie as tie
@@ -31,7 +31,7 @@ returns c =
     let place = c.before.before.before.before.load2 in
     let saved = c.before.before.save in (
       refl,
-      place-told t (store p saved.new.0) a.k entry.result place.result
+      place_told t (store p saved.new.0) a.k entry.result place.result
           (omega (arith, start.requires.1, length-store p a.w.now COUNTS))
           entry.ensures.word
           place.ensures.word

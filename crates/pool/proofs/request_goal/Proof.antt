@@ -1,11 +1,11 @@
 -- `pool::request_goal` meets its contract. The word of its reference leads where the definition follows it. Assumes nothing.
 use native.Mathlib.Omega.{arith}
-use Rattle.pool.proofs.Asked.{request-inside, refers, worded, leads}
+use Rattle.pool.proofs.Asked.{request_inside, refers, worded, leads}
 use Rattle.pool.proofs.request_goal.Statement.{statement}
 use Rattle.pool.proofs.request_goal.Tie as tie
 
 add-reference-word : tie.Need-overflow-add-reference-word
-add-reference-word c = let a = c.before.before.before.args in let q = c.before.before.before.requires.4 in omega (arith, request-inside a.job.now a.at (q.0, q.1, q.2))
+add-reference-word c = let a = c.before.before.before.args in let q = c.before.before.before.requires.4 in omega (arith, request_inside a.job.now a.at (q.0, q.1, q.2))
 
 reference-word-requires : tie.Need-reference-word-requires
 reference-word-requires c κs = let a = c.before.before.before.args in (c.before.before.before.requires.1, refers a.job.now a.at c.before.before.before.requires.4)

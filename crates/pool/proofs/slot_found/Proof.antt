@@ -1,5 +1,5 @@
 -- `pool::slot_found` meets its contract. By cases. Assumes nothing.
-use Rattle.pool.specs.Pooled.{slotFound}
+use Rattle.pool.specs.Pooled.{slot_found}
 use borrow.Author.Rules.{rules}
 use Rattle.pool.proofs.slot_found.Statement.{statement}
 use Rattle.pool.proofs.slot_found.Tie as tie
@@ -14,11 +14,11 @@ enum_told : tie.Need-enum-told
 enum_told c = search rules
 
 returns : tie.Need-returns
-unfolding slotFound
+unfolding slot_found
 returns c = search rules
 
 returns-2 : tie.Need-returns-2
-unfolding slotFound
+unfolding slot_found
 returns-2 c = search rules
 
 pub slot-found-spec : {M : Type 1} → statement M

@@ -5,7 +5,7 @@ use native.Mathlib.Omega.{arith}
 use Rattle.store.proofs.Stores.{length-store}
 use Rattle.store.specs.Store.{store}
 use Rattle.store.specs.Regions.{COUNTS}
-use Rattle.pool.proofs.Taking.{slot-asks, save-asks, took-all}
+use Rattle.pool.proofs.Taking.{slot-asks, save_asks, took_all}
 use borrow.Author.Rules.{rules}
 use Rattle.pool.proofs.take_slot.Statement.{statement}
 use Rattle.pool.proofs.take_slot.Proof.Tie as tie
@@ -31,7 +31,7 @@ save-positions-requires c κs =
     let start = placed.before.before.before.before in
     let a = start.args in
     let r =
-    save-asks (store a.p.now a.w.now) a.gaps.now taken.take-slot.new.0 a.wide a.ldc start.requires.2
+    save_asks (store a.p.now a.w.now) a.gaps.now taken.take-slot.new.0 a.wide a.ldc start.requires.2
     placed.load-positions.result counted.load.result taken.take-slot.result placed.load-positions.ensures
     counted.load.ensures.word taken.take-slot.auto.0 _ taken.take-slot.ensures in
     (search rules, start.requires.1, r.0, r.1, r.2)
@@ -53,11 +53,11 @@ returns c =
     let placed = counted.before.before in
     let start = placed.before.before.before.before in
     let a = start.args in
-    took-all (store a.p.now a.w.now) a.gaps.now taken.take-slot.new.0 a.wide a.ldc start.requires.2
+    took_all (store a.p.now a.w.now) a.gaps.now taken.take-slot.new.0 a.wide a.ldc start.requires.2
     placed.load-positions.result counted.load.result taken.take-slot.result placed.load-positions.ensures
     counted.load.ensures.word taken.take-slot.auto.0 _ taken.take-slot.ensures
     (omega (arith, length-store a.p.now a.w.now COUNTS, start.requires.1))
-    _ c.slot-found.result saved.save-positions.ensures c.slot-found.ensures.0 c.slot-found.ensures.1
+    _ c.slot_found_lem.result saved.save-positions.ensures c.slot_found_lem.ensures.0 c.slot_found_lem.ensures.1
 
 pub take-slot-spec : {M : Type 1} → statement M
 take-slot-spec =

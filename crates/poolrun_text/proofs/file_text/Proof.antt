@@ -1,7 +1,7 @@
 -- `poolrun_text::file_text` meets its contract. Assumes nothing.
 use lib.ListN.{replicate}
 use Rattle.poolrun_text.proofs.Putting.{reworded}
-use Rattle.poolrun_text.proofs.Reading.{read-text}
+use Rattle.poolrun_text.proofs.Reading.{read_text_lem}
 use borrow.Author.Rules.{rules}
 use Rattle.poolrun_text.proofs.file_text.Statement.{statement}
 use Rattle.poolrun_text.proofs.file_text.Tie as tie
@@ -18,7 +18,7 @@ slice-aggregate-read-text c = search rules
 read-text-requires : tie.Need-read-text-requires
 read-text-requires c κs =
     let b = c.before.before.before.read-blocks in
-    ((read-text c.before.before.before.before.before.before.before.args.file.now c.before.before.before.before.before.before.before.requires.0 b.result (replicate 2560 0) b.new.1.0 b.ensures.0 b.ensures.1).0, c.before.before.before.before.before.before.before.requires.1)
+    ((read_text_lem c.before.before.before.before.before.before.before.args.file.now c.before.before.before.before.before.before.before.requires.0 b.result (replicate 2560 0) b.new.1.0 b.ensures.0 b.ensures.1).0, c.before.before.before.before.before.before.before.requires.1)
 
 same_length : tie.Need-same-length
 same_length c = search rules
@@ -26,8 +26,8 @@ same_length c = search rules
 returns : tie.Need-returns
 returns c =
     let b = c.before.before.before.before.before.before.read-blocks in
-    let told = c.before.before.read-text.ensures in
-    reworded (read-text c.before.before.before.before.before.before.before.before.before.before.args.file.now c.before.before.before.before.before.before.before.before.before.before.requires.0 b.result (replicate 2560 0) b.new.1.0 b.ensures.0 b.ensures.1).1 told
+    let told = c.before.before.read_text_lem.ensures in
+    reworded (read_text_lem c.before.before.before.before.before.before.before.before.before.before.args.file.now c.before.before.before.before.before.before.before.before.before.before.requires.0 b.result (replicate 2560 0) b.new.1.0 b.ensures.0 b.ensures.1).1 told
 
 pub file-text-spec : {M : Type 1} → statement M
 file-text-spec =

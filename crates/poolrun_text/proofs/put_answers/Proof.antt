@@ -1,5 +1,5 @@
 -- `poolrun_text::put_answers` meets its contract. The loop keeps: the lines of the first i answers stand there. Assumes nothing.
-use Rattle.definition.specs.Blocks.{line, markText, answerLines}
+use Rattle.definition.specs.Blocks.{line, mark_text, answer_lines}
 use Rattle.definition.specs.Ascii.{decimal}
 use mathlib.Core.List.{◌++◌}
 use mathlib.Core.Path.{◌≡◌, refl, ap, ◌∙◌}
@@ -15,13 +15,13 @@ use Rattle.poolrun_text.proofs.put_answers.Tie as tie
 
 abbrev invariant-loop : tie.invariant-loop
 invariant-loop out₀ at answers marks end₀ i₀ out end i =
-    (i ≤ length answers) × (end ≤ at + 25 * i) × (length out ≡ length out₀) × Behind out₀ out at end (answerLines (take i answers) (take i marks))
+    (i ≤ length answers) × (end ≤ at + 25 * i) × (length out ≡ length out₀) × Behind out₀ out at end (answer_lines (take i answers) (take i marks))
 
 abbrev decreases-loop : tie.decreases-loop
 decreases-loop out₀ at answers marks end₀ i₀ out end i = length answers - i
 
 loop-holds : tie.Need-loop-init invariant-loop decreases-loop
-unfolding answerLines
+unfolding answer_lines
 loop-holds c =
     let a = c.before.before.before.args in
     (omega arith, omega arith, refl, none-behind a.out.now a.at)
@@ -52,7 +52,7 @@ loop-again c =
     let a = c.before.before.before.before.before.before.before.before.before.before.before.before.args in
     let l = c.before.before.before.before.before.before.before.before.loop in
     let same =
-    ap (λ n. answerLines (take l.i a.answers.now) (take l.i a.marks.now) ++ line (decimal n ++ markText (get_or a.marks.now l.i 0))) c.before.before.before.before.wide.ensures in
+    ap (λ n. answer_lines (take l.i a.answers.now) (take l.i a.marks.now) ++ line (decimal n ++ mark_text (get_or a.marks.now l.i 0))) c.before.before.before.before.wide.ensures in
     let p = c.before.before.put-answer in
     (omega arith, omega arith, p.auto.0 ∙ l.invariant.2, reworded (same ∙ lines_more a.answers.now a.marks.now l.i (omega arith) c.before.before.before.before.before.before.before.before.before.before.before.before.requires.1) (then l.invariant.3 p.ensures.1))
 

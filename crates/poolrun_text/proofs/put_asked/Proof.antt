@@ -1,6 +1,6 @@
 -- `poolrun_text::put_asked` meets its contract. Assumes nothing.
 use Rattle.poolrun_text.proofs.Putting.{then}
-use Rattle.poolrun_text.specs.Text.{askedText}
+use Rattle.poolrun_text.specs.Text.{asked_text}
 use Rattle.definition.specs.Ascii.{ascii}
 use native.Mathlib.Omega.{arith}
 use mathlib.Core.Path.{refl}
@@ -21,7 +21,7 @@ same_length : tie.Need-same-length
 same_length c = search rules
 
 returns : tie.Need-returns
-unfolding askedText ascii
+unfolding asked_text ascii
 returns c = (omega arith, then c.before.before.before.before.before.before.put_one.ensures.1 c.before.before.put-answers.ensures.1)
 
 pub put-asked-spec : {M : Type 1} → statement M

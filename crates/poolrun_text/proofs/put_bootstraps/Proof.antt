@@ -1,6 +1,6 @@
 -- `poolrun_text::put_bootstraps` meets its contract. Assumes nothing.
 use Rattle.poolrun_text.proofs.Putting.{then}
-use Rattle.poolrun_text.specs.Text.{bootstrapsText}
+use Rattle.poolrun_text.specs.Text.{bootstraps_text}
 use Rattle.definition.specs.Ascii.{ascii}
 use native.Mathlib.Omega.{arith}
 use mathlib.Core.Path.{refl}
@@ -21,7 +21,7 @@ same_length : tie.Need-same-length
 same_length c = search rules
 
 returns : tie.Need-returns
-unfolding bootstrapsText ascii
+unfolding bootstraps_text ascii
 returns c = (omega arith, then c.before.before.before.before.before.before.put_two.ensures.1 c.before.before.put-bytes.ensures.1)
 
 pub put-bootstraps-spec : {M : Type 1} → statement M

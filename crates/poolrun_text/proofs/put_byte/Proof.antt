@@ -2,8 +2,8 @@
 use mathlib.Core.List.{[], ◌∷◌}
 use mathlib.Core.Path.{◌≡◌, ap, ◌∙◌}
 use Prim.Native.Nat.{◌/◌, ◌%◌}
-use Rattle.definition.specs.Ascii.{hexDigit}
-use Rattle.poolrun_text.specs.Text.{twoDigits}
+use Rattle.definition.specs.Ascii.{hex_digit}
+use Rattle.poolrun_text.specs.Text.{two_digits_lem}
 use Rattle.poolrun_text.proofs.Putting.{then, reworded}
 use native.Mathlib.Omega.{arith}
 use borrow.Author.Rules.{rules}
@@ -26,11 +26,11 @@ same_length : tie.Need-same-length
 same_length c = search rules
 
 returns : tie.Need-returns
-unfolding twoDigits
+unfolding two_digits_lem
 returns c =
     let b = c.before.before.before.before.before.before.before.before.before.before.before.args.b in
     let high : b / 16 ≡ b / 16 % 16 = omega arith in
-    let first = c.before.before.before.before.before.before.before.before.digit.ensures ∙ ap hexDigit high in
+    let first = c.before.before.before.before.before.before.before.before.digit.ensures ∙ ap hex_digit high in
     (omega arith, reworded (λ i. first i ∷ c.before.before.before.digit2.ensures i ∷ []) (then c.before.before.before.before.before.before.before.put.ensures.1 c.before.before.put2.ensures.1))
 
 pub put-byte-spec : {M : Type 1} → statement M

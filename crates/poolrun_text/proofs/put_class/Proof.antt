@@ -2,7 +2,7 @@
 use Rattle.poolrun_text.proofs.Putting.{reworded}
 use Rattle.poolrun_text.specs.Text.{name_of}
 use Rattle.cpool.specs.Ran.{bytes_of}
-use Rattle.definition.specs.Blocks.{classText}
+use Rattle.definition.specs.Blocks.{class_text}
 use native.Mathlib.Omega.{arith}
 use mathlib.Core.Path.{sym, ap}
 use borrow.Author.Rules.{rules}
@@ -33,7 +33,7 @@ unfolding name_of
 returns c =
     let name = c.before.before.before.before.before.before.before.before.args.name.now in
     let is = c.before.before.before.before.enum_told.given.1 in
-    (omega arith, reworded (ap (λ s. classText (name_of s name)) (sym is)) c.before.before.put-unnamed.ensures.1)
+    (omega arith, reworded (ap (λ s. class_text (name_of s name)) (sym is)) c.before.before.put-unnamed.ensures.1)
 
 same-length-2 : tie.Need-same-length-2
 same-length-2 c = search rules
@@ -44,7 +44,7 @@ returns-2 c =
     let name = c.before.before.before.before.before.before.before.before.before.args.name.now in
     let is = c.before.before.before.before.before.size.given.1 in
     let size_is = ap bytes_of is in
-    (omega (arith, size_is), reworded (ap (λ s. classText (name_of s name)) (sym is)) c.before.before.put-named.ensures.1)
+    (omega (arith, size_is), reworded (ap (λ s. class_text (name_of s name)) (sym is)) c.before.before.put-named.ensures.1)
 
 pub put-class-spec : {M : Type 1} → statement M
 put-class-spec =

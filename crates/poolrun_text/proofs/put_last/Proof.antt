@@ -1,6 +1,6 @@
 -- `poolrun_text::put_last` meets its contract. Assumes nothing.
 use Rattle.poolrun_text.proofs.Putting.{then}
-use Rattle.poolrun_text.specs.Text.{lastText}
+use Rattle.poolrun_text.specs.Text.{last_text}
 use Rattle.definition.specs.Ascii.{ascii}
 use native.Mathlib.Omega.{arith}
 use mathlib.Core.Path.{refl}
@@ -27,7 +27,7 @@ same_length : tie.Need-same-length
 same_length c = search rules
 
 returns : tie.Need-returns
-unfolding lastText ascii
+unfolding last_text ascii
 returns c =
     (omega arith, then (then c.before.before.before.before.before.before.before.before.before.before.before.put_one.ensures.1 c.before.before.before.before.before.before.before.put-class.ensures.1) c.before.before.put-one2.ensures.1)
 

@@ -1,6 +1,6 @@
 -- `poolrun_text::put_named` meets its contract. Assumes nothing.
 use Rattle.poolrun_text.proofs.Putting.{then, reworded}
-use Rattle.definition.specs.Blocks.{line, classText}
+use Rattle.definition.specs.Blocks.{line, class_text}
 use Rattle.definition.specs.Ascii.{ascii, decimal, hex}
 use lib.Seq.{length-take-le}
 use lib.ListN.{take}
@@ -32,7 +32,7 @@ same_length : tie.Need-same-length
 same_length c = search rules
 
 returns : tie.Need-returns
-unfolding classText ascii
+unfolding class_text ascii
 returns c =
     let a = c.before.before.before.before.before.before.before.before.before.before.before.before.args in
     let size = length-take-le a.n a.name.now c.before.before.before.before.before.before.before.before.before.before.before.before.requires.0 in

@@ -1,6 +1,6 @@
 -- `poolrun_text::put_pool` meets its contract. Assumes nothing.
 use Rattle.poolrun_text.proofs.Putting.{then}
-use Rattle.poolrun_text.specs.Text.{poolText}
+use Rattle.poolrun_text.specs.Text.{pool_text}
 use Rattle.definition.specs.Ascii.{ascii}
 use native.Mathlib.Omega.{arith}
 use mathlib.Core.Path.{refl}
@@ -21,7 +21,7 @@ same_length : tie.Need-same-length
 same_length c = search rules
 
 returns : tie.Need-returns
-unfolding poolText ascii
+unfolding pool_text ascii
 returns c = (omega arith, then c.before.before.before.before.before.before.put_one.ensures.1 c.before.before.put-bytes.ensures.1)
 
 pub put-pool-spec : {M : Type 1} → statement M

@@ -1,5 +1,5 @@
 -- `poolrun_text::put_refusal` meets its contract. Assumes nothing.
-use Rattle.poolrun_text.specs.Text.{refusedText}
+use Rattle.poolrun_text.specs.Text.{refused_text}
 use Rattle.definition.specs.Ascii.{ascii}
 use native.Mathlib.Omega.{arith}
 use mathlib.Core.Path.{refl}
@@ -17,7 +17,7 @@ same_length : tie.Need-same-length
 same_length c = search rules
 
 returns : tie.Need-returns
-unfolding refusedText ascii
+unfolding refused_text ascii
 returns c = c.before.before.put_two.ensures.1
 
 pub put-refusal-spec : {M : Type 1} → statement M

@@ -1,5 +1,5 @@
 -- `poolrun_text::put_unnamed` meets its contract. Assumes nothing.
-use Rattle.definition.specs.Blocks.{line, classText}
+use Rattle.definition.specs.Blocks.{line, class_text}
 use Rattle.definition.specs.Ascii.{ascii}
 use borrow.Author.Rules.{rules}
 use Rattle.poolrun_text.proofs.put_unnamed.Statement.{statement}
@@ -15,7 +15,7 @@ same_length : tie.Need-same-length
 same_length c = search rules
 
 returns : tie.Need-returns
-unfolding classText line ascii
+unfolding class_text line ascii
 returns c = c.before.before.put_word.ensures
 
 pub put-unnamed-spec : {M : Type 1} → statement M

@@ -4,7 +4,7 @@ use native.Mathlib.Omega.{arith}
 use lib.ListN.{length}
 use lib.Seq.{take-length}
 use borrow.Author.Rules.{rules}
-use Rattle.poolrun_text.proofs.Putting.{word-behind, reworded}
+use Rattle.poolrun_text.proofs.Putting.{word_behind, reworded}
 use Rattle.poolrun_text.proofs.put_word.Statement.{statement}
 use Rattle.poolrun_text.proofs.put_word.Tie as tie
 
@@ -21,7 +21,7 @@ returns : tie.Need-returns
 returns c =
     let a = c.before.before.before.before.before.before.args in
     let word = a.word.now in
-    (refl, reworded (take-length word) (word-behind a.out.now word c.before.before.copy.new.1.1.0 a.at (length word) (omega arith) (omega arith) c.before.before.copy.ensures))
+    (refl, reworded (take-length word) (word_behind a.out.now word c.before.before.copy.new.1.1.0 a.at (length word) (omega arith) (omega arith) c.before.before.copy.ensures))
 
 pub put-word-spec : {M : Type 1} → statement M
 put-word-spec = tie.close (tie.spec copy-requires add-result same_length returns)

@@ -1,6 +1,6 @@
 -- `poolrun_text::read_text` meets its contract. By cases on how the file was read. Assumes nothing.
 use Rattle.poolrun_text.proofs.Putting.{reworded}
-use Rattle.poolrun_text.specs.Text.{ReadInto, readText}
+use Rattle.poolrun_text.specs.Text.{ReadInto, read_text}
 use Rattle.blocks.specs.declared.BlocksRead.{BlocksRead}
 use lib.ListN.{length}
 use mathlib.Core.Path.{sym, ap, subst}
@@ -44,46 +44,46 @@ same_length : tie.Need-same-length
 same_length c = search rules
 
 returns : tie.Need-returns
-unfolding readText
+unfolding read_text
 returns c =
     let told = c.before.before.run-text.ensures in
-    reworded (ap (λ (x : BlocksRead). readText x c.before.before.before.before.before.before.before.before.before.args.job.now) (sym c.before.before.before.before.before.read.given.1)) told
+    reworded (ap (λ (x : BlocksRead). read_text x c.before.before.before.before.before.before.before.before.before.args.job.now) (sym c.before.before.before.before.before.read.given.1)) told
 
 same-length-2 : tie.Need-same-length-2
 same-length-2 c = search rules
 
 returns-2 : tie.Need-returns-2
-unfolding readText
+unfolding read_text
 returns-2 c =
     let told = c.before.before.put-refusal.ensures in
-    reworded (ap (λ (x : BlocksRead). readText x c.before.before.before.before.before.before.before.before.args.job.now) (sym c.before.before.before.before.enum_told.given.1)) told
+    reworded (ap (λ (x : BlocksRead). read_text x c.before.before.before.before.before.before.before.before.args.job.now) (sym c.before.before.before.before.enum_told.given.1)) told
 
 same-length-3 : tie.Need-same-length-3
 same-length-3 c = search rules
 
 returns-3 : tie.Need-returns-3
-unfolding readText
+unfolding read_text
 returns-3 c =
     let told = c.before.before.put-refusal2.ensures in
-    reworded (ap (λ (x : BlocksRead). readText x c.before.before.before.before.before.before.before.before.args.job.now) (sym c.before.before.before.before.enum-told2.given.1)) told
+    reworded (ap (λ (x : BlocksRead). read_text x c.before.before.before.before.before.before.before.before.args.job.now) (sym c.before.before.before.before.enum-told2.given.1)) told
 
 same-length-4 : tie.Need-same-length-4
 same-length-4 c = search rules
 
 returns-4 : tie.Need-returns-4
-unfolding readText
+unfolding read_text
 returns-4 c =
     let told = c.before.before.put-refusal3.ensures in
-    reworded (ap (λ (x : BlocksRead). readText x c.before.before.before.before.before.before.before.before.before.args.job.now) (sym c.before.before.before.before.before.read2.given.1)) told
+    reworded (ap (λ (x : BlocksRead). read_text x c.before.before.before.before.before.before.before.before.before.args.job.now) (sym c.before.before.before.before.before.read2.given.1)) told
 
 same-length-5 : tie.Need-same-length-5
 same-length-5 c = search rules
 
 returns-5 : tie.Need-returns-5
-unfolding readText
+unfolding read_text
 returns-5 c =
     let told = c.before.before.put-refusal4.ensures in
-    reworded (ap (λ (x : BlocksRead). readText x c.before.before.before.before.before.before.before.before.args.job.now) (sym c.before.before.before.before.enum-told3.given.1)) told
+    reworded (ap (λ (x : BlocksRead). read_text x c.before.before.before.before.before.before.before.before.args.job.now) (sym c.before.before.before.before.enum-told3.given.1)) told
 
 pub read-text-spec : {M : Type 1} → statement M
 read-text-spec =

@@ -2,7 +2,7 @@
 mod Lts
 mod Tie
 use Rattle.poolrun_text.proofs.Putting.{reworded}
-use Rattle.poolrun_text.proofs.Running.{fits-ran, text-over}
+use Rattle.poolrun_text.proofs.Running.{fits-ran, text_over}
 use Rattle.cpool.specs.Ran.{slices}
 use lib.Seq.{length-take-le}
 use lib.ListN.{length, take}
@@ -34,11 +34,11 @@ print-requires c κs =
     (length a.out.now)
     r.ensures
     c.before.before.before.before.before.before.before.before.before.before.before.before.before.before.before.before.before.before.before.before.before.before.before.before.before.before.before.before.before.before.before.before.before.before.before.before.requires.0.1
-    (omega (arith, l.answers-is, r.auto.1.1.1.0))
-    (omega (arith, l.marks-is, r.auto.1.1.1.1.0))
-    (omega (arith, l.pool-is, r.auto.1.1.1.1.1.0))
-    (omega (arith, l.bootstraps-is, r.auto.1.1.1.1.1.1.0))
-    (omega (arith, l.class-is, r.auto.1.1.1.1.1.1.1.0))
+    (omega (arith, l.answers_is, r.auto.1.1.1.0))
+    (omega (arith, l.marks_is, r.auto.1.1.1.1.0))
+    (omega (arith, l.pool_is, r.auto.1.1.1.1.1.0))
+    (omega (arith, l.bootstraps_is, r.auto.1.1.1.1.1.1.0))
+    (omega (arith, l.class_is, r.auto.1.1.1.1.1.1.1.0))
 
 same_length : tie.Need-same-length
 same_length c = c.before.before.print.auto.0
@@ -72,7 +72,7 @@ returns c =
     let before = slices a.work.now a.gaps.now a.answers.now a.marks.now a.pool.now a.bootstraps.now a.class-name.now in
     let after = slices r.new.1.0 r.new.1.1.0 r.new.1.1.1.0 r.new.1.1.1.1.0 r.new.1.1.1.1.1.0 r.new.1.1.1.1.1.1.0 r.new.1.1.1.1.1.1.1.0 in
     let told = c.before.before.print.ensures in
-    reworded (text-over (take a.n a.job.now) before after r.result r.ensures l) told
+    reworded (text_over (take a.n a.job.now) before after r.result r.ensures l) told
 
 pub run-over-spec : {M : Type 1} → statement M
 run-over-spec =

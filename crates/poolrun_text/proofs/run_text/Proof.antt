@@ -5,7 +5,7 @@ use mathlib.Core.Path.{sym}
 use Prim.Native.Nat.{ℕ}
 use lib.ListN.{length-replicate}
 use Rattle.slots.specs.declared.Gap.{Gap}
-use Rattle.poolrun_text.proofs.Running.{lengths-lent}
+use Rattle.poolrun_text.proofs.Running.{lengths_lent}
 use Rattle.poolrun_text.proofs.run_text.Statement.{statement}
 use Rattle.poolrun_text.proofs.run_text.Proof.Tie as tie
 
@@ -34,7 +34,7 @@ slice-aggregate-run-over-7 : tie.Need-slice-aggregate-run-over-7
 slice-aggregate-run-over-7 c = sym (length-replicate {0} {A = ℕ} 65536 0)
 
 run-over-requires : tie.Need-run-over-requires
-run-over-requires c κs = (c.before.before.before.before.before.before.before.before.before.before.before.requires, lengths-lent c.before.before.before.before.before.before.before.before.no_gap.result)
+run-over-requires c κs = (c.before.before.before.before.before.before.before.before.before.before.before.requires, lengths_lent c.before.before.before.before.before.before.before.before.no_gap.result)
 
 same_length : tie.Need-same-length
 same_length c = c.before.before.before.before.before.before.before.before.before.run-over.auto.1.1.0

@@ -1,6 +1,6 @@
 -- `poolrun_text::text` meets its contract. Assumes nothing.
 use Rattle.poolrun_text.proofs.Putting.{whole, reworded}
-use Rattle.poolrun_text.proofs.Reading.{long-text}
+use Rattle.poolrun_text.proofs.Reading.{long_text}
 use native.Mathlib.Omega.{arith}
 use borrow.Author.Rules.{rules}
 use Rattle.poolrun_text.proofs.text.Statement.{statement}
@@ -14,7 +14,7 @@ file-text-requires c κs = (omega arith, omega arith)
 
 returns : tie.Need-returns
 returns c =
-    whole (reworded (long-text c.before.before.before.before.args.file.now (omega arith)) c.put-refusal.ensures)
+    whole (reworded (long_text c.before.before.before.before.args.file.now (omega arith)) c.put-refusal.ensures)
 
 returns-2 : tie.Need-returns-2
 returns-2 c = whole c.file-text.ensures

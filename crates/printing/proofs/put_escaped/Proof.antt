@@ -3,7 +3,7 @@ use mathlib.Core.Logic.{inl, inr}
 use mathlib.Core.List.{◌∷◌}
 use mathlib.Core.Path.{◌≡◌, refl}
 use native.Mathlib.Omega.{arith}
-use Rattle.printing.specs.Numbers.{escaped, hexOf}
+use Rattle.printing.specs.Numbers.{escaped, hex_of}
 use Rattle.printing.proofs.Printing.{then, ready, reworded}
 use Rattle.printing.proofs.Shown.{escaped-quote, escaped-backslash, escaped-plain, escaped-low, escaped-high}
 use borrow.Author.Rules.{rules}
@@ -61,7 +61,7 @@ returns-4 : tie.Need-returns-4
 returns-4 c =
     let b = c.before.before.before.before.before.before.before.before.before.before.before.before.args.b in
     let r = c.before.before.before.before.before.before.before.before.before.before.match.rest in
-    let shown : 0x5c ∷ 0x78 ∷ hexOf 2 b ≡ escaped b =
+    let shown : 0x5c ∷ 0x78 ∷ hex_of 2 b ≡ escaped b =
     elim c.before.before.before.before.before.before.before.before.before.if1.branch [ inl i ↦ escaped-low b r.0.1 r.1 (omega arith) | inr (i, j) ↦ escaped-high b r.0.1 r.1 (omega arith) ] in
     reworded shown (then c.before.before.before.before.before.before.before.before.before.before.before.before.requires c.before.before.before.before.before.before.put-word3.ensures c.before.before.put-hex.ensures)
 

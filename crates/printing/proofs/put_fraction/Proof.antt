@@ -3,7 +3,7 @@ use mathlib.Core.Logic.{inl, inr}
 use mathlib.Core.Path.{◌≡◌, refl, ◌∙◌}
 use Prim.Native.Nat.{◌%◌, ◌≤◌, ◌<◌}
 use native.Mathlib.Omega.{arith}
-use Rattle.printing.specs.Numbers.{hexOf, fraction}
+use Rattle.printing.specs.Numbers.{hex_of, fraction}
 use Rattle.printing.proofs.Printing.{reworded}
 use Rattle.printing.proofs.Shown.{fraction-less, fraction-full, fraction-one}
 use borrow.Author.Rules.{rules}
@@ -40,7 +40,7 @@ same_length c = search rules
 returns : tie.Need-returns invariant-loop decreases-loop
 returns c =
     let l = c.before.before.before.before.before.loop in
-    let ended : hexOf l.count l.m ≡ fraction l.count l.m =
+    let ended : hex_of l.count l.m ≡ fraction l.count l.m =
     elim c.before.before.before.before.loop-test.branch [ inl (t, i) ↦ fraction-full l.count l.m (eqb-false (l.m % 16) 0 i.left) | inr t ↦ fraction-one l.count l.m (omega arith) ] in
     reworded (ended ∙ l.invariant.2) c.before.before.put-hex.ensures
 

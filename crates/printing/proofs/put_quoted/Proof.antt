@@ -6,8 +6,8 @@ use native.Mathlib.Omega.{arith}
 use lib.ListN.{take, drop}
 use Rattle.printing.specs.Numbers.{quoted}
 use Rattle.printing.specs.Printed.{Printed}
-use Rattle.printing.proofs.Printing.{Left, all_left, less-left, left_as, then, ready, reworded, any-past}
-use Rattle.printing.proofs.Shown.{closed, closed-next, closed-end}
+use Rattle.printing.proofs.Printing.{Left, all_left, less_left, left_as, then, ready, reworded, any_past}
+use Rattle.printing.proofs.Shown.{closed, closed_next, closed_end}
 use borrow.Author.Rules.{rules}
 use borrow.Author.Tests.{leb-false}
 use Rattle.printing.proofs.put_quoted.Statement.{statement}
@@ -49,8 +49,8 @@ loop-again : tie.Need-loop-preserved invariant-loop decreases-loop
 loop-again c =
     let a = c.before.before.before.before.before.before.before.before.before.before.before.before.before.before.args in
     let l = c.before.before.before.before.before.before.before.loop in
-    let next = closed-next a.text.now a.from a.size l.i (omega arith) (omega arith) in
-    (omega arith, less-left (left_as next l.invariant.1) c.before.before.put-escaped.ensures)
+    let next = closed_next a.text.now a.from a.size l.i (omega arith) (omega arith) in
+    (omega arith, less_left (left_as next l.invariant.1) c.before.before.put-escaped.ensures)
 
 put-requires-2 : tie.Need-put-requires-2 invariant-loop decreases-loop
 put-requires-2 c κs = c.before.before.loop.invariant.1.can
@@ -67,8 +67,8 @@ returns c =
     let rest = closed (drop l.i (take a.size (drop a.from a.text.now))) in
     let ended : Printed l.out a.room l.at rest p.new.0 p.result =
     elim c.before.before.before.before.loop-test.branch [
-      | inl (t, i) ↦ any-past rest l.invariant.1.can (leb-false l.at a.room i.left) p.ensures
-      | inr t ↦ reworded (closed-end a.text.now a.from a.size l.i (omega arith) (omega arith)) p.ensures
+      | inl (t, i) ↦ any_past rest l.invariant.1.can (leb-false l.at a.room i.left) p.ensures
+      | inr t ↦ reworded (closed_end a.text.now a.from a.size l.i (omega arith) (omega arith)) p.ensures
     ] in
     then c.before.before.before.before.before.before.before.before.before.before.before.before.requires.0 c.before.before.before.before.before.before.before.before.put.ensures (l.invariant.1.so p.new.0 p.result ended)
 

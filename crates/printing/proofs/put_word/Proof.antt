@@ -3,7 +3,7 @@ use Prim.Native.Nat.{◌-◌, ◌≤◌}
 use native.Mathlib.Omega.{arith}
 use lib.ListN.{length, drop}
 use borrow.Author.Rules.{rules}
-use Rattle.printing.proofs.Printing.{Left, all_left, less-left, left_as, none_left, next_of, end_of}
+use Rattle.printing.proofs.Printing.{Left, all_left, less_left, left_as, none_left, next_of, end_of}
 use Rattle.printing.proofs.put_word.Statement.{statement}
 use Rattle.printing.proofs.put_word.Tie as tie
 
@@ -34,7 +34,7 @@ loop-again : tie.Need-loop-preserved invariant-loop decreases-loop
 loop-again c =
     let a = c.before.before.before.before.before.before.before.before.before.args in
     let l = c.before.before.before.before.before.before.loop in
-    (omega arith, less-left (left_as (next_of a.word.now l.i (omega arith)) l.invariant.1) c.before.before.put.ensures)
+    (omega arith, less_left (left_as (next_of a.word.now l.i (omega arith)) l.invariant.1) c.before.before.put.ensures)
 
 same_length : tie.Need-same-length invariant-loop decreases-loop
 same_length c = c.before.loop.invariant.1.same

@@ -4,7 +4,7 @@ use borrow.Author.Rules.{rules}
 use mathlib.Core.Path.{ap, ◌∙◌}
 use native.Mathlib.Omega.{arith}
 use Rattle.raw_const.specs.Entries.{length_of}
-use Rattle.raw_const.proofs.Readers.{Sized, read_behind, read-unknown, read-cut, read_whole}
+use Rattle.raw_const.proofs.Readers.{Sized, read_behind, read_unknown, read_cut, read_whole}
 use Rattle.raw_const.proofs.read_entry.Statement.{statement}
 use Rattle.raw_const.proofs.read_entry.Tie as tie
 
@@ -42,13 +42,13 @@ shape-length-requires : tie.Need-shape-length-requires
 shape-length-requires c κs = λ _. omega arith
 
 returns-2 : tie.Need-returns-2
-returns-2 c = read-unknown (size-at c.before) c.if2.true
+returns-2 c = read_unknown (size-at c.before) c.if2.true
 
 sub-if3 : tie.Need-overflow-sub-if3
 sub-if3 c = search rules
 
 returns-3 : tie.Need-returns-3
-returns-3 c = read-cut (size-at c.before.before) (omega arith) c.if3.true
+returns-3 c = read_cut (size-at c.before.before) (omega arith) c.if3.true
 
 add-t11 : tie.Need-overflow-add-t11
 add-t11 c = omega arith

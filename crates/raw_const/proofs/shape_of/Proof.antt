@@ -1,7 +1,7 @@
 -- `raw_const::shape_of` meets its contract: the codes of a row make the shape of its fields. Assumes nothing.
 use borrow.Author.Rules.{rules}
 use Rattle.definition.specs.Basics.{lookup}
-use Rattle.raw_const.proofs.Table.{by_first, by_one, by_two, by-none}
+use Rattle.raw_const.proofs.Table.{by_first, by_one, by_two, by_none}
 use Rattle.raw_const.proofs.shape_of.Statement.{statement}
 use Rattle.raw_const.proofs.shape_of.Tie as tie
 
@@ -57,7 +57,7 @@ returns-7 c =
 returns-8 : tie.Need-returns-8
 returns-8 c =
     let found = c.before in
-    by-none found.before.args.tag found.row_of.result found.row_of.ensures c.match.rest
+    by_none found.before.args.tag found.row_of.result found.row_of.ensures c.match.rest
 
 pub shape-of-spec : {M : Type 1} → statement M
 shape-of-spec =

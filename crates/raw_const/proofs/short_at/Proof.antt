@@ -1,7 +1,7 @@
 -- `raw_const::short_at` meets its contract: the definition's reader takes two bytes, or finds nothing. Assumes nothing.
 use borrow.Author.Rules.{rules}
 use native.Mathlib.Omega.{arith}
-use Rattle.raw_const.proofs.Readers.{no_short, a-short}
+use Rattle.raw_const.proofs.Readers.{no_short, a_short}
 use Rattle.raw_const.proofs.short_at.Statement.{statement}
 use Rattle.raw_const.proofs.short_at.Tie as tie
 
@@ -17,7 +17,7 @@ get-u16-requires c κs = search rules
 returns-2 : tie.Need-returns-2
 returns-2 c =
     let args = c.before.before.before.args in
-    rw c.get-u16.ensures (a-short args.pool.now args.at (omega arith))
+    rw c.get-u16.ensures (a_short args.pool.now args.at (omega arith))
 
 pub short-at-spec : {M : Type 1} → statement M
 short-at-spec = tie.close (tie.spec sub-if1 returns get-u16-requires returns-2)

@@ -5,9 +5,9 @@ use Prim.Native.Nat.{ℕ, ◌+◌}
 use native.Mathlib.Omega.{arith}
 use borrow.Author.Rules.{rules}
 use lib.ListN.{length, take, drop, length-append}
-use Rattle.definition.specs.Run.{entryBytes}
+use Rattle.definition.specs.Run.{entry_bytes}
 use Rattle.raw_const.specs.Entries.{entry_of}
-use Rattle.raw_const.proofs.Table.{text-first, text-second, firstBytes, secondBytes, no_bytes, all-bytes, all-length}
+use Rattle.raw_const.proofs.Table.{text_first, text_second, first_bytes, second_bytes, no_bytes, all_bytes, all_length}
 use Rattle.raw_const.proofs.Writes.{wrote_as, wrote_then, wrote_nothing}
 use Rattle.raw_const.proofs.write_entry.Statement.{statement}
 use Rattle.raw_const.proofs.write_entry.Tie as tie
@@ -25,23 +25,23 @@ module _ (c : tie.Else1) where
   begun = c.before.before.before.before
 
   abbrev one : List ℕ
-  one = let args = begun.args in firstBytes args.tag args.kind (part begun) args.first args.second row
+  one = let args = begun.args in first_bytes args.tag args.kind (part begun) args.first args.second row
 
   abbrev two : List ℕ
-  two = let args = begun.args in secondBytes args.tag args.kind (part begun) args.first args.second row
+  two = let args = begun.args in second_bytes args.tag args.kind (part begun) args.first args.second row
 
   abbrev entry : List ℕ
-  entry = let args = begun.args in entryBytes (entry_of args.tag args.kind (part begun) args.first args.second)
+  entry = let args = begun.args in entry_bytes (entry_of args.tag args.kind (part begun) args.first args.second)
 
   sizes : 1 + length one + length two ≡ length entry
   sizes =
       let args = begun.args in
-      all-length args.tag args.kind (part begun) args.first args.second row c.before.row_of.ensures c.if1.false
+      all_length args.tag args.kind (part begun) args.first args.second row c.before.row_of.ensures c.if1.false
 
   whole : (begun.args.tag ∷ []) ++ one ++ two ≡ entry
   whole =
       let args = begun.args in
-      all-bytes args.tag args.kind (part begun) args.first args.second row c.before.row_of.ensures c.if1.false
+      all_bytes args.tag args.kind (part begun) args.first args.second row c.before.row_of.ensures c.if1.false
 
 row-of-requires : tie.Need-row-of-requires
 row-of-requires c κs = search rules
@@ -70,7 +70,7 @@ write-field-requires c κs =
     let start = begun branch in
     let is = branch.before.row_of.ensures in
     let byte = c.before.before.before in (
-      λ e. start.pre.0.asText (text-first start.args.tag (row branch) is e),
+      λ e. start.pre.0.as_text (text_first start.args.tag (row branch) is e),
       (start.pre.1.0, omega (arith, start.pre.1.1, sizes branch, byte.write_byte.ensures.next)),
     )
 
@@ -91,7 +91,7 @@ write-field-requires-2 c κs =
     let branch = byte.before.before in
     let start = begun branch in
     let there = index.second-index.ensures in (
-      λ e. absurd (text-second start.args.tag (row branch) branch.before.row_of.ensures e),
+      λ e. absurd (text_second start.args.tag (row branch) branch.before.row_of.ensures e),
       (start.pre.1.0, rw there (omega (arith, start.pre.1.1, sizes branch, byte.write_byte.ensures.next, field.write-field.ensures.next))),
     )
 

@@ -7,7 +7,7 @@ use borrow.Author.Rules.{rules}
 use lib.ListN.{length, take, drop}
 use Rattle.definition.specs.Bytes.{be2}
 use Rattle.facts.proofs.Copies.{part_length}
-use Rattle.raw_const.proofs.Table.{field-text, field-32, field-64, field-kind, field-index, field-bootstrap, field-none}
+use Rattle.raw_const.proofs.Table.{field_text, field_32, field_64, field_kind, field_index, field_bootstrap, field_none}
 use Rattle.raw_const.proofs.Writes.{wrote_as, wrote_nothing}
 use Rattle.raw_const.proofs.write_field.Statement.{statement}
 use Rattle.raw_const.proofs.write_field.Tie as tie
@@ -25,7 +25,7 @@ write-text-requires c κs =
     let start = c.before.before.before.before in
     let args = start.args in
     let literal = part start in
-    let long = ap length (field-text args.field args.kind literal args.index c.before.match.keys1) in
+    let long = ap length (field_text args.field args.kind literal args.index c.before.match.keys1) in
     (start.requires.0 c.before.match.keys1, (start.requires.1.0, omega (arith, start.requires.1.1, part-size start)))
 
 write-bytes-requires : tie.Need-write-bytes-requires
@@ -34,7 +34,7 @@ write-bytes-requires c κs =
     let start = c.before.before.before.before in
     let args = start.args in
     let literal = part start in
-    let long = ap length (field-32 args.field args.kind literal args.index c.before.match.keys2) in
+    let long = ap length (field_32 args.field args.kind literal args.index c.before.match.keys2) in
     (start.requires.1.0, omega (arith, start.requires.1.1, part-size start))
 
 write-bytes-requires-2 : tie.Need-write-bytes-requires-2
@@ -43,7 +43,7 @@ write-bytes-requires-2 c κs =
     let start = c.before.before.before.before in
     let args = start.args in
     let literal = part start in
-    let long = ap length (field-64 args.field args.kind literal args.index c.before.match.keys3) in
+    let long = ap length (field_64 args.field args.kind literal args.index c.before.match.keys3) in
     (start.requires.1.0, omega (arith, start.requires.1.1, part-size start))
 
 write-byte-requires : tie.Need-write-byte-requires
@@ -52,7 +52,7 @@ write-byte-requires c κs =
     let start = c.before.before.before.before in
     let args = start.args in
     let literal = part start in
-    let long = ap length (field-kind args.field args.kind literal args.index c.before.match.keys4) in
+    let long = ap length (field_kind args.field args.kind literal args.index c.before.match.keys4) in
     omega (arith, start.requires.1.1, part-size start)
 
 write-short-requires : tie.Need-write-short-requires
@@ -61,7 +61,7 @@ write-short-requires c κs =
     let start = c.before.before.before.before in
     let args = start.args in
     let literal = part start in
-    let long = ap length (field-index args.field args.kind literal args.index c.before.match.keys5) in
+    let long = ap length (field_index args.field args.kind literal args.index c.before.match.keys5) in
     omega (arith, start.requires.1.1, part-size start)
 
 write-short-requires-2 : tie.Need-write-short-requires-2
@@ -70,7 +70,7 @@ write-short-requires-2 c κs =
     let start = c.before.before.before.before in
     let args = start.args in
     let literal = part start in
-    let long = ap length (field-bootstrap args.field args.kind literal args.index c.before.match.keys6) in
+    let long = ap length (field_bootstrap args.field args.kind literal args.index c.before.match.keys6) in
     omega (arith, start.requires.1.1, part-size start)
 
 same_length : tie.Need-same-length
@@ -80,7 +80,7 @@ returns : tie.Need-returns
 returns c =
     let start = c.before.before.before.before.before.before.before in
     let args = start.args in
-    wrote_as (field-text args.field args.kind (part start) args.index c.before.before.before.before.match.keys1) (rw (part-size start) c.before.before.write-text.ensures)
+    wrote_as (field_text args.field args.kind (part start) args.index c.before.before.before.before.match.keys1) (rw (part-size start) c.before.before.write-text.ensures)
 
 same-length-2 : tie.Need-same-length-2
 same-length-2 c = search rules
@@ -89,7 +89,7 @@ returns-2 : tie.Need-returns-2
 returns-2 c =
     let start = c.before.before.before.before.before.before.before in
     let args = start.args in
-    wrote_as (field-32 args.field args.kind (part start) args.index c.before.before.before.before.match.keys2) c.before.before.write_bytes.ensures
+    wrote_as (field_32 args.field args.kind (part start) args.index c.before.before.before.before.match.keys2) c.before.before.write_bytes.ensures
 
 same-length-3 : tie.Need-same-length-3
 same-length-3 c = search rules
@@ -98,7 +98,7 @@ returns-3 : tie.Need-returns-3
 returns-3 c =
     let start = c.before.before.before.before.before.before.before in
     let args = start.args in
-    wrote_as (field-64 args.field args.kind (part start) args.index c.before.before.before.before.match.keys3) c.before.before.write-bytes2.ensures
+    wrote_as (field_64 args.field args.kind (part start) args.index c.before.before.before.before.match.keys3) c.before.before.write-bytes2.ensures
 
 same-length-4 : tie.Need-same-length-4
 same-length-4 c = search rules
@@ -107,7 +107,7 @@ returns-4 : tie.Need-returns-4
 returns-4 c =
     let start = c.before.before.before.before.before.before.before in
     let args = start.args in
-    wrote_as (field-kind args.field args.kind (part start) args.index c.before.before.before.before.match.keys4) c.before.before.write_byte.ensures
+    wrote_as (field_kind args.field args.kind (part start) args.index c.before.before.before.before.match.keys4) c.before.before.write_byte.ensures
 
 same-length-5 : tie.Need-same-length-5
 same-length-5 c = search rules
@@ -116,7 +116,7 @@ returns-5 : tie.Need-returns-5
 returns-5 c =
     let start = c.before.before.before.before.before.before.before in
     let args = start.args in
-    wrote_as (field-index args.field args.kind (part start) args.index c.before.before.before.before.match.keys5) c.before.before.write-short.ensures
+    wrote_as (field_index args.field args.kind (part start) args.index c.before.before.before.before.match.keys5) c.before.before.write-short.ensures
 
 same-length-6 : tie.Need-same-length-6
 same-length-6 c = search rules
@@ -125,13 +125,13 @@ returns-6 : tie.Need-returns-6
 returns-6 c =
     let start = c.before.before.before.before.before.before.before in
     let args = start.args in
-    wrote_as (field-bootstrap args.field args.kind (part start) args.index c.before.before.before.before.match.keys6) c.before.before.write-short2.ensures
+    wrote_as (field_bootstrap args.field args.kind (part start) args.index c.before.before.before.before.match.keys6) c.before.before.write-short2.ensures
 
 returns-7 : tie.Need-returns-7
 returns-7 c =
     let start = c.before.before.before in
     let args = start.args in
-    wrote_as (field-none args.field args.kind (part start) args.index c.match.rest) (wrote_nothing args.out.now args.at)
+    wrote_as (field_none args.field args.kind (part start) args.index c.match.rest) (wrote_nothing args.out.now args.at)
 
 pub write-field-spec : {M : Type 1} → statement M
 write-field-spec =

@@ -8,7 +8,7 @@ use native.Mathlib.Nat.{add-zero}
 use lib.ListN.{length}
 use Rattle.definition.specs.Bytes.{be2}
 use Rattle.raw_const.proofs.Writes.{wrote_then}
-use Rattle.raw_const.proofs.Rows.{row_room, row-part}
+use Rattle.raw_const.proofs.Rows.{row_room, row_part}
 use Rattle.raw_const.proofs.write_row.Statement.{statement}
 use Rattle.raw_const.proofs.write_row.Tie as tie
 
@@ -69,7 +69,7 @@ returns c =
     let number = arguments.before.before.before.before in
     let handle = number.before.before.before.before in
     let start = handle.before.before.before.before.before in
-    let bytes = row-part start.args.words.now start.args.from start.args.count start.requires.0.0 start.requires.1.0 in
+    let bytes = row_part start.args.words.now start.args.from start.args.count start.requires.0.0 start.requires.1.0 in
     let head = wrote_then handle.write-short.ensures (omega (arith, room start)) number.write-short2.ensures in
     rw bytes (wrote_then head (omega (arith, room start)) arguments.write-shorts.ensures)
 

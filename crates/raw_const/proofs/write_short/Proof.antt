@@ -1,6 +1,6 @@
 -- `raw_const::write_short` meets its contract: a number in two bytes. Assumes nothing.
 use borrow.Author.Rules.{rules}
-use Rattle.raw_const.proofs.Writes.{wrote-short}
+use Rattle.raw_const.proofs.Writes.{wrote_short}
 use Rattle.raw_const.proofs.write_short.Statement.{statement}
 use Rattle.raw_const.proofs.write_short.Tie as tie
 
@@ -16,7 +16,7 @@ same_length c = search rules
 returns : tie.Need-returns
 returns c =
     let args = c.before.before.before.before.before.args in
-    wrote-short args.out.now args.at args.x c.before.before.put-u16.ensures
+    wrote_short args.out.now args.at args.x c.before.before.put-u16.ensures
 
 pub write-short-spec : {M : Type 1} → statement M
 write-short-spec = tie.close (tie.spec put-u16-requires add-result same_length returns)

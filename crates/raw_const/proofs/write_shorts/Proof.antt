@@ -8,7 +8,7 @@ use lib.ListN.{take, drop}
 use Rattle.definition.specs.Basics.{concat}
 use Rattle.raw_const.specs.Entries.{Wrote}
 use Rattle.raw_const.proofs.Writes.{wrote_nothing}
-use Rattle.raw_const.proofs.Rows.{shorts, shorts-more, shorts-size}
+use Rattle.raw_const.proofs.Rows.{shorts, shorts_more, shorts_size}
 use Rattle.raw_const.proofs.write_shorts.Statement.{statement}
 use Rattle.raw_const.proofs.write_shorts.Tie as tie
 
@@ -41,7 +41,7 @@ write-short-requires : tie.Need-write-short-requires invariant-loop decreases-lo
 write-short-requires c κs =
     let args = c.before.before.before.before.before.before.args in
     let head = c.before.before.before.loop in
-    omega (arith, head.invariant.2.next, shorts-size args.words.now args.from head.i (omega arith))
+    omega (arith, head.invariant.2.next, shorts_size args.words.now args.from head.i (omega arith))
 
 add-i : tie.Need-overflow-add-i invariant-loop decreases-loop
 add-i c = search rules
@@ -56,7 +56,7 @@ loop-again c =
     let last = c.before.before.write-short.ensures in (
       search rules,
       search rules,
-      shorts-more args.words.now args.from head.loop.i (omega arith) (omega arith) head.loop.invariant.2 last,
+      shorts_more args.words.now args.from head.loop.i (omega arith) (omega arith) head.loop.invariant.2 last,
     )
 
 same_length : tie.Need-same-length invariant-loop decreases-loop

@@ -1,7 +1,7 @@
 -- `raw_const_test::fits` meets its contract: each arm tests what its shape asks of a literal. Assumes nothing.
 use borrow.Author.Tests.{ltb-true, eqb-true}
 use borrow.Author.Rules.{rules}
-use Rattle.raw_const_test.proofs.Literals.{literal-fits}
+use Rattle.raw_const_test.proofs.Literals.{literal_fits}
 use Rattle.raw_const_test.proofs.fits.Statement.{statement}
 use Rattle.raw_const_test.proofs.fits.Tie as tie
 
@@ -36,43 +36,43 @@ returns : tie.Need-returns
 returns c =
     λ e.
     let s = c.before.before.shape_of in
-    literal-fits s.result _ _ s.ensures (rw c.enum_told.given.1 (ltb-true _ _ e))
+    literal_fits s.result _ _ s.ensures (rw c.enum_told.given.1 (ltb-true _ _ e))
 
 returns-2 : tie.Need-returns-2
 returns-2 c =
     λ e.
     let s = c.before.before.before.shape_of in
-    literal-fits s.result _ _ s.ensures (rw c.before.fields.given.1 (eqb-true _ _ e))
+    literal_fits s.result _ _ s.ensures (rw c.before.fields.given.1 (eqb-true _ _ e))
 
 returns-3 : tie.Need-returns-3
 returns-3 c =
     λ _.
     let s = c.before.before.shape_of in
-    literal-fits s.result _ _ s.ensures (rw c.enum-told2.given.1 tt)
+    literal_fits s.result _ _ s.ensures (rw c.enum-told2.given.1 tt)
 
 returns-4 : tie.Need-returns-4
 returns-4 c =
     λ _.
     let s = c.before.before.shape_of in
-    literal-fits s.result _ _ s.ensures (rw c.enum-told3.given.1 tt)
+    literal_fits s.result _ _ s.ensures (rw c.enum-told3.given.1 tt)
 
 returns-5 : tie.Need-returns-5
 returns-5 c =
     λ _.
     let s = c.before.before.shape_of in
-    literal-fits s.result _ _ s.ensures (rw c.enum-told4.given.1 tt)
+    literal_fits s.result _ _ s.ensures (rw c.enum-told4.given.1 tt)
 
 returns-6 : tie.Need-returns-6
 returns-6 c =
     λ _.
     let s = c.before.before.shape_of in
-    literal-fits s.result _ _ s.ensures (rw c.enum-told5.given.1 tt)
+    literal_fits s.result _ _ s.ensures (rw c.enum-told5.given.1 tt)
 
 returns-7 : tie.Need-returns-7
 returns-7 c =
     λ _.
     let s = c.before.before.shape_of in
-    literal-fits s.result _ _ s.ensures (rw c.enum-told6.given.1 tt)
+    literal_fits s.result _ _ s.ensures (rw c.enum-told6.given.1 tt)
 
 pub fits-spec : {M : Type 1} → statement M
 fits-spec =

@@ -6,7 +6,7 @@ use lib.ListN.{length}
 use Rattle.store.specs.Regions.{STACK}
 use Rattle.store.specs.Store.{store, size}
 use Rattle.store.proofs.Stores.{length-store, in_words}
-use Rattle.resolver.proofs.Children.{Pushing, pushing-begin, pushing-next, pushing-end}
+use Rattle.resolver.proofs.Children.{Pushing, pushing_begin, pushing_next, pushing_end}
 use Rattle.resolver.proofs.push_children.Statement.{statement}
 use Rattle.resolver.proofs.push_children.Tie as tie
 
@@ -23,7 +23,7 @@ load-requires-2 : tie.Need-load-requires-2 invariant-loop decreases-loop
 load-requires-2 c κs = (c.before.before.before.before.before.requires.0, c.before.before.before.before.before.requires.1.count)
 
 loop-holds : tie.Need-loop-init invariant-loop decreases-loop
-loop-holds c = (refl, pushing-begin _ _ _ _)
+loop-holds c = (refl, pushing_begin _ _ _ _)
 
 add-load : tie.Need-overflow-add-load invariant-loop decreases-loop
 add-load c = omega (arith, c.before.before.before.load2.ensures.small, c.before.before.before.before.before.load.ensures.small, c.before.loop-test.true)
@@ -47,7 +47,7 @@ loop-less : tie.Need-loop-smaller invariant-loop decreases-loop
 loop-less c = omega (arith, c.before.before.before.before.before.before.loop-test.true)
 
 loop-again : tie.Need-loop-preserved invariant-loop decreases-loop
-loop-again c = (c.before.before.save.auto.0 ∙ c.before.before.before.before.before.before.before.loop.invariant.0, rw c.before.before.save.ensures (pushing-next _ _ c.before.before.before.before.before.before.before.before.before.before.before.before.before.before.args.e _ _ _ _ c.before.before.before.before.before.before.before.loop.invariant.1 c.before.before.before.before.before.before.loop-test.true (omega (arith, c.before.before.before.before.before.before.before.before.before.before.before.before.before.before.requires.2, c.before.before.before.before.before.before.before.before.load2.ensures.word, length-store c.before.before.before.before.before.before.before.before.before.before.before.before.before.before.args.p.now c.before.before.before.before.before.before.before.loop.w STACK)) c.before.before.before.before.load3.result c.before.before.before.before.load3.ensures.word))
+loop-again c = (c.before.before.save.auto.0 ∙ c.before.before.before.before.before.before.before.loop.invariant.0, rw c.before.before.save.ensures (pushing_next _ _ c.before.before.before.before.before.before.before.before.before.before.before.before.before.before.args.e _ _ _ _ c.before.before.before.before.before.before.before.loop.invariant.1 c.before.before.before.before.before.before.loop-test.true (omega (arith, c.before.before.before.before.before.before.before.before.before.before.before.before.before.before.requires.2, c.before.before.before.before.before.before.before.before.load2.ensures.word, length-store c.before.before.before.before.before.before.before.before.before.before.before.before.before.before.args.p.now c.before.before.before.before.before.before.before.loop.w STACK)) c.before.before.before.before.load3.result c.before.before.before.before.load3.ensures.word))
 
 add-save-2 : tie.Need-overflow-add-save-2 invariant-loop decreases-loop
 add-save-2 c = omega (arith, c.before.before.before.before.before.before.before.before.before.requires.3)
@@ -65,7 +65,7 @@ same_length : tie.Need-same-length invariant-loop decreases-loop
 same_length c = c.before.before.save2.auto.0 ∙ c.before.before.before.before.before.loop.invariant.0
 
 returns : tie.Need-returns invariant-loop decreases-loop
-returns c = rw c.before.before.save2.ensures (pushing-end _ _ c.before.before.before.before.before.before.before.before.before.before.before.before.args.e _ _ _ _ c.before.before.before.before.before.loop.invariant.1 c.before.before.before.before.loop-test.false (omega (arith, c.before.before.before.before.before.before.before.before.before.before.before.before.requires.2, length-store c.before.before.before.before.before.before.before.before.before.before.before.before.args.p.now c.before.before.before.before.before.loop.w STACK)) c.before.before.before.before.before.before.before.before.load.ensures.word c.before.before.before.before.before.before.load2.ensures.word)
+returns c = rw c.before.before.save2.ensures (pushing_end _ _ c.before.before.before.before.before.before.before.before.before.before.before.before.args.e _ _ _ _ c.before.before.before.before.before.loop.invariant.1 c.before.before.before.before.loop-test.false (omega (arith, c.before.before.before.before.before.before.before.before.before.before.before.before.requires.2, length-store c.before.before.before.before.before.before.before.before.before.before.before.before.args.p.now c.before.before.before.before.before.loop.w STACK)) c.before.before.before.before.before.before.before.before.load.ensures.word c.before.before.before.before.before.before.load2.ensures.word)
 
 pub push-children-spec : {M : Type 1} → statement M
 push-children-spec =

@@ -6,14 +6,14 @@ use Prim.Native.Nat.{◌+◌}
 use native.Mathlib.Omega.{arith}
 use lib.ListN.{length}
 use Rattle.laws.specs.Faithful.{owing}
-use Rattle.store.specs.Words.{markWord}
+use Rattle.store.specs.Words.{mark_word}
 use Rattle.store.specs.Regions.{COUNTS, MARKS, NODE-HEADS, STACK}
-use Rattle.store.specs.JobIn.{linkedIn}
+use Rattle.store.specs.JobIn.{linked_in}
 use Rattle.store.specs.Store.{store, size}
 use Rattle.store.proofs.Laying.{work-sizes}
 use Rattle.store.proofs.Stores.{length-store}
-use Rattle.resolver.proofs.Going.{Resolving, goal-fits, begin, table-now, visits-fit, running-top, resolving-next, resolving-less, end_refused, end-good}
-use Rattle.resolver.proofs.Stepping.{few-of}
+use Rattle.resolver.proofs.Going.{Resolving, goal_fits, begin, table_now, visits_fit, running_top, resolving_next, resolving_less, end_refused, end-good}
+use Rattle.resolver.proofs.Stepping.{few_of}
 use Rattle.resolver.proofs.resolve.Statement.{statement}
 use Rattle.resolver.proofs.resolve.Tie as tie
 
@@ -21,13 +21,13 @@ abbrev invariant-loop : tie.invariant-loop
 invariant-loop job w₀ p goal visits₀ n₀ w visits n = (length w ≡ length w₀) × Resolving (size p NODE-HEADS) job goal (store p w₀) (store p w) visits n
 
 abbrev decreases-loop : tie.decreases-loop
-decreases-loop job w₀ p goal visits₀ n₀ w visits n = n + owing (linkedIn job) (map markWord (store p w MARKS))
+decreases-loop job w₀ p goal visits₀ n₀ w visits n = n + owing (linked_in job) (map mark_word (store p w MARKS))
 
 load-requires : tie.Need-load-requires invariant-loop decreases-loop
 load-requires c κs = let q = c.before.before.before.before.requires in (q.0, omega (arith, (work-sizes _ _ q.1).counts))
 
 save-requires : tie.Need-save-requires invariant-loop decreases-loop
-save-requires c κs = let q = c.before.before.before.before.before.before.requires in (q.0, omega (arith, (work-sizes _ _ q.1).stack), goal-fits _ _ (few-of _ _ q.1).entries q.4)
+save-requires c κs = let q = c.before.before.before.before.before.before.requires in (q.0, omega (arith, (work-sizes _ _ q.1).stack), goal_fits _ _ (few_of _ _ q.1).entries q.4)
 
 loop-holds : tie.Need-loop-init invariant-loop decreases-loop
 loop-holds c = let q = c.before.before.before.before.before.before.before.before.before.requires in let a = c.before.before.before.before.before.before.before.before.before.args in (refl, begin _ _ _ _ _ c.before.before.save.ensures _ q.1 q.3 q.4 (length-store a.p.now a.w.now STACK) _ c.before.before.before.before.load.ensures.word)
@@ -36,7 +36,7 @@ sub-step : tie.Need-overflow-sub-step invariant-loop decreases-loop
 sub-step c = omega (arith, c.before.loop-test.true)
 
 step-requires : tie.Need-step-requires invariant-loop decreases-loop
-step-requires c κs = let q = c.before.before.before.before.before.before.before.before.before.before.before.before.requires in let z = c.before.before.loop.invariant in ((q.0.0, omega (arith, q.0.1, z.0, c.before.before.before.before.before.save.auto.0)), q.1, table-now (size c.before.before.before.before.before.before.before.before.before.before.before.before.args.p.now NODE-HEADS) _ _ _ _ c.before.before.before.before.before.save.ensures _ q.2 z.1.kept, running-top _ _ _ _ _ _ _ z.1 c.before.loop-test.true)
+step-requires c κs = let q = c.before.before.before.before.before.before.before.before.before.before.before.before.requires in let z = c.before.before.loop.invariant in ((q.0.0, omega (arith, q.0.1, z.0, c.before.before.before.before.before.save.auto.0)), q.1, table_now (size c.before.before.before.before.before.before.before.before.before.before.before.before.args.p.now NODE-HEADS) _ _ _ _ c.before.before.before.before.before.save.ensures _ q.2 z.1.kept, running_top _ _ _ _ _ _ _ z.1 c.before.loop-test.true)
 
 same_length : tie.Need-same-length invariant-loop decreases-loop
 same_length c = c.before.before.before.step.auto.1.0 ∙ c.before.before.before.before.before.before.loop.invariant.0 ∙ c.before.before.before.before.before.before.before.before.before.save.auto.0
@@ -45,16 +45,16 @@ returns : tie.Need-returns invariant-loop decreases-loop
 returns c = end_refused _ _ _ _ _ c.before.before.before.before.before.before.before.before.before.save.ensures _ _ _ _ _ c.before.before.before.before.before.before.loop.invariant.1 c.before.before.before.before.before.loop-test.true c.before.before.before.step.ensures c.if1.true
 
 add-visits : tie.Need-overflow-add-visits invariant-loop decreases-loop
-add-visits c = omega (arith, visits-fit _ _ _ _ _ c.before.before.before.before.before.before.before.before.before.save.ensures _ _ _ c.before.before.before.before.before.before.before.before.before.before.before.before.before.before.before.before.requires.5 c.before.before.before.before.before.before.loop.invariant.1)
+add-visits c = omega (arith, visits_fit _ _ _ _ _ c.before.before.before.before.before.before.before.before.before.save.ensures _ _ _ c.before.before.before.before.before.before.before.before.before.before.before.before.before.before.before.before.requires.5 c.before.before.before.before.before.before.loop.invariant.1)
 
 loop-less : tie.Need-loop-smaller invariant-loop decreases-loop
-loop-less c = resolving-less _ _ _ _ _ _ _ c.before.before.before.before.before.before.loop.invariant.1 _ _ c.before.before.before.before.before.loop-test.true c.before.before.before.step.ensures c.if1.false
+loop-less c = resolving_less _ _ _ _ _ _ _ c.before.before.before.before.before.before.loop.invariant.1 _ _ c.before.before.before.before.before.loop-test.true c.before.before.before.step.ensures c.if1.false
 
 loop-again : tie.Need-loop-preserved invariant-loop decreases-loop
-loop-again c = (c.before.before.before.step.auto.1.0 ∙ c.before.before.before.before.before.before.loop.invariant.0, resolving-next _ _ _ _ _ _ _ c.before.before.before.before.before.before.loop.invariant.1 _ _ c.before.before.before.before.before.loop-test.true c.before.before.before.step.ensures c.if1.false)
+loop-again c = (c.before.before.before.step.auto.1.0 ∙ c.before.before.before.before.before.before.loop.invariant.0, resolving_next _ _ _ _ _ _ _ c.before.before.before.before.before.before.loop.invariant.1 _ _ c.before.before.before.before.before.loop-test.true c.before.before.before.step.ensures c.if1.false)
 
 save-requires-2 : tie.Need-save-requires-2 invariant-loop decreases-loop
-save-requires-2 c κs = let q = c.before.before.before.before.before.before.before.before.before.before.before.before.requires in let z = c.before.before.loop.invariant in ((q.0.0, omega (arith, q.0.1, z.0, c.before.before.before.before.before.save.auto.0)), omega (arith, (work-sizes _ _ q.1).counts), omega (arith, visits-fit _ _ _ _ _ c.before.before.before.before.before.save.ensures _ _ _ q.5 z.1))
+save-requires-2 c κs = let q = c.before.before.before.before.before.before.before.before.before.before.before.before.requires in let z = c.before.before.loop.invariant in ((q.0.0, omega (arith, q.0.1, z.0, c.before.before.before.before.before.save.auto.0)), omega (arith, (work-sizes _ _ q.1).counts), omega (arith, visits_fit _ _ _ _ _ c.before.before.before.before.before.save.ensures _ _ _ q.5 z.1))
 
 same-length-2 : tie.Need-same-length-2 invariant-loop decreases-loop
 same-length-2 c = c.before.before.save2.auto.0 ∙ c.before.before.before.before.before.loop.invariant.0 ∙ c.before.before.before.before.before.before.before.before.save.auto.0

@@ -6,7 +6,7 @@ use lib.ListN.{length}
 use Rattle.store.specs.Regions.{CHILDREN}
 use Rattle.store.specs.Store.{store}
 use Rattle.store.proofs.Stores.{length-store}
-use Rattle.resolver.proofs.Children.{Writing, writing-begin, writing-next, child-ready, child_fits, writing-end}
+use Rattle.resolver.proofs.Children.{Writing, writing_begin, writing_next, child_ready, child_fits, writing_end}
 use Rattle.resolver.proofs.write_children.Statement.{statement}
 use Rattle.resolver.proofs.write_children.Tie as tie
 
@@ -26,13 +26,13 @@ add-end : tie.Need-overflow-add-end invariant-loop decreases-loop
 add-end c = omega (arith, c.load2.ensures.small, c.before.before.load.ensures.small)
 
 loop-holds : tie.Need-loop-init invariant-loop decreases-loop
-loop-holds c = (refl, writing-begin _ _ _ (omega arith))
+loop-holds c = (refl, writing_begin _ _ _ (omega arith))
 
 load-requires-3 : tie.Need-load-requires-3 invariant-loop decreases-loop
 load-requires-3 c κs = ((c.before.before.before.before.before.before.before.before.before.requires.0.0, omega (arith, c.before.before.loop.invariant.0, c.before.before.before.before.before.before.before.before.before.requires.0.1)), omega (arith, c.before.before.before.before.before.before.before.before.before.requires.1.goals, c.before.before.before.before.before.load.ensures.word, c.before.before.before.load2.ensures.word))
 
 child-of-requires : tie.Need-child-of-requires invariant-loop decreases-loop
-child-of-requires c κs = ((c.before.before.before.before.before.before.before.before.before.before.requires.0.0, omega (arith, c.before.before.before.loop.invariant.0, c.before.before.before.before.before.before.before.before.before.before.requires.0.1)), child-ready _ _ c.before.before.before.before.before.before.before.before.before.before.args.e _ _ _ c.before.before.before.loop.invariant.1 c.before.before.before.before.before.before.load.ensures.word (omega (arith, c.before.before.before.before.before.before.load.ensures.word, c.before.before.before.before.load2.ensures.word)) c.before.before.before.before.before.before.before.before.before.before.requires.2 c.before.before.loop-test.true _ c.load3.ensures.word)
+child-of-requires c κs = ((c.before.before.before.before.before.before.before.before.before.before.requires.0.0, omega (arith, c.before.before.before.loop.invariant.0, c.before.before.before.before.before.before.before.before.before.before.requires.0.1)), child_ready _ _ c.before.before.before.before.before.before.before.before.before.before.args.e _ _ _ c.before.before.before.loop.invariant.1 c.before.before.before.before.before.before.load.ensures.word (omega (arith, c.before.before.before.before.before.before.load.ensures.word, c.before.before.before.before.load2.ensures.word)) c.before.before.before.before.before.before.before.before.before.before.requires.2 c.before.before.loop-test.true _ c.load3.ensures.word)
 
 save-requires : tie.Need-save-requires invariant-loop decreases-loop
 save-requires c κs = ((c.before.before.before.before.before.before.before.before.before.before.before.before.requires.0.0, omega (arith, c.before.before.before.before.before.loop.invariant.0, c.before.before.before.before.before.before.before.before.before.before.before.before.requires.0.1)), omega (arith, c.before.before.before.before.before.before.before.before.before.before.before.before.requires.1.children, c.before.before.before.before.before.before.before.before.load.ensures.word, c.before.before.before.before.before.before.load2.ensures.word), child_fits _ _ c.before.before.before.before.before.before.before.before.before.before.before.before.args.e _ _ _ c.before.before.before.before.before.loop.invariant.1 c.before.before.before.before.before.before.before.before.load.ensures.word (omega (arith, c.before.before.before.before.before.before.before.before.load.ensures.word, c.before.before.before.before.before.before.load2.ensures.word)) c.before.before.before.before.before.before.before.before.before.before.before.before.requires.2 c.before.before.before.before.loop-test.true c.before.before.load3.result _ c.before.before.load3.ensures.word c.before.child-of.ensures)
@@ -44,13 +44,13 @@ loop-less : tie.Need-loop-smaller invariant-loop decreases-loop
 loop-less c = omega (arith, c.before.before.before.before.before.before.before.loop-test.true)
 
 loop-again : tie.Need-loop-preserved invariant-loop decreases-loop
-loop-again c = (c.before.before.save.auto.0 ∙ c.before.before.before.before.before.before.before.before.loop.invariant.0, rw c.before.before.save.ensures (writing-next _ _ c.before.before.before.before.before.before.before.before.before.before.before.before.before.before.before.args.e _ _ _ c.before.before.before.before.before.before.before.before.loop.invariant.1 _ c.before.before.before.before.before.before.before.loop-test.true (omega (arith, c.before.before.before.before.before.before.before.before.before.before.before.before.before.before.before.requires.1.children, c.before.before.before.before.before.before.before.before.before.before.before.load.ensures.word, c.before.before.before.before.before.before.before.before.before.load2.ensures.word, length-store c.before.before.before.before.before.before.before.before.before.before.before.before.before.before.before.args.p.now c.before.before.before.before.before.before.before.before.loop.w CHILDREN, c.before.before.before.before.before.before.before.loop-test.true)) c.before.before.before.before.before.load3.result c.before.before.before.before.before.load3.ensures.word c.before.before.before.before.child-of.ensures))
+loop-again c = (c.before.before.save.auto.0 ∙ c.before.before.before.before.before.before.before.before.loop.invariant.0, rw c.before.before.save.ensures (writing_next _ _ c.before.before.before.before.before.before.before.before.before.before.before.before.before.before.before.args.e _ _ _ c.before.before.before.before.before.before.before.before.loop.invariant.1 _ c.before.before.before.before.before.before.before.loop-test.true (omega (arith, c.before.before.before.before.before.before.before.before.before.before.before.before.before.before.before.requires.1.children, c.before.before.before.before.before.before.before.before.before.before.before.load.ensures.word, c.before.before.before.before.before.before.before.before.before.load2.ensures.word, length-store c.before.before.before.before.before.before.before.before.before.before.before.before.before.before.before.args.p.now c.before.before.before.before.before.before.before.before.loop.w CHILDREN, c.before.before.before.before.before.before.before.loop-test.true)) c.before.before.before.before.before.load3.result c.before.before.before.before.before.load3.ensures.word c.before.before.before.before.child-of.ensures))
 
 same_length : tie.Need-same-length invariant-loop decreases-loop
 same_length c = c.before.loop.invariant.0
 
 returns : tie.Need-returns invariant-loop decreases-loop
-returns c = writing-end _ _ c.before.before.before.before.before.before.before.before.args.e _ _ _ c.before.loop.invariant.1 c.before.before.before.before.load.ensures.word (omega (arith, c.before.before.before.before.load.ensures.word, c.before.before.load2.ensures.word)) c.loop-test.false
+returns c = writing_end _ _ c.before.before.before.before.before.before.before.before.args.e _ _ _ c.before.loop.invariant.1 c.before.before.before.before.load.ensures.word (omega (arith, c.before.before.before.before.load.ensures.word, c.before.before.load2.ensures.word)) c.loop-test.false
 
 pub write-children-spec : {M : Type 1} → statement M
 write-children-spec =

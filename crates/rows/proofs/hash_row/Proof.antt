@@ -5,8 +5,8 @@ use Prim.Native.Nat.{◌-◌}
 use lib.ListN.{length, get_or}
 use Rattle.store.specs.Regions.{GIVEN, FIRSTS, SIZES, CHILDREN, NODES}
 use Rattle.store.specs.Store.{store}
-use Rattle.rows.proofs.Slotting.{slot_at, Folding, folding-begin, folding-next, folding-end, hashed-row}
-use Rattle.rows.proofs.Reading.{kid-place, kid-add, kid-small}
+use Rattle.rows.proofs.Slotting.{slot_at, Folding, folding_begin, folding_next, folding_end, hashed_row}
+use Rattle.rows.proofs.Reading.{kid_place, kid_add, kid_small}
 use Rattle.rows.proofs.hash_row.Statement.{statement}
 use Rattle.rows.proofs.hash_row.Tie as tie
 
@@ -23,16 +23,16 @@ first-child-requires : tie.Need-first-child-requires invariant-loop decreases-lo
 first-child-requires c κs = c.before.before.before.requires
 
 loop-holds : tie.Need-loop-init invariant-loop decreases-loop
-loop-holds c = folding-begin _ _ _ c.before.child-count.ensures.small
+loop-holds c = folding_begin _ _ _ c.before.child-count.ensures.small
 
 add-load : tie.Need-overflow-add-load invariant-loop decreases-loop
-add-load c = let a = c.before.before.before.before.before.before.args in let q = c.before.before.before.before.before.before.requires in omega (arith, kid-add a.p.now (store a.p.now a.w.now) q.1 q.2 a.k q.3 c.before.before.first-child.result c.before.before.before.child-count.result c.before.loop.i c.before.before.first-child.ensures.word c.before.before.before.child-count.result c.before.before.before.child-count.ensures.word refl c.loop-test.true (length a.w.now) q.0)
+add-load c = let a = c.before.before.before.before.before.before.args in let q = c.before.before.before.before.before.before.requires in omega (arith, kid_add a.p.now (store a.p.now a.w.now) q.1 q.2 a.k q.3 c.before.before.first-child.result c.before.before.before.child-count.result c.before.loop.i c.before.before.first-child.ensures.word c.before.before.before.child-count.result c.before.before.before.child-count.ensures.word refl c.loop-test.true (length a.w.now) q.0)
 
 load-requires : tie.Need-load-requires invariant-loop decreases-loop
-load-requires c κs = let a = c.before.before.before.before.before.before.args in let q = c.before.before.before.before.before.before.requires in (q.0, kid-place a.p.now (store a.p.now a.w.now) q.1 q.2 a.k q.3 c.before.before.first-child.result c.before.before.before.child-count.result c.before.loop.i c.before.before.first-child.ensures.word c.before.before.before.child-count.result c.before.before.before.child-count.ensures.word refl c.loop-test.true)
+load-requires c κs = let a = c.before.before.before.before.before.before.args in let q = c.before.before.before.before.before.before.requires in (q.0, kid_place a.p.now (store a.p.now a.w.now) q.1 q.2 a.k q.3 c.before.before.first-child.result c.before.before.before.child-count.result c.before.loop.i c.before.before.first-child.ensures.word c.before.before.before.child-count.result c.before.before.before.child-count.ensures.word refl c.loop-test.true)
 
 child-slot-requires : tie.Need-child-slot-requires invariant-loop decreases-loop
-child-slot-requires c κs = let a = c.before.before.before.before.before.before.before.args in let q = c.before.before.before.before.before.before.before.requires in (q.0, kid-small a.p.now (store a.p.now a.w.now) q.1 q.2 a.k q.3 c.before.before.before.first-child.result c.before.before.before.before.child-count.result c.before.before.loop.i c.before.before.before.first-child.ensures.word c.before.before.before.before.child-count.result c.before.before.before.before.child-count.ensures.word refl c.before.loop-test.true c.load.result c.load.ensures.word)
+child-slot-requires c κs = let a = c.before.before.before.before.before.before.before.args in let q = c.before.before.before.before.before.before.before.requires in (q.0, kid_small a.p.now (store a.p.now a.w.now) q.1 q.2 a.k q.3 c.before.before.before.first-child.result c.before.before.before.before.child-count.result c.before.before.loop.i c.before.before.before.first-child.ensures.word c.before.before.before.before.child-count.result c.before.before.before.before.child-count.ensures.word refl c.before.loop-test.true c.load.result c.load.ensures.word)
 
 mix-requires : tie.Need-mix-requires invariant-loop decreases-loop
 mix-requires c κs = (c.before.before.before.loop.invariant.small, c.child-slot.ensures.1)
@@ -44,10 +44,10 @@ loop-less : tie.Need-loop-smaller invariant-loop decreases-loop
 loop-less c = omega arith
 
 loop-again : tie.Need-loop-preserved invariant-loop decreases-loop
-loop-again c = folding-next _ _ _ c.before.before.before.before.loop.hash c.before.before.before.before.loop.i c.before.before.before.before.loop.invariant c.before.before.before.loop-test.true c.mix.result c.before.child-slot.result (rw (← c.before.before.before.before.before.first-child.ensures.word, ← c.before.before.load.ensures.word) c.before.child-slot.ensures.0) c.mix.ensures.0 c.mix.ensures.1
+loop-again c = folding_next _ _ _ c.before.before.before.before.loop.hash c.before.before.before.before.loop.i c.before.before.before.before.loop.invariant c.before.before.before.loop-test.true c.mix.result c.before.child-slot.result (rw (← c.before.before.before.before.before.first-child.ensures.word, ← c.before.before.load.ensures.word) c.before.child-slot.ensures.0) c.mix.ensures.0 c.mix.ensures.1
 
 returns : tie.Need-returns invariant-loop decreases-loop
-returns c = let a = c.before.before.before.before.before.before.args in let h = folding-end _ _ _ c.before.loop.hash c.before.loop.i c.before.loop.invariant c.loop-test.false in (hashed-row _ _ _ _ _ c.before.before.before.child-count.result _ c.before.before.before.child-count.ensures.word h.0, h.1)
+returns c = let a = c.before.before.before.before.before.before.args in let h = folding_end _ _ _ c.before.loop.hash c.before.loop.i c.before.loop.invariant c.loop-test.false in (hashed_row _ _ _ _ _ c.before.before.before.child-count.result _ c.before.before.before.child-count.ensures.word h.0, h.1)
 
 pub hash-row-spec : {M : Type 1} → statement M
 hash-row-spec =

@@ -1,7 +1,7 @@
 -- `rows::raw_rows` meets its contract. The slots are not more than the raw definitions. Assumes nothing.
 use native.Mathlib.Omega.{arith}
 use Rattle.store.specs.Store.{store}
-use Rattle.rows.proofs.Reading.{counter, raws-held}
+use Rattle.rows.proofs.Reading.{counter, raws_held}
 use Rattle.rows.proofs.raw_rows.Statement.{statement}
 use Rattle.rows.proofs.raw_rows.Tie as tie
 
@@ -12,7 +12,7 @@ load-requires-2 : tie.Need-load-requires-2
 load-requires-2 c κs = let a = c.before.before.before.args in let q = c.before.before.before.requires in (q.0, counter a.p.now q.1 _ (omega arith))
 
 sub-result : tie.Need-overflow-sub-result
-sub-result c = let a = c.before.before.before.before.args in let q = c.before.before.before.before.requires in omega (arith, raws-held a.p.now (store a.p.now a.w.now) q.2, c.load2.ensures.word, c.before.load.ensures.word)
+sub-result c = let a = c.before.before.before.before.args in let q = c.before.before.before.before.requires in omega (arith, raws_held a.p.now (store a.p.now a.w.now) q.2, c.load2.ensures.word, c.before.load.ensures.word)
 
 returns : tie.Need-returns
 returns c = (cc)

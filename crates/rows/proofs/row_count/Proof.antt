@@ -3,7 +3,7 @@ use Prim.Native.Nat.{◌-◌}
 use native.Mathlib.Omega.{arith}
 use Rattle.store.specs.Store.{store}
 use Rattle.rows.proofs.Ending.{counted-raw, counted-rows}
-use Rattle.rows.proofs.Reading.{counter, raw-low}
+use Rattle.rows.proofs.Reading.{counter, raw_low_lem}
 use Rattle.rows.proofs.row_count.Statement.{statement}
 use Rattle.rows.proofs.row_count.Tie as tie
 
@@ -20,10 +20,10 @@ raw-index-requires : tie.Need-raw-index-requires
 raw-index-requires c κs = c.before.before.before.before.before.requires
 
 add-result : tie.Need-overflow-add-result
-add-result c = let a = c.before.before.before.before.before.before.args in let q = c.before.before.before.before.before.before.requires in omega (arith, c.raw-index.ensures.there (omega (arith, c.before.before.before.raw-rows.ensures)), raw-low a.p.now (store a.p.now a.w.now) q.2 (c.before.before.before.raw-rows.result - 1) (omega (arith, c.before.before.before.raw-rows.ensures)))
+add-result c = let a = c.before.before.before.before.before.before.args in let q = c.before.before.before.before.before.before.requires in omega (arith, c.raw_index_lem.ensures.there (omega (arith, c.before.before.before.raw-rows.ensures)), raw_low_lem a.p.now (store a.p.now a.w.now) q.2 (c.before.before.before.raw-rows.result - 1) (omega (arith, c.before.before.before.raw-rows.ensures)))
 
 returns : tie.Need-returns
-returns c = let a = c.before.before.before.before.before.before.args in let q = c.before.before.before.before.before.before.requires in λ rows g. counted-raw a.p.now (store a.p.now a.w.now) q.2 rows g c.before.before.before.raw-rows.result c.before.before.load.result c.raw-index.result c.before.before.before.raw-rows.ensures c.before.before.load.ensures.word c.before.if1.true c.raw-index.ensures
+returns c = let a = c.before.before.before.before.before.before.args in let q = c.before.before.before.before.before.before.requires in λ rows g. counted-raw a.p.now (store a.p.now a.w.now) q.2 rows g c.before.before.before.raw-rows.result c.before.before.load.result c.raw_index_lem.result c.before.before.before.raw-rows.ensures c.before.before.load.ensures.word c.before.if1.true c.raw_index_lem.ensures
 
 load-requires-2 : tie.Need-load-requires-2
 load-requires-2 c κs = let a = c.before.before.before.before.before.args in let q = c.before.before.before.before.before.requires in (q.0, counter a.p.now q.1 _ (omega arith))

@@ -3,9 +3,9 @@ use native.Mathlib.Omega.{arith}
 use Rattle.store.specs.Regions.{INDEXES}
 use Rattle.store.specs.Store.{store}
 use Rattle.store.proofs.Stores.{length-store}
-use Rattle.rows.specs.Rowed.{inlineCount}
-use Rattle.rows.proofs.Indexing.{new_row, index-made, old-there, old-boot, index-old}
-use Rattle.rows.proofs.Listing.{few-room}
+use Rattle.rows.specs.Rowed.{inline_count}
+use Rattle.rows.proofs.Indexing.{new_row, index-made, old_there, old_boot, index-old}
+use Rattle.rows.proofs.Listing.{few_room}
 use borrow.Author.Rules.{rules}
 use Rattle.rows.proofs.row_index.Statement.{statement}
 use Rattle.rows.proofs.row_index.Tie as tie
@@ -29,10 +29,10 @@ sub-load : tie.Need-overflow-sub-load
 sub-load c = omega arith
 
 load-requires : tie.Need-load-requires
-load-requires c κs = let a = c.before.before.before.before.before.before.before.before.args in let q = c.before.before.before.before.before.before.before.before.requires in let t = store a.p.now a.w.now in (search rules, omega (arith, old-there a.p.now a.k t q.4 q.5 c.before.before.find-row.result c.before.before.find-row.ensures c.before.if1.false, few-room (t INDEXES) (inlineCount t) q.4.inlined.few, length-store a.p.now a.w.now INDEXES, q.1.inline))
+load-requires c κs = let a = c.before.before.before.before.before.before.before.before.args in let q = c.before.before.before.before.before.before.before.before.requires in let t = store a.p.now a.w.now in (search rules, omega (arith, old_there a.p.now a.k t q.4 q.5 c.before.before.find-row.result c.before.before.find-row.ensures c.before.if1.false, few_room (t INDEXES) (inline_count t) q.4.inlined.few, length-store a.p.now a.w.now INDEXES, q.1.inline))
 
 index-of-requires : tie.Need-index-of-requires
-index-of-requires c κs = let a = c.before.before.before.before.before.before.before.before.before.args in let q = c.before.before.before.before.before.before.before.before.before.requires in let t = store a.p.now a.w.now in (search rules, q.1, q.2, old-boot a.p.now a.k t q.4 q.5 c.before.before.before.find-row.result c.before.before.before.find-row.ensures c.before.before.if1.false c.load.result c.load.ensures.word)
+index-of-requires c κs = let a = c.before.before.before.before.before.before.before.before.before.args in let q = c.before.before.before.before.before.before.before.before.before.requires in let t = store a.p.now a.w.now in (search rules, q.1, q.2, old_boot a.p.now a.k t q.4 q.5 c.before.before.before.find-row.result c.before.before.before.find-row.ensures c.before.before.if1.false c.load.result c.load.ensures.word)
 
 set-index-requires : tie.Need-set-index-requires
 set-index-requires c κs = let q = c.before.before.before.before.before.before.before.before.before.before.before.requires in (search rules, q.1, q.2, q.5, c.before.index_of.ensures.1)

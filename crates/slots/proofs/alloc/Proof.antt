@@ -5,7 +5,7 @@ use mathlib.Core.Logic.{⊎_elim}
 use native.Mathlib.Omega.{arith}
 use borrow.Author.Rules.{rules}
 use borrow.Author.Tests.{not-true, not-false}
-use Rattle.slots.proofs.Answers.{narrow-past, narrow_high, narrow-fits, narrow-met}
+use Rattle.slots.proofs.Answers.{narrow_past, narrow_high, narrow_fits, narrow_met}
 use Rattle.slots.proofs.alloc.Statement.{statement}
 use Rattle.slots.proofs.alloc.Proof.Tie as tie
 
@@ -24,7 +24,7 @@ too-high-requires c κs = search rules
 take-front-requires : tie.Need-take-front-requires
 take-front-requires c κs =
     let start = c.before.before.before.before.before.before.before in
-    let low = narrow-fits _ _ start.args.p _ _ start.requires.0 c.before.before.before.before.before.find-odd.ensures _ c.before.before.too-high.ensures c.before.before.before.before.if1.true start.requires.1 in
+    let low = narrow_fits _ _ start.args.p _ _ start.requires.0 c.before.before.before.before.before.find-odd.ensures _ c.before.before.too_high_lem.ensures c.before.before.before.before.if1.true start.requires.1 in
     (omega arith, low)
 
 past-odd-requires : tie.Need-past-odd-requires
@@ -40,7 +40,7 @@ returns c =
     let found = high.before.before.before in
     let start = found.before.before in
     rw c.past-odd.ensures
-    (narrow-met _ _ start.args.p _ _ start.requires.0 found.find-odd.ensures _ high.too-high.ensures high.before.before.if1.true _ _
+    (narrow_met _ _ start.args.p _ _ start.requires.0 found.find-odd.ensures _ high.too_high_lem.ensures high.before.before.if1.true _ _
     (not-true _ taken.before.before.if2.true)
     taken.take-front.ensures)
 
@@ -61,7 +61,7 @@ returns-2 c =
     let rest = rw asked.odd-from.ensures at c.before.alloc-plain.ensures in
     ⊎_elim
     (λ w. narrow_high _ _ start.args.p _ _ start.requires.0 found _ w.2.ensures w.0.taken _ _ (not-false _ w.3.left) rest)
-    (λ w. narrow-past _ _ start.args.p _ _ start.requires.0 found _ _ w.left rest)
+    (λ w. narrow_past _ _ start.args.p _ _ start.requires.0 found _ _ w.left rest)
     asked.before.before.if1.branch
 
 pub alloc-spec : {M : Type 1} → statement M

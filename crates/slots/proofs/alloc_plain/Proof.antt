@@ -5,7 +5,7 @@ use mathlib.Core.Logic.{⊎_elim}
 use native.Mathlib.Omega.{arith}
 use borrow.Author.Rules.{rules}
 use borrow.Author.Tests.{not-true, not-false}
-use Rattle.slots.proofs.Answers.{plain-unmet, plain-high, plain_fits, plain-met}
+use Rattle.slots.proofs.Answers.{plain_unmet, plain_high, plain_fits, plain_met}
 use Rattle.slots.proofs.alloc_plain.Statement.{statement}
 use Rattle.slots.proofs.alloc_plain.Proof.Tie as tie
 
@@ -24,7 +24,7 @@ too-high-requires c κs = search rules
 take-front-requires : tie.Need-take-front-requires
 take-front-requires c κs =
     let start = c.before.before.before.before.before.before.before in
-    let low = plain_fits _ _ start.args.p _ _ start.requires.0 c.before.before.before.before.before.find-plain.ensures _ c.before.before.too-high.ensures c.before.before.before.before.if1.true start.requires.1 in
+    let low = plain_fits _ _ start.args.p _ _ start.requires.0 c.before.before.before.before.before.find-plain.ensures _ c.before.before.too_high_lem.ensures c.before.before.before.before.if1.true start.requires.1 in
     (omega arith, low (not-true _ c.before.if2.true))
 
 plain-from-requires : tie.Need-plain-from-requires
@@ -40,7 +40,7 @@ returns c =
     let found = high.before.before.before in
     let start = found.before.before in
     rw c.plain-from.ensures
-    (plain-met _ _ start.args.p _ _ start.requires.0 found.find-plain.ensures _ high.too-high.ensures high.before.before.if1.true _ _
+    (plain_met _ _ start.args.p _ _ start.requires.0 found.find-plain.ensures _ high.too_high_lem.ensures high.before.before.if1.true _ _
     (not-true _ taken.before.before.if2.true)
     taken.take-front.ensures)
 
@@ -52,8 +52,8 @@ returns-2 c =
     let start = c.before.before.before in
     let found = c.before.find-plain.ensures in
     ⊎_elim
-    (λ w. plain-high _ _ start.args.p _ _ start.requires.0 found _ w.2.ensures w.0.taken (not-false _ w.3.left))
-    (λ w. plain-unmet _ _ start.args.p _ _ start.requires.0 found w.left)
+    (λ w. plain_high _ _ start.args.p _ _ start.requires.0 found _ w.2.ensures w.0.taken (not-false _ w.3.left))
+    (λ w. plain_unmet _ _ start.args.p _ _ start.requires.0 found w.left)
     c.if1.branch
 
 pub alloc-plain-spec : {M : Type 1} → statement M

@@ -3,7 +3,7 @@ mod Lts
 mod Tie
 use native.Mathlib.Omega.{arith}
 use borrow.Author.Rules.{rules}
-use Rattle.slots.proofs.Answers.{wide-unmet, wide_fits, wide-met}
+use Rattle.slots.proofs.Answers.{wide_unmet, wide_fits, wide_met}
 use Rattle.slots.proofs.alloc_wide.Statement.{statement}
 use Rattle.slots.proofs.alloc_wide.Proof.Tie as tie
 
@@ -27,13 +27,13 @@ returns c =
     let found = taken.before.before.before in
     let start = found.before.before in
     rw c.wide_from.ensures
-    (wide-met _ _ start.args.p _ start.requires.0 found.find-wide.ensures _ _ taken.before.before.if1.true taken.take-front.ensures)
+    (wide_met _ _ start.args.p _ start.requires.0 found.find-wide.ensures _ _ taken.before.before.if1.true taken.take-front.ensures)
 
 same-length-2 : tie.Need-same-length-2
 same-length-2 c = search rules
 
 returns-2 : tie.Need-returns-2
-returns-2 c = wide-unmet _ _ _ _ c.before.before.before.requires.0 c.before.find-wide.ensures c.if1.false
+returns-2 c = wide_unmet _ _ _ _ c.before.before.before.requires.0 c.before.find-wide.ensures c.if1.false
 
 pub alloc-wide-spec : {M : Type 1} → statement M
 alloc-wide-spec =

@@ -2,7 +2,7 @@
 use mathlib.Core.Path.{sym}
 use borrow.Author.Rules.{rules}
 use Rattle.slots.specs.Gaps.{gap_of}
-use Rattle.slots.proofs.Counting.{count-hit, count_past}
+use Rattle.slots.proofs.Counting.{count_hit, count_past}
 use Rattle.slots.proofs.count_by.Statement.{statement}
 use Rattle.slots.proofs.count_by.Tie as tie
 
@@ -17,7 +17,7 @@ add-result c = search rules
 
 returns : tie.Need-returns
 unfolding gap_of
-returns c = sym (count-hit _ _ _ c.before.if1.true)
+returns c = sym (count_hit _ _ _ c.before.if1.true)
 
 returns-2 : tie.Need-returns-2
 unfolding gap_of

@@ -6,7 +6,7 @@ use mathlib.Core.Path.{refl, sym, ◌∙◌}
 use lib.ListN.{length}
 use borrow.Author.Rules.{rules}
 use borrow.Author.Tests.{not-true, not-false}
-use Rattle.slots.proofs.Checks.{Left, check-more, check-fails, check-ends}
+use Rattle.slots.proofs.Checks.{Left, check_more, check_fails, check_ends}
 use Rattle.slots.proofs.ends_fit.Statement.{statement}
 use Rattle.slots.proofs.ends_fit.Proof.Tie as tie
 
@@ -31,7 +31,7 @@ end-fits-requires c κs = tt
 returns : tie.Need-returns invariant-loop decreases-loop
 returns c =
     let turn = c.before.before.before in
-    check-fails _ _ turn.before.loop.invariant turn.loop-test.true (sym c.before.end_fits.ensures ∙ not-true _ c.if1.true)
+    check_fails _ _ turn.before.loop.invariant turn.loop-test.true (sym c.before.end_fits.ensures ∙ not-true _ c.if1.true)
 
 add-i : tie.Need-overflow-add-i invariant-loop decreases-loop
 add-i c = search rules
@@ -42,10 +42,10 @@ loop-less c = search rules
 loop-again : tie.Need-loop-preserved invariant-loop decreases-loop
 loop-again c =
     let turn = c.before.before.before in
-    check-more _ _ turn.before.loop.invariant turn.loop-test.true (sym c.before.end_fits.ensures ∙ not-false _ c.if1.false)
+    check_more _ _ turn.before.loop.invariant turn.loop-test.true (sym c.before.end_fits.ensures ∙ not-false _ c.if1.false)
 
 returns-2 : tie.Need-returns-2 invariant-loop decreases-loop
-returns-2 c = check-ends _ _ c.before.loop.invariant c.loop-test.false
+returns-2 c = check_ends _ _ c.before.loop.invariant c.loop-test.false
 
 pub ends-fit-spec : {M : Type 1} → statement M
 ends-fit-spec =

@@ -4,13 +4,13 @@ mod Tie
 use Prim.Native.Nat.{◌-◌}
 use mathlib.Core.Path.{refl, sym, ◌∙◌}
 use borrow.Author.Rules.{rules}
-use Rattle.definition.specs.Slots.{isOdd}
+use Rattle.definition.specs.Slots.{is_odd}
 use Rattle.slots.proofs.Scans.{Rest, passed, found, ended}
 use Rattle.slots.proofs.find_odd.Statement.{statement}
 use Rattle.slots.proofs.find_odd.Proof.Tie as tie
 
 abbrev invariant-loop : tie.invariant-loop
-invariant-loop gaps count at i₀ i = Rest isOdd gaps count at i
+invariant-loop gaps count at i₀ i = Rest is_odd gaps count at i
 
 abbrev decreases-loop : tie.decreases-loop
 decreases-loop gaps count at i₀ i = count - i
@@ -30,7 +30,7 @@ is-odd-requires c κs = tt
 returns : tie.Need-returns invariant-loop decreases-loop
 returns c =
     let turn = c.before.before.before in
-    found isOdd _ _ _ _ turn.before.before.requires turn.before.loop.invariant turn.loop-test.true
+    found is_odd _ _ _ _ turn.before.before.requires turn.before.loop.invariant turn.loop-test.true
     (sym c.before.is_odd.ensures ∙ c.if1.true)
 
 add-i : tie.Need-overflow-add-i invariant-loop decreases-loop
@@ -42,11 +42,11 @@ loop-less c = search rules
 loop-again : tie.Need-loop-preserved invariant-loop decreases-loop
 loop-again c =
     let turn = c.before.before.before in
-    passed isOdd _ _ _ _ turn.before.before.requires turn.before.loop.invariant turn.loop-test.true
+    passed is_odd _ _ _ _ turn.before.before.requires turn.before.loop.invariant turn.loop-test.true
     (sym c.before.is_odd.ensures ∙ c.if1.false)
 
 returns-2 : tie.Need-returns-2 invariant-loop decreases-loop
-returns-2 c = ended isOdd _ _ _ _ c.before.before.requires c.before.loop.invariant c.loop-test.false
+returns-2 c = ended is_odd _ _ _ _ c.before.before.requires c.before.loop.invariant c.loop-test.false
 
 pub find-odd-spec : {M : Type 1} → statement M
 find-odd-spec =

@@ -4,13 +4,13 @@ mod Tie
 use Prim.Native.Nat.{◌-◌}
 use mathlib.Core.Path.{refl, sym, ◌∙◌}
 use borrow.Author.Rules.{rules}
-use Rattle.definition.specs.Slots.{plainEnds}
+use Rattle.definition.specs.Slots.{plain_ends}
 use Rattle.slots.proofs.Scans.{Rest, passed, found, ended}
 use Rattle.slots.proofs.find_plain.Statement.{statement}
 use Rattle.slots.proofs.find_plain.Proof.Tie as tie
 
 abbrev invariant-loop : tie.invariant-loop
-invariant-loop gaps count at ldc i₀ i = Rest (plainEnds ldc) gaps count at i
+invariant-loop gaps count at ldc i₀ i = Rest (plain_ends ldc) gaps count at i
 
 abbrev decreases-loop : tie.decreases-loop
 decreases-loop gaps count at ldc i₀ i = count - i
@@ -30,7 +30,7 @@ ends-plain-requires c κs = tt
 returns : tie.Need-returns invariant-loop decreases-loop
 returns c =
     let turn = c.before.before.before in
-    found (plainEnds _) _ _ _ _ turn.before.before.requires turn.before.loop.invariant turn.loop-test.true
+    found (plain_ends _) _ _ _ _ turn.before.before.requires turn.before.loop.invariant turn.loop-test.true
     (sym c.before.ends-plain.ensures ∙ c.if1.true)
 
 add-i : tie.Need-overflow-add-i invariant-loop decreases-loop
@@ -42,11 +42,11 @@ loop-less c = search rules
 loop-again : tie.Need-loop-preserved invariant-loop decreases-loop
 loop-again c =
     let turn = c.before.before.before in
-    passed (plainEnds _) _ _ _ _ turn.before.before.requires turn.before.loop.invariant turn.loop-test.true
+    passed (plain_ends _) _ _ _ _ turn.before.before.requires turn.before.loop.invariant turn.loop-test.true
     (sym c.before.ends-plain.ensures ∙ c.if1.false)
 
 returns-2 : tie.Need-returns-2 invariant-loop decreases-loop
-returns-2 c = ended (plainEnds _) _ _ _ _ c.before.before.requires c.before.loop.invariant c.loop-test.false
+returns-2 c = ended (plain_ends _) _ _ _ _ c.before.before.requires c.before.loop.invariant c.loop-test.false
 
 pub find-plain-spec : {M : Type 1} → statement M
 find-plain-spec =

@@ -4,13 +4,13 @@ mod Tie
 use Prim.Native.Nat.{◌-◌}
 use mathlib.Core.Path.{refl, sym, ◌∙◌}
 use borrow.Author.Rules.{rules}
-use Rattle.laws.proofs.slots.SlotRequest.{hasTwo}
+use Rattle.laws.proofs.Slots.SlotRequest.{has_two}
 use Rattle.slots.proofs.Scans.{Rest, passed, found, ended}
 use Rattle.slots.proofs.find_wide.Statement.{statement}
 use Rattle.slots.proofs.find_wide.Proof.Tie as tie
 
 abbrev invariant-loop : tie.invariant-loop
-invariant-loop gaps count at i₀ i = Rest hasTwo gaps count at i
+invariant-loop gaps count at i₀ i = Rest has_two gaps count at i
 
 abbrev decreases-loop : tie.decreases-loop
 decreases-loop gaps count at i₀ i = count - i
@@ -30,7 +30,7 @@ has-two-requires c κs = tt
 returns : tie.Need-returns invariant-loop decreases-loop
 returns c =
     let turn = c.before.before.before in
-    found hasTwo _ _ _ _ turn.before.before.requires turn.before.loop.invariant turn.loop-test.true
+    found has_two _ _ _ _ turn.before.before.requires turn.before.loop.invariant turn.loop-test.true
     (sym c.before.has-two.ensures ∙ c.if1.true)
 
 add-i : tie.Need-overflow-add-i invariant-loop decreases-loop
@@ -42,11 +42,11 @@ loop-less c = search rules
 loop-again : tie.Need-loop-preserved invariant-loop decreases-loop
 loop-again c =
     let turn = c.before.before.before in
-    passed hasTwo _ _ _ _ turn.before.before.requires turn.before.loop.invariant turn.loop-test.true
+    passed has_two _ _ _ _ turn.before.before.requires turn.before.loop.invariant turn.loop-test.true
     (sym c.before.has-two.ensures ∙ c.if1.false)
 
 returns-2 : tie.Need-returns-2 invariant-loop decreases-loop
-returns-2 c = ended hasTwo _ _ _ _ c.before.before.requires c.before.loop.invariant c.loop-test.false
+returns-2 c = ended has_two _ _ _ _ c.before.before.requires c.before.loop.invariant c.loop-test.false
 
 pub find-wide-spec : {M : Type 1} → statement M
 find-wide-spec =

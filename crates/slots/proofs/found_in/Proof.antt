@@ -1,7 +1,7 @@
 -- `slots::found_in` meets its contract: by the answer's cases. Assumes nothing.
 use mathlib.Core.Path.{sym, ap}
 use borrow.Author.Rules.{rules}
-use Rattle.slots.specs.Gaps.{foundIn}
+use Rattle.slots.specs.Gaps.{found_in}
 use Rattle.slots.proofs.found_in.Statement.{statement}
 use Rattle.slots.proofs.found_in.Tie as tie
 
@@ -12,11 +12,11 @@ enum_told : tie.Need-enum-told
 enum_told c = search rules
 
 returns : tie.Need-returns
-unfolding foundIn
-returns c = sym (ap foundIn c.before.a.given.1)
+unfolding found_in
+returns c = sym (ap found_in c.before.a.given.1)
 
 returns-2 : tie.Need-returns-2
-unfolding foundIn
+unfolding found_in
 returns-2 c = search rules
 
 pub found-in-spec : {M : Type 1} → statement M

@@ -1,6 +1,6 @@
 -- `slots::is_odd` meets its contract: by the gap's slots. Assumes nothing.
 use borrow.Author.Rules.{rules}
-use Rattle.definition.specs.Slots.{isOdd}
+use Rattle.definition.specs.Slots.{is_odd}
 use Rattle.slots.proofs.is_odd.Statement.{statement}
 use Rattle.slots.proofs.is_odd.Tie as tie
 
@@ -8,7 +8,7 @@ len-requires : tie.Need-len-requires
 len-requires c κs = tt
 
 returns : tie.Need-returns
-unfolding isOdd
+unfolding is_odd
 returns c = rw c.len.ensures
 
 pub is-odd-spec : {M : Type 1} → statement M

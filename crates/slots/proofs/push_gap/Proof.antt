@@ -4,12 +4,12 @@ mod Tie
 use native.Mathlib.Omega.{arith}
 use lib.ListN.{length-set}
 use borrow.Author.Rules.{rules}
-use Rattle.slots.proofs.Writing.{push-none, push-some}
+use Rattle.slots.proofs.Writing.{push_none, push_some}
 use Rattle.slots.proofs.push_gap.Statement.{statement}
 use Rattle.slots.proofs.push_gap.Proof.Tie as tie
 
 returns : tie.Need-returns
-returns c = push-none _ _ _ _ c.before.requires.0 c.if1.true
+returns c = push_none _ _ _ _ c.before.requires.0 c.if1.true
 
 gap-before-requires : tie.Need-gap-before-requires
 gap-before-requires c κs = (c.if1.false, c.before.requires.2)
@@ -29,7 +29,7 @@ same_length c = simp length-set
 returns-2 : tie.Need-returns-2
 returns-2 c =
     let start = c.before.before in
-    rw c.gap-before.ensures (push-some _ _ _ _ start.requires.0 c.before.if1.false (start.requires.1 c.before.if1.false))
+    rw c.gap-before.ensures (push_some _ _ _ _ start.requires.0 c.before.if1.false (start.requires.1 c.before.if1.false))
 
 pub push-gap-spec : {M : Type 1} → statement M
 push-gap-spec =

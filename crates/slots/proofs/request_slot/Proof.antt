@@ -4,7 +4,7 @@ mod Tie
 use mathlib.Core.Path.{sym, ◌∙◌}
 use native.Mathlib.Omega.{arith}
 use borrow.Author.Rules.{rules}
-use Rattle.slots.proofs.Checks.{checked, request-met, request-none}
+use Rattle.slots.proofs.Checks.{checked, request_met, request_none}
 use Rattle.slots.proofs.request_slot.Statement.{statement}
 use Rattle.slots.proofs.request_slot.Proof.Tie as tie
 
@@ -20,13 +20,13 @@ same_length c = search rules
 returns : tie.Need-returns
 returns c =
     let start = c.before.before.before.before.before.before in
-    request-met _ start.args.p _ _ _ c.before.before.before.before.ends-fit.ensures _ _ c.before.before.before.if1.true c.before.slot-for.ensures
+    request_met _ start.args.p _ _ _ c.before.before.before.before.ends-fit.ensures _ _ c.before.before.before.if1.true c.before.slot-for.ensures
 
 same-length-2 : tie.Need-same-length-2
 same-length-2 c = search rules
 
 returns-2 : tie.Need-returns-2
-returns-2 c = request-none _ c.before.before.before.args.p _ _ _ c.before.ends-fit.ensures c.if1.false
+returns-2 c = request_none _ c.before.before.before.args.p _ _ _ c.before.ends-fit.ensures c.if1.false
 
 pub request-slot-spec : {M : Type 1} → statement M
 request-slot-spec =

@@ -1,10 +1,10 @@
--- `slots::take_front` meets its contract: the one row that is written is that of `rowsLess`. Assumes nothing.
+-- `slots::take_front` meets its contract: the one row that is written is that of `rows_less`. Assumes nothing.
 mod Lts
 mod Tie
 use mathlib.Core.Path.{ap}
 use lib.ListN.{set}
 use borrow.Author.Rules.{rules}
-use Rattle.slots.specs.Gaps.{gap_of, row_of, rowsLess}
+use Rattle.slots.specs.Gaps.{gap_of, row_of, rows_less}
 use Rattle.slots.proofs.take_front.Statement.{statement}
 use Rattle.slots.proofs.take_front.Proof.Tie as tie
 
@@ -31,7 +31,7 @@ same_length : tie.Need-same-length
 same_length c = search rules
 
 returns : tie.Need-returns
-unfolding rowsLess gap_of row_of
+unfolding rows_less gap_of row_of
 returns c = (c.first_of.ensures, ap (set c.before.before.before.args.gaps.now c.before.before.before.args.at) c.before.shorter.ensures)
 
 pub take-front-spec : {M : Type 1} → statement M

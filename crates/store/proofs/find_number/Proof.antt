@@ -1,5 +1,5 @@
 -- `store::find_number` meets its contract. Assumes nothing.
-use Rattle.store.proofs.Searching.{number-falls, ForNumber, sought-hit, sought-miss, number-start, number-on}
+use Rattle.store.proofs.Searching.{number-falls, ForNumber, sought_hit, sought_miss, number-start, number-on}
 use mathlib.Core.Path.{sym, ◌∙◌}
 use native.Mathlib.Omega.{arith}
 use Rattle.store.specs.Store.{store}
@@ -27,7 +27,7 @@ load-requires : tie.Need-load-requires invariant-loop decreases-loop
 load-requires c κs = let m = c.before.before.before.before.before.requires.3 in (c.before.before.before.before.before.requires.0, omega (arith, (c.before.loop.invariant m.0 m.1).below, m.1.1))
 
 returns : tie.Need-returns invariant-loop decreases-loop
-returns c = λ count g. sought-hit _ count c.before.before.before.loop.link (c.before.before.before.loop.invariant count g).below c.before.before.loop-test.true (sym c.before.load.ensures.word ∙ c.if1.true)
+returns c = λ count g. sought_hit _ count c.before.before.before.loop.link (c.before.before.before.loop.invariant count g).below c.before.before.loop-test.true (sym c.before.load.ensures.word ∙ c.if1.true)
 
 add-load : tie.Need-overflow-add-load invariant-loop decreases-loop
 add-load c = search rules
@@ -45,7 +45,7 @@ loop-again : tie.Need-loop-preserved invariant-loop decreases-loop
 loop-again c = let a = c.before.before.before.before.before.before.before.before.args in rw c.load2.ensures.word (number-on a.p.now (store a.p.now a.w.now) a.heads a.keys a.n c.before.before.before.before.loop.link c.before.before.before.loop-test.true c.before.before.before.before.loop.invariant (λ z. c.before.if1.false (c.before.before.load.ensures.word ∙ z)))
 
 returns-2 : tie.Need-returns-2 invariant-loop decreases-loop
-returns-2 c = λ count g. sought-miss _ _ _ count c.before.loop.link c.loop-test.false (c.before.loop.invariant count g)
+returns-2 c = λ count g. sought_miss _ _ _ count c.before.loop.link c.loop-test.false (c.before.loop.invariant count g)
 
 pub find-number-spec : {M : Type 1} → statement M
 find-number-spec =

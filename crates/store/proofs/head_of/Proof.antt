@@ -2,7 +2,7 @@
 use mathlib.Core.Path.{sym}
 use Prim.Native.Nat.{◌-◌, ◌*◌}
 use native.Mathlib.Omega.{arith}
-use Rattle.store.proofs.Hashing.{head_small, head-large, scaled-below, scaled_fits}
+use Rattle.store.proofs.Hashing.{head_small, head_large, scaled-below, scaled_fits}
 use borrow.Author.Rules.{rules}
 use Rattle.store.proofs.head_of.Statement.{statement}
 use Rattle.store.proofs.head_of.Tie as tie
@@ -23,7 +23,7 @@ returns : tie.Need-returns
 returns c = let e = head_small c.before.args.heads c.before.args.key c.if1.true in (sym e, c.if1.true)
 
 returns-2 : tie.Need-returns-2
-returns-2 c = let a = c.before.args in (sym (head-large a.heads a.key c.if1.false), omega (arith, scaled-below (a.key * 0x9e3779b1) (a.heads - 1) (omega arith)))
+returns-2 c = let a = c.before.args in (sym (head_large a.heads a.key c.if1.false), omega (arith, scaled-below (a.key * 0x9e3779b1) (a.heads - 1) (omega arith)))
 
 pub head-of-spec : {M : Type 1} → statement M
 head-of-spec = tie.close (tie.spec mul-result sub-result mul-result-2 add-result returns returns-2)

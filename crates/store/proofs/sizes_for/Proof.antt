@@ -1,6 +1,6 @@
 -- `store::sizes_for` meets its contract. Assumes nothing.
 use mathlib.Core.Path.{refl}
-use Rattle.store.specs.Regions.{sizesFor}
+use Rattle.store.specs.Regions.{sizes_for}
 use borrow.Author.Rules.{rules}
 use Rattle.store.proofs.sizes_for.Statement.{statement}
 use Rattle.store.proofs.sizes_for.Tie as tie
@@ -42,7 +42,7 @@ add-t13 : tie.Need-overflow-add-t13
 add-t13 c = search rules
 
 returns : tie.Need-returns
-unfolding sizesFor
+unfolding sizes_for
 returns c = refl
 
 pub sizes-for-spec : {M : Type 1} → statement M

@@ -8,7 +8,7 @@ use Rattle.store.specs.Regions.{NAME-GOALS}
 use Rattle.store.specs.Store.{store, size, Kept}
 use Rattle.store.proofs.Keeping.{kept_put}
 use Rattle.store.proofs.Stores.{length-store}
-use Rattle.sym_refs.proofs.Jumping.{Turning, turn-start, turn-to, inner-hop}
+use Rattle.sym_refs.proofs.Jumping.{Turning, turn_start, turn_to, inner_hop}
 use Rattle.sym_refs.proofs.Rounds.{round-end}
 use borrow.Author.Rules.{rules}
 use Rattle.sym_refs.proofs.jump_names.Statement.{statement}
@@ -24,7 +24,7 @@ size-of-requires : tie.Need-size-of-requires invariant-loop decreases-loop
 size-of-requires c κs = (c.before.before.requires.0.0, omega arith)
 
 loop-holds : tie.Need-loop-init invariant-loop decreases-loop
-loop-holds c = (refl, turn-start _ _ c.before.before.before.requires.2, λ k f. refl)
+loop-holds c = (refl, turn_start _ _ c.before.before.before.requires.2, λ k f. refl)
 
 load-requires : tie.Need-load-requires invariant-loop decreases-loop
 load-requires c κs = let e = c.before.before.loop.invariant.0 in (search rules, omega (arith, c.before.before.before.size_of.ensures))
@@ -34,7 +34,7 @@ hop-requires c κs = let l = c.before.before.before.loop in let e = l.invariant.
 
 save-requires : tie.Need-save-requires invariant-loop decreases-loop
 save-requires c κs = let l = c.before.before.before.before.before.loop in let e = l.invariant.0 in let a = c.before.before.before.before.before.before.before.before.before.args in
-    (search rules, omega (arith, c.before.before.before.before.before.before.size_of.ensures), rw (c.before.hop.ensures, c.before.before.load.ensures.word) (omega (arith, c.before.before.before.before.before.before.before.before.before.requires.1, inner-hop (size a.p.now NAME-GOALS) l.i (store a.p.now l.w NAME-GOALS) l.invariant.1.inner (omega (arith, c.before.before.before.before.loop-test.true, c.before.before.before.before.before.before.size_of.ensures)))))
+    (search rules, omega (arith, c.before.before.before.before.before.before.size_of.ensures), rw (c.before.hop.ensures, c.before.before.load.ensures.word) (omega (arith, c.before.before.before.before.before.before.before.before.before.requires.1, inner_hop (size a.p.now NAME-GOALS) l.i (store a.p.now l.w NAME-GOALS) l.invariant.1.inner (omega (arith, c.before.before.before.before.loop-test.true, c.before.before.before.before.before.before.size_of.ensures)))))
 
 on-name-requires : tie.Need-on-name-requires invariant-loop decreases-loop
 on-name-requires c κs = search rules
@@ -52,7 +52,7 @@ loop-again : tie.Need-loop-preserved invariant-loop decreases-loop
 loop-again c = let l = c.before.before.before.before.before.before.before.before.before.loop in let a = c.before.before.before.before.before.before.before.before.before.before.before.before.before.args in let p = a.p.now in let t = store p a.w.now in let u = store p l.w in (
   c.before.before.before.save.auto.0 ∙ l.invariant.0,
   rw c.before.before.before.save.ensures
-      (turn-to (size p NAME-GOALS) (t NAME-GOALS) (u NAME-GOALS) l.i l.left l.invariant.1
+      (turn_to (size p NAME-GOALS) (t NAME-GOALS) (u NAME-GOALS) l.i l.left l.invariant.1
       (omega (arith, c.before.before.before.before.before.before.before.before.loop-test.true, c.before.before.before.before.before.before.before.before.before.before.size_of.ensures))
       (omega (arith, length-store p l.w NAME-GOALS))
       c.before.before.before.before.before.before.load.result

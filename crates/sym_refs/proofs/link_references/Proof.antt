@@ -7,7 +7,7 @@ use Rattle.store.specs.Regions.{COUNTS, NAME-HEADS, NAME-LINKS, NAME-PLACES, NAM
 use Rattle.store.specs.Store.{store, size}
 use Rattle.store.proofs.Stores.{length-store}
 use Rattle.sym_refs.proofs.Rooms.{room}
-use Rattle.sym_refs.proofs.Ends.{Linking, link-begin, link-next, link-end}
+use Rattle.sym_refs.proofs.Ends.{Linking, link_begin, link_next, link_end}
 use borrow.Author.Rules.{rules}
 use Rattle.sym_refs.proofs.link_references.Statement.{statement}
 use Rattle.sym_refs.proofs.link_references.Tie as tie
@@ -22,7 +22,7 @@ size-of-requires : tie.Need-size-of-requires invariant-loop decreases-loop
 size-of-requires c κs = (c.before.before.before.requires.0.0, omega arith)
 
 loop-holds : tie.Need-loop-init invariant-loop decreases-loop
-loop-holds c = (refl, link-begin _ _ _)
+loop-holds c = (refl, link_begin _ _ _)
 
 load-requires : tie.Need-load-requires invariant-loop decreases-loop
 load-requires c κs = let e = c.before.before.loop.invariant.0 in (search rules, omega (arith, c.before.before.before.size_of.ensures))
@@ -49,7 +49,7 @@ loop-again : tie.Need-loop-preserved invariant-loop decreases-loop
 loop-again c = let l = c.before.before.before.before.before.before.before.before.loop in let a = c.before.before.before.before.before.before.before.before.before.before.before.before.before.args in (
   c.before.before.save.auto.0 ∙ l.invariant.0,
   rw c.before.before.save.ensures
-      (link-next a.job.now (store a.p.now a.w.now) (store a.p.now l.w) (size a.p.now GOALS) l.i c.before.before.before.before.goal-of.result l.invariant.1
+      (link_next a.job.now (store a.p.now a.w.now) (store a.p.now l.w) (size a.p.now GOALS) l.i c.before.before.before.before.goal-of.result l.invariant.1
       (omega (arith, c.before.before.before.before.before.before.before.loop-test.true, c.before.before.before.before.before.before.before.before.before.size_of.ensures))
       (omega (arith, length-store a.p.now l.w GOALS))
       (rw c.before.before.before.before.before.load.ensures.word at c.before.before.before.before.goal-of.ensures.0)),
@@ -60,7 +60,7 @@ same_length c = search rules
 
 returns : tie.Need-returns invariant-loop decreases-loop
 returns c = let a = c.before.before.before.before.before.before.args in let m = room a.job.now a.p.now c.before.before.before.before.before.before.requires.1 in
-    link-end _ _ _ (size a.p.now GOALS) c.before.loop.i m.goals (omega (arith, c.loop-test.false, c.before.before.size_of.ensures)) c.before.loop.invariant.1
+    link_end _ _ _ (size a.p.now GOALS) c.before.loop.i m.goals (omega (arith, c.loop-test.false, c.before.before.size_of.ensures)) c.before.loop.invariant.1
 
 pub link-references-spec : {M : Type 1} → statement M
 link-references-spec =

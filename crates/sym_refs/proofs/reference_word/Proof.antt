@@ -1,7 +1,7 @@
 -- `sym_refs::reference_word` meets its contract. Assumes nothing.
 use native.Mathlib.Omega.{arith}
 use Rattle.sym_refs.proofs.Rooms.{room}
-use Rattle.sym_refs.proofs.Worded.{raw-worded, constant-worded, bootstrap-worded, name-worded, bootstrap-name-worded}
+use Rattle.sym_refs.proofs.Worded.{raw_worded, constant_worded, bootstrap_worded, name_worded, bootstrap_name_worded}
 use borrow.Author.Rules.{rules}
 use Rattle.sym_refs.proofs.reference_word.Statement.{statement}
 use Rattle.sym_refs.proofs.reference_word.Tie as tie
@@ -52,19 +52,19 @@ add-result-7 : tie.Need-overflow-add-result-7
 add-result-7 c = let a = c.before.before.before.before.before.before.args in let m = room a.job.now a.p.now c.before.before.before.before.before.before.requires.0 in let f = c.before.before.before.before.before.before.requires.1.1.2 in omega (arith, f.past, f.within, m.bytes)
 
 returns : tie.Need-returns
-returns c = let a = c.before.before.before.before.before.before.args in raw-worded a.job.now a.p.now a.at a.bootstrap c.before.before.before.before.before.before.requires.0 _ c.before.before.before.reference-at.ensures c.before.n.given.0.0 c.before.n.given.1
+returns c = let a = c.before.before.before.before.before.before.args in raw_worded a.job.now a.p.now a.at a.bootstrap c.before.before.before.before.before.before.requires.0 _ c.before.before.before.reference-at.ensures c.before.n.given.0.0 c.before.n.given.1
 
 returns-2 : tie.Need-returns-2
-returns-2 c = let a = c.before.before.before.before.before.before.before.before.args in bootstrap-worded a.job.now a.p.now a.at a.bootstrap c.before.before.before.before.before.before.before.before.requires.0 _ c.before.before.before.before.before.reference-at.ensures c.before.before.before.n2.given.0.0 c.constants.result c.before.before.before.n2.given.1 c.constants.ensures c.before.if1.true
+returns-2 c = let a = c.before.before.before.before.before.before.before.before.args in bootstrap_worded a.job.now a.p.now a.at a.bootstrap c.before.before.before.before.before.before.before.before.requires.0 _ c.before.before.before.before.before.reference-at.ensures c.before.before.before.n2.given.0.0 c.constants.result c.before.before.before.n2.given.1 c.constants.ensures c.before.if1.true
 
 returns-3 : tie.Need-returns-3
-returns-3 c = let a = c.before.before.before.before.before.before.before.args in constant-worded a.job.now a.p.now a.at a.bootstrap c.before.before.before.before.before.before.before.requires.0 _ c.before.before.before.before.reference-at.ensures c.before.before.n2.given.0.0 c.before.before.n2.given.1 c.if1.false
+returns-3 c = let a = c.before.before.before.before.before.before.before.args in constant_worded a.job.now a.p.now a.at a.bootstrap c.before.before.before.before.before.before.before.requires.0 _ c.before.before.before.before.reference-at.ensures c.before.before.n2.given.0.0 c.before.before.n2.given.1 c.if1.false
 
 returns-4 : tie.Need-returns-4
-returns-4 c = let a = c.before.before.before.before.before.before.args in bootstrap-name-worded a.job.now a.p.now a.at a.bootstrap c.before.before.before.before.before.before.requires.0 _ c.before.before.before.reference-at.ensures _ c.before.enum_told.given.1 c.if2.true
+returns-4 c = let a = c.before.before.before.before.before.before.args in bootstrap_name_worded a.job.now a.p.now a.at a.bootstrap c.before.before.before.before.before.before.requires.0 _ c.before.before.before.reference-at.ensures _ c.before.enum_told.given.1 c.if2.true
 
 returns-5 : tie.Need-returns-5
-returns-5 c = let a = c.before.before.before.before.before.before.args in name-worded a.job.now a.p.now a.at a.bootstrap c.before.before.before.before.before.before.requires.0 _ c.before.before.before.reference-at.ensures _ c.before.enum_told.given.1 c.if2.false
+returns-5 c = let a = c.before.before.before.before.before.before.args in name_worded a.job.now a.p.now a.at a.bootstrap c.before.before.before.before.before.before.requires.0 _ c.before.before.before.reference-at.ensures _ c.before.enum_told.given.1 c.if2.false
 
 pub reference-word-spec : {M : Type 1} → statement M
 reference-word-spec =

@@ -7,7 +7,7 @@ use Rattle.store.specs.Regions.{COUNTS, NAME-HEADS, NAME-LINKS, NAME-PLACES, NAM
 use Rattle.store.specs.Store.{store, size}
 use Rattle.store.proofs.Stores.{length-store}
 use Rattle.sym_refs.proofs.Rooms.{room}
-use Rattle.sym_refs.proofs.Rounds.{Starting, start-begin, start-next, start-end}
+use Rattle.sym_refs.proofs.Rounds.{Starting, start_begin, start_next, start_end}
 use borrow.Author.Rules.{rules}
 use Rattle.sym_refs.proofs.start_names.Statement.{statement}
 use Rattle.sym_refs.proofs.start_names.Tie as tie
@@ -22,7 +22,7 @@ size-of-requires : tie.Need-size-of-requires invariant-loop decreases-loop
 size-of-requires c κs = (c.before.before.before.requires.0.0, omega arith)
 
 loop-holds : tie.Need-loop-init invariant-loop decreases-loop
-loop-holds c = (refl, start-begin _ _ _)
+loop-holds c = (refl, start_begin _ _ _)
 
 first-goal-requires : tie.Need-first-goal-requires invariant-loop decreases-loop
 first-goal-requires c κs = let l = c.before.before.loop in let k = l.invariant.1.kept in let e = l.invariant.0 in
@@ -42,7 +42,7 @@ loop-again : tie.Need-loop-preserved invariant-loop decreases-loop
 loop-again c = let l = c.before.before.before.before.before.before.before.loop in let a = c.before.before.before.before.before.before.before.before.before.before.before.before.args in (
   c.before.before.save.auto.0 ∙ l.invariant.0,
   rw c.before.before.save.ensures
-      (start-next a.job.now (store a.p.now a.w.now) (store a.p.now l.w) (size a.p.now NAME-GOALS) l.i c.before.before.before.before.first-goal.result l.invariant.1
+      (start_next a.job.now (store a.p.now a.w.now) (store a.p.now l.w) (size a.p.now NAME-GOALS) l.i c.before.before.before.before.first-goal.result l.invariant.1
       (omega (arith, c.before.before.before.before.before.before.loop-test.true, c.before.before.before.before.before.before.before.before.size_of.ensures))
       (omega (arith, length-store a.p.now l.w NAME-GOALS))
       c.before.before.before.before.first-goal.ensures),
@@ -52,7 +52,7 @@ same_length : tie.Need-same-length invariant-loop decreases-loop
 same_length c = search rules
 
 returns : tie.Need-returns invariant-loop decreases-loop
-returns c = start-end _ _ _ _ c.before.loop.i (omega (arith, c.loop-test.false, c.before.before.size_of.ensures)) c.before.loop.invariant.1
+returns c = start_end _ _ _ _ c.before.loop.i (omega (arith, c.loop-test.false, c.before.before.size_of.ensures)) c.before.loop.invariant.1
 
 pub start-names-spec : {M : Type 1} → statement M
 start-names-spec =

@@ -4,21 +4,21 @@ use Prim.Native.Nat.{◌-◌, ◌≤◌}
 use native.Mathlib.Omega.{arith}
 use borrow.Author.Rules.{rules}
 use lib.ListN.{length, drop}
-use Rattle.definition.specs.Texts.{unitsOf}
-use Rattle.texts.specs.Answers.{countAnswer}
+use Rattle.definition.specs.Texts.{units_of}
+use Rattle.texts.specs.Answers.{count_answer}
 use Rattle.texts.specs.Forms.{count_of}
-use Rattle.texts.proofs.Reading.{part-some, form-inside, counted, count-start, count_next, count_none, count-end}
+use Rattle.texts.proofs.Reading.{part_some, form-inside, counted, count_start, count_next, count_none, count_end}
 use Rattle.texts.proofs.count_units.Statement.{statement}
 use Rattle.texts.proofs.count_units.Tie as tie
 
 abbrev invariant-loop : tie.invariant-loop
-invariant-loop text at₀ n₀ at n = (at ≤ length text) × (n ≤ at) × (count_of (unitsOf text) ≡ counted n (unitsOf (drop at text)))
+invariant-loop text at₀ n₀ at n = (at ≤ length text) × (n ≤ at) × (count_of (units_of text) ≡ counted n (units_of (drop at text)))
 
 abbrev decreases-loop : tie.decreases-loop
 decreases-loop text at₀ n₀ at n = length text - at
 
 loop-holds : tie.Need-loop-init invariant-loop decreases-loop
-loop-holds c = (search rules, search rules, count-start c.before.args.text.now)
+loop-holds c = (search rules, search rules, count_start c.before.args.text.now)
 
 sub-first-form : tie.Need-overflow-sub-first-form invariant-loop decreases-loop
 sub-first-form c = search rules
@@ -30,10 +30,10 @@ part-first-form-end : tie.Need-slice-bounds-first-form-end invariant-loop decrea
 part-first-form-end c = search rules
 
 first-form-requires : tie.Need-first-form-requires invariant-loop decreases-loop
-first-form-requires c κs = part-some c.before.before.before.before.args.text.now c.before.before.loop.at c.before.loop-test.true
+first-form-requires c κs = part_some c.before.before.before.before.args.text.now c.before.before.loop.at c.before.loop-test.true
 
 returns : tie.Need-returns invariant-loop decreases-loop
-unfolding countAnswer
+unfolding count_answer
 returns c = let head = c.before.before.before.before.before in
     let form = c.before.before.first-form in
     sym (head.loop.invariant.2
@@ -64,9 +64,9 @@ loop-again c = let head = c.before.before.before.before.before.before in
     )
 
 returns-2 : tie.Need-returns-2 invariant-loop decreases-loop
-unfolding countAnswer
+unfolding count_answer
 returns-2 c = let head = c.before in
-    sym (head.loop.invariant.2 ∙ count-end head.before.before.args.text.now head.loop.at head.loop.n (omega arith))
+    sym (head.loop.invariant.2 ∙ count_end head.before.before.args.text.now head.loop.at head.loop.n (omega arith))
 
 pub count-units-spec : {M : Type 1} → statement M
 count-units-spec =

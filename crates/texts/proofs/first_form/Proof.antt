@@ -1,7 +1,7 @@
 -- `texts::first_form` meets its contract. By the first byte. Assumes nothing.
 use borrow.Author.Rules.{rules}
 use lib.ListN.{get_or}
-use Rattle.laws.proofs.texts.UnitsRead.{lead_zero, lead-follower, lead_high}
+use Rattle.laws.proofs.Texts.UnitsRead.{lead_zero, lead_follower, lead_high}
 use Rattle.texts.proofs.FormsRead.{no_lead, one_form}
 use Rattle.texts.proofs.first_form.Statement.{statement}
 use Rattle.texts.proofs.first_form.Tie as tie
@@ -32,7 +32,7 @@ returns-3 c = let start = c.before.before.before.before.before.before in
     let bytes = start.args.bytes.now in
     let form = c.no-form2 in
     no_lead form.result.unit form.result.size form.ensures bytes start.requires
-    (lead-follower (get_or bytes 0 0) c.before.before.if2.false c.before.if3.true)
+    (lead_follower (get_or bytes 0 0) c.before.before.if2.false c.before.if3.true)
 
 two-bytes-requires : tie.Need-two-bytes-requires
 two-bytes-requires c κs = search rules

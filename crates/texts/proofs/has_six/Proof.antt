@@ -1,11 +1,11 @@
 -- `texts::has_six` meets its contract. By the byte at the place. Assumes nothing.
 use borrow.Author.Rules.{rules}
-use Rattle.texts.proofs.FormsRead.{six-past, six_low, six_high}
+use Rattle.texts.proofs.FormsRead.{six_past, six_low, six_high}
 use Rattle.texts.proofs.has_six.Statement.{statement}
 use Rattle.texts.proofs.has_six.Tie as tie
 
 returns : tie.Need-returns
-returns c = six-past c.before.args.bytes.now c.before.args.at c.if1.true
+returns c = six_past c.before.args.bytes.now c.before.args.at c.if1.true
 
 shared-slice-read-b : tie.Need-shared-slice-read-b
 shared-slice-read-b c = search rules

@@ -5,8 +5,8 @@ use native.Mathlib.Omega.{arith}
 use borrow.Author.Rules.{rules}
 use lib.ListN.{length, drop}
 use Rattle.definition.specs.Texts.{text_of}
-use Rattle.texts.specs.Answers.{writtenAnswer}
-use Rattle.texts.proofs.Writing.{measure-next, measure-end, measure-narrow, measured}
+use Rattle.texts.specs.Answers.{written_answer}
+use Rattle.texts.proofs.Writing.{measure_next, measure_end, measure_narrow, measured}
 use Rattle.texts.proofs.measure.Statement.{statement}
 use Rattle.texts.proofs.measure.Tie as tie
 
@@ -32,12 +32,12 @@ sub-if1 : tie.Need-overflow-sub-if1 invariant-loop decreases-loop
 sub-if1 c = search rules
 
 returns : tie.Need-returns invariant-loop decreases-loop
-unfolding writtenAnswer
+unfolding written_answer
 returns c = let head = c.before.before.before.before in
     let args = head.before.before.args in
     let units = args.units.now in
-    measure-narrow args.room units
-    (omega (arith, measure-next units head.loop.i (omega arith)))
+    measure_narrow args.room units
+    (omega (arith, measure_next units head.loop.i (omega arith)))
 
 add-size : tie.Need-overflow-add-size invariant-loop decreases-loop
 add-size c = search rules
@@ -50,14 +50,14 @@ loop-less c = search rules
 
 loop-again : tie.Need-loop-preserved invariant-loop decreases-loop
 loop-again c = let head = c.before.before.before.before in
-    (search rules, search rules, omega (arith, measure-next head.before.before.args.units.now head.loop.i (omega arith)))
+    (search rules, search rules, omega (arith, measure_next head.before.before.args.units.now head.loop.i (omega arith)))
 
 returns-2 : tie.Need-returns-2 invariant-loop decreases-loop
-unfolding writtenAnswer
+unfolding written_answer
 returns-2 c = let head = c.before in
     let args = head.before.before.args in
     let units = args.units.now in
-    measured args.room units head.loop.size (omega (arith, measure-end units head.loop.i (omega arith))) head.loop.invariant.1
+    measured args.room units head.loop.size (omega (arith, measure_end units head.loop.i (omega arith))) head.loop.invariant.1
 
 pub measure-spec : {M : Type 1} → statement M
 measure-spec =

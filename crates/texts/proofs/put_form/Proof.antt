@@ -4,8 +4,8 @@ use mathlib.Core.Path.{◌≡◌, sym, ◌∙◌}
 use native.Mathlib.Omega.{arith}
 use borrow.Author.Rules.{rules}
 use lib.ListN.{length}
-use Rattle.definition.specs.Texts.{unitBytes}
-use Rattle.texts.specs.Forms.{inTwo, inThree}
+use Rattle.definition.specs.Texts.{unit_bytes}
+use Rattle.texts.specs.Forms.{in_two, in_three}
 use Rattle.texts.proofs.Writing.{of_one, of_two, of_three, put_one, form-put}
 use Rattle.texts.proofs.put_form.Statement.{statement}
 use Rattle.texts.proofs.put_form.Tie as tie
@@ -27,13 +27,13 @@ same_length c = search rules
 
 returns : tie.Need-returns
 returns c = let args = c.before.before.before.before.before.before.before.args in
-    let size : length (unitBytes args.unit) ≡ 1 = sym c.before.before.before.before.before.form-size.ensures ∙ c.before.before.before.before.if1.true in
-    form-put args.text.now args.at c.before.before.put-u8.new.0 (unitBytes args.unit) (args.unit ∷ []) 1
+    let size : length (unit_bytes args.unit) ≡ 1 = sym c.before.before.before.before.before.form-size.ensures ∙ c.before.before.before.before.if1.true in
+    form-put args.text.now args.at c.before.before.put-u8.new.0 (unit_bytes args.unit) (args.unit ∷ []) 1
     (c.before.before.put-u8.ensures ∙ put_one args.text.now args.at args.unit (omega arith)) (of_one args.unit size).1 size
 
 put-two-requires : tie.Need-put-two-requires
 put-two-requires c κs = let args = c.before.before.before.before.before.args in
-    let size : length (unitBytes args.unit) ≡ 2 = sym c.before.before.before.form-size.ensures ∙ c.before.if2.true in
+    let size : length (unit_bytes args.unit) ≡ 2 = sym c.before.before.before.form-size.ensures ∙ c.before.if2.true in
     ((of_two args.unit size).0, omega arith)
 
 add-result-2 : tie.Need-overflow-add-result-2
@@ -44,8 +44,8 @@ same-length-2 c = search rules
 
 returns-2 : tie.Need-returns-2
 returns-2 c = let args = c.before.before.before.before.before.before.before.before.args in
-    let size : length (unitBytes args.unit) ≡ 2 = sym c.before.before.before.before.before.before.form-size.ensures ∙ c.before.before.before.before.if2.true in
-    form-put args.text.now args.at c.before.before.put_two.new.0 (unitBytes args.unit) (inTwo args.unit) 2
+    let size : length (unit_bytes args.unit) ≡ 2 = sym c.before.before.before.before.before.before.form-size.ensures ∙ c.before.before.before.before.if2.true in
+    form-put args.text.now args.at c.before.before.put_two.new.0 (unit_bytes args.unit) (in_two args.unit) 2
     c.before.before.put_two.ensures (of_two args.unit size).1 size
 
 put-three-requires : tie.Need-put-three-requires
@@ -64,7 +64,7 @@ returns-3 : tie.Need-returns-3
 returns-3 c = let args = c.before.before.before.before.before.before.before.before.args in
     let sized = c.before.before.before.before.before.before.form-size in
     let form = of_three args.unit (λ e. c.before.before.before.before.before.if1.false (sized.ensures ∙ e)) (λ e. c.before.before.before.before.if2.false (sized.ensures ∙ e)) in
-    form-put args.text.now args.at c.before.before.put_three.new.0 (unitBytes args.unit) (inThree args.unit) 3
+    form-put args.text.now args.at c.before.before.put_three.new.0 (unit_bytes args.unit) (in_three args.unit) 3
     c.before.before.put_three.ensures form.1 form.0
 
 pub put-form-spec : {M : Type 1} → statement M

@@ -2,7 +2,7 @@
 use Prim.Native.Nat.{◌+◌, ◌/◌, ◌%◌}
 use native.Mathlib.Omega.{arith}
 use borrow.Author.Rules.{rules}
-use Rattle.texts.proofs.Writing.{stores-three}
+use Rattle.texts.proofs.Writing.{stores_three}
 use Rattle.texts.proofs.put_three.Statement.{statement}
 use Rattle.texts.proofs.put_three.Tie as tie
 
@@ -45,7 +45,7 @@ same_length c = search rules
 returns : tie.Need-returns
 returns c = let args = c.before.before.before.before.before.before.before.before.before.before.before.before.before.args in
     rw (c.before.before.put-u83.ensures, c.before.before.before.before.before.before.put-u82.ensures, c.before.before.before.before.before.before.before.before.before.before.put-u8.ensures)
-    (stores-three args.text.now args.at (0xe0 + args.unit / 4096) (0x80 + args.unit / 64 % 64) (0x80 + args.unit % 64) (omega arith))
+    (stores_three args.text.now args.at (0xe0 + args.unit / 4096) (0x80 + args.unit / 64 % 64) (0x80 + args.unit % 64) (omega arith))
 
 pub put-three-spec : {M : Type 1} → statement M
 put-three-spec =

@@ -2,7 +2,7 @@
 use Prim.Native.Nat.{◌+◌, ◌/◌, ◌%◌}
 use native.Mathlib.Omega.{arith}
 use borrow.Author.Rules.{rules}
-use Rattle.texts.proofs.Writing.{stores-two}
+use Rattle.texts.proofs.Writing.{stores_two}
 use Rattle.texts.proofs.put_two.Statement.{statement}
 use Rattle.texts.proofs.put_two.Tie as tie
 
@@ -33,7 +33,7 @@ same_length c = search rules
 returns : tie.Need-returns
 returns c = let args = c.before.before.before.before.before.before.before.before.before.args in
     rw (c.before.before.put-u82.ensures, c.before.before.before.before.before.before.put-u8.ensures)
-    (stores-two args.text.now args.at (0xc0 + args.unit / 64) (0x80 + args.unit % 64) (omega arith))
+    (stores_two args.text.now args.at (0xc0 + args.unit / 64) (0x80 + args.unit % 64) (omega arith))
 
 pub put-two-spec : {M : Type 1} → statement M
 put-two-spec =

@@ -6,14 +6,14 @@ use native.Mathlib.Omega.{arith}
 use borrow.Author.Rules.{rules}
 use lib.ListN.{length, take, drop}
 use Rattle.definition.specs.Run.{overwrite}
-use Rattle.definition.specs.Texts.{unitsOf}
+use Rattle.definition.specs.Texts.{units_of}
 use Rattle.texts.specs.Forms.{held}
-use Rattle.texts.proofs.Reading.{part-some, form-inside, text-held, turn, put-start, put-more, put_all}
+use Rattle.texts.proofs.Reading.{part_some, form-inside, text_held, turn, put-start, put-more, put_all}
 use Rattle.texts.proofs.put_units.Statement.{statement}
 use Rattle.texts.proofs.put_units.Tie as tie
 
 abbrev invariant-loop : tie.invariant-loop
-invariant-loop text units₀ at₀ n₀ units at n = (at ≤ length text) × (n ≤ length (held text)) × (unitsOf (drop at text) ≡ some (drop n (held text)))
+invariant-loop text units₀ at₀ n₀ units at n = (at ≤ length text) × (n ≤ length (held text)) × (units_of (drop at text) ≡ some (drop n (held text)))
     × (units ≡ overwrite (take n (held text)) units₀) × (length units ≡ length units₀)
 
 abbrev decreases-loop : tie.decreases-loop
@@ -22,7 +22,7 @@ decreases-loop text units₀ at₀ n₀ units at n = length text - at
 loop-holds : tie.Need-loop-init invariant-loop decreases-loop
 loop-holds c = let start = c.before.before in
     let text = start.args.text.now in
-    (search rules, search rules, text-held text start.requires.0, put-start (held text) start.args.units.now, search rules)
+    (search rules, search rules, text_held text start.requires.0, put-start (held text) start.args.units.now, search rules)
 
 sub-first-form : tie.Need-overflow-sub-first-form invariant-loop decreases-loop
 sub-first-form c = search rules
@@ -34,7 +34,7 @@ part-first-form-end : tie.Need-slice-bounds-first-form-end invariant-loop decrea
 part-first-form-end c = search rules
 
 first-form-requires : tie.Need-first-form-requires invariant-loop decreases-loop
-first-form-requires c κs = part-some c.before.before.before.before.before.args.text.now c.before.before.loop.at c.before.loop-test.true
+first-form-requires c κs = part_some c.before.before.before.before.before.args.text.now c.before.before.loop.at c.before.loop-test.true
 
 mul-units : tie.Need-overflow-mul-units invariant-loop decreases-loop
 mul-units c = let head = c.before.before.before in

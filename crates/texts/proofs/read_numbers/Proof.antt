@@ -1,6 +1,6 @@
 -- `texts::read_numbers` meets its contract. By cases on the answer. Assumes nothing.
 use borrow.Author.Rules.{rules}
-use Rattle.texts.specs.Answers.{readAnswer, numbersOf}
+use Rattle.texts.specs.Answers.{read_answer, numbers_of}
 use Rattle.texts.proofs.read_numbers.Statement.{statement}
 use Rattle.texts.proofs.read_numbers.Tie as tie
 
@@ -14,15 +14,15 @@ enum-told-2 : tie.Need-enum-told-2
 enum-told-2 c = search rules
 
 returns : tie.Need-returns
-unfolding readAnswer numbersOf
+unfolding read_answer numbers_of
 returns c = cc
 
 returns-2 : tie.Need-returns-2
-unfolding readAnswer numbersOf
+unfolding read_answer numbers_of
 returns-2 c = cc
 
 returns-3 : tie.Need-returns-3
-unfolding readAnswer numbersOf
+unfolding read_answer numbers_of
 returns-3 c = cc
 
 pub read-numbers-spec : {M : Type 1} → statement M

@@ -1,8 +1,8 @@
 -- `texts::texts_read` meets its contract. What read_text ensures, told by numbers. Assumes nothing.
 use borrow.Author.Rules.{rules}
 use lib.ListN.{length}
-use Rattle.definition.specs.Texts.{readText}
-use Rattle.texts.specs.Answers.{readAnswer}
+use Rattle.definition.specs.Texts.{read_text}
+use Rattle.texts.specs.Answers.{read_answer}
 use Rattle.texts.proofs.Ends.{told}
 use Rattle.texts.proofs.texts_read.Statement.{statement}
 use Rattle.texts.proofs.texts_read.Tie as tie
@@ -19,8 +19,8 @@ same_length c = search rules
 returns : tie.Need-returns
 returns c = let ended = c.before.before.before in
     let args = ended.before.before.before.before.args in
-    told (readText (length args.units.now) args.text.now) args.units.now ended.read-text.new.1.0
-    (readAnswer ended.read-text.result) c.read-numbers.result ended.read-text.ensures c.read-numbers.ensures
+    told (read_text (length args.units.now) args.text.now) args.units.now ended.read_text_lem.new.1.0
+    (read_answer ended.read_text_lem.result) c.read-numbers.result ended.read_text_lem.ensures c.read-numbers.ensures
 
 pub texts-read-spec : {M : Type 1} → statement M
 texts-read-spec = tie.close (tie.spec read-text-requires read-numbers-requires same_length returns)

@@ -1,8 +1,8 @@
 -- `texts::texts_write` meets its contract. What write_text ensures, told by numbers. Assumes nothing.
 use borrow.Author.Rules.{rules}
 use lib.ListN.{length}
-use Rattle.definition.specs.Texts.{writeText}
-use Rattle.texts.specs.Answers.{writtenAnswer}
+use Rattle.definition.specs.Texts.{write_text}
+use Rattle.texts.specs.Answers.{written_answer}
 use Rattle.texts.proofs.Ends.{told}
 use Rattle.texts.proofs.texts_write.Statement.{statement}
 use Rattle.texts.proofs.texts_write.Tie as tie
@@ -19,8 +19,8 @@ same_length c = search rules
 returns : tie.Need-returns
 returns c = let ended = c.before.before.before in
     let args = ended.before.before.before.before.args in
-    told (writeText (length args.text.now) args.units.now) args.text.now ended.write-text.new.1.0
-    (writtenAnswer ended.write-text.result) c.written-numbers.result ended.write-text.ensures c.written-numbers.ensures
+    told (write_text (length args.text.now) args.units.now) args.text.now ended.write-text.new.1.0
+    (written_answer ended.write-text.result) c.written-numbers.result ended.write-text.ensures c.written-numbers.ensures
 
 pub texts-write-spec : {M : Type 1} → statement M
 texts-write-spec =

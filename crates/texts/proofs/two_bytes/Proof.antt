@@ -3,7 +3,7 @@ use mathlib.Core.Path.{sym, ◌∙◌}
 use native.Mathlib.Omega.{arith}
 use borrow.Author.Rules.{rules}
 use borrow.Author.Tests.{not-true, not-false}
-use Rattle.texts.proofs.FormsRead.{six-range, two-cut, two-form}
+use Rattle.texts.proofs.FormsRead.{six_range, two-cut, two-form}
 use Rattle.texts.proofs.two_bytes.Statement.{statement}
 use Rattle.texts.proofs.two_bytes.Tie as tie
 
@@ -26,13 +26,13 @@ mul-unit : tie.Need-overflow-mul-unit
 mul-unit c = search rules
 
 bits-at-requires-2 : tie.Need-bits-at-requires-2
-bits-at-requires-2 c κs = let six = six-range c.before.before.before.before.args.bytes.now 1 (sym c.before.before.has-six.ensures ∙ not-false c.before.before.has-six.result c.before.if1.false) in (six.0, six.1)
+bits-at-requires-2 c κs = let six = six_range c.before.before.before.before.args.bytes.now 1 (sym c.before.before.has-six.ensures ∙ not-false c.before.before.has-six.result c.before.if1.false) in (six.0, six.1)
 
 add-unit : tie.Need-overflow-add-unit
-add-unit c = omega (arith, six-range c.before.before.before.before.before.args.bytes.now 1 (sym c.before.before.before.has-six.ensures ∙ not-false c.before.before.before.has-six.result c.before.before.if1.false))
+add-unit c = omega (arith, six_range c.before.before.before.before.before.args.bytes.now 1 (sym c.before.before.before.has-six.ensures ∙ not-false c.before.before.before.has-six.result c.before.before.if1.false))
 
 returns-2 : tie.Need-returns-2
-returns-2 c = rw (c.before.bits-at.ensures, c.bits-at2.ensures)
+returns-2 c = rw (c.before.bits_at_lem.ensures, c.bits-at2.ensures)
     (two-form c.before.before.before.before.before.args.bytes.now c.before.before.before.before.before.requires.1 c.before.before.before.before.before.requires.2 (sym c.before.before.before.has-six.ensures ∙ not-false c.before.before.before.has-six.result c.before.before.if1.false))
 
 pub two-bytes-spec : {M : Type 1} → statement M

@@ -1,6 +1,6 @@
 -- `texts::written_numbers` meets its contract. By cases on the answer. Assumes nothing.
 use borrow.Author.Rules.{rules}
-use Rattle.texts.specs.Answers.{writtenAnswer, numbersOf}
+use Rattle.texts.specs.Answers.{written_answer, numbers_of}
 use Rattle.texts.proofs.written_numbers.Statement.{statement}
 use Rattle.texts.proofs.written_numbers.Tie as tie
 
@@ -11,11 +11,11 @@ enum_told : tie.Need-enum-told
 enum_told c = search rules
 
 returns : tie.Need-returns
-unfolding writtenAnswer numbersOf
+unfolding written_answer numbers_of
 returns c = cc
 
 returns-2 : tie.Need-returns-2
-unfolding writtenAnswer numbersOf
+unfolding written_answer numbers_of
 returns-2 c = cc
 
 pub written-numbers-spec : {M : Type 1} → statement M

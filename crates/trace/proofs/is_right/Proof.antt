@@ -1,13 +1,13 @@
 -- `trace::is_right` meets its contract. Assumes nothing.
 use borrow.Author.Rules.{rules}
-use Rattle.trace.proofs.Stepping.{never-zero, held-other}
+use Rattle.trace.proofs.Stepping.{never_zero, held-other}
 use Rattle.trace.proofs.is_right.Statement.{statement}
 use Rattle.trace.proofs.is_right.Tie as tie
 
 returns : tie.Need-returns
 returns c =
     let start = c.before.before in
-    never-zero start.args.pool.now start.args.places.now start.args.slot start.args.tag c.if1.true
+    never_zero start.args.pool.now start.args.places.now start.args.slot start.args.tag c.if1.true
 
 tag-at-requires : tie.Need-tag-at-requires
 tag-at-requires c κs = search rules

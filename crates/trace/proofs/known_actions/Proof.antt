@@ -4,13 +4,13 @@ use mathlib.Core.Path.{◌≡◌, refl}
 use Prim.Native.Nat.{◌≤◌, ◌-◌}
 use native.Mathlib.Omega.{arith}
 use borrow.Author.Rules.{rules}
-use Rattle.trace.specs.Trace.{steps, unknown-action}
+use Rattle.trace.specs.Trace.{steps, unknown_action}
 use Rattle.trace.proofs.Stepping.{known-first, known_more, known-all, unknown}
 use Rattle.trace.proofs.known_actions.Statement.{statement}
 use Rattle.trace.proofs.known_actions.Tie as tie
 
 abbrev invariant-loop : tie.invariant-loop
-invariant-loop trace n i₀ i = (n ≡ steps trace) × (i ≤ n) × (unknown-action trace i ≡ false)
+invariant-loop trace n i₀ i = (n ≡ steps trace) × (i ≤ n) × (unknown_action trace i ≡ false)
 
 abbrev decreases-loop : tie.decreases-loop
 decreases-loop trace n i₀ i = n - i

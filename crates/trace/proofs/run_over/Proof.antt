@@ -2,9 +2,9 @@
 use mathlib.Core.Path.{sym, ◌∙◌}
 use borrow.Author.Tests.{not-true, not-false}
 use borrow.Author.Rules.{rules}
-use Rattle.places.proofs.Rows.{blank-zeros}
+use Rattle.places.proofs.Rows.{blank_zeros}
 use Rattle.trace.specs.Answers.{held}
-use Rattle.trace.proofs.Running.{cut, few-flags, strange, formed}
+use Rattle.trace.proofs.Running.{cut, few_flags, strange, formed}
 use Rattle.trace.proofs.run_over.Statement.{statement}
 use Rattle.trace.proofs.run_over.Tie as tie
 
@@ -16,7 +16,7 @@ returns c =
 returns-2 : tie.Need-returns-2
 returns-2 c =
     let start = c.before.before.before.before.before in
-    few-flags (held start.args.pool.now start.args.places.now) start.args.trace.now start.args.flags.now c.if2.true
+    few_flags (held start.args.pool.now start.args.places.now) start.args.trace.now start.args.flags.now c.if2.true
 
 known-actions-requires : tie.Need-known-actions-requires
 known-actions-requires c κs = search rules
@@ -32,7 +32,7 @@ slice-aggregate-run-steps c = search rules
 run-steps-requires : tie.Need-run-steps-requires
 run-steps-requires c κs =
     let judged = c.before.before in
-    (not-true _ (sym judged.before.known-actions.ensures ∙ not-false _ judged.if3.false), (judged.before.before.if2.false, blank-zeros.0, blank-zeros.1))
+    (not-true _ (sym judged.before.known-actions.ensures ∙ not-false _ judged.if3.false), (judged.before.before.if2.false, blank_zeros.0, blank_zeros.1))
 
 same_length : tie.Need-same-length
 same_length c = search rules

@@ -5,7 +5,7 @@ use native.Mathlib.Omega.{arith}
 use Rattle.trace.specs.Trace.{steps}
 use Rattle.trace.specs.Answers.{held}
 use Rattle.trace.proofs.Stepping.{known_at}
-use Rattle.trace.proofs.Going.{Going, going-first, going-small, going_more, going-last}
+use Rattle.trace.proofs.Going.{Going, going_first, going_small, going_more, going_last}
 use Rattle.trace.proofs.run_steps.Statement.{statement}
 use Rattle.trace.proofs.run_steps.Tie as tie
 
@@ -19,25 +19,25 @@ decreases-loop pool places trace flags₀ clear₀ n good₀ failed₀ rested₀
 loop-holds : tie.Need-loop-init invariant-loop decreases-loop
 loop-holds c =
     let start = c.before.before.before.before in
-    (refl, omega arith, going-first (held start.args.pool.now start.args.places.now) start.args.trace.now start.args.flags.now start.args.clear.now start.requires.1.0 start.requires.1.1 start.requires.1.2)
+    (refl, omega arith, going_first (held start.args.pool.now start.args.places.now) start.args.trace.now start.args.flags.now start.args.clear.now start.requires.1.0 start.requires.1.1 start.requires.1.2)
 
 run-both-requires : tie.Need-run-both-requires invariant-loop decreases-loop
 run-both-requires c κs =
     let head = c.before.before.before in
     let start = head.before.before.before.before.before in
-    ((omega arith, known_at start.args.trace.now head.loop.i start.requires.0 (omega arith)), (head.loop.invariant.2.flags-are.size, head.loop.invariant.2.clear-are.size))
+    ((omega arith, known_at start.args.trace.now head.loop.i start.requires.0 (omega arith)), (head.loop.invariant.2.flags_are.size, head.loop.invariant.2.clear_are.size))
 
 add-good : tie.Need-overflow-add-good invariant-loop decreases-loop
 add-good c =
-    omega (arith, (going-small c.before.before.before.before.before.before.before.before.before.loop.invariant.2 c.before.before.before.before.before.run-both.ensures).0)
+    omega (arith, (going_small c.before.before.before.before.before.before.before.before.before.loop.invariant.2 c.before.before.before.before.before.run-both.ensures).0)
 
 add-failed : tie.Need-overflow-add-failed invariant-loop decreases-loop
 add-failed c =
-    omega (arith, (going-small c.before.before.before.before.before.before.before.before.before.before.loop.invariant.2 c.before.before.before.before.before.before.run-both.ensures).1)
+    omega (arith, (going_small c.before.before.before.before.before.before.before.before.before.before.loop.invariant.2 c.before.before.before.before.before.before.run-both.ensures).1)
 
 add-rested : tie.Need-overflow-add-rested invariant-loop decreases-loop
 add-rested c =
-    omega (arith, (going-small c.before.before.before.before.before.before.before.before.before.before.before.loop.invariant.2 c.before.before.before.before.before.before.before.run-both.ensures).2)
+    omega (arith, (going_small c.before.before.before.before.before.before.before.before.before.before.before.loop.invariant.2 c.before.before.before.before.before.before.before.run-both.ensures).2)
 
 add-i : tie.Need-overflow-add-i invariant-loop decreases-loop
 add-i c = omega arith
@@ -51,15 +51,15 @@ loop-again c =
 
 same_length : tie.Need-same-length invariant-loop decreases-loop
 same_length c =
-    c.before.loop.invariant.2.flags-are.size ∙ sym c.before.before.before.before.before.before.requires.1.0
+    c.before.loop.invariant.2.flags_are.size ∙ sym c.before.before.before.before.before.before.requires.1.0
 
 same-length-2 : tie.Need-same-length-2 invariant-loop decreases-loop
 same-length-2 c =
-    c.before.loop.invariant.2.clear-are.size ∙ sym c.before.before.before.before.before.before.requires.1.1
+    c.before.loop.invariant.2.clear_are.size ∙ sym c.before.before.before.before.before.before.requires.1.1
 
 returns : tie.Need-returns invariant-loop decreases-loop
 returns c =
-    going-last c.before.loop.invariant.2 c.before.before.before.before.before.before.requires.1.0 (omega arith)
+    going_last c.before.loop.invariant.2 c.before.before.before.before.before.before.requires.1.0 (omega arith)
 
 pub run-steps-spec : {M : Type 1} → statement M
 run-steps-spec =

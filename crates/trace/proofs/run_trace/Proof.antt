@@ -1,6 +1,6 @@
 -- `trace::run_trace` meets its contract, one law for each way through it. Assumes nothing.
 use borrow.Author.Rules.{rules}
-use Rattle.places.proofs.Rows.{blank-zeros}
+use Rattle.places.proofs.Rows.{blank_zeros}
 use Rattle.trace.proofs.Running.{unread, more-behind, goes_on}
 use Rattle.trace.proofs.run_trace.Statement.{statement}
 use Rattle.trace.proofs.run_trace.Tie as tie
@@ -36,7 +36,7 @@ returns-3 : tie.Need-returns-3
 returns-3 c =
     let args = c.before.before.before.before.before.before.before.before.before.before.before.before.before.before.args in
     let noted = c.before.before.before.before.before.before.before.before.before.note-pool in
-    goes_on args.pool.now args.trace.now args.flags.now _ _ noted.result noted.ensures _ c.before.before.before.before.before.before.before.next.given.1 blank-zeros c.before.before.before.before.before.if1.false _ _ c.before.before.run-over.ensures
+    goes_on args.pool.now args.trace.now args.flags.now _ _ noted.result noted.ensures _ c.before.before.before.before.before.before.before.next.given.1 blank_zeros c.before.before.before.before.before.if1.false _ _ c.before.before.run-over.ensures
 
 pub run-trace-spec : {M : Type 1} → statement M
 run-trace-spec =

@@ -5,7 +5,7 @@ use Prim.Native.Nat.{◌≤◌, ◌-◌}
 use native.Mathlib.Omega.{arith}
 use borrow.Author.Rules.{rules}
 use lib.ListN.{length, drop, replicate}
-use Rattle.writer.proofs.Laws.{fill_more, fill-all}
+use Rattle.writer.proofs.Laws.{fill_more, fill_all}
 use Rattle.writer.proofs.clear_words.Statement.{statement}
 use Rattle.writer.proofs.clear_words.Tie as tie
 
@@ -42,7 +42,7 @@ same_length c = search rules
 returns : tie.Need-returns invariant-loop decreases-loop
 returns c =
     let head = c.before in
-    head.loop.invariant.1 ∙ fill-all 0 head.loop.i head.before.args.w.now (omega arith)
+    head.loop.invariant.1 ∙ fill_all 0 head.loop.i head.before.args.w.now (omega arith)
 
 pub clear-words-spec : {M : Type 1} → statement M
 clear-words-spec =

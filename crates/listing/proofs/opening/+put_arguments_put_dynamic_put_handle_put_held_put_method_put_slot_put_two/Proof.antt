@@ -10,13 +10,13 @@ use borrow.Author.Rules.{rules}
 use borrow.Author.Tests.{leb-false}
 use Rattle.definition.specs.Ascii.{ascii}
 use Rattle.printing.specs.Numbers.{quoted}
-use Rattle.printing.proofs.Printing.{Left, all_left, less-left, left_as, none_left, then, ready, reworded, past}
+use Rattle.printing.proofs.Printing.{Left, all_left, less_left, left_as, none_left, then, ready, reworded, past}
 use Rattle.listing.specs.Listing.{slot, opened}
 use Rattle.listing.specs.Views.{finished}
-use Rattle.listing.specs.Opening.{argumentsAt, comma}
-use Rattle.listing.proofs.Held.{two_is, dynamic-is, handle-is, shown-at}
-use Rattle.listing.proofs.Arguments.{Remaining, all-remaining, next-remaining, none-remaining}
-use Rattle.listing.proofs.Opened.{closed, slot-inside, bare-slot, text-slot, named-slot, bare-method, open_at}
+use Rattle.listing.specs.Opening.{arguments_at, comma}
+use Rattle.listing.proofs.Held.{two_is, dynamic_is, handle_is, shown_at_lem}
+use Rattle.listing.proofs.Arguments.{Remaining, all_remaining, next-remaining, none-remaining}
+use Rattle.listing.proofs.Opened.{closed, slot-inside, bare_slot, text_slot, named-slot, bare_method, open_at}
 use borrow.Fn.Kinds.{In}
 use borrow.Fn.PlainCycle.{Measures, is, falls, and}
 use Rattle.listing.proofs.opening.put_arguments.Reads as put-arguments
@@ -161,7 +161,7 @@ put-two-claims t = (get-u16-reads.Asked, get-u16-reads.Learnt, put-slot-below t,
 abbrev put-arguments-Inv-loop : put-arguments-lts.invariant-loop
 put-arguments-Inv-loop pool places count methods table out₀ room start left p size at₀ k₀ out at k =
     (k ≤ size)
-    × Left out₀ room start (argumentsAt (opened (finished pool count methods) left) methods p) out at (Remaining (opened (finished pool count methods) left) methods (p + 4) size k)
+    × Left out₀ room start (arguments_at (opened (finished pool count methods) left) methods p) out at (Remaining (opened (finished pool count methods) left) methods (p + 4) size k)
 
 abbrev put-arguments-μ-loop : put-arguments-lts.decreases-loop
 put-arguments-μ-loop pool places count methods table out₀ room start left p size at₀ k₀ out at k = size - k
@@ -179,8 +179,8 @@ put-arguments-loop-holds : (t : ℕ) → put-arguments-lts.Need-loop-init (put-a
 put-arguments-loop-holds t c =
     let a = c.before.before.before.before.args in
     let show = opened (finished a.pool.now a.count a.methods.now) a.left in
-    let whole = argumentsAt show a.methods.now a.p in
-    (omega arith, left_as (all-remaining show a.methods.now a.p c.get-u16.result c.get-u16.ensures) (all_left a.out.now a.room a.start whole c.before.before.before.before.requires.1.1.0))
+    let whole = arguments_at show a.methods.now a.p in
+    (omega arith, left_as (all_remaining show a.methods.now a.p c.get-u16.result c.get-u16.ensures) (all_left a.out.now a.room a.start whole c.before.before.before.before.requires.1.1.0))
 
 put-arguments-put-comma-before-requires :
     (t : ℕ) → put-arguments-lts.Need-put-comma-before-requires (put-arguments-claims t) (put-arguments-at t) put-arguments.Post put-arguments-Inv-loop put-arguments-μ-loop
@@ -214,7 +214,7 @@ put-arguments-loop-again t c =
     let l = c.before.before.before.before.before.before.before.before.before.before.before.loop in
     let next = next-remaining show a.methods.now (a.p + 4) c.before.before.before.before.before.before.before.before.before.before.before.before.get-u16.result l.k (omega arith) in
     let here = ap (λ i. comma l.k ++ (show (slot i) ++ Remaining show a.methods.now (a.p + 4) c.before.before.before.before.before.before.before.before.before.before.before.before.get-u16.result (l.k + 1))) (sym c.before.before.before.before.get-u162.ensures) in
-    (omega arith, less-left (less-left (left_as (next ∙ here) l.invariant.1) c.before.before.before.before.before.before.before.put-comma-before.ensures) c.before.before.put-slot.ensures)
+    (omega arith, less_left (less_left (left_as (next ∙ here) l.invariant.1) c.before.before.before.before.before.before.before.put-comma-before.ensures) c.before.before.put-slot.ensures)
 
 put-arguments-same-length : (t : ℕ) → put-arguments-lts.Need-same-length (put-arguments-claims t) (put-arguments-at t) put-arguments.Post put-arguments-Inv-loop put-arguments-μ-loop
 put-arguments-same-length t c = c.before.before.loop.invariant.1.same
@@ -268,7 +268,7 @@ put-dynamic-returns t c =
     let show = opened (finished a.pool.now a.count a.methods.now) a.left in
     let can = c.before.before.before.before.before.before.before.before.before.before.before.before.before.before.before.before.before.before.requires.1.1.0 in
     let both = then can (then can c.before.before.before.before.before.before.before.before.before.before.before.before.put-slot.ensures c.before.before.before.before.before.before.before.put-between.ensures) c.before.before.put-method.ensures in
-    reworded (dynamic-is show a.pool.now a.p _ _ _ refl c.before.before.before.before.get-u162.ensures c.before.before.before.before.before.before.before.before.before.before.before.before.before.before.get-u16.ensures) both
+    reworded (dynamic_is show a.pool.now a.p _ _ _ refl c.before.before.before.before.get-u162.ensures c.before.before.before.before.before.before.before.before.before.before.before.before.before.before.get-u16.ensures) both
 
 put-handle-add-put-reference-kind : (t : ℕ) → put-handle-lts.Need-overflow-add-put-reference-kind (put-handle-claims t) (put-handle-at t) put-handle.Post
 put-handle-add-put-reference-kind t c = search rules
@@ -301,7 +301,7 @@ put-handle-returns t c =
     let show = opened (finished a.pool.now a.count a.methods.now) a.left in
     let can = c.before.before.before.before.before.before.before.before.before.before.before.before.before.before.before.before.before.requires.1.1.0 in
     let kind = c.before.before.before.before.before.before.before.before.before.before.before.put-reference-kind.ensures in
-    reworded (handle-is show a.pool.now a.p _ _ refl c.before.before.before.before.get-u16.ensures) (then can kind (then (ready can kind) c.before.before.before.before.before.before.before.put.ensures c.before.before.put-slot.ensures))
+    reworded (handle_is show a.pool.now a.p _ _ refl c.before.before.before.before.get-u16.ensures) (then can kind (then (ready can kind) c.before.before.before.before.before.before.before.put.ensures c.before.before.put-slot.ensures))
 
 put-held-mul-p : (t : ℕ) → put-held-lts.Need-overflow-mul-p (put-held-claims t) (put-held-at t) put-held.Post
 put-held-mul-p t c = search rules
@@ -322,21 +322,21 @@ put-held-add-get-u16 : (t : ℕ) → put-held-lts.Need-overflow-add-get-u16 (put
 put-held-add-get-u16 t c =
     let a = c.before.before.before.before.before.before.before.before.args in
     let show = opened (finished a.pool.now a.count a.methods.now) a.left in
-    let shown = shown-at c.before.before.before.before.before.before.before.before.requires.1.0 show a.n c.before.before.before.before.before.before.before.before.requires.1.1.1 c.before.before.shape_of.ensures c.enum_told.given.1 in
+    let shown = shown_at_lem c.before.before.before.before.before.before.before.before.requires.1.0 show a.n c.before.before.before.before.before.before.before.before.requires.1.1.1 c.before.before.shape_of.ensures c.enum_told.given.1 in
     omega (arith, shown.1)
 
 put-held-get-u16-requires : (t : ℕ) → put-held-lts.Need-get-u16-requires (put-held-claims t) (put-held-at t) put-held.Post
 put-held-get-u16-requires t c κs =
     let a = c.before.before.before.before.before.before.before.before.args in
     let show = opened (finished a.pool.now a.count a.methods.now) a.left in
-    let shown = shown-at c.before.before.before.before.before.before.before.before.requires.1.0 show a.n c.before.before.before.before.before.before.before.before.requires.1.1.1 c.before.before.shape_of.ensures c.enum_told.given.1 in
+    let shown = shown_at_lem c.before.before.before.before.before.before.before.before.requires.1.0 show a.n c.before.before.before.before.before.before.before.before.requires.1.1.1 c.before.before.shape_of.ensures c.enum_told.given.1 in
     omega (arith, shown.1)
 
 put-held-add-put-quoted : (t : ℕ) → put-held-lts.Need-overflow-add-put-quoted (put-held-claims t) (put-held-at t) put-held.Post
 put-held-add-put-quoted t c =
     let a = c.before.before.before.before.before.before.before.before.before.before.args in
     let show = opened (finished a.pool.now a.count a.methods.now) a.left in
-    let shown = shown-at c.before.before.before.before.before.before.before.before.before.before.requires.1.0 show a.n c.before.before.before.before.before.before.before.before.before.before.requires.1.1.1 c.before.before.before.before.shape_of.ensures c.before.before.enum_told.given.1 in
+    let shown = shown_at_lem c.before.before.before.before.before.before.before.before.before.before.requires.1.0 show a.n c.before.before.before.before.before.before.before.before.before.before.requires.1.1.1 c.before.before.before.before.shape_of.ensures c.before.before.enum_told.given.1 in
     omega (arith, shown.1)
 
 put-held-cast-put-quoted : (t : ℕ) → put-held-lts.Need-overflow-cast-put-quoted (put-held-claims t) (put-held-at t) put-held.Post
@@ -346,7 +346,7 @@ put-held-put-quoted-requires : (t : ℕ) → put-held-lts.Need-put-quoted-requir
 put-held-put-quoted-requires t c κs =
     let a = c.before.before.before.before.before.before.before.before.before.before.args in
     let show = opened (finished a.pool.now a.count a.methods.now) a.left in
-    let shown = shown-at c.before.before.before.before.before.before.before.before.before.before.requires.1.0 show a.n c.before.before.before.before.before.before.before.before.before.before.requires.1.1.1 c.before.before.before.before.shape_of.ensures c.before.before.enum_told.given.1 in
+    let shown = shown_at_lem c.before.before.before.before.before.before.before.before.before.before.requires.1.0 show a.n c.before.before.before.before.before.before.before.before.before.before.requires.1.1.1 c.before.before.before.before.shape_of.ensures c.before.before.enum_told.given.1 in
     (c.before.before.before.before.before.before.before.before.before.before.requires.1.1.0, omega (arith, shown.1, c.before.get-u16.ensures))
 
 put-held-enum-told-2 : (t : ℕ) → put-held-lts.Need-enum-told-2 (put-held-claims t) (put-held-at t) put-held.Post
@@ -356,7 +356,7 @@ put-held-put-number-requires : (t : ℕ) → put-held-lts.Need-put-number-requir
 put-held-put-number-requires t c κs =
     let a = c.before.before.before.before.before.before.before.before.before.args in
     let show = opened (finished a.pool.now a.count a.methods.now) a.left in
-    let shown = shown-at c.before.before.before.before.before.before.before.before.before.requires.1.0 show a.n c.before.before.before.before.before.before.before.before.before.requires.1.1.1 c.before.before.before.shape_of.ensures c.before.enum-told2.given.1 in
+    let shown = shown_at_lem c.before.before.before.before.before.before.before.before.before.requires.1.0 show a.n c.before.before.before.before.before.before.before.before.before.requires.1.1.1 c.before.before.before.shape_of.ensures c.before.enum-told2.given.1 in
     (c.before.before.before.before.before.before.before.before.before.requires.1.1.0, shown.1)
 
 put-held-enum-told-3 : (t : ℕ) → put-held-lts.Need-enum-told-3 (put-held-claims t) (put-held-at t) put-held.Post
@@ -366,14 +366,14 @@ put-held-add-get-u16-2 : (t : ℕ) → put-held-lts.Need-overflow-add-get-u16-2 
 put-held-add-get-u16-2 t c =
     let a = c.before.before.before.before.before.before.before.before.args in
     let show = opened (finished a.pool.now a.count a.methods.now) a.left in
-    let shown = shown-at c.before.before.before.before.before.before.before.before.requires.1.0 show a.n c.before.before.before.before.before.before.before.before.requires.1.1.1 c.before.before.shape_of.ensures c.enum-told3.given.1 in
+    let shown = shown_at_lem c.before.before.before.before.before.before.before.before.requires.1.0 show a.n c.before.before.before.before.before.before.before.before.requires.1.1.1 c.before.before.shape_of.ensures c.enum-told3.given.1 in
     omega (arith, shown.1)
 
 put-held-get-u16-requires-2 : (t : ℕ) → put-held-lts.Need-get-u16-requires-2 (put-held-claims t) (put-held-at t) put-held.Post
 put-held-get-u16-requires-2 t c κs =
     let a = c.before.before.before.before.before.before.before.before.args in
     let show = opened (finished a.pool.now a.count a.methods.now) a.left in
-    let shown = shown-at c.before.before.before.before.before.before.before.before.requires.1.0 show a.n c.before.before.before.before.before.before.before.before.requires.1.1.1 c.before.before.shape_of.ensures c.enum-told3.given.1 in
+    let shown = shown_at_lem c.before.before.before.before.before.before.before.before.requires.1.0 show a.n c.before.before.before.before.before.before.before.before.requires.1.1.1 c.before.before.shape_of.ensures c.enum-told3.given.1 in
     omega (arith, shown.1)
 
 put-held-put-slot-requires : (t : ℕ) → put-held-lts.Need-put-slot-requires (put-held-claims t) (put-held-at t) put-held.Post
@@ -386,7 +386,7 @@ put-held-put-two-requires : (t : ℕ) → put-held-lts.Need-put-two-requires (pu
 put-held-put-two-requires t c κs =
     let a = c.before.before.before.before.before.before.before.before.before.args in
     let show = opened (finished a.pool.now a.count a.methods.now) a.left in
-    let shown = shown-at c.before.before.before.before.before.before.before.before.before.requires.1.0 show a.n c.before.before.before.before.before.before.before.before.before.requires.1.1.1 c.before.before.before.shape_of.ensures c.before.enum-told4.given.1 in
+    let shown = shown_at_lem c.before.before.before.before.before.before.before.before.before.requires.1.0 show a.n c.before.before.before.before.before.before.before.before.before.requires.1.1.1 c.before.before.before.shape_of.ensures c.before.enum-told4.given.1 in
     (omega (arith, c.before.before.before.before.before.before.before.before.before.requires.0), (c.before.before.before.before.before.before.before.before.before.requires.1.0, (c.before.before.before.before.before.before.before.before.before.requires.1.1.0, shown.1)))
 
 put-held-enum-told-5 : (t : ℕ) → put-held-lts.Need-enum-told-5 (put-held-claims t) (put-held-at t) put-held.Post
@@ -396,7 +396,7 @@ put-held-put-dynamic-requires : (t : ℕ) → put-held-lts.Need-put-dynamic-requ
 put-held-put-dynamic-requires t c κs =
     let a = c.before.before.before.before.before.before.before.before.before.args in
     let show = opened (finished a.pool.now a.count a.methods.now) a.left in
-    let shown = shown-at c.before.before.before.before.before.before.before.before.before.requires.1.0 show a.n c.before.before.before.before.before.before.before.before.before.requires.1.1.1 c.before.before.before.shape_of.ensures c.before.enum-told5.given.1 in
+    let shown = shown_at_lem c.before.before.before.before.before.before.before.before.before.requires.1.0 show a.n c.before.before.before.before.before.before.before.before.before.requires.1.1.1 c.before.before.before.shape_of.ensures c.before.enum-told5.given.1 in
     (omega (arith, c.before.before.before.before.before.before.before.before.before.requires.0), (c.before.before.before.before.before.before.before.before.before.requires.1.0, (c.before.before.before.before.before.before.before.before.before.requires.1.1.0, shown.1)))
 
 put-held-enum-told-6 : (t : ℕ) → put-held-lts.Need-enum-told-6 (put-held-claims t) (put-held-at t) put-held.Post
@@ -406,7 +406,7 @@ put-held-put-handle-requires : (t : ℕ) → put-held-lts.Need-put-handle-requir
 put-held-put-handle-requires t c κs =
     let a = c.before.before.before.before.before.before.before.before.before.args in
     let show = opened (finished a.pool.now a.count a.methods.now) a.left in
-    let shown = shown-at c.before.before.before.before.before.before.before.before.before.requires.1.0 show a.n c.before.before.before.before.before.before.before.before.before.requires.1.1.1 c.before.before.before.shape_of.ensures c.before.enum-told6.given.1 in
+    let shown = shown_at_lem c.before.before.before.before.before.before.before.before.before.requires.1.0 show a.n c.before.before.before.before.before.before.before.before.before.requires.1.1.1 c.before.before.before.shape_of.ensures c.before.enum-told6.given.1 in
     (omega (arith, c.before.before.before.before.before.before.before.before.before.requires.0), (c.before.before.before.before.before.before.before.before.before.requires.1.0, (c.before.before.before.before.before.before.before.before.before.requires.1.1.0, shown.1)))
 
 put-held-enum-told-7 : (t : ℕ) → put-held-lts.Need-enum-told-7 (put-held-claims t) (put-held-at t) put-held.Post
@@ -419,7 +419,7 @@ put-held-returns : (t : ℕ) → put-held-lts.Need-returns (put-held-claims t) (
 put-held-returns t c =
     let a = c.before.before.before.before.before.before.before.before.before.before.before.before.before.args in
     let show = opened (finished a.pool.now a.count a.methods.now) a.left in
-    let shown = shown-at c.before.before.before.before.before.before.before.before.before.before.before.before.before.requires.1.0 show a.n c.before.before.before.before.before.before.before.before.before.before.before.before.before.requires.1.1.1 c.before.before.before.before.before.before.before.shape_of.ensures c.before.before.before.before.before.enum_told.given.1 in
+    let shown = shown_at_lem c.before.before.before.before.before.before.before.before.before.before.before.before.before.requires.1.0 show a.n c.before.before.before.before.before.before.before.before.before.before.before.before.before.requires.1.1.1 c.before.before.before.before.before.before.before.shape_of.ensures c.before.before.before.before.before.enum_told.given.1 in
     reworded (ap (λ n. quoted (take n (drop (get_or a.places.now a.n 0 + 3) a.pool.now))) c.before.before.before.before.get-u16.ensures ∙ sym shown.0) c.before.before.put-quoted.ensures
 
 put-held-same-length-2 : (t : ℕ) → put-held-lts.Need-same-length-2 (put-held-claims t) (put-held-at t) put-held.Post
@@ -429,7 +429,7 @@ put-held-returns-2 : (t : ℕ) → put-held-lts.Need-returns-2 (put-held-claims 
 put-held-returns-2 t c =
     let a = c.before.before.before.before.before.before.before.before.before.before.before.before.args in
     let show = opened (finished a.pool.now a.count a.methods.now) a.left in
-    let shown = shown-at c.before.before.before.before.before.before.before.before.before.before.before.before.requires.1.0 show a.n c.before.before.before.before.before.before.before.before.before.before.before.before.requires.1.1.1 c.before.before.before.before.before.before.shape_of.ensures c.before.before.before.before.enum-told2.given.1 in
+    let shown = shown_at_lem c.before.before.before.before.before.before.before.before.before.before.before.before.requires.1.0 show a.n c.before.before.before.before.before.before.before.before.before.before.before.before.requires.1.1.1 c.before.before.before.before.before.before.shape_of.ensures c.before.before.before.before.enum-told2.given.1 in
     reworded (sym shown.0) c.before.before.put-number.ensures
 
 put-held-same-length-3 : (t : ℕ) → put-held-lts.Need-same-length-3 (put-held-claims t) (put-held-at t) put-held.Post
@@ -439,7 +439,7 @@ put-held-returns-3 : (t : ℕ) → put-held-lts.Need-returns-3 (put-held-claims 
 put-held-returns-3 t c =
     let a = c.before.before.before.before.before.before.before.before.before.before.before.before.before.args in
     let show = opened (finished a.pool.now a.count a.methods.now) a.left in
-    let shown = shown-at c.before.before.before.before.before.before.before.before.before.before.before.before.before.requires.1.0 show a.n c.before.before.before.before.before.before.before.before.before.before.before.before.before.requires.1.1.1 c.before.before.before.before.before.before.before.shape_of.ensures c.before.before.before.before.before.enum-told3.given.1 in
+    let shown = shown_at_lem c.before.before.before.before.before.before.before.before.before.before.before.before.before.requires.1.0 show a.n c.before.before.before.before.before.before.before.before.before.before.before.before.before.requires.1.1.1 c.before.before.before.before.before.before.before.shape_of.ensures c.before.before.before.before.before.enum-told3.given.1 in
     reworded (ap (λ n. show (slot n)) c.before.before.before.before.get-u162.ensures ∙ sym shown.0) c.before.before.put-slot.ensures
 
 put-held-same-length-4 : (t : ℕ) → put-held-lts.Need-same-length-4 (put-held-claims t) (put-held-at t) put-held.Post
@@ -449,7 +449,7 @@ put-held-returns-4 : (t : ℕ) → put-held-lts.Need-returns-4 (put-held-claims 
 put-held-returns-4 t c =
     let a = c.before.before.before.before.before.before.before.before.before.before.before.before.args in
     let show = opened (finished a.pool.now a.count a.methods.now) a.left in
-    let shown = shown-at c.before.before.before.before.before.before.before.before.before.before.before.before.requires.1.0 show a.n c.before.before.before.before.before.before.before.before.before.before.before.before.requires.1.1.1 c.before.before.before.before.before.before.shape_of.ensures c.before.before.before.before.enum-told4.given.1 in
+    let shown = shown_at_lem c.before.before.before.before.before.before.before.before.before.before.before.before.requires.1.0 show a.n c.before.before.before.before.before.before.before.before.before.before.before.before.requires.1.1.1 c.before.before.before.before.before.before.shape_of.ensures c.before.before.before.before.enum-told4.given.1 in
     reworded (sym shown.0) c.before.before.put_two.ensures
 
 put-held-same-length-5 : (t : ℕ) → put-held-lts.Need-same-length-5 (put-held-claims t) (put-held-at t) put-held.Post
@@ -459,7 +459,7 @@ put-held-returns-5 : (t : ℕ) → put-held-lts.Need-returns-5 (put-held-claims 
 put-held-returns-5 t c =
     let a = c.before.before.before.before.before.before.before.before.before.before.before.before.args in
     let show = opened (finished a.pool.now a.count a.methods.now) a.left in
-    let shown = shown-at c.before.before.before.before.before.before.before.before.before.before.before.before.requires.1.0 show a.n c.before.before.before.before.before.before.before.before.before.before.before.before.requires.1.1.1 c.before.before.before.before.before.before.shape_of.ensures c.before.before.before.before.enum-told5.given.1 in
+    let shown = shown_at_lem c.before.before.before.before.before.before.before.before.before.before.before.before.requires.1.0 show a.n c.before.before.before.before.before.before.before.before.before.before.before.before.requires.1.1.1 c.before.before.before.before.before.before.shape_of.ensures c.before.before.before.before.enum-told5.given.1 in
     reworded (sym shown.0) c.before.before.put-dynamic.ensures
 
 put-held-same-length-6 : (t : ℕ) → put-held-lts.Need-same-length-6 (put-held-claims t) (put-held-at t) put-held.Post
@@ -469,14 +469,14 @@ put-held-returns-6 : (t : ℕ) → put-held-lts.Need-returns-6 (put-held-claims 
 put-held-returns-6 t c =
     let a = c.before.before.before.before.before.before.before.before.before.before.before.before.args in
     let show = opened (finished a.pool.now a.count a.methods.now) a.left in
-    let shown = shown-at c.before.before.before.before.before.before.before.before.before.before.before.before.requires.1.0 show a.n c.before.before.before.before.before.before.before.before.before.before.before.before.requires.1.1.1 c.before.before.before.before.before.before.shape_of.ensures c.before.before.before.before.enum-told6.given.1 in
+    let shown = shown_at_lem c.before.before.before.before.before.before.before.before.before.before.before.before.requires.1.0 show a.n c.before.before.before.before.before.before.before.before.before.before.before.before.requires.1.1.1 c.before.before.before.before.before.before.shape_of.ensures c.before.before.before.before.enum-told6.given.1 in
     reworded (sym shown.0) c.before.before.put-handle.ensures
 
 put-held-returns-7 : (t : ℕ) → put-held-lts.Need-returns-7 (put-held-claims t) (put-held-at t) put-held.Post
 put-held-returns-7 t c =
     let a = c.before.before.before.before.before.before.before.before.args in
     let show = opened (finished a.pool.now a.count a.methods.now) a.left in
-    let shown = shown-at c.before.before.before.before.before.before.before.before.requires.1.0 show a.n c.before.before.before.before.before.before.before.before.requires.1.1.1 c.before.before.shape_of.ensures c.enum-told7.given.1 in
+    let shown = shown_at_lem c.before.before.before.before.before.before.before.before.requires.1.0 show a.n c.before.before.before.before.before.before.before.before.requires.1.1.1 c.before.before.shape_of.ensures c.enum-told7.given.1 in
     absurd shown
 
 put-method-returns : (t : ℕ) → put-method-lts.Need-returns (put-method-claims t) (put-method-at t) put-method.Post
@@ -505,7 +505,7 @@ put-method-same-length-2 t c = c.before.before.put-decimal.ensures.same
 put-method-returns-3 : (t : ℕ) → put-method-lts.Need-returns-3 (put-method-claims t) (put-method-at t) put-method.Post
 put-method-returns-3 t c =
     let a = c.before.before.before.before.before.before.before.before.before.before.args in
-    reworded (bare-method c.before.before.before.before.before.before.before.before.before.before.requires.1.0 a.levels a.n c.before.before.before.before.before.if2.false c.before.before.before.before.if3.true) c.before.before.put-decimal.ensures
+    reworded (bare_method c.before.before.before.before.before.before.before.before.before.before.requires.1.0 a.levels a.n c.before.before.before.before.before.if2.false c.before.before.before.before.if3.true) c.before.before.put-decimal.ensures
 
 put-method-sub-left : (t : ℕ) → put-method-lts.Need-overflow-sub-left (put-method-claims t) (put-method-at t) put-method.Post
 put-method-sub-left t c = search rules
@@ -545,7 +545,7 @@ put-method-returns-4 t c =
     let a = c.before.before.before.before.before.before.before.before.before.before.before.before.before.before.before.before.before.before.before.before.before.before.before.before.before.args in
     let show = opened (finished a.pool.now a.count a.methods.now) (a.levels - 1) in
     let can = c.before.before.before.before.before.before.before.before.before.before.before.before.before.before.before.before.before.before.before.before.before.before.before.before.before.requires.1.1 in
-    let handle = ap (λ i. show (slot i) ++ ascii " (" ++ argumentsAt show a.methods.now (get_or a.table.now a.n 0) ++ ascii ")") c.before.before.before.before.before.before.before.before.before.before.before.before.before.before.before.before.before.get-u16.ensures in
+    let handle = ap (λ i. show (slot i) ++ ascii " (" ++ arguments_at show a.methods.now (get_or a.table.now a.n 0) ++ ascii ")") c.before.before.before.before.before.before.before.before.before.before.before.before.before.before.before.before.before.get-u16.ensures in
     reworded (handle ∙ (open_at c.before.before.before.before.before.before.before.before.before.before.before.before.before.before.before.before.before.before.before.before.before.before.before.before.before.requires.1.0 c.before.before.before.before.before.before.before.before.before.before.before.before.before.before.before.before.before.before.before.before.before.before.before.before.before.args.levels c.before.before.before.before.before.before.before.before.before.before.before.before.before.before.before.before.before.before.before.before.before.before.before.before.before.args.n c.before.before.before.before.before.before.before.before.before.before.before.before.before.before.before.before.before.before.before.before.if2.false c.before.before.before.before.before.before.before.before.before.before.before.before.before.before.before.before.before.before.before.if3.false).0) (then can (then can (then can c.before.before.before.before.before.before.before.before.before.before.before.before.before.before.before.put-slot.ensures c.before.before.before.before.before.before.before.before.before.before.put_word.ensures) c.before.before.before.before.before.before.put-arguments.ensures) c.before.before.put.ensures)
 
 put-slot-returns : (t : ℕ) → put-slot-lts.Need-returns (put-slot-claims t) (put-slot-at t) put-slot.Post
@@ -580,7 +580,7 @@ put-slot-same-length-2 t c = c.before.before.put-decimal.ensures.same
 put-slot-returns-3 : (t : ℕ) → put-slot-lts.Need-returns-3 (put-slot-claims t) (put-slot-at t) put-slot.Post
 put-slot-returns-3 t c =
     let a = c.before.before.before.before.before.before.before.before.before.before.before.args in
-    reworded (bare-slot c.before.before.before.before.before.before.before.before.before.before.before.requires.1.0 a.levels a.n c.before.before.before.before.before.before.if2.false c.before.before.before.before.if3.true) c.before.before.put-decimal.ensures
+    reworded (bare_slot c.before.before.before.before.before.before.before.before.before.before.before.requires.1.0 a.levels a.n c.before.before.before.before.before.before.if2.false c.before.before.before.before.if3.true) c.before.before.put-decimal.ensures
 
 put-slot-sub-left : (t : ℕ) → put-slot-lts.Need-overflow-sub-left (put-slot-claims t) (put-slot-at t) put-slot.Post
 put-slot-sub-left t c = search rules
@@ -597,7 +597,7 @@ put-slot-same-length-3 t c = c.before.before.put-held.ensures.same
 put-slot-returns-4 : (t : ℕ) → put-slot-lts.Need-returns-4 (put-slot-claims t) (put-slot-at t) put-slot.Post
 put-slot-returns-4 t c =
     let a = c.before.before.before.before.before.before.before.before.before.before.before.before.before.args in
-    reworded (text-slot c.before.before.before.before.before.before.before.before.before.before.before.before.before.requires.1.0 a.levels a.n c.before.before.before.before.before.before.before.before.if2.false (pos_of_ne-zero c.before.before.before.before.before.before.if3.false) c.before.before.before.before.if4.true) c.before.before.put-held.ensures
+    reworded (text_slot c.before.before.before.before.before.before.before.before.before.before.before.before.before.requires.1.0 a.levels a.n c.before.before.before.before.before.before.before.before.if2.false (pos_of_ne-zero c.before.before.before.before.before.before.if3.false) c.before.before.before.before.if4.true) c.before.before.put-held.ensures
 
 put-slot-put-kind-requires : (t : ℕ) → put-slot-lts.Need-put-kind-requires (put-slot-claims t) (put-slot-at t) put-slot.Post
 put-slot-put-kind-requires t c κs = c.before.before.before.before.before.before.before.before.before.before.requires.1.1

@@ -5,11 +5,11 @@ use Prim.Native.Nat.{◌+◌}
 use native.Mathlib.Omega.{arith}
 use borrow.Author.Rules.{rules}
 use Rattle.definition.specs.Basics.{lookup}
-use Rattle.printing.specs.Numbers.{signed, hexOf, float, double}
+use Rattle.printing.specs.Numbers.{signed, hex_of, float, double}
 use Rattle.printing.proofs.Printing.{reworded}
-use Rattle.listing.specs.Views.{orNone}
+use Rattle.listing.specs.Views.{or_none}
 use Rattle.listing.specs.Opening.{numbers}
-use Rattle.listing.proofs.Held.{number_is, is-six, double-parts}
+use Rattle.listing.proofs.Held.{number_is, is_six, double-parts}
 use Rattle.listing.proofs.opening.put_number.Statement.{statement}
 use Rattle.listing.proofs.opening.put_number.Tie as tie
 
@@ -51,7 +51,7 @@ add-get-u64-2 c = search rules
 get-u64-requires-2 : tie.Need-get-u64-requires-2
 get-u64-requires-2 c κs =
     let r = c.before.match.rest in
-    let six = is-six _ c.before.before.before.before.before.requires.1.0 c.before.before.before.before.before.requires.1.1 r.0.0.1 r.0.1 r.1 in
+    let six = is_six _ c.before.before.before.before.before.requires.1.0 c.before.before.before.before.before.requires.1.1 r.0.0.1 r.0.1 r.1 in
     let long = c.before.before.before.before.before.requires.1.3 (omega arith) in
     omega arith
 
@@ -62,7 +62,7 @@ same_length : tie.Need-same-length
 same_length c = c.before.before.put-int.ensures.same
 
 returns : tie.Need-returns
-unfolding lookup orNone numbers
+unfolding lookup or_none numbers
 returns c =
     let a = c.before.before.before.before.before.before.before.before.before.args in
     reworded (number_is a.pool.now a.place 3 c.before.before.before.before.before.match.keys1 _ (ap (signed 2147483648) c.before.before.before.get-u32.ensures)) c.before.before.put-int.ensures
@@ -71,16 +71,16 @@ same-length-2 : tie.Need-same-length-2
 same-length-2 c = c.before.before.put-float.ensures.same
 
 returns-2 : tie.Need-returns-2
-unfolding lookup orNone numbers
+unfolding lookup or_none numbers
 returns-2 c =
     let a = c.before.before.before.before.before.before.before.before.before.args in
-    reworded (number_is a.pool.now a.place 4 c.before.before.before.before.before.match.keys2 _ (ap (λ n. hexOf 8 n ++ 0x20 ∷ float n) c.before.before.before.get-u322.ensures)) c.before.before.put-float.ensures
+    reworded (number_is a.pool.now a.place 4 c.before.before.before.before.before.match.keys2 _ (ap (λ n. hex_of 8 n ++ 0x20 ∷ float n) c.before.before.before.get-u322.ensures)) c.before.before.put-float.ensures
 
 same-length-3 : tie.Need-same-length-3
 same-length-3 c = c.before.before.put-long.ensures.same
 
 returns-3 : tie.Need-returns-3
-unfolding lookup orNone numbers
+unfolding lookup or_none numbers
 returns-3 c =
     let a = c.before.before.before.before.before.before.before.before.before.args in
     reworded (number_is a.pool.now a.place 5 c.before.before.before.before.before.match.keys3 _ (ap (signed 9223372036854775808) c.before.before.before.get-u64.ensures)) c.before.before.put-long.ensures
@@ -89,11 +89,11 @@ same-length-4 : tie.Need-same-length-4
 same-length-4 c = c.before.before.put-double.ensures.same
 
 returns-4 : tie.Need-returns-4
-unfolding lookup orNone numbers
+unfolding lookup or_none numbers
 returns-4 c =
     let a = c.before.before.before.before.before.before.before.before.before.args in
     let r = c.before.before.before.before.before.match.rest in
-    reworded (number_is a.pool.now a.place 6 (is-six _ c.before.before.before.before.before.before.before.before.before.requires.1.0 c.before.before.before.before.before.before.before.before.before.requires.1.1 r.0.0.1 r.0.1 r.1) _ (ap (λ n. hexOf 16 n ++ 0x20 ∷ double n) c.before.before.before.get-u642.ensures ∙ double-parts a.pool.now (a.place + 1) (λ i. omega (arith, c.before.before.before.before.before.before.shared-slice-known2.given i)))) c.before.before.put-double.ensures
+    reworded (number_is a.pool.now a.place 6 (is_six _ c.before.before.before.before.before.before.before.before.before.requires.1.0 c.before.before.before.before.before.before.before.before.before.requires.1.1 r.0.0.1 r.0.1 r.1) _ (ap (λ n. hex_of 16 n ++ 0x20 ∷ double n) c.before.before.before.get-u642.ensures ∙ double-parts a.pool.now (a.place + 1) (λ i. omega (arith, c.before.before.before.before.before.before.shared-slice-known2.given i)))) c.before.before.put-double.ensures
 
 pub put-number-spec : {M : Type 1} → statement M
 put-number-spec = tie.close (tie.spec shared-slice-read-match add-get-u32 get-u32-requires put-int-requires add-get-u32-2 get-u32-requires-2 put-float-requires add-get-u64 get-u64-requires put-long-requires add-get-u64-2 get-u64-requires-2 put-double-requires same_length returns same-length-2 returns-2 same-length-3 returns-3 same-length-4 returns-4)

@@ -2,7 +2,7 @@
 use mathlib.Core.Path.{refl, sym, ap}
 use Rattle.definition.specs.Basics.{lookup}
 use Rattle.definition.specs.Ascii.{ascii}
-use Rattle.listing.specs.Listing.{orDecimal, kinds}
+use Rattle.listing.specs.Listing.{or_decimal, kinds}
 use Rattle.listing.proofs.Names.{no_kind}
 use Rattle.printing.proofs.Printing.{reworded}
 use Rattle.listing.proofs.words.put_kind.Statement.{statement}
@@ -117,120 +117,120 @@ same_length : tie.Need-same-length
 same_length c = c.before.before.put_word.ensures.same
 
 returns : tie.Need-returns
-unfolding lookup ascii orDecimal kinds
-returns c = reworded (ap (λ n. orDecimal n (lookup n kinds)) (sym c.before.before.before.before.before.match.keys1)) c.before.before.put_word.ensures
+unfolding lookup ascii or_decimal kinds
+returns c = reworded (ap (λ n. or_decimal n (lookup n kinds)) (sym c.before.before.before.before.before.match.keys1)) c.before.before.put_word.ensures
 
 same-length-2 : tie.Need-same-length-2
 same-length-2 c = c.before.before.put-word2.ensures.same
 
 returns-2 : tie.Need-returns-2
-unfolding lookup ascii orDecimal kinds
-returns-2 c = reworded (ap (λ n. orDecimal n (lookup n kinds)) (sym c.before.before.before.before.before.match.keys2)) c.before.before.put-word2.ensures
+unfolding lookup ascii or_decimal kinds
+returns-2 c = reworded (ap (λ n. or_decimal n (lookup n kinds)) (sym c.before.before.before.before.before.match.keys2)) c.before.before.put-word2.ensures
 
 same-length-3 : tie.Need-same-length-3
 same-length-3 c = c.before.before.put-word3.ensures.same
 
 returns-3 : tie.Need-returns-3
-unfolding lookup ascii orDecimal kinds
-returns-3 c = reworded (ap (λ n. orDecimal n (lookup n kinds)) (sym c.before.before.before.before.before.match.keys3)) c.before.before.put-word3.ensures
+unfolding lookup ascii or_decimal kinds
+returns-3 c = reworded (ap (λ n. or_decimal n (lookup n kinds)) (sym c.before.before.before.before.before.match.keys3)) c.before.before.put-word3.ensures
 
 same-length-4 : tie.Need-same-length-4
 same-length-4 c = c.before.before.put-word4.ensures.same
 
 returns-4 : tie.Need-returns-4
-unfolding lookup ascii orDecimal kinds
-returns-4 c = reworded (ap (λ n. orDecimal n (lookup n kinds)) (sym c.before.before.before.before.before.match.keys4)) c.before.before.put-word4.ensures
+unfolding lookup ascii or_decimal kinds
+returns-4 c = reworded (ap (λ n. or_decimal n (lookup n kinds)) (sym c.before.before.before.before.before.match.keys4)) c.before.before.put-word4.ensures
 
 same-length-5 : tie.Need-same-length-5
 same-length-5 c = c.before.before.put-word5.ensures.same
 
 returns-5 : tie.Need-returns-5
-unfolding lookup ascii orDecimal kinds
-returns-5 c = reworded (ap (λ n. orDecimal n (lookup n kinds)) (sym c.before.before.before.before.before.match.keys5)) c.before.before.put-word5.ensures
+unfolding lookup ascii or_decimal kinds
+returns-5 c = reworded (ap (λ n. or_decimal n (lookup n kinds)) (sym c.before.before.before.before.before.match.keys5)) c.before.before.put-word5.ensures
 
 same-length-6 : tie.Need-same-length-6
 same-length-6 c = c.before.before.put-word6.ensures.same
 
 returns-6 : tie.Need-returns-6
-unfolding lookup ascii orDecimal kinds
-returns-6 c = reworded (ap (λ n. orDecimal n (lookup n kinds)) (sym c.before.before.before.before.before.match.keys6)) c.before.before.put-word6.ensures
+unfolding lookup ascii or_decimal kinds
+returns-6 c = reworded (ap (λ n. or_decimal n (lookup n kinds)) (sym c.before.before.before.before.before.match.keys6)) c.before.before.put-word6.ensures
 
 same-length-7 : tie.Need-same-length-7
 same-length-7 c = c.before.before.put-word7.ensures.same
 
 returns-7 : tie.Need-returns-7
-unfolding lookup ascii orDecimal kinds
-returns-7 c = reworded (ap (λ n. orDecimal n (lookup n kinds)) (sym c.before.before.before.before.before.match.keys7)) c.before.before.put-word7.ensures
+unfolding lookup ascii or_decimal kinds
+returns-7 c = reworded (ap (λ n. or_decimal n (lookup n kinds)) (sym c.before.before.before.before.before.match.keys7)) c.before.before.put-word7.ensures
 
 same-length-8 : tie.Need-same-length-8
 same-length-8 c = c.before.before.put-word8.ensures.same
 
 returns-8 : tie.Need-returns-8
-unfolding lookup ascii orDecimal kinds
-returns-8 c = reworded (ap (λ n. orDecimal n (lookup n kinds)) (sym c.before.before.before.before.before.match.keys8)) c.before.before.put-word8.ensures
+unfolding lookup ascii or_decimal kinds
+returns-8 c = reworded (ap (λ n. or_decimal n (lookup n kinds)) (sym c.before.before.before.before.before.match.keys8)) c.before.before.put-word8.ensures
 
 same-length-9 : tie.Need-same-length-9
 same-length-9 c = c.before.before.put-word9.ensures.same
 
 returns-9 : tie.Need-returns-9
-unfolding lookup ascii orDecimal kinds
-returns-9 c = reworded (ap (λ n. orDecimal n (lookup n kinds)) (sym c.before.before.before.before.before.match.keys9)) c.before.before.put-word9.ensures
+unfolding lookup ascii or_decimal kinds
+returns-9 c = reworded (ap (λ n. or_decimal n (lookup n kinds)) (sym c.before.before.before.before.before.match.keys9)) c.before.before.put-word9.ensures
 
 same-length-10 : tie.Need-same-length-10
 same-length-10 c = c.before.before.put-word10.ensures.same
 
 returns-10 : tie.Need-returns-10
-unfolding lookup ascii orDecimal kinds
-returns-10 c = reworded (ap (λ n. orDecimal n (lookup n kinds)) (sym c.before.before.before.before.before.match.keys10)) c.before.before.put-word10.ensures
+unfolding lookup ascii or_decimal kinds
+returns-10 c = reworded (ap (λ n. or_decimal n (lookup n kinds)) (sym c.before.before.before.before.before.match.keys10)) c.before.before.put-word10.ensures
 
 same-length-11 : tie.Need-same-length-11
 same-length-11 c = c.before.before.put-word11.ensures.same
 
 returns-11 : tie.Need-returns-11
-unfolding lookup ascii orDecimal kinds
-returns-11 c = reworded (ap (λ n. orDecimal n (lookup n kinds)) (sym c.before.before.before.before.before.match.keys11)) c.before.before.put-word11.ensures
+unfolding lookup ascii or_decimal kinds
+returns-11 c = reworded (ap (λ n. or_decimal n (lookup n kinds)) (sym c.before.before.before.before.before.match.keys11)) c.before.before.put-word11.ensures
 
 same-length-12 : tie.Need-same-length-12
 same-length-12 c = c.before.before.put-word12.ensures.same
 
 returns-12 : tie.Need-returns-12
-unfolding lookup ascii orDecimal kinds
-returns-12 c = reworded (ap (λ n. orDecimal n (lookup n kinds)) (sym c.before.before.before.before.before.match.keys12)) c.before.before.put-word12.ensures
+unfolding lookup ascii or_decimal kinds
+returns-12 c = reworded (ap (λ n. or_decimal n (lookup n kinds)) (sym c.before.before.before.before.before.match.keys12)) c.before.before.put-word12.ensures
 
 same-length-13 : tie.Need-same-length-13
 same-length-13 c = c.before.before.put-word13.ensures.same
 
 returns-13 : tie.Need-returns-13
-unfolding lookup ascii orDecimal kinds
-returns-13 c = reworded (ap (λ n. orDecimal n (lookup n kinds)) (sym c.before.before.before.before.before.match.keys13)) c.before.before.put-word13.ensures
+unfolding lookup ascii or_decimal kinds
+returns-13 c = reworded (ap (λ n. or_decimal n (lookup n kinds)) (sym c.before.before.before.before.before.match.keys13)) c.before.before.put-word13.ensures
 
 same-length-14 : tie.Need-same-length-14
 same-length-14 c = c.before.before.put-word14.ensures.same
 
 returns-14 : tie.Need-returns-14
-unfolding lookup ascii orDecimal kinds
-returns-14 c = reworded (ap (λ n. orDecimal n (lookup n kinds)) (sym c.before.before.before.before.before.match.keys14)) c.before.before.put-word14.ensures
+unfolding lookup ascii or_decimal kinds
+returns-14 c = reworded (ap (λ n. or_decimal n (lookup n kinds)) (sym c.before.before.before.before.before.match.keys14)) c.before.before.put-word14.ensures
 
 same-length-15 : tie.Need-same-length-15
 same-length-15 c = c.before.before.put-word15.ensures.same
 
 returns-15 : tie.Need-returns-15
-unfolding lookup ascii orDecimal kinds
-returns-15 c = reworded (ap (λ n. orDecimal n (lookup n kinds)) (sym c.before.before.before.before.before.match.keys15)) c.before.before.put-word15.ensures
+unfolding lookup ascii or_decimal kinds
+returns-15 c = reworded (ap (λ n. or_decimal n (lookup n kinds)) (sym c.before.before.before.before.before.match.keys15)) c.before.before.put-word15.ensures
 
 same-length-16 : tie.Need-same-length-16
 same-length-16 c = c.before.before.put-word16.ensures.same
 
 returns-16 : tie.Need-returns-16
-unfolding lookup ascii orDecimal kinds
-returns-16 c = reworded (ap (λ n. orDecimal n (lookup n kinds)) (sym c.before.before.before.before.before.match.keys16)) c.before.before.put-word16.ensures
+unfolding lookup ascii or_decimal kinds
+returns-16 c = reworded (ap (λ n. or_decimal n (lookup n kinds)) (sym c.before.before.before.before.before.match.keys16)) c.before.before.put-word16.ensures
 
 same-length-17 : tie.Need-same-length-17
 same-length-17 c = c.before.before.put-word17.ensures.same
 
 returns-17 : tie.Need-returns-17
-unfolding lookup ascii orDecimal kinds
-returns-17 c = reworded (ap (λ n. orDecimal n (lookup n kinds)) (sym c.before.before.before.before.before.match.keys17)) c.before.before.put-word17.ensures
+unfolding lookup ascii or_decimal kinds
+returns-17 c = reworded (ap (λ n. or_decimal n (lookup n kinds)) (sym c.before.before.before.before.before.match.keys17)) c.before.before.put-word17.ensures
 
 same-length-18 : tie.Need-same-length-18
 same-length-18 c = c.before.before.put-decimal.ensures.same
