@@ -169,14 +169,17 @@ module _ (goes : Request → Goal) (marks : List Mark) where
       AllTold p (q ∷ requests) (o ∷ origins)
   told_more p p' q requests o origins before after first rest zero q₁ o₁ at there =
       subst (λ a. Told (λ child. HasSlot p child ⊎ Earlier goes marks (q ∷ requests) zero child) (child_of marks (goes a)) o₁) (some_inj at)
-      (told_same (HasSlot p) _ (child_of marks (goes q)) o₁ (λ _ h. inl h) (λ _ h. none_before h)
+      (told_same (HasSlot p) (λ child. HasSlot p child ⊎ Earlier goes marks (q ∷ requests) zero child) (child_of marks (goes q)) o₁ (λ _ h. inl h) (λ _ h. none_before h)
       (subst (Told (HasSlot p) (child_of marks (goes q))) (some_inj there) first))
     where
       none_before : HasSlot p (child_of marks (goes q)) ⊎ Earlier goes marks (q ∷ requests) zero (child_of marks (goes q)) → HasSlot p (child_of marks (goes q))
       none_before (inl h) = h
       none_before (inr (j, _, low, _, _)) = absurd (omega (arith, low))
   told_more p p' q requests o origins before after first rest (suc i) q₁ o₁ at there =
-      told_same _ _ (child_of marks (goes q₁)) o₁ forth back (rest i q₁ o₁ at there)
+      told_same
+      (λ child. HasSlot p' child ⊎ Earlier goes marks requests i child)
+      (λ child. HasSlot p child ⊎ Earlier goes marks (q ∷ requests) (suc i) child)
+      (child_of marks (goes q₁)) o₁ forth back (rest i q₁ o₁ at there)
     where
       child : ℕ
       child = child_of marks (goes q₁)

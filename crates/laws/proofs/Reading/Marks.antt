@@ -120,7 +120,10 @@ module _ (bytes : List ℕ) (job : Job (List ℕ)) (l : Layout) (are : IsBytes b
       (is_asked_lem bytes job l are formed laid)
       (started bytes job l are formed laid).0 in
       let same : origins ≡ all = is ∙ ap (λ before. before ++ all) (none_yet (top_of job) _ _ s.defined s.ready s.is_ready) in
-      told_same _ _ (child_of became (goes q)) o (λ _ h. ways h) (λ _ h. inr h) (told i q o at (subst (λ l. get_elem? l i ≡ some o) same there))
+      told_same
+      (λ child. HasSlot s.ready.pool child ⊎ Earlier goes became job.requests i child)
+      (Earlier goes became job.requests i)
+      (child_of became (goes q)) o (λ _ h. ways h) (λ _ h. inr h) (told i q o at (subst (λ l. get_elem? l i ≡ some o) same there))
     where
       ways : HasSlot (st bytes job l are formed laid).ready.pool (child_of became (goes q)) ⊎ Earlier goes became job.requests i (child_of became (goes q)) → Earlier goes became job.requests i (child_of became (goes q))
       ways (inl h) = absurd (none-given (child_of became (goes q)) h)
