@@ -1,5 +1,7 @@
 // Runs the two block functions on jobs and files that are worked out from document 01 by plain arithmetic. Each line: the
 // case, the number, the place and the length returned, and whether the output holds what it should and nothing behind it.
+#![tactic(auto)]
+
 ghost use Rattle.std.specs.Prelude.{◌<◌, ◌≤◌};
 
 // What bytes are: a job of the tests or its file, or the job of case b or its file.

@@ -1,4 +1,6 @@
 // The builder: the records of a job in turn, to words that the outputs are read from.
+#![tactic(auto)]
+
 ghost use Rattle.std.specs.Prelude.{◌≡◌, ◌+◌, ◌*◌, ◌/◌, ◌≤◌, length};
 ghost use Rattle.store.specs.Store.{store};
 ghost use Rattle.store.specs.JobIn.{WellFormed, counts_in};

@@ -1,4 +1,6 @@
 // Building: children get their numbers, in field order, until the building stack is empty.
+#![tactic(auto)]
+
 ghost use Rattle.std.specs.Prelude.{◌≡◌, ◌+◌, ◌<◌, ltb, length};
 ghost use Rattle.definition.specs.Settings.{known};
 ghost use Rattle.definition.specs.Definitions.{tag_at};

@@ -1,4 +1,6 @@
 // A class file around a finished pool, both ways (document 02, No. 7; JVMS 4.1, 4.7.23).
+#![tactic(auto)]
+
 ghost use Rattle.std.specs.Prelude.{◌≡◌, List, ◌+◌, ◌<◌, ◌≤◌, leb, length, take, drop};
 ghost use Rattle.std.proofs.Math.Option.{some};
 ghost use Rattle.definition.specs.Basics.{same};

@@ -5,6 +5,8 @@
 // length (at most 131,072) and bytes. It prints `file HEX` or `refused CODE`; the room for a file is 196,608 bytes. Behind any other, to
 // read: a file's length (at most 262,208) and bytes. It prints `parts MINOR MAJOR POOL_END ACCESS THIS SUPER NAME COUNT BOOTSTRAPS_AT` or
 // `refused CODE`.
+#![tactic(auto)]
+
 ghost use Rattle.std.specs.Prelude.{◌≤◌, length};
 
 use class_file::{ClassRead, Written};

@@ -1,4 +1,6 @@
 // The pool builder of document 01.
+#![tactic(auto)]
+
 ghost use Rattle.std.specs.Prelude.{◌&&◌, List, ◌≡◌, ℕ, ◌+◌, ◌*◌, ◌/◌, ◌≤◌, ◌<◌, leb, length};
 ghost use Rattle.std.proofs.Math.Option.{Option};
 ghost use Rattle.definition.specs.Basics.{good, bad};
@@ -21,14 +23,14 @@ use store::{ANSWERS, COUNTS, NAME_SLOT, PLACE, VISITS, load, size_of};
 const LONGEST_JOB: usize = 1048576;
 
 // A class name's length, if there is one.
-#[derive(Drop)]
+#[derive(Clone, Copy)]
 pub enum ClassLength {
     None,
     Bytes(usize),
 }
 
 // How a run ends: how much of each output was written (a mark for each answer) and the other numbers, or a refusal.
-#[derive(Drop)]
+#[derive(Clone, Copy)]
 pub enum Outcome {
     Built {
         answers: usize,

@@ -1,4 +1,6 @@
 // The definitions in turn, then record 50: Krakatau's mod.rs, `Pool`.
+#![tactic(auto)]
+
 ghost use Rattle.std.specs.Prelude.{true, cond, List, ◌≡◌, ℕ, ◌+◌, ◌*◌, ◌<◌, ◌≤◌, length, get_or};
 ghost use Rattle.definition.specs.Shapes.{Kind, Entry};
 ghost use Rattle.definition.specs.Job.{Reference, define, named};

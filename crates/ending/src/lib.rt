@@ -1,4 +1,6 @@
 // The end of a pool: the slot of the name "BootstrapMethods", and the pool's count.
+#![tactic(auto)]
+
 ghost use Rattle.std.specs.Prelude.{◌≡◌, ◌<◌, length, get_or};
 ghost use Rattle.definition.specs.Basics.{position};
 ghost use Rattle.definition.specs.Resolving.{same_node};

@@ -1,4 +1,6 @@
 // Constants worked out in the job (document 02, No. 3): an expression behind record 46, folded to a constant's kind and bits.
+#![tactic(auto)]
+
 ghost use Rattle.std.specs.Prelude.{◌≡◌, true, false, List, ℕ, ◌+◌, ◌-◌, ◌*◌, ◌%◌, ◌^◌, ◌≤◌, ◌<◌, length, drop, get_or, Float};
 ghost use Rattle.std.proofs.Math.Option.{Option, none, some};
 ghost use Rattle.std.specs.Float.{binary32, binary64};
@@ -17,7 +19,7 @@ enum Value {
     Double(f64),
 }
 
-#[derive(Drop)]
+#[derive(Clone, Copy)]
 enum Number {
     Int,
     Float,

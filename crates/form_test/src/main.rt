@@ -1,6 +1,8 @@
 // Runs the form pass over stored jobs and writes a dot for each that it answers as document 01 says, and F for each other.
 // What is expected was worked out from the document: a refusal's number and record, or eight counts (definitions,
 // constants, bootstraps, references in entries, names, raw constants, raw bootstraps, requests).
+#![tactic(auto)]
+
 ghost use Rattle.std.specs.Prelude.{◌<◌, ◌≤◌, length};
 
 use job::{Formed, form};

@@ -1,6 +1,8 @@
 // Frames of bytes on standard input and lines on standard output, for programs that answer frame by frame. A number's most significant
 // byte comes first. The language has no exit status: the last line on standard error stands in for it. A read that fails brings no bytes,
 // as at the input's end; `tell` finds out which it was.
+#![tactic(auto)]
+
 ghost use Rattle.std.specs.Prelude.{false, [], ◌∷◌, ◌≡◌, ◌≤◌, ◌<◌, length};
 ghost use Rattle.definition.specs.Ascii.{ascii, decimal, hex};
 ghost use Rattle.frames.specs.Line.{put, put_number};

@@ -1,5 +1,7 @@
 // Krakatau's interner.rs: equal entries become one node. A node is kept as the lowest entry that it was made from, whose children stand in
 // CHILDREN.
+#![tactic(auto)]
+
 ghost use Rattle.std.specs.Prelude.{true, ◌≡◌, ◌+◌, ◌*◌, ◌<◌, ◌≤◌, length, get_or, take, drop};
 ghost use Rattle.definition.specs.Basics.{same, position};
 ghost use Rattle.definition.specs.Bytes.{be4};

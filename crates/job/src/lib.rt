@@ -1,5 +1,7 @@
 // The form pass (document 01, "A job"): goes over a job's records once, twice if there is a record 48, keeps nothing of them, and
 // counts them. Behind it, readers of entries, references and names at stored places.
+#![tactic(auto)]
+
 ghost use Rattle.std.specs.Prelude.{◌≡◌, true, false, List, [], ◌∷◌, ℕ, ◌+◌, ◌-◌, ◌^◌, ◌<◌, ◌≤◌, ltb, length, get_or, take, drop};
 ghost use Rattle.std.proofs.Math.Option.{some};
 ghost use Rattle.definition.specs.Basics.{every, lookup};
@@ -26,7 +28,7 @@ const HIGHEST_SLOT: usize = 65534;
 const NEWEST: usize = 55;
 
 // What the form pass counts.
-#[derive(Drop)]
+#[derive(Clone, Copy)]
 pub struct JobCounts {
     // The records before 50.
     pub definitions: usize,
@@ -55,7 +57,7 @@ pub enum Formed {
 }
 
 // What a definition's first byte opens.
-#[derive(Drop)]
+#[derive(Clone, Copy)]
 enum Opening {
     // A constant, or nothing that is known if its shape is unknown.
     Constant(Shape),

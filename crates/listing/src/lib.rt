@@ -1,4 +1,6 @@
 // The listing of a finished pool (document 02, No. 1): a line for each constant, with what it refers to opened out.
+#![tactic(auto)]
+
 mod opening;
 mod words;
 

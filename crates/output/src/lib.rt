@@ -1,5 +1,7 @@
 // What a run gives out: the answers, the pool slot by slot, the bootstrap rows and the class name. Everything is measured before anything
 // is written.
+#![tactic(auto)]
+
 ghost use Rattle.std.specs.Prelude.{List, [], ◌∷◌, map, ◌⊎◌, ◌≡◌, ℕ, ◌+◌, ◌-◌, ◌*◌, ◌<◌, ◌≤◌, length, get_or, true, ◌&&◌, eqb, ltb};
 ghost use Rattle.std.proofs.Math.Option.{Option, some};
 ghost use Rattle.definition.specs.Basics.{concat};
@@ -38,7 +40,7 @@ const ATTRIBUTE: usize = 131074;
 const PAST: usize = 65536;
 
 // A class name: none, or the bytes of the job that it is, or the text "BootstrapMethods".
-#[derive(Drop)]
+#[derive(Clone, Copy)]
 pub enum ClassName {
     None,
     Bytes { start: usize, size: usize },

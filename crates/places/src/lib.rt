@@ -1,4 +1,6 @@
 // Where each constant of a pool and each bootstrap method stands in its bytes, found in one pass (JVMS 4.4, 4.7.23).
+#![tactic(auto)]
+
 ghost use Rattle.std.specs.Prelude.{◌≡◌, ◌-◌, ◌<◌, ◌≤◌, length};
 ghost use Rattle.definition.specs.Shapes.{is_wide};
 ghost use Rattle.places.specs.Noting.{width, SlotsNoted, PoolNoted, tag_at, MethodPassed, MethodsPut};

@@ -1,4 +1,6 @@
 // The building pool: slots of nodes, from the gaps that the raw slots leave, and the stack of nodes that have a slot and aren't built yet.
+#![tactic(auto)]
+
 ghost use Rattle.std.specs.Prelude.{true, false, ◌≡◌, ℕ, ◌+◌, ◌-◌, ◌<◌, ◌≤◌, length, get_or};
 ghost use Rattle.definition.specs.Basics.{good, bad};
 ghost use Rattle.definition.specs.Shapes.{is_wide};
@@ -30,7 +32,7 @@ use store::{
 };
 
 // How a child comes by its slot: it is a raw number, or it gets the slot now, or it was given earlier; or there is none, 14 or 15.
-#[derive(Drop)]
+#[derive(Clone, Copy)]
 pub enum Reply {
     Raw,
     New,

@@ -5,6 +5,8 @@
 //
 // A refusal is told on standard error as `refused CODE PLACE`; the file's own (27: bootstrap methods and no name) has place 0. A read that
 // fails counts as the input's end.
+#![tactic(auto)]
+
 ghost use Rattle.std.specs.Prelude.{◌≤◌};
 
 use class_file::Written;

@@ -2,6 +2,8 @@
 // or `refused 18`, and behind it an empty line. A frame: the pool's length (four bytes) and bytes, how many bootstrap methods there are (two
 // bytes), their length (four bytes) and bytes. The room for a pool is 1,048,576 bytes, for its bootstrap methods 131,072, for its listing
 // 4,194,304, which all together fit a stack of 8 MB; what doesn't fit is 18, and the stream goes on.
+#![tactic(auto)]
+
 use frames::{CUT, FRAME_CUT, GO_ON, NO_MORE};
 use libc::STDOUT_FILENO;
 use listing::Listed;

@@ -1,5 +1,7 @@
 // Runs poolrun's function over the framed files (four-byte length, bytes) of standard input and prints each text. The files are made
 // from `cases` by examples/frames; `stdout` is document 01's texts and the Rust driver's answers.
+#![tactic(auto)]
+
 use libc::{STDIN_FILENO, STDOUT_FILENO};
 
 // Reads the first n bytes; whether all of them came.

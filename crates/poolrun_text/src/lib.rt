@@ -1,5 +1,7 @@
 // What the program `poolrun` prints for a block file, written into a caller's buffer. The functions below `text` put bytes behind the
 // first `at` bytes of a buffer and return where they end: `Behind`.
+#![tactic(auto)]
+
 ghost use Rattle.std.specs.Prelude.{◌≡◌, [], ◌∷◌, ◌++◌, ◌+◌, ◌*◌, ◌<◌, ◌≤◌, length, take, drop};
 ghost use Rattle.std.proofs.Math.Option.{none, some};
 ghost use Rattle.io.specs.Counts.{IsPrefixLen};

@@ -2,6 +2,8 @@
 //
 // A text is first counted and then written, by the same functions. They put bytes at `at` into `out`, as far as it reaches, and return where
 // they end, or one more than `room` where that is past it: `Printed`. While text is counted, `out` is empty.
+#![tactic(auto)]
+
 ghost use Rattle.std.specs.Prelude.{◌≡◌, [], ◌∷◌, ◌++◌, ◌+◌, ◌*◌, ◌/◌, ◌%◌, ◌<◌, ◌≤◌, length, take, drop};
 ghost use Rattle.definition.specs.Ascii.{decimal, hex_digit};
 ghost use Rattle.printing.specs.Printed.{CanPut, Printed};

@@ -1,5 +1,7 @@
 // Entries of a constant pool and rows of a bootstrap table as bytes: Krakatau's raw_const.rs (document 01, "Building"; JVMS 4.4, 4.7.23).
 // That JVMS's reader finds again what is written here is `cp_info-entry_bytes` of the crate laws.
+#![tactic(auto)]
+
 ghost use Rattle.std.specs.Prelude.{◌≡◌, ◌||◌, [], ◌∷◌, ◌++◌, map, ℕ, ◌+◌, ◌*◌, ◌≤◌, ◌<◌, eqb, length, take, drop, get_or};
 ghost use Rattle.definition.specs.Basics.{lookup, concat};
 ghost use Rattle.definition.specs.Bytes.{two, be2};
@@ -54,7 +56,7 @@ const INDEX: u8 = 5;
 const BOOTSTRAP: u8 = 6;
 
 // What follows an entry's tag.
-#[derive(Drop)]
+#[derive(Clone, Copy)]
 pub enum Shape {
     // Two bytes of length, then a text's bytes.
     Text,

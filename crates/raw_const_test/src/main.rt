@@ -1,5 +1,7 @@
 // Writes an entry of each tag and bootstrap rows, holds the bytes to what JVMS 4.4 and 4.7.23 lay down, and reads the entries back, whole
 // and cut. A line for each says ok or WRONG.
+#![tactic(auto)]
+
 ghost use Rattle.std.specs.Prelude.{◌≡◌, true, ℕ, ◌+◌, ◌<◌, ◌≤◌, length, get_or};
 ghost use Rattle.definition.specs.Basics.{lookup};
 ghost use Rattle.definition.specs.Shapes.{shapes};

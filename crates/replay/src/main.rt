@@ -3,6 +3,8 @@
 //
 // All memory is the stack's, the only one that there is: 6.6 MB, enough for jobs of 200,000 bytes and outputs of 65,536. Of longer jobs only
 // those are stored that are too long for any memory; the others are run from Rust, over the heap (docs/DECISIONS.md).
+#![tactic(auto)]
+
 mod line;
 mod packed;
 

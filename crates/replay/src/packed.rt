@@ -23,7 +23,7 @@ pub(crate) struct Lent {
     pub(crate) class_name: usize,
 }
 
-#[derive(Drop)]
+#[derive(Clone, Copy)]
 struct Part {
     times: u32,
     size: u16,

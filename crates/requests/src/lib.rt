@@ -1,4 +1,6 @@
 // A job up to its last request: the definitions, record 50, the pool's start, the requests.
+#![tactic(auto)]
+
 ghost use Rattle.std.specs.Prelude.{◌≡◌, ◌+◌, ◌*◌, ◌/◌, ◌≤◌, ◌<◌, length};
 ghost use Rattle.store.specs.Store.{store};
 ghost use Rattle.store.specs.JobIn.{WellFormed, counts_in};

@@ -1,4 +1,6 @@
 // The rows of the bootstrap table: indexes for inline bootstraps, and which bootstrap node has the row at an index.
+#![tactic(auto)]
+
 ghost use Rattle.std.specs.Prelude.{◌≡◌, ◌+◌, ◌-◌, ◌<◌, ◌≤◌, length, get_or};
 ghost use Rattle.definition.specs.Basics.{same};
 ghost use Rattle.definition.specs.Building.{Rows, write_raw, take_index, row_index};

@@ -1,4 +1,6 @@
 // Slots: Krakatau's `ConstSlotAllocator`, over a lent table of gaps of which the first `count` are in use.
+#![tactic(auto)]
+
 ghost use Rattle.std.specs.Prelude.{◌++◌, ◌∷◌, [], ◌≡◌, ◌+◌, ◌-◌, ◌≤◌, ◌<◌, leb, length, replicate};
 ghost use Rattle.definition.specs.Basics.{every};
 ghost use Rattle.definition.specs.Slots.{highest_slot, size, scan, is_odd, too_high, plain_ends, gap_before, plain_slot, narrow_slot, wide_slot, slot_for, count_from};
@@ -7,14 +9,14 @@ ghost use Rattle.slots.specs.Gaps.{gap_of, no_gap, gap_at, gaps_at, ends, AtMost
 
 // A run of free slots, shortened in place: empty once its first slot is past its last.
 #[repr(C)]
-#[derive(Drop)]
+#[derive(Clone, Copy)]
 pub struct Gap {
     pub first: u16,
     pub last: u16,
 }
 
 // Places in the table: where the next search for an odd gap, for a wide gap and for any gap begins.
-#[derive(Drop)]
+#[derive(Clone, Copy)]
 pub struct Positions {
     pub odd: usize,
     pub wide: usize,
@@ -22,7 +24,7 @@ pub struct Positions {
 }
 
 // What a request for a slot finds.
-#[derive(Drop)]
+#[derive(Clone, Copy)]
 pub enum Allocated {
     Slot { slot: u16, positions: Positions },
     None,

@@ -1,4 +1,6 @@
 // Asks for slots over stored gap tables, and compares the answers with those that Krakatau's `ConstSlotAllocator` gave.
+#![tactic(auto)]
+
 ghost use Rattle.std.specs.Prelude.{◌≤◌, ◌+◌, ◌*◌, length};
 
 use libc::STDOUT_FILENO;

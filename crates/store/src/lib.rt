@@ -1,5 +1,7 @@
 // The lent words as regions: region k is the words from place k up to place k + 1, and only `load`, `save`, `size_of`, `lay` and
 // `start` touch words or places.
+#![tactic(auto)]
+
 ghost use Rattle.std.specs.Prelude.{◌≡◌, ℕ, ◌+◌, ◌-◌, ◌<◌, ◌≤◌, length, get_or};
 ghost use Rattle.store.specs.Regions.{places_of, sizes_for, Few, Started};
 ghost use Rattle.store.specs.Store.{size, store, put, Laid, On, IsWord, Read};

@@ -1,4 +1,6 @@
 // References and names: Krakatau's sym_ref_resolver.rs. References become words, and names are followed to where they lead.
+#![tactic(auto)]
+
 ghost use Rattle.std.proofs.Math.Option.{some};
 ghost use Rattle.std.specs.Prelude.{◌≡◌, ℕ, ◌+◌, ◌<◌, ◌≤◌, length, get_or};
 ghost use Rattle.std.proofs.Math.ListN.{get_elem?};

@@ -1,4 +1,6 @@
 // Texts as JVMS 4.4.7 has them (document 02, No. 8): the sixteen-bit units of a text, and the text of a row of units.
+#![tactic(auto)]
+
 ghost use Rattle.std.specs.Prelude.{◌≡◌, true, ◌+◌, ◌-◌, ◌<◌, ◌≤◌, length, get_or};
 ghost use Rattle.std.proofs.Math.Seq.{paste};
 ghost use Rattle.definition.specs.Run.{overwrite};

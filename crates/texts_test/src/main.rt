@@ -1,5 +1,7 @@
 // Reads texts and writes units, by the forms for Rust and C. Each line: the number and the length returned, and the whole output as it
 // is left: seven stood at every place before.
+#![tactic(auto)]
+
 fn wide8(x: u8) -> u64 {
     x as u64
 }

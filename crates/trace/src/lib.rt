@@ -1,4 +1,6 @@
 // A loader's trace over a finished pool (document 02, No. 12).
+#![tactic(auto)]
+
 ghost use Rattle.std.specs.Prelude.{false, not, ◌&&◌, ◌≡◌, ℕ, ◌≤◌, ◌<◌, eqb, length, get_or, set};
 ghost use Rattle.trace.specs.Trace.{action, steps, unknown_action, report, run-over, run, flags_after};
 ghost use Rattle.trace.specs.Step.{flag_behind, passes_by, one};

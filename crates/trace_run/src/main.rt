@@ -3,6 +3,8 @@
 //
 // A frame: the pool's length (four bytes, at most 262,144) and bytes; the trace's length (at most 4,194,304) and bytes; how long the table of
 // flags is (four bytes, at most 65,600); how many flags are given (two bytes); each flag's slot (two bytes) and value. Others are 0.
+#![tactic(auto)]
+
 ghost use Rattle.std.specs.Prelude.{◌≡◌, ◌*◌, ◌≤◌, length};
 
 use frames::{FRAME_CUT, GO_ON};

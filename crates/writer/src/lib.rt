@@ -1,5 +1,7 @@
 // Numbers, runs of bytes and clears in slices: Krakatau's BufWriter, at places that the caller gives. A number's most
 // significant byte comes first (document 01, "A job").
+#![tactic(auto)]
+
 ghost use Rattle.std.specs.Prelude.{◌≡◌, ◌+◌, ◌<◌, ◌≤◌, length, get_or, set, drop, replicate};
 ghost use Rattle.std.proofs.Math.Seq.{paste};
 ghost use Rattle.definition.specs.Bytes.{be2, be4, be8};

@@ -1,4 +1,6 @@
 // Reads, writes, copies and clears on vectors worked out by hand. A line for each says ok or WRONG.
+#![tactic(auto)]
+
 use libc::STDOUT_FILENO;
 
 fn say(name: &[u8], ok: bool) {
