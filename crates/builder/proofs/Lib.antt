@@ -21,4 +21,3 @@ pub mod JoinNaming
 pub mod JoinEnding
 pub mod JoinFinal
 pub mod JoinLaying
-pub mod Walks

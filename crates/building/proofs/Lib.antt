@@ -8,4 +8,3 @@ pub mod Fields
 pub mod Falling
 pub mod Emptying
 pub mod Whole
-pub mod Walks

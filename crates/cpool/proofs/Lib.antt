@@ -3,7 +3,6 @@ pub mod Refusals
 pub mod Telling
 pub mod Giving
 pub mod Ending
-pub mod Walks
 pub mod Single
 pub mod Handed
 pub mod Promises

@@ -3,4 +3,3 @@ pub mod Finding
 pub mod Counters
 pub mod Naming
 pub mod Counting
-pub mod Walks

@@ -15,4 +15,3 @@ pub mod InTurn
 pub mod Meeting
 pub mod Sparing
 pub mod Fitting
-pub mod Walks

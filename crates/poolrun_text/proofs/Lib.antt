@@ -2,4 +2,3 @@ pub mod Putting
 pub mod Texts
 pub mod Reading
 pub mod Running
-pub mod Walks

@@ -1,2 +1,1 @@
 -- The laws that the proofs of the crate cite.
-pub mod Walks

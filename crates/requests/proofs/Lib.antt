@@ -4,4 +4,3 @@ pub mod Handing
 pub mod Waiting
 pub mod Answers
 pub mod Words
-pub mod Walks

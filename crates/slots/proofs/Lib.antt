@@ -5,5 +5,4 @@ pub mod Writing
 pub mod Counting
 pub mod Given
 pub mod Checks
-pub mod Walks
 pub mod Single

@@ -1,0 +1,8 @@
+-- `blocks::blocks_for` meets its contract. By cases on the length, as the definition. Assumes nothing.
+use borrow.Author.Rules.{rules}
+use Rattle.definition.specs.Blocks.{blocks_for}
+use Rattle.blocks.proofs.Writing.{blocks_for-some}
+use Rattle.blocks.proofs.blocks_for.Goals as goal
+
+pub returns-else-size-eq0 : goal.returns-else-size-eq0
+returns-else-size-eq0 c = blocks_for-some c.args.size c.if-size-eq0.false

@@ -1,0 +1,18 @@
+-- `blocks::blocks_write` meets its contract. What write_blocks ensures, told by numbers. Assumes nothing.
+use borrow.Author.Rules.{rules}
+use lib.ListN.{length}
+use Rattle.definition.specs.Blocks.{write_blocks}
+use Rattle.blocks.specs.Answers.{written_answer}
+use Rattle.blocks.proofs.Ends.{told}
+use Rattle.blocks.proofs.blocks_write.Goals as goal
+
+pub returns : goal.returns
+returns c = let args = c.args in
+    told
+    (write_blocks (length args.out.now) args.job.now)
+    args.out.now
+    c.write_blocks.new.out
+    (written_answer c.write_blocks.result)
+    c.written_numbers-n.result
+    c.write_blocks.ensures
+    c.written_numbers-n.ensures

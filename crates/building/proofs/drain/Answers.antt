@@ -1,0 +1,38 @@
+use Rattle.building.specs.Working.{owing}
+use Rattle.rows.proofs.Starting.{row_room}
+use lib.ListN.{length}
+use Rattle.store.proofs.Stores.{length-store}
+use Rattle.store.specs.Regions.{NODES, PENDING}
+use Rattle.store.specs.Store.{store}
+use mathlib.Core.Path.{◌≡◌, refl}
+use native.Mathlib.Omega.{arith}
+use borrow.Author.Rules.{rules}
+use Rattle.building.proofs.drain.Goals as goal
+-- `building::drain` meets its contract. The loop keeps that what is left on the stack, with fuel for it, is the whole. Assumes nothing.
+mod Lts
+mod Tie
+use Rattle.building.proofs.Emptying.{Emptying, emptying_begin, emptying_end, turn_asks, turn_less, emptying_refused, emptying_next}
+
+pub loop-w-init : goal.loop-w-init
+loop-w-init c = let a = c.args in let q = c.requires in let s = a.job.now in let p = a.p.now in let t = store p a.w.now in (refl, refl, emptying_begin s p a.version t a.gaps.now q.3 q.2)
+
+pub load-requires : goal.load-requires
+load-requires c = let a = c.args in let q = c.requires in let s = a.job.now in let p = a.p.now in let t = store p a.w.now in (search rules, omega (arith, (row_room s p q.1).counts))
+
+pub pop_pending-k-requires : goal.pop_pending-k-requires
+pop_pending-k-requires c = let a = c.args in let q = c.requires in let s = a.job.now in let p = a.p.now in let t = store p a.w.now in let l = c.loop-w in let u = store p l.w in (search rules, omega (arith, (row_room s p q.1).counts), omega (arith, c.loop-w-test.true, c.load.ensures.word), omega (arith, l.invariant.2.again.live.room, length-store p l.w PENDING))
+
+pub judge-code-requires : goal.judge-code-requires
+judge-code-requires c = let a = c.args in let q = c.requires in let s = a.job.now in let p = a.p.now in let t = store p a.w.now in let l = c.loop-w in let u = store p l.w in let k = c.pop_pending-k in let x = turn_asks s p a.version t u a.gaps.now l.gaps l.invariant.2 c.load.result c.load.ensures.word c.loop-w-test.true q.1 (store p k.new.w) k.result k.ensures in (search rules, q.1, x.0, x.1)
+
+pub returns-then-code-ne0 : goal.returns-then-code-ne0
+returns-then-code-ne0 c = let a = c.args in let q = c.requires in let s = a.job.now in let p = a.p.now in let t = store p a.w.now in let l = c.loop-w in let u = store p l.w in let k = c.pop_pending-k in let x = c.judge-code in emptying_refused s p a.version t u a.gaps.now l.gaps l.invariant.2 c.load.result c.load.ensures.word c.loop-w-test.true q.1 (store p k.new.w) k.result k.ensures (length-store p k.new.w NODES) (store p x.new.w) x.new.gaps x.result x.ensures c.if-code-ne0.true
+
+pub loop-w-smaller : goal.loop-w-smaller
+loop-w-smaller c = let a = c.args in let q = c.requires in let s = a.job.now in let p = a.p.now in let t = store p a.w.now in let l = c.loop-w in let u = store p l.w in let k = c.pop_pending-k in let x = c.judge-code in turn_less s p a.version t u a.gaps.now l.gaps l.invariant.2 c.load.result c.load.ensures.word c.loop-w-test.true q.1 (store p k.new.w) k.result k.ensures (length-store p k.new.w NODES) (store p x.new.w) x.new.gaps x.result x.ensures c.if-code-ne0.false
+
+pub loop-w-preserved : goal.loop-w-preserved
+loop-w-preserved c = let a = c.args in let q = c.requires in let s = a.job.now in let p = a.p.now in let t = store p a.w.now in let l = c.loop-w in let u = store p l.w in let k = c.pop_pending-k in let x = c.judge-code in (search rules, search rules, emptying_next s p a.version t u a.gaps.now l.gaps l.invariant.2 c.load.result c.load.ensures.word c.loop-w-test.true q.1 (store p k.new.w) k.result k.ensures (length-store p k.new.w NODES) (store p x.new.w) x.new.gaps x.result x.ensures c.if-code-ne0.false)
+
+pub returns : goal.returns
+returns c = let a = c.args in let q = c.requires in let s = a.job.now in let p = a.p.now in let t = store p a.w.now in let l = c.loop-w in let u = store p l.w in emptying_end s p a.version t u a.gaps.now l.gaps l.invariant.2 c.load.result c.load.ensures.word (omega (arith, c.loop-w-test.false))

@@ -1,0 +1,16 @@
+use Rattle.building.specs.Working.{owing}
+use Rattle.rows.proofs.Starting.{row_room}
+use lib.ListN.{length}
+use Rattle.store.proofs.Stores.{length-store}
+use Rattle.store.specs.Regions.{NODES, PENDING}
+use Rattle.store.specs.Store.{store}
+use mathlib.Core.Path.{◌≡◌, refl}
+use native.Mathlib.Omega.{arith}
+use borrow.Author.Rules.{rules}
+use Rattle.building.proofs.drain.Given as goal
+
+abbrev pub invariant-loop-w : goal.invariant-loop-w
+invariant-loop-w l = (length l.w ≡ length l.initial.w) × (length l.gaps ≡ length l.initial.gaps) × Emptying l.job l.p l.version (store l.p l.initial.w) (store l.p l.w) l.initial.gaps l.gaps
+
+abbrev pub decreases-loop-w : goal.decreases-loop-w
+decreases-loop-w l = owing (store l.p l.w)

@@ -1,0 +1,11 @@
+-- `class_file::write_head` meets its contract: the magic number and the versions, one behind the other. Assumes nothing.
+use borrow.Author.Rules.{rules}
+use native.Mathlib.Omega.{arith}
+use Rattle.jvms.specs.Written.{bytes2, bytes4}
+use Rattle.raw_const.proofs.Writes.{wrote_then}
+use Rattle.class_file.proofs.write_head.Goals as goal
+
+pub returns : goal.returns
+unfolding bytes2 bytes4
+returns c = let versions = wrote_then c.write_word-next.ensures (omega arith) c.write_short-next.ensures in
+    wrote_then versions (omega arith) c.write_short.ensures

@@ -1,0 +1,38 @@
+-- `definitions::add_bs_raw_def` meets its contract. Assumes nothing.
+use Rattle.definitions.proofs.Placed.{some-raws, raw_stands, first_low, index-cited, index-code, index-done}
+use Rattle.definitions.proofs.Rooms.{room}
+use Rattle.store.specs.Store.{store}
+use Rattle.definition.specs.Shapes.{bootstrap}
+use native.Mathlib.Omega.{arith}
+use borrow.Author.Rules.{rules}
+use Rattle.definitions.proofs.add_bs_raw_def.Goals as goal
+
+pub overflow_add-at : goal.overflow_add-at
+overflow_add-at c = let a = c.args in let h = c.requires in omega (arith, raw_stands a.p.now h.2.0 a.job.now (store a.p.now a.w.now) a.at h.2.1 h.1 (λ i. (c.type_inv.job i).fits) bootstrap h.3, (room a.job.now a.p.now h.1).bytes)
+
+pub get_u16-index-requires : goal.get_u16-index-requires
+get_u16-index-requires c = let a = c.args in let h = c.requires in omega (arith, raw_stands a.p.now h.2.0 a.job.now (store a.p.now a.w.now) a.at h.2.1 h.1 (λ i. (c.type_inv.job i).fits) bootstrap h.3)
+
+pub overflow_add-at-2 : goal.overflow_add-at-2
+overflow_add-at-2 c = let a = c.args in let h = c.requires in omega (arith, raw_stands a.p.now h.2.0 a.job.now (store a.p.now a.w.now) a.at h.2.1 h.1 (λ i. (c.type_inv.job i).fits) bootstrap h.3, (room a.job.now a.p.now h.1).bytes)
+
+pub get_u16-e-requires : goal.get_u16-e-requires
+get_u16-e-requires c = let a = c.args in let h = c.requires in omega (arith, raw_stands a.p.now h.2.0 a.job.now (store a.p.now a.w.now) a.at h.2.1 h.1 (λ i. (c.type_inv.job i).fits) bootstrap h.3)
+
+pub constants-requires : goal.constants-requires
+constants-requires c = let a = c.args in let h = c.requires in let m = room a.job.now a.p.now h.1 in (m.laid, m.indexes)
+
+pub overflow_add-constants : goal.overflow_add-constants
+overflow_add-constants c = let a = c.args in let h = c.requires in let m = room a.job.now a.p.now h.1 in let g = index-cited a.p.now h.2.0 a.job.now (store a.p.now a.w.now) a.at h.2.1 h.1 (λ i. (c.type_inv.job i).fits) h.3 in rw (c.constants.ensures, m.constants, c.get_u16-e.ensures) (omega (arith, g.0, m.entries))
+
+pub place_bootstrap-code-requires : goal.place_bootstrap-code-requires
+place_bootstrap-code-requires c = let a = c.args in let h = c.requires in let m = room a.job.now a.p.now h.1 in let g = index-cited a.p.now h.2.0 a.job.now (store a.p.now a.w.now) a.at h.2.1 h.1 (λ i. (c.type_inv.job i).fits) h.3 in (search rules, m.raws, some-raws a.p.now h.2.0 a.job.now (store a.p.now a.w.now) a.at h.2.1, g.1, rw c.get_u16-index.ensures (first_low a.p.now h.2.0 a.job.now (store a.p.now a.w.now) a.at h.2.1 h.1 (λ i. (c.type_inv.job i).fits)), rw (c.constants.ensures, m.constants, c.get_u16-e.ensures) (omega (arith, g.0, m.entries)))
+
+pub overflow_add-at-3 : goal.overflow_add-at-3
+overflow_add-at-3 c = let a = c.args in let h = c.requires in omega (arith, raw_stands a.p.now h.2.0 a.job.now (store a.p.now a.w.now) a.at h.2.1 h.1 (λ i. (c.type_inv.job i).fits) bootstrap h.3, (room a.job.now a.p.now h.1).bytes)
+
+pub answer-requires : goal.answer-requires
+answer-requires c = let a = c.args in let h = c.requires in let m = room a.job.now a.p.now h.1 in index-code a.p.now h.2.0 a.job.now (store a.p.now a.w.now) a.at h.2.1 h.1 (λ i. (c.type_inv.job i).fits) h.3 _ c.place_bootstrap-code.result (rw (c.constants.ensures, m.constants, c.get_u16-e.ensures, c.get_u16-index.ensures) at c.place_bootstrap-code.ensures)
+
+pub returns : goal.returns
+returns c = let a = c.args in let h = c.requires in let m = room a.job.now a.p.now h.1 in λ top place. index-done a.p.now top a.job.now (store a.p.now a.w.now) a.at place h.1 (λ i. (c.type_inv.job i).fits) h.3 _ c.place_bootstrap-code.result (rw (c.constants.ensures, m.constants, c.get_u16-e.ensures, c.get_u16-index.ensures) at c.place_bootstrap-code.ensures) c.answer.result c.answer.ensures

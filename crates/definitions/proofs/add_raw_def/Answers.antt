@@ -1,0 +1,38 @@
+-- `definitions::add_raw_def` meets its contract. Assumes nothing.
+use Rattle.definitions.proofs.Placed.{some-raws, top-low, raw_stands, first_low, raw_cited, raw_code, raw_done_lem}
+use Rattle.definitions.proofs.Rooms.{room}
+use Rattle.store.specs.Store.{store}
+use Rattle.definition.specs.Shapes.{constant}
+use native.Mathlib.Omega.{arith}
+use borrow.Author.Rules.{rules}
+use Rattle.definitions.proofs.add_raw_def.Goals as goal
+
+pub overflow_add-at : goal.overflow_add-at
+overflow_add-at c = let a = c.args in let h = c.requires in omega (arith, raw_stands a.p.now a.top a.job.now (store a.p.now a.w.now) a.at h.2 h.1 (λ i. (c.type_inv.job i).fits) constant h.3, (room a.job.now a.p.now h.1).bytes)
+
+pub get_u16-n-requires : goal.get_u16-n-requires
+get_u16-n-requires c = let a = c.args in let h = c.requires in omega (arith, raw_stands a.p.now a.top a.job.now (store a.p.now a.w.now) a.at h.2 h.1 (λ i. (c.type_inv.job i).fits) constant h.3)
+
+pub overflow_add-at-2 : goal.overflow_add-at-2
+overflow_add-at-2 c = let a = c.args in let h = c.requires in omega (arith, raw_stands a.p.now a.top a.job.now (store a.p.now a.w.now) a.at h.2 h.1 (λ i. (c.type_inv.job i).fits) constant h.3, (room a.job.now a.p.now h.1).bytes)
+
+pub get_u16-e-requires : goal.get_u16-e-requires
+get_u16-e-requires c = let a = c.args in let h = c.requires in omega (arith, raw_stands a.p.now a.top a.job.now (store a.p.now a.w.now) a.at h.2 h.1 (λ i. (c.type_inv.job i).fits) constant h.3)
+
+pub load-requires : goal.load-requires
+load-requires c = let a = c.args in let h = c.requires in let m = room a.job.now a.p.now h.1 in let g = raw_cited a.p.now a.top a.job.now (store a.p.now a.w.now) a.at h.2 h.1 (λ i. (c.type_inv.job i).fits) h.3 in (search rules, rw c.get_u16-e.ensures (omega (arith, m.offsets, g.0)))
+
+pub tag_at-tag-requires : goal.tag_at-tag-requires
+tag_at-tag-requires c = let a = c.args in let h = c.requires in rw (c.load.ensures.word, c.get_u16-e.ensures) (raw_cited a.p.now a.top a.job.now (store a.p.now a.w.now) a.at h.2 h.1 (λ i. (c.type_inv.job i).fits) h.3).1
+
+pub place_constant-code-requires : goal.place_constant-code-requires
+place_constant-code-requires c = let a = c.args in let h = c.requires in let m = room a.job.now a.p.now h.1 in let g = raw_cited a.p.now a.top a.job.now (store a.p.now a.w.now) a.at h.2 h.1 (λ i. (c.type_inv.job i).fits) h.3 in (search rules, m.raws, some-raws a.p.now a.top a.job.now (store a.p.now a.w.now) a.at h.2, g.2, top-low a.p.now a.top a.job.now (store a.p.now a.w.now) a.at h.2, rw c.get_u16-n.ensures (first_low a.p.now a.top a.job.now (store a.p.now a.w.now) a.at h.2 h.1 (λ i. (c.type_inv.job i).fits)), rw c.get_u16-e.ensures (omega (arith, g.0, m.entries)))
+
+pub overflow_add-at-3 : goal.overflow_add-at-3
+overflow_add-at-3 c = let a = c.args in let h = c.requires in omega (arith, raw_stands a.p.now a.top a.job.now (store a.p.now a.w.now) a.at h.2 h.1 (λ i. (c.type_inv.job i).fits) constant h.3, (room a.job.now a.p.now h.1).bytes)
+
+pub answer-requires : goal.answer-requires
+answer-requires c = let a = c.args in let h = c.requires in raw_code a.p.now a.top a.job.now (store a.p.now a.w.now) a.at h.2 h.1 (λ i. (c.type_inv.job i).fits) h.3 c.tag_at-tag.result _ c.place_constant-code.result (rw (c.is_long.ensures, c.get_u16-e.ensures, c.get_u16-n.ensures) at c.place_constant-code.ensures)
+
+pub returns : goal.returns
+returns c = let a = c.args in let h = c.requires in raw_done_lem a.p.now a.top a.job.now (store a.p.now a.w.now) a.at h.2 h.1 (λ i. (c.type_inv.job i).fits) h.3 c.tag_at-tag.result _ c.place_constant-code.result (rw (c.is_long.ensures, c.get_u16-e.ensures, c.get_u16-n.ensures) at c.place_constant-code.ensures) c.answer.result (rw (c.load.ensures.word, c.get_u16-e.ensures) at c.tag_at-tag.ensures) c.answer.ensures

@@ -1,0 +1,17 @@
+-- `definitions::resolve_raws` meets its contract. Assumes nothing.
+use Rattle.definitions.proofs.Ends.{SoFar, table_still, raws_begin, same-raw, raws_next, raws_refused, raws_end}
+use Rattle.definitions.proofs.Rooms.{room}
+use Rattle.store.specs.Regions.{NODE-HEADS, ORDER}
+use Rattle.store.specs.Store.{size, store}
+use lib.ListN.{length}
+use native.Mathlib.Omega.{arith}
+use Prim.Native.Nat.{◌≤◌, ◌-◌}
+use mathlib.Core.Path.{◌≡◌, refl}
+use borrow.Author.Rules.{rules}
+use Rattle.definitions.proofs.resolve_raws.Given as goal
+
+abbrev pub invariant-loop-i : goal.invariant-loop-i
+invariant-loop-i l = (length l.w ≡ length l.initial.w) × (l.i ≤ l.n) × SoFar (size l.p NODE-HEADS) l.job (store l.p l.initial.w) (store l.p l.w) l.i l.n
+
+abbrev pub decreases-loop-i : goal.decreases-loop-i
+decreases-loop-i l = l.n - l.i

@@ -1,3 +1,0 @@
--- Made by walks.py.
-pub mod end_pool
-pub mod name_slot

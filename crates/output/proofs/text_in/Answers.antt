@@ -1,0 +1,26 @@
+-- `output::text_in` meets its contract. Assumes nothing.
+use mathlib.Core.Path.{refl, ap, ◌∙◌}
+use mathlib.Core.List.{[]}
+use native.Mathlib.Omega.{arith}
+use Rattle.definition.specs.Numbering.{attribute_name}
+use Rattle.store.specs.Store.{store}
+use Rattle.output.specs.Names.{text_of}
+use Rattle.output.specs.Contents.{finished_in, shown_in, text_entry}
+use Rattle.output.proofs.Classes.{text_some, text_nothing}
+use Rattle.output.proofs.Shown.{shown-node, shown-nothing, shown-empty, shown-attribute}
+use Rattle.output.proofs.text_in.Goals as goal
+
+pub node_text-requires : goal.node_text-requires
+node_text-requires c = let q = c.requires in (q.0, q.1, q.2, (q.3.1 c.if-content-lt-NOTHING.true).0)
+
+pub returns-then-content-lt-NOTHING : goal.returns-then-content-lt-NOTHING
+returns-then-content-lt-NOTHING c = let a = c.args in let t = store a.p.now a.w.now in rw (shown-node (finished_in a.job.now t) a.content c.if-content-lt-NOTHING.true) c.node_text.ensures
+
+pub returns-then-content-eq-NOTHING : goal.returns-then-content-eq-NOTHING
+returns-then-content-eq-NOTHING c = let a = c.args in let t = store a.p.now a.w.now in text_nothing (shown_in a.job.now t a.content) (shown-nothing (finished_in a.job.now t) a.content c.if-content-eq-NOTHING.true)
+
+pub returns-then-content-eq-EMPTY : goal.returns-then-content-eq-EMPTY
+returns-then-content-eq-EMPTY c = let a = c.args in let t = store a.p.now a.w.now in (omega arith, ap text_of (shown-empty (finished_in a.job.now t) a.content c.if-content-eq-EMPTY.true) ∙ text_some (text_entry []) refl)
+
+pub returns : goal.returns
+returns c = let a = c.args in let t = store a.p.now a.w.now in ap text_of (shown-attribute (finished_in a.job.now t) a.content c.if-content-lt-NOTHING.false c.if-content-eq-NOTHING.false c.if-content-eq-EMPTY.false) ∙ text_some (text_entry attribute_name) refl

@@ -1,0 +1,18 @@
+-- `output::write_marks` meets its contract: the loop has copied the marks before i. Assumes nothing.
+use mathlib.Core.Path.{◌≡◌, refl}
+use Prim.Native.Nat.{◌-◌, ◌≤◌}
+use native.Mathlib.Omega.{arith}
+use lib.Seq.{paste, paste-zero}
+use lib.ListN.{length, length-set}
+use borrow.Author.Rules.{rules}
+use Rattle.store.specs.Store.{store}
+use Rattle.store.specs.Regions.{ORIGINS}
+use Rattle.store.proofs.Stores.{length-store}
+use Rattle.output.proofs.Rowing.{answers_next, answers_end}
+use Rattle.output.proofs.write_marks.Given as goal
+
+abbrev pub invariant-loop-i : goal.invariant-loop-i
+invariant-loop-i l = (length l.marks ≡ length l.initial.marks) × (l.i ≤ l.n) × (l.marks ≡ paste l.initial.marks 0 (store l.p l.w ORIGINS) l.i)
+
+abbrev pub decreases-loop-i : goal.decreases-loop-i
+decreases-loop-i l = l.n - l.i

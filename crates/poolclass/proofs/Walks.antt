@@ -1,2 +1,0 @@
--- Made by walks.py.
-pub mod run_job

@@ -1,0 +1,19 @@
+-- `poolrun_text::put_decimal` meets its contract. Assumes nothing.
+use mathlib.Core.Path.{◌∙◌}
+use native.Mathlib.Omega.{arith}
+use borrow.Author.Rules.{rules}
+use Rattle.poolrun_text.proofs.Putting.{reworded}
+use Rattle.printing.proofs.Decimals.{decimal-is, few}
+use Rattle.poolrun_text.proofs.put_decimal.Goals as goal
+
+pub put_digits-requires : goal.put_digits-requires
+put_digits-requires c = let d = c.type_inv.digits in
+    let a = c.args in
+    (few c.decimal-k.result a.n (omega arith) c.decimal-k.ensures.len, omega arith)
+
+pub returns : goal.returns
+returns c = let d = c.type_inv.digits in
+    let n = c.args.n in
+    let put = c.put_digits in
+    let short = few c.decimal-k.result n (omega arith) c.decimal-k.ensures.len in
+    record { upper_bound = omega (arith, short, put.ensures.value); behind = reworded (c.before.before.before.before.before.decimal.ensures.1.1 ∙ decimal-is c.decimal-k.result n c.decimal-k.ensures.len) put.ensures.behind }

@@ -1,0 +1,56 @@
+-- `resolver::resolve` meets its contract: what is left of the definition's run is the whole, and what is owed falls with each item.
+-- Assumes nothing.
+use mathlib.Core.Path.{◌≡◌, refl, ◌∙◌}
+use mathlib.Core.List.{map}
+use Prim.Native.Nat.{◌+◌}
+use native.Mathlib.Omega.{arith}
+use lib.ListN.{length}
+use Rattle.laws.specs.Faithful.{owing}
+use Rattle.store.specs.Words.{mark_word}
+use Rattle.store.specs.Regions.{COUNTS, MARKS, NODE-HEADS, STACK}
+use Rattle.store.specs.JobIn.{linked_in}
+use Rattle.store.specs.Store.{store, size}
+use Rattle.store.proofs.Laying.{work-sizes}
+use Rattle.store.proofs.Stores.{length-store}
+use Rattle.resolver.proofs.Going.{Resolving, goal_fits, begin, table_now, visits_fit, running_top, resolving_next, resolving_less, end_refused, end-good}
+use Rattle.resolver.proofs.Stepping.{few_of}
+use Rattle.resolver.proofs.resolve.Goals as goal
+
+pub load-visits-requires : goal.load-visits-requires
+load-visits-requires c = let q = c.requires in (q.0, omega (arith, (work-sizes _ _ q.1).counts))
+
+pub save-requires : goal.save-requires
+save-requires c = let q = c.requires in (q.0, omega (arith, (work-sizes _ _ q.1).stack), goal_fits _ _ (few_of _ _ q.1).entries q.4)
+
+pub loop-n-init : goal.loop-n-init
+loop-n-init c = let q = c.requires in let a = c.args in (refl, begin _ _ _ _ _ c.save.ensures _ q.1 q.3 q.4 (length-store a.p.now a.w.now STACK) _ c.load-visits.ensures.word)
+
+pub overflow_sub-n : goal.overflow_sub-n
+overflow_sub-n c = omega (arith, c.loop-n-test.true)
+
+pub step-n-requires : goal.step-n-requires
+step-n-requires c = let q = c.requires in let z = c.loop-n.invariant in ((q.0.0, omega (arith, q.0.1, z.0, c.save.auto.w)), q.1, table_now (size c.args.p.now NODE-HEADS) _ _ _ _ c.save.ensures _ q.2 z.1.kept, running_top _ _ _ _ _ _ _ z.1 c.loop-n-test.true)
+
+pub shape_of-w-then-n-ge-REFUSED : goal.shape_of-w-then-n-ge-REFUSED
+shape_of-w-then-n-ge-REFUSED c = c.step-n.auto.w ∙ c.loop-n.invariant.0 ∙ c.save.auto.w
+
+pub returns-then-n-ge-REFUSED : goal.returns-then-n-ge-REFUSED
+returns-then-n-ge-REFUSED c = end_refused _ _ _ _ _ c.save.ensures _ _ _ _ _ c.loop-n.invariant.1 c.loop-n-test.true c.step-n.ensures c.if-n-ge-REFUSED.true
+
+pub overflow_add-visits : goal.overflow_add-visits
+overflow_add-visits c = omega (arith, visits_fit _ _ _ _ _ c.save.ensures _ _ _ c.requires.5 c.loop-n.invariant.1)
+
+pub loop-n-smaller : goal.loop-n-smaller
+loop-n-smaller c = resolving_less _ _ _ _ _ _ _ c.loop-n.invariant.1 _ _ c.loop-n-test.true c.step-n.ensures c.if-n-ge-REFUSED.false
+
+pub loop-n-preserved : goal.loop-n-preserved
+loop-n-preserved c = (c.step-n.auto.w ∙ c.loop-n.invariant.0, resolving_next _ _ _ _ _ _ _ c.loop-n.invariant.1 _ _ c.loop-n-test.true c.step-n.ensures c.if-n-ge-REFUSED.false)
+
+pub save-requires-2 : goal.save-requires-2
+save-requires-2 c = let q = c.requires in let z = c.loop-n.invariant in ((q.0.0, omega (arith, q.0.1, z.0, c.save.auto.w)), omega (arith, (work-sizes _ _ q.1).counts), omega (arith, visits_fit _ _ _ _ _ c.save.ensures _ _ _ q.5 z.1))
+
+pub shape_of-w : goal.shape_of-w
+shape_of-w c = c.save-2.auto.w ∙ c.loop-n.invariant.0 ∙ c.save.auto.w
+
+pub returns : goal.returns
+returns c = let q = c.requires in let p = c.args.p.now in rw c.save-2.ensures (end-good _ _ _ _ _ c.save.ensures _ q.1 _ _ _ q.2 q.3 q.4 (omega (arith, (work-sizes _ _ q.1).counts, length-store p c.loop-n.w COUNTS)) c.loop-n-test.false c.loop-n.invariant.1)

@@ -1,0 +1,16 @@
+-- `rows::same_row` meets its contract. The slots behind are the same. Assumes nothing.
+use native.Mathlib.Omega.{arith}
+use mathlib.Core.Path.{refl}
+use Prim.Native.Nat.{◌-◌}
+use lib.ListN.{length, get_or}
+use Rattle.store.specs.Regions.{GIVEN, FIRSTS, SIZES, CHILDREN, NODES}
+use Rattle.store.specs.Store.{store}
+use Rattle.rows.proofs.Slotting.{slot_at, Matching, matching_begin, matching_next, rows_differ, rows_unlike, rows_alike}
+use Rattle.rows.proofs.Reading.{kid_place, kid_add, kid_small}
+use Rattle.rows.proofs.same_row.Given as goal
+
+abbrev pub invariant-loop-i : goal.invariant-loop-i
+invariant-loop-i l = Matching (slot_at (store l.p l.w GIVEN) (store l.p l.w CHILDREN) (store l.p l.w FIRSTS) (store l.p l.w SIZES) (get_or (store l.p l.w NODES) l.k 0)) (slot_at (store l.p l.w GIVEN) (store l.p l.w CHILDREN) (store l.p l.w FIRSTS) (store l.p l.w SIZES) (get_or (store l.p l.w NODES) l.l 0)) l.n l.i
+
+abbrev pub decreases-loop-i : goal.decreases-loop-i
+decreases-loop-i l = l.n - l.i

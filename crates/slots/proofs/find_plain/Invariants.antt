@@ -1,0 +1,11 @@
+use mathlib.Core.Path.{refl, sym, ◌∙◌}
+use borrow.Author.Rules.{rules}
+use Rattle.definition.specs.Slots.{plain_ends}
+use Rattle.slots.proofs.Scans.{Rest, passed, found, ended}
+use Rattle.slots.proofs.find_plain.Given as goal
+
+abbrev pub invariant-loop-i : goal.invariant-loop-i
+invariant-loop-i l = Rest (plain_ends l.ldc) l.gaps l.count l.at l.i
+
+abbrev pub decreases-loop-i : goal.decreases-loop-i
+decreases-loop-i l = l.count - l.i

@@ -1,0 +1,11 @@
+use mathlib.Core.Path.{refl, sym, ◌∙◌}
+use borrow.Author.Rules.{rules}
+use Rattle.laws.proofs.Slots.SlotRequest.{has_two}
+use Rattle.slots.proofs.Scans.{Rest, passed, found, ended}
+use Rattle.slots.proofs.find_wide.Given as goal
+
+abbrev pub invariant-loop-i : goal.invariant-loop-i
+invariant-loop-i l = Rest has_two l.gaps l.count l.at l.i
+
+abbrev pub decreases-loop-i : goal.decreases-loop-i
+decreases-loop-i l = l.count - l.i

@@ -1,0 +1,11 @@
+-- `slots::is_odd` meets its contract: by the gap's slots. Assumes nothing.
+use borrow.Author.Rules.{rules}
+use Rattle.definition.specs.Slots.{is_odd}
+use Rattle.slots.proofs.is_odd.Goals as goal
+
+pub len-requires : goal.len-requires
+len-requires c = tt
+
+pub returns : goal.returns
+unfolding is_odd
+returns c = rw c.len.ensures

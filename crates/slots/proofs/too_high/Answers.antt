@@ -1,0 +1,9 @@
+-- `slots::too_high` meets its contract: the two tests are those of `too_high`. Assumes nothing.
+use borrow.Author.Rules.{rules}
+use Rattle.definition.specs.Slots.{too_high}
+use Rattle.slots.specs.Gaps.{gap_of}
+use Rattle.slots.proofs.too_high.Goals as goal
+
+pub returns-then-ldc : goal.returns-then-ldc
+unfolding too_high gap_of
+returns-then-ldc c = rw c.if-ldc.true

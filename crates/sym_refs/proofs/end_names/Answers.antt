@@ -1,0 +1,46 @@
+-- `sym_refs::end_names` meets its contract. The loop ends the words below i. Assumes nothing.
+use native.Mathlib.Omega.{arith}
+use Prim.Native.Nat.{◌-◌}
+use lib.ListN.{length}
+use mathlib.Core.Path.{refl, ◌≡◌, ◌∙◌}
+use Rattle.store.specs.Regions.{NAME-GOALS}
+use Rattle.store.specs.Store.{store, size}
+use Rattle.store.proofs.Stores.{length-store}
+use Rattle.sym_refs.proofs.Rounds.{Finishing, finish-begin, finish-next, finish-end}
+use borrow.Author.Rules.{rules}
+use Rattle.sym_refs.proofs.end_names.Goals as goal
+
+pub size_of-n-requires : goal.size_of-n-requires
+size_of-n-requires c = (c.requires.0, omega arith)
+
+pub loop-i-init : goal.loop-i-init
+loop-i-init c = (refl, finish-begin _ _)
+
+pub load-requires : goal.load-requires
+load-requires c = let e = c.loop-i.invariant.0 in (search rules, omega (arith, c.size_of-n.ensures))
+
+pub ended-goal-requires : goal.ended-goal-requires
+ended-goal-requires c = c.load.ensures.small
+
+pub save-requires : goal.save-requires
+save-requires c = let e = c.loop-i.invariant.0 in (search rules, omega (arith, c.size_of-n.ensures), c.ended-goal.ensures.1)
+
+pub overflow_add-i : goal.overflow_add-i
+overflow_add-i c = omega arith
+
+pub loop-i-smaller : goal.loop-i-smaller
+loop-i-smaller c = omega arith
+
+pub loop-i-preserved : goal.loop-i-preserved
+loop-i-preserved c = let l = c.loop-i in let a = c.args in (
+  c.save.auto.w ∙ l.invariant.0,
+  rw c.save.ensures
+      (finish-next (store a.p.now a.w.now) (store a.p.now l.w) (size a.p.now NAME-GOALS) l.i c.ended-goal.result c.load.result l.invariant.1
+      (omega (arith, c.loop-i-test.true, c.size_of-n.ensures))
+      (omega (arith, length-store a.p.now l.w NAME-GOALS))
+      c.load.ensures.word
+      c.ended-goal.ensures.0),
+)
+
+pub returns : goal.returns
+returns c = finish-end _ _ _ c.loop-i.i (omega (arith, c.loop-i-test.false, c.size_of-n.ensures)) c.loop-i.invariant.1

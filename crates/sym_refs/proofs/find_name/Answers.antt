@@ -1,0 +1,61 @@
+-- `sym_refs::find_name` meets its contract. The loop walks down the chain of the name's hash. Assumes nothing.
+use Prim.Native.Nat.{◌-◌}
+use Rattle.sym_refs.proofs.Lookup.{item_there, told-yes, told-no}
+use native.Mathlib.Omega.{arith}
+use Rattle.store.specs.Words.{label_at}
+use Rattle.store.specs.Regions.{NAME-HEADS, NAME-LINKS, NAME-PLACES}
+use Rattle.store.specs.Chains.{head_of}
+use Rattle.store.specs.Store.{store, size}
+use Rattle.store.proofs.Searching.{sought_hit, sought_miss}
+use Rattle.store.proofs.Stores.{length-store}
+use Rattle.store.proofs.Walking.{Down}
+use Rattle.sym_refs.specs.Leading.{Named}
+use Rattle.sym_refs.specs.Names.{hash_name, name_count}
+use Rattle.sym_refs.proofs.Rooms.{room}
+use Rattle.sym_refs.proofs.Lookup.{name_start, name_on}
+use Rattle.sym_refs.proofs.find_name.Goals as goal
+
+pub first_link-link-requires : goal.first_link-link-requires
+first_link-link-requires c = let a = c.args in let m = room a.job.now a.p.now c.requires.1 in (c.requires.0, m.heads, c.requires.5)
+
+pub loop-link-init : goal.loop-link-init
+loop-link-init c = let a = c.args in let m = room a.job.now a.p.now c.requires.1 in
+    rw c.first_link-link.ensures
+    (name_start (size a.p.now NAME-HEADS) a.job.now a.first (label_at a.job.now a.at) a.hash (store a.p.now a.w.now NAME-PLACES) (store a.p.now a.w.now NAME-HEADS) (store a.p.now a.w.now NAME-LINKS) (name_count (store a.p.now a.w.now)) m.heads.two (length-store a.p.now a.w.now NAME-HEADS) c.requires.2 c.requires.4)
+
+pub overflow_sub-link : goal.overflow_sub-link
+overflow_sub-link c = omega arith
+
+pub load-requires : goal.load-requires
+load-requires c = let a = c.args in let m = room a.job.now a.p.now c.requires.1 in (c.requires.0, omega (arith, m.places, c.loop-link.invariant.below, c.requires.2.few))
+
+pub names_same-requires : goal.names_same-requires
+names_same-requires c = let a = c.args in let t = store a.p.now a.w.now in
+    let j = item_there (size a.p.now NAME-HEADS) a.job.now (t NAME-PLACES) (t NAME-HEADS) (t NAME-LINKS) (name_count t) c.requires.2 (c.loop-link.link - 1) c.load.result (omega (arith, c.loop-link-test.true, c.loop-link.invariant.below)) c.load.ensures.word in
+    ((j.0, j.2), c.requires.3)
+
+pub returns-then-names_same : goal.returns-then-names_same
+returns-then-names_same c = let a = c.args in let t = store a.p.now a.w.now in let l = c.loop-link in
+    sought_hit _ _ l.link l.invariant.below c.loop-link-test.true
+    (told-yes (size a.p.now NAME-HEADS) a.job.now (t NAME-PLACES) (t NAME-HEADS) (t NAME-LINKS) (name_count t) c.requires.2 (l.link - 1) c.load.result (omega (arith, c.loop-link-test.true, l.invariant.below)) c.load.ensures.word a.first (label_at a.job.now a.at) c.names_same.result c.names_same.ensures c.if-names_same.true)
+
+pub overflow_sub-link-in-loop-link : goal.overflow_sub-link-in-loop-link
+overflow_sub-link-in-loop-link c = omega arith
+
+pub load-link-requires : goal.load-link-requires
+load-link-requires c = let a = c.args in let m = room a.job.now a.p.now c.requires.1 in (c.requires.0, omega (arith, m.links, c.loop-link.invariant.below, c.requires.2.few))
+
+pub loop-link-smaller : goal.loop-link-smaller
+loop-link-smaller c = let a = c.args in let t = store a.p.now a.w.now in let l = c.loop-link in let m = room a.job.now a.p.now c.requires.1 in
+    rw c.load-link.ensures.word
+    (name_on (size a.p.now NAME-HEADS) a.job.now a.first (label_at a.job.now a.at) a.hash (t NAME-PLACES) (t NAME-HEADS) (t NAME-LINKS) (name_count t) m.heads.two (length-store a.p.now a.w.now NAME-HEADS) c.requires.2 c.requires.4 l.link c.loop-link-test.true l.invariant
+    (told-no (size a.p.now NAME-HEADS) a.job.now (t NAME-PLACES) (t NAME-HEADS) (t NAME-LINKS) (name_count t) c.requires.2 (l.link - 1) c.load.result (omega (arith, c.loop-link-test.true, l.invariant.below)) c.load.ensures.word a.first (label_at a.job.now a.at) c.names_same.result c.names_same.ensures c.if-names_same.false)).1
+
+pub loop-link-preserved : goal.loop-link-preserved
+loop-link-preserved c = let a = c.args in let t = store a.p.now a.w.now in let l = c.loop-link in let m = room a.job.now a.p.now c.requires.1 in
+    rw c.load-link.ensures.word
+    (name_on (size a.p.now NAME-HEADS) a.job.now a.first (label_at a.job.now a.at) a.hash (t NAME-PLACES) (t NAME-HEADS) (t NAME-LINKS) (name_count t) m.heads.two (length-store a.p.now a.w.now NAME-HEADS) c.requires.2 c.requires.4 l.link c.loop-link-test.true l.invariant
+    (told-no (size a.p.now NAME-HEADS) a.job.now (t NAME-PLACES) (t NAME-HEADS) (t NAME-LINKS) (name_count t) c.requires.2 (l.link - 1) c.load.result (omega (arith, c.loop-link-test.true, l.invariant.below)) c.load.ensures.word a.first (label_at a.job.now a.at) c.names_same.result c.names_same.ensures c.if-names_same.false)).0
+
+pub returns : goal.returns
+returns c = sought_miss _ _ _ _ c.loop-link.link c.loop-link-test.false c.loop-link.invariant
