@@ -1,18 +1,19 @@
 -- `job::first_reference` meets its contract. Assumes nothing.
 use Rattle.job.proofs.Stored.{bootstrap_first, handle_first, constant_first}
 use borrow.Author.Rules.{rules}
+use borrow.Enum.Refused.{opened}
 use Rattle.job.proofs.first_reference.Goals as goal
 
 pub returns-in_default : goal.returns-in_default
 returns-in_default c = let a = c.args in
-    bootstrap_first a.job.now a.at _ _ c.tag_at.ensures c.Opening-of.ensures.0 c.in_default.in_default-own.keys2 c.Opening-of.ensures.1
+    bootstrap_first a.job.now a.at _ _ c.tag_at.ensures c.opening_of.ensures.0 (opened c.in_default.in_default-own.keys2) c.opening_of.ensures.1
 
 pub returns-in-KindOne : goal.returns-in-KindOne
 returns-in-KindOne c = let a = c.args in
-    let t = c.Opening-of.ensures in
+    let t = c.opening_of.ensures in
     handle_first a.job.now a.at _ _ c.tag_at.ensures t.0 c.in-Constant.shape c.in-Constant.is t.1 c.in-KindOne.is
 
 pub returns-in_default-shape : goal.returns-in_default-shape
 returns-in_default-shape c = let a = c.args in
-    let t = c.Opening-of.ensures in
-    constant_first a.job.now a.at _ _ c.tag_at.ensures t.0 c.in-Constant.shape c.in-Constant.is t.1 c.in_default-shape.in_default-shape-own.keys2
+    let t = c.opening_of.ensures in
+    constant_first a.job.now a.at _ _ c.tag_at.ensures t.0 c.in-Constant.shape c.in-Constant.is t.1 (opened c.in_default-shape.in_default-shape-own.keys2)

@@ -26,7 +26,7 @@ pub form_definition-requires : goal.form_definition-requires
 form_definition-requires c = (c.loop-at-test.true, c.loop-at.invariant.1)
 
 pub returns-then-more-ne0 : goal.returns-then-more-ne0
-returns-then-more-ne0 c = let told = c.form_held.ensures in record { job_value = told.0; within = told.1 }
+returns-then-more-ne0 c = c.form_held.ensures
 
 pub loop-at-smaller : goal.loop-at-smaller
 loop-at-smaller c = let m = rw c.in-To.is at c.form_definition.ensures in omega (arith, m.past, c.loop-at-test.true)

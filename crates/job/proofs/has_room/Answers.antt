@@ -2,6 +2,7 @@
 use Rattle.job.proofs.Faults.{room_other}
 use Rattle.job.specs.Forms.{room_for}
 use borrow.Author.Rules.{rules}
+use borrow.Enum.Refused.{opened}
 use Rattle.job.proofs.has_room.Goals as goal
 
 pub returns-in-Constant : goal.returns-in-Constant
@@ -17,4 +18,4 @@ unfolding room_for
 returns-in-Expression c = rw c.in-Expression.is
 
 pub returns-in_default : goal.returns-in_default
-returns-in_default c = let a = c.args in room_other a.opening a.constants a.bootstraps c.in_default.in_default-own.keys4
+returns-in_default c = let a = c.args in room_other a.opening a.constants a.bootstraps (opened c.in_default.in_default-own.keys4)

@@ -2,6 +2,7 @@
 use Rattle.job.proofs.Faults.{plain_other}
 use Rattle.job.specs.Forms.{is_plain}
 use borrow.Author.Rules.{rules}
+use borrow.Enum.Refused.{opened}
 use Rattle.job.proofs.is_plain.Goals as goal
 
 pub returns-in-Version : goal.returns-in-Version
@@ -21,4 +22,4 @@ unfolding is_plain
 returns-in-Expression c = rw c.in-Expression.is
 
 pub returns-in_default : goal.returns-in_default
-returns-in_default c = plain_other c.args.opening c.in_default.in_default-own.keys5
+returns-in_default c = plain_other c.args.opening (opened c.in_default.in_default-own.keys5)

@@ -2,6 +2,7 @@
 use Rattle.job.proofs.Faults.{fault_other}
 use Rattle.job.specs.Forms.{setting_fault}
 use borrow.Author.Rules.{rules}
+use borrow.Enum.Refused.{opened}
 use Rattle.job.proofs.setting_fault.Goals as goal
 
 pub returns-in-Version : goal.returns-in-Version
@@ -17,4 +18,4 @@ unfolding setting_fault
 returns-in-Highest c = rw c.in-Highest.is c.highest_fault.ensures
 
 pub returns-in_default : goal.returns-in_default
-returns-in_default c = let a = c.args in fault_other a.opening a.number a.counts c.in_default.in_default-own.keys4
+returns-in_default c = let a = c.args in fault_other a.opening a.number a.counts (opened c.in_default.in_default-own.keys4)

@@ -2,6 +2,7 @@
 use Rattle.job.proofs.Faults.{number-other}
 use Rattle.job.specs.Forms.{number_opened}
 use borrow.Author.Rules.{rules}
+use borrow.Enum.Refused.{opened}
 use Rattle.job.proofs.setting_number.Goals as goal
 
 pub get_u16-requires : goal.get_u16-requires
@@ -19,4 +20,4 @@ unfolding number_opened
 returns-in-Highest c = rw c.in-Highest.is c.get_u16-in-Highest.ensures
 
 pub returns-in_default : goal.returns-in_default
-returns-in_default c = let a = c.args in number-other a.opening a.job.now a.at c.in_default.in_default-own.keys3
+returns-in_default c = let a = c.args in number-other a.opening a.job.now a.at (opened c.in_default.in_default-own.keys3)
