@@ -109,7 +109,9 @@ module _ (hash hash' : ℕ → ℕ) (hs xs : List ℕ) (n k : ℕ) (c : Chains h
             rw add-one
             (⊎_elim
             (λ (e : x ≡ k).
-            rw e
+            subst
+            (λ (y : ℕ). get_or (set hs k (suc n)) y 0 ≡ last (λ i. eqb (hash' i) y) (suc n))
+            (sym e)
             (get_or-set_same hs k (suc n) 0 inside ∙ sym (last-yes (λ i. eqb (hash' i) k) n (eq-eqb (hash' n) k new))))
             (λ (e : x ≡ k → ⊥).
             get_or-set_other hs k x (suc n) 0 e
