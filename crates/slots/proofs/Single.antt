@@ -13,9 +13,9 @@ use Rattle.slots.specs.declared.Allocated.{Allocated}
 use Rattle.slots.specs.declared.Allocated.TheVariants.{Slot, None}
 use Rattle.slots.specs.declared.Found.{Found}
 use Rattle.slots.specs.Gaps.{GapTable, gap_of, row_of, gaps_at, slots_at_lem, answer_of, Answered, found_in, moved_by, Written}
-use Rattle.slots.proofs.Walks.take_slot.Reads as take-slot
-use Rattle.slots.proofs.Walks.request_slot.Reads as request-slot
-use Rattle.slots.proofs.Walks.push_gap.Reads as push-gap
+use Rattle.slots.proofs.take_slot.Reads as take-slot
+use Rattle.slots.proofs.request_slot.Reads as request-slot
+use Rattle.slots.proofs.push_gap.Reads as push-gap
 
 -- a table is what its gaps in use say and what is behind them
 table_back : (count : ℕ) (rows : GapTable) → map row_of (gaps_at rows count) ++ drop count rows ≡ rows

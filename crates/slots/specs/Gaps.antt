@@ -8,7 +8,6 @@ use Rattle.slots.specs.declared.Positions.{Positions}
 use Rattle.slots.specs.declared.Allocated.{Allocated}
 use Rattle.slots.specs.declared.Allocated.TheVariants.{Slot, None}
 use Rattle.slots.specs.declared.Found.{Found}
-use Rattle.slots.specs.declared.Found.TheVariants as Found
 
 -- the lent table: a row is a gap record of the code
 abbrev pub GapTable : Type 0

@@ -1,9 +1,6 @@
-use borrow.Author.Rules.{rules}
 use Rattle.slots.proofs.Answers.{wide_unmet, wide_fits, wide_met}
 use Rattle.slots.proofs.alloc_wide.Goals as goal
 -- `slots::alloc_wide` meets its contract: with a gap of two by `wide-met`, and without one by `wide-unmet`. Assumes nothing.
-mod Lts
-mod Tie
 use native.Mathlib.Omega.{arith}
 
 pub find_wide-wide-requires : goal.find_wide-wide-requires

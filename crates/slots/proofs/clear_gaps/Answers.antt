@@ -1,15 +1,11 @@
-use mathlib.Core.Path.{◌≡◌, ◌∙◌}
-use Prim.Native.Nat.{◌≤◌, ◌-◌}
+use mathlib.Core.Path.{◌∙◌}
 use native.Mathlib.Omega.{arith}
-use lib.ListN.{length, drop, replicate}
 use borrow.Author.Rules.{rules}
 use Rattle.writer.proofs.Laws.{fill_more, fill_all}
 use Rattle.slots.specs.Gaps.{no_gap}
 use Rattle.slots.proofs.clear_gaps.Goals as goal
+
 -- `slots::clear_gaps` meets its contract. The loop keeps: the first i gaps are blank, the rest as it was. Assumes nothing.
-mod Lts
-mod Tie
-use mathlib.Core.List.{◌++◌}
 
 pub loop-i-init : goal.loop-i-init
 loop-i-init c = (search rules, c.no_gap-gap.ensures, search rules, search rules)

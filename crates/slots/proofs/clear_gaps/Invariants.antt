@@ -1,9 +1,7 @@
-use mathlib.Core.Path.{◌≡◌, ◌∙◌}
+use mathlib.Core.List.{◌++◌}
+use mathlib.Core.Path.{◌≡◌}
 use Prim.Native.Nat.{◌≤◌, ◌-◌}
-use native.Mathlib.Omega.{arith}
 use lib.ListN.{length, drop, replicate}
-use borrow.Author.Rules.{rules}
-use Rattle.writer.proofs.Laws.{fill_more, fill_all}
 use Rattle.slots.specs.Gaps.{no_gap}
 use Rattle.slots.proofs.clear_gaps.Given as goal
 

@@ -1,6 +1,5 @@
 -- `slots::count_by` meets its contract: by the gap's end. Assumes nothing.
 use mathlib.Core.Path.{sym}
-use borrow.Author.Rules.{rules}
 use Rattle.slots.specs.Gaps.{gap_of}
 use Rattle.slots.proofs.Counting.{count_hit, count_past}
 use Rattle.slots.proofs.count_by.Goals as goal

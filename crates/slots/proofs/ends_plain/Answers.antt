@@ -1,6 +1,5 @@
 -- `slots::ends_plain` meets its contract: at a gap that is too high, and else by its slots. Assumes nothing.
 use mathlib.Core.Path.{refl, sym, ◌∙◌}
-use borrow.Author.Rules.{rules}
 use Rattle.slots.proofs.Scans.{high_ends, low-ends}
 use Rattle.slots.proofs.ends_plain.Goals as goal
 

@@ -1,12 +1,9 @@
 use mathlib.Core.Path.{refl, sym, ◌∙◌}
-use borrow.Author.Rules.{rules}
 use Rattle.definition.specs.Slots.{plain_ends}
-use Rattle.slots.proofs.Scans.{Rest, passed, found, ended}
+use Rattle.slots.proofs.Scans.{passed, found, ended}
 use Rattle.slots.proofs.find_plain.Goals as goal
+
 -- `slots::find_plain` meets its contract: the loop keeps `Rest`, that the search from here on ends where the whole search does. Assumes nothing.
-mod Lts
-mod Tie
-use Prim.Native.Nat.{◌-◌}
 
 pub loop-i-init : goal.loop-i-init
 loop-i-init c = refl

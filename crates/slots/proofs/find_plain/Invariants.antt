@@ -1,7 +1,6 @@
-use mathlib.Core.Path.{refl, sym, ◌∙◌}
-use borrow.Author.Rules.{rules}
+use Prim.Native.Nat.{◌-◌}
 use Rattle.definition.specs.Slots.{plain_ends}
-use Rattle.slots.proofs.Scans.{Rest, passed, found, ended}
+use Rattle.slots.proofs.Scans.{Rest}
 use Rattle.slots.proofs.find_plain.Given as goal
 
 abbrev pub invariant-loop-i : goal.invariant-loop-i

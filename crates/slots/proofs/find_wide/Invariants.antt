@@ -1,7 +1,6 @@
-use mathlib.Core.Path.{refl, sym, ◌∙◌}
-use borrow.Author.Rules.{rules}
+use Prim.Native.Nat.{◌-◌}
 use Rattle.laws.proofs.Slots.SlotRequest.{has_two}
-use Rattle.slots.proofs.Scans.{Rest, passed, found, ended}
+use Rattle.slots.proofs.Scans.{Rest}
 use Rattle.slots.proofs.find_wide.Given as goal
 
 abbrev pub invariant-loop-i : goal.invariant-loop-i

@@ -1,5 +1,4 @@
 -- `slots::has_two` meets its contract: by the gap's slots. Assumes nothing.
-use borrow.Author.Rules.{rules}
 use Rattle.slots.proofs.has_two.Goals as goal
 
 pub len-requires : goal.len-requires

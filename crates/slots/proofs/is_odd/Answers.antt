@@ -1,5 +1,4 @@
 -- `slots::is_odd` meets its contract: by the gap's slots. Assumes nothing.
-use borrow.Author.Rules.{rules}
 use Rattle.definition.specs.Slots.{is_odd}
 use Rattle.slots.proofs.is_odd.Goals as goal
 

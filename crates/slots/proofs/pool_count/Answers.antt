@@ -1,10 +1,7 @@
 use native.Mathlib.Omega.{arith}
-use borrow.Author.Rules.{rules}
 use Rattle.slots.proofs.Counting.{count_none, by_last}
 use Rattle.slots.proofs.pool_count.Goals as goal
 -- `slots::pool_count` meets its contract: by the last gap alone, since the gaps' ends rise. Assumes nothing.
-mod Lts
-mod Tie
 use mathlib.Core.Path.{sym, ◌∙◌}
 
 pub overflow_add-result : goal.overflow_add-result

@@ -3,8 +3,6 @@ use borrow.Author.Rules.{rules}
 use Rattle.slots.proofs.Writing.{push_none, push_some}
 use Rattle.slots.proofs.push_gap.Goals as goal
 -- `slots::push_gap` meets its contract: by `push-none` and `push-some`. Assumes nothing.
-mod Lts
-mod Tie
 use native.Mathlib.Omega.{arith}
 
 pub returns-then-first-next : goal.returns-then-first-next

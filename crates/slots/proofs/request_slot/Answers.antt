@@ -1,10 +1,7 @@
 use native.Mathlib.Omega.{arith}
-use borrow.Author.Rules.{rules}
 use Rattle.slots.proofs.Checks.{checked, request_met, request_none}
 use Rattle.slots.proofs.request_slot.Goals as goal
 -- `slots::request_slot` meets its contract: the check gives what `slot_for` asks, and both ways out are those of `requested`. Assumes nothing.
-mod Lts
-mod Tie
 use mathlib.Core.Path.{sym, ◌∙◌}
 
 pub slot_for-requires : goal.slot_for-requires

@@ -1,9 +1,7 @@
 use Rattle.definition.specs.Slots.{slot_for}
 use Rattle.slots.proofs.slot_for.Goals as goal
+
 -- `slots::slot_for` meets its contract: `slot_for` goes by the same test. Assumes nothing.
-mod Lts
-mod Tie
-use borrow.Author.Rules.{rules}
 
 pub returns-then-wide : goal.returns-then-wide
 unfolding slot_for

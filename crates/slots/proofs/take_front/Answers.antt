@@ -1,10 +1,7 @@
 use lib.ListN.{set}
-use borrow.Author.Rules.{rules}
 use Rattle.slots.specs.Gaps.{gap_of, row_of, rows_less}
 use Rattle.slots.proofs.take_front.Goals as goal
 -- `slots::take_front` meets its contract: the one row that is written is that of `rows_less`. Assumes nothing.
-mod Lts
-mod Tie
 use mathlib.Core.Path.{ap}
 
 pub shorter-requires : goal.shorter-requires

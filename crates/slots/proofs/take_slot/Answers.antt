@@ -1,8 +1,6 @@
 use Rattle.slots.proofs.take_slot.Goals as goal
+
 -- `slots::take_slot` meets its contract. Assumes nothing.
-mod Lts
-mod Tie
-use borrow.Author.Rules.{rules}
 
 pub returns : goal.returns
 returns c = let a = c.slot_for-a in
