@@ -1,5 +1,4 @@
 -- `printing::put_fraction` meets its contract. The loop keeps: the fraction that is left is the whole's. Assumes nothing.
-use mathlib.Core.Logic.{inl, inr}
 use mathlib.Core.Path.{◌≡◌, refl, ◌∙◌}
 use Prim.Native.Nat.{◌%◌, ◌≤◌, ◌<◌}
 use native.Mathlib.Omega.{arith}
@@ -9,16 +8,17 @@ use Rattle.printing.proofs.Shown.{fraction-less, fraction-full, fraction-one}
 use borrow.Author.Rules.{rules}
 use borrow.Author.Tests.{eqb-true, eqb-false}
 use Rattle.printing.proofs.put_fraction.Goals as goal
+use Rattle.printing.proofs.put_fraction.Goals.{then-loop-count-test+else-m-eq0, else-loop-count-test}
 
 pub loop-count-init : goal.loop-count-init
 loop-count-init c = (omega arith, omega arith, refl)
 
 pub loop-count-preserved : goal.loop-count-preserved
 loop-count-preserved c = let l = c.loop-count in
-    (omega arith, omega arith, fraction-less l.count l.m (omega arith) (eqb-true (l.m % 16) 0 c.if-m-eq0.true-raw) ∙ l.invariant.2)
+    (omega arith, omega arith, fraction-less l.count l.m (omega arith) c.if-m-eq0.true ∙ l.invariant.2)
 
 pub returns : goal.returns
 returns c = let l = c.loop-count in
     let ended : hex_of l.count l.m ≡ fraction l.count l.m =
-    elim c.loop-count-test.branch [ inl (t, i) ↦ fraction-full l.count l.m (eqb-false (l.m % 16) 0 i.left) | inr t ↦ fraction-one l.count l.m (omega arith) ] in
+    elim c.loop-count-test.branch [ then-loop-count-test+else-m-eq0 w ↦ fraction-full l.count l.m w.if-m-eq0.false | else-loop-count-test w ↦ fraction-one l.count l.m (omega arith) ] in
     reworded (ended ∙ l.invariant.2) c.put_hex.ensures

@@ -1,5 +1,4 @@
 -- `printing::put_quoted` meets its contract. The loop keeps: of what stands behind the first quote, the bytes from i on and the second quote are left. Assumes nothing.
-use mathlib.Core.Logic.{inl, inr}
 use mathlib.Core.Path.{◌∙◌}
 use Prim.Native.Nat.{◌-◌, ◌≤◌}
 use native.Mathlib.Omega.{arith}
@@ -11,6 +10,7 @@ use Rattle.printing.proofs.Shown.{closed, closed_next, closed_end}
 use borrow.Author.Rules.{rules}
 use borrow.Author.Tests.{leb-false}
 use Rattle.printing.proofs.put_quoted.Goals as goal
+use Rattle.printing.proofs.put_quoted.Goals.{then-loop-i-test+else-at-room, else-loop-i-test}
 
 pub loop-i-init : goal.loop-i-init
 loop-i-init c = let a = c.args in
@@ -40,7 +40,7 @@ returns c = let a = c.args in
     let rest = closed (drop l.i (take a.size (drop a.from a.text.now))) in
     let ended : Printed l.out a.room l.at rest p.new.out p.result =
     elim c.loop-i-test.branch [
-      | inl (t, i) ↦ any_past rest l.invariant.1.can (leb-false l.at a.room i.left) p.ensures
-      | inr t ↦ reworded (closed_end a.text.now a.from a.size l.i (omega arith) (omega arith)) p.ensures
+      | then-loop-i-test+else-at-room w ↦ any_past rest l.invariant.1.can w.if-at-room.false p.ensures
+      | else-loop-i-test w ↦ reworded (closed_end a.text.now a.from a.size l.i (omega arith) (omega arith)) p.ensures
     ] in
     then c.requires.0 c.put-at.ensures (l.invariant.1.so p.new.out p.result ended)
