@@ -5,4 +5,4 @@ use Rattle.trace.proofs.Going.{one-step}
 use Rattle.trace.proofs.run_both.Goals as goal
 
 pub returns : goal.returns
-returns c = one-step (omega (arith, c)) c.get_u8-action.ensures c.get_u8.ensures c.get_u16-number.ensures c.is_right-right.ensures c.run_step-good.ensures c.run_step-bare.ensures c.one.ensures c.one_failed.ensures c.one_rested.ensures
+returns c = one-step (omega (arith, c)) c.get_u8-action.ensures c.get_u8.ensures c.get_u16-number.ensures c.is_right-right.ensures (c.run_step-good.ensures.value, c.run_step-good.ensures.flags_after) (c.run_step-bare.ensures.value, c.run_step-bare.ensures.flags_after) c.one.ensures c.one_failed.ensures c.one_rested.ensures

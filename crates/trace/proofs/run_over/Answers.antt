@@ -20,4 +20,4 @@ pub run_steps-requires : goal.run_steps-requires
 run_steps-requires c = record { trace_value = not-true _ (sym c.known_actions.ensures ∙ not-false _ c.if-not-known_actions.false-raw); flags_len = (c.if-flags-ne-SLOTS.false, blank_zeros.0, blank_zeros.1) }
 
 pub returns : goal.returns
-returns c = let told = formed (held c.args.pool.now c.args.places.now) c.args.trace.now c.args.flags.now _ _ c.if-trace-ne0.false c.if-flags-ne-SLOTS.false (not-true _ (sym c.known_actions.ensures ∙ not-false _ c.if-not-known_actions.false-raw)) c.run_steps.ensures in record { value = told.0; flags_after = told.1 }
+returns c = let told = formed (held c.args.pool.now c.args.places.now) c.args.trace.now c.args.flags.now _ _ c.if-trace-ne0.false c.if-flags-ne-SLOTS.false (not-true _ (sym c.known_actions.ensures ∙ not-false _ c.if-not-known_actions.false-raw)) (c.run_steps.ensures.value, c.run_steps.ensures.flags_after) in record { value = told.0; flags_after = told.1 }

@@ -6,15 +6,12 @@ use Rattle.trace.proofs.run_trace.Goals as goal
 
 pub returns-in_default : goal.returns-in_default
 returns-in_default c = let told = let args = c.args in
-    let noted = c.type_inv.places in
     unread args.pool.now args.trace.now args.flags.now _ _ c.note_pool.result c.note_pool.ensures c.in_default.is in record { value = told.0; flags_after = told.1 }
 
 pub returns-then-next-pool : goal.returns-then-next-pool
 returns-then-next-pool c = let told = let args = c.args in
-    let noted = c.type_inv.places in
     more-behind args.pool.now args.trace.now args.flags.now _ _ c.note_pool.result c.note_pool.ensures _ c.in-Good.is c.if-next-pool.true in record { value = told.0; flags_after = told.1 }
 
 pub returns : goal.returns
 returns c = let told = let args = c.args in
-    let noted = c.type_inv.places in
-    goes_on args.pool.now args.trace.now args.flags.now _ _ c.note_pool.result c.note_pool.ensures _ c.in-Good.is blank_zeros c.if-next-pool.false _ _ c.run_over.ensures in record { value = told.0; flags_after = told.1 }
+    goes_on args.pool.now args.trace.now args.flags.now _ _ c.note_pool.result c.note_pool.ensures _ c.in-Good.is blank_zeros c.if-next-pool.false _ _ (c.run_over.ensures.value, c.run_over.ensures.flags_after) in record { value = told.0; flags_after = told.1 }
