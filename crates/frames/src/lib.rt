@@ -1,14 +1,14 @@
-// Frames of bytes on standard input and lines on standard output, for programs that answer frame by frame. A number's most significant
-// byte comes first. The language has no exit status: the last line on standard error stands in for it. A read that fails brings no bytes,
-// as at the input's end; `tell` finds out which it was.
+// Frames of bytes in and lines out, for programs that answer frame by frame. A number's most significant byte comes first. A read that
+// fails is an error of its own, which leaves the lent bytes as long as they were; how a stream came to its end `tell` writes as a last
+// line on standard error.
 #![tactic(auto)]
 
-ghost use Rattle.std.specs.Prelude.{false, [], ◌∷◌, ◌≡◌, ◌≤◌, ◌<◌, length};
+ghost use Rattle.std.specs.Prelude.{false, [], ◌∷◌, ◌≡◌, ◌≤◌, ◌<◌, length, drop, IfOk, OnErr};
 ghost use Rattle.definition.specs.Ascii.{ascii, decimal, hex};
 ghost use Rattle.frames.specs.Line.{put, put_number};
 ghost use Rattle.frames.specs.Stream.{no_more, cut, too_long_lem, after_line, without_block, PartRead, BlockRead};
 
-use libc::{STDERR_FILENO, STDIN_FILENO, STDOUT_FILENO};
+use std::io::{Read, Result, Write};
 
 // What a block's length is where the stream ends, and where it ends inside the block or the block is longer than its room.
 pub const NO_MORE: usize = 4294967296;
@@ -27,8 +27,8 @@ pub const FRAME_CUT: u8 = 2;
 
 pub const WRITE_FAILED: u8 = 3;
 
-// What a stream's end turns out to be where the input can't be read.
-const READ_FAILED: u8 = 4;
+// How a stream ends whose input can't be read.
+pub const READ_FAILED: u8 = 4;
 
 pub fn after(written: bool) -> u8
     ensures { result ≡ after_line written }
@@ -47,120 +47,123 @@ pub fn without(size: usize) -> u8
     }
 }
 
-// Reads the first n bytes; whether all of them came.
-pub fn read_part(s: &mut [u8], n: usize) -> bool
-    ensures { PartRead s.old n s.new result }
+// Reads until the bytes are full or the input ends; how many came.
+fn read_full(input: &mut impl Read, s: &mut [u8]) -> Result<usize>
+    ensures { IfOk result (λ got. got ≤ length s.new) }
 {
-    if s.len() < n {
-        return false;
+    let mut done = 0;
+    while done < s.len() {
+        let n = input.read(&mut s[done..])?;
+        if n == 0 {
+            break;
+        }
+        done += n;
     }
-    io::read_full(STDIN_FILENO, &mut s[..n]) == n
+    Ok(done)
 }
 
-fn next_length() -> usize
-    ensures { result ≤ cut }
+// Reads the first n bytes; whether all of them came.
+pub fn read_part(input: &mut impl Read, s: &mut [u8], n: usize) -> Result<bool>
+    ensures ok { IfOk result (λ all. PartRead s.old n s.new all) }
+    ensures err { OnErr result (drop n s.new ≡ drop n s.old) }
+{
+    if s.len() < n {
+        return Ok(false);
+    }
+    let got = read_full(input, &mut s[..n])?;
+    Ok(got == n)
+}
+
+fn next_length(input: &mut impl Read) -> Result<usize>
+    ensures { IfOk result (λ n. n ≤ cut) }
 {
     let mut head = [0u8; 4];
-    let got = io::read_full(STDIN_FILENO, &mut head);
+    let got = read_full(input, &mut head)?;
     if got == 0 {
-        return NO_MORE;
+        return Ok(NO_MORE);
     }
     if got < 4 {
-        return CUT;
+        return Ok(CUT);
     }
-    writer::get_u32(&head, 0) as usize
+    Ok(writer::get_u32(&head, 0) as usize)
 }
 
 // Reads a block's n bytes; its length.
-fn read_block(s: &mut [u8], n: usize) -> usize
+fn read_block(input: &mut impl Read, s: &mut [u8], n: usize) -> Result<usize>
     requires { n < no_more }
-    ensures { BlockRead s.old s.new result }
+    ensures { IfOk result (λ size. BlockRead s.old s.new size) }
 {
-    if read_part(s, n) { n } else { CUT }
+    let all = read_part(input, s, n)?;
+    Ok(block_length(n, all))
 }
 
 // Reads n bytes in parts through s and keeps none of them; the length that stands for such a block.
-fn skip(s: &mut [u8], n: usize) -> usize
+fn skip(input: &mut impl Read, s: &mut [u8], n: usize) -> Result<usize>
     requires { 0 < length s.old }
-    ensures { (cut ≤ result) × (result ≤ too_long_lem) }
+    ensures { IfOk result (λ size. (cut ≤ size) × (size ≤ too_long_lem)) }
 {
     let room = s.len();
     let mut left = n;
     while room < left {
-        if !read_part(s, room) {
-            return CUT;
+        if !read_part(input, s, room)? {
+            return Ok(CUT);
         }
         left -= room;
     }
-    if read_part(s, left) { TOO_LONG } else { CUT }
+    let all = read_part(input, s, left)?;
+    Ok(if all { TOO_LONG } else { CUT })
 }
 
 // Reads a length of four bytes, and so many bytes into the beginning of s; the length.
-pub fn next_block(s: &mut [u8]) -> usize
-    ensures { BlockRead s.old s.new result }
+pub fn next_block(input: &mut impl Read, s: &mut [u8]) -> Result<usize>
+    ensures ok { IfOk result (λ size. BlockRead s.old s.new size) }
+    ensures err { OnErr result (length s.new ≡ length s.old) }
 {
-    let n = next_length();
+    let n = next_length(input)?;
     if NO_MORE <= n {
-        return n;
+        return Ok(n);
     }
-    read_block(s, n)
+    read_block(input, s, n)
 }
 
 // As next_block, but a block that is longer than s is skipped, so that the stream goes on behind it.
-pub fn next_or_skipped(s: &mut [u8]) -> usize
+pub fn next_or_skipped(input: &mut impl Read, s: &mut [u8]) -> Result<usize>
     requires { 0 < length s.old }
-    ensures upper_bound { result ≤ too_long_lem }
-    ensures block_read { result < too_long_lem → BlockRead s.old s.new result }
+    ensures upper_bound { IfOk result (λ size. size ≤ too_long_lem) }
+    ensures block_read { IfOk result (λ size. size < too_long_lem → BlockRead s.old s.new size) }
+    ensures err { OnErr result (length s.new ≡ length s.old) }
 {
-    let n = next_length();
+    let n = next_length(input)?;
     if NO_MORE <= n {
-        return n;
+        return Ok(n);
     }
     if s.len() < n {
-        return skip(s, n);
+        return skip(input, s, n);
     }
-    read_block(s, n)
-}
-
-// How a stream came to its end. Where a read failed the next one does too, and behind the end none brings a byte.
-fn ending(how: u8) -> u8 {
-    if how != STREAM_ENDS && how != FRAME_CUT {
-        return how;
-    }
-    let mut byte = [0u8; 1];
-    let got = libc::read(STDIN_FILENO, &mut byte);
-    if got < 0 || how == STREAM_ENDS && got != 0 {
-        READ_FAILED
-    } else {
-        how
-    }
+    read_block(input, s, n)
 }
 
 // Says how the stream ends.
-pub fn tell(program: &[u8], how: u8, frames: u64) {
-    let end = ending(how);
-    io::write_all(STDERR_FILENO, program);
-    if end == STREAM_ENDS {
-        io::write_all(STDERR_FILENO, b": whole stream, ");
-    } else if end == FRAME_CUT {
-        io::write_all(STDERR_FILENO, b": cut or too long behind ");
-    } else if end == READ_FAILED {
-        io::write_all(STDERR_FILENO, b": read failed behind ");
-    } else {
-        io::write_all(STDERR_FILENO, b": output failed behind ");
-    }
-    io::print_decimal(STDERR_FILENO, frames);
-    io::write_all(STDERR_FILENO, b" frames\n");
+pub fn tell(errors: &mut impl Write, program: &[u8], how: u8, frames: u64) -> Result<()> {
+    errors.write_all(program)?;
+    let end = match how {
+        STREAM_ENDS => "whole stream,",
+        FRAME_CUT => "cut or too long behind",
+        READ_FAILED => "read failed behind",
+        _ => "output failed behind",
+    };
+    writeln!(errors, ": {end} {frames} frames")
 }
 
 // Writes the first n bytes of a text; whether it has so many and all were written.
-pub fn write_part(text: &[u8], n: usize) -> bool
-    ensures { length text.now < n → result ≡ false }
+pub fn write_part(output: &mut impl Write, text: &[u8], n: usize) -> Result<bool>
+    ensures { length text.now < n → result ≡ Ok false }
 {
     if text.len() < n {
-        return false;
+        return Ok(false);
     }
-    io::write_all(STDOUT_FILENO, &text[..n])
+    output.write_all(&text[..n])?;
+    Ok(true)
 }
 
 // Puts a word at a place of a text, whole or not at all; where it ends, or one past the text's end where it doesn't fit.
@@ -209,10 +212,10 @@ pub fn put_refusal(text: &mut [u8], code: u32) -> usize
 }
 
 // Ends a line that reaches to a place, and writes it.
-pub fn end_line(text: &mut [u8], at: usize) -> bool
+pub fn end_line(output: &mut impl Write, text: &mut [u8], at: usize) -> Result<bool>
     ensures text_after { text.new ≡ (put (text.old, at) (ascii "\n")).0 }
-    ensures value { length text.old ≤ at → result ≡ false }
+    ensures value { length text.old ≤ at → result ≡ Ok false }
 {
     let end = put_word(text, at, b"\n");
-    write_part(text, end)
+    write_part(output, text, end)
 }

@@ -1,16 +1,11 @@
 // Reads, writes, copies and clears on vectors worked out by hand. A line for each says ok or WRONG.
 #![tactic(auto)]
 
-use libc::STDOUT_FILENO;
+use std::io;
 
-fn say(name: &[u8], ok: bool) {
-    if ok {
-        io::write_all(STDOUT_FILENO, b"ok ");
-    } else {
-        io::write_all(STDOUT_FILENO, b"WRONG ");
-    }
-    io::write_all(STDOUT_FILENO, name);
-    io::write_all(STDOUT_FILENO, b"\n");
+fn say(rt: &impl Print, name: &str, ok: bool) -> io::Result<()> {
+    let verdict = if ok { "ok" } else { "WRONG" };
+    println!(rt; "{verdict} {name}")
 }
 
 fn reads(s: &[u8]) -> bool {
@@ -59,15 +54,36 @@ fn clears_words() -> bool {
     (w[0] == 0) & (w[1] == 0) & (w[2] == 0)
 }
 
-fn main() {
-    say(b"reads", reads(b"\x80\x81\x82\x83\x84\x85\x86\x87\x88\x89"));
-    say(b"put 1", put_1(b"\xee\x81\xee\xee\xee\xee\xee\xee\xee\xee"));
-    say(b"put 2", put_2(b"\xee\x81\x82\xee\xee\xee\xee\xee\xee\xee"));
-    say(b"put 4", put_4(b"\xee\x81\x82\x83\x84\xee\xee\xee\xee\xee"));
-    say(b"put 8", put_8(b"\xee\x81\x82\x83\x84\x85\x86\x87\x88\xee"));
+fn main(rt: HostRuntime) -> io::Result<()> {
     say(
-        b"copies",
+        &rt,
+        "reads",
+        reads(b"\x80\x81\x82\x83\x84\x85\x86\x87\x88\x89"),
+    )?;
+    say(
+        &rt,
+        "put 1",
+        put_1(b"\xee\x81\xee\xee\xee\xee\xee\xee\xee\xee"),
+    )?;
+    say(
+        &rt,
+        "put 2",
+        put_2(b"\xee\x81\x82\xee\xee\xee\xee\xee\xee\xee"),
+    )?;
+    say(
+        &rt,
+        "put 4",
+        put_4(b"\xee\x81\x82\x83\x84\xee\xee\xee\xee\xee"),
+    )?;
+    say(
+        &rt,
+        "put 8",
+        put_8(b"\xee\x81\x82\x83\x84\x85\x86\x87\x88\xee"),
+    )?;
+    say(
+        &rt,
+        "copies",
         copies(b"\xee\xee\xee\xee\xee\xee\x02\x03\x04\xee"),
-    );
-    say(b"clears words", clears_words());
+    )?;
+    say(&rt, "clears words", clears_words())
 }
