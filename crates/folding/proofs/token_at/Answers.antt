@@ -20,7 +20,7 @@ returns-then-job-from c = let s = c.args.job.now in
     let at = c.args.at in
     let left = c.args.left in
     let p = c.requires in
-    let o = opening_leaf c.Opens-of.result c.get_u8.result (get_or s at 0) c.Opens-of.ensures c.get_u8.ensures c.in-Leaf.kind c.in-Leaf.is in
+    let o = opening_leaf c.opens_of.result c.get_u8.result (get_or s at 0) c.opens_of.ensures c.get_u8.ensures c.in-Leaf.kind c.in-Leaf.is in
     let low : at < length s = omega arith in
     steps-cut s at left p.0 p.1 p.2 low (kind_of c.in-Leaf.kind) c.size_of-n.result o c.size_of-n.ensures c.if-job-from.true
 
@@ -30,14 +30,14 @@ returns-in-Parts c = let s = c.args.job.now in
     let left = c.args.left in
     let p = c.requires in
     let low : at < length s = omega arith in
-    steps-sign s at left p.0 p.1 p.2 low (sign_of c.in-Parts.field-0) (opening_sign c.Opens-of.result c.get_u8.result (get_or s at 0) c.Opens-of.ensures c.get_u8.ensures c.in-Parts.field-0 c.in-Parts.is)
+    steps-sign s at left p.0 p.1 p.2 low (sign_of c.in-Parts.field-0) (opening_sign c.opens_of.result c.get_u8.result (get_or s at 0) c.opens_of.ensures c.get_u8.ensures c.in-Parts.field-0 c.in-Parts.is)
 
 pub returns-else-job-from : goal.returns-else-job-from
 returns-else-job-from c = let s = c.args.job.now in
     let at = c.args.at in
     let left = c.args.left in
     let p = c.requires in
-    let o = opening_leaf c.Opens-of.result c.get_u8.result (get_or s at 0) c.Opens-of.ensures c.get_u8.ensures c.in-Leaf.kind c.in-Leaf.is in
+    let o = opening_leaf c.opens_of.result c.get_u8.result (get_or s at 0) c.opens_of.ensures c.get_u8.ensures c.in-Leaf.kind c.in-Leaf.is in
     let low : at < length s = omega arith in
     steps-leaf s at left p.0 p.1 p.2 low (kind_of c.in-Leaf.kind) c.size_of-n.result o c.size_of-n.ensures c.if-job-from.false
 
@@ -47,4 +47,4 @@ returns-in-Neither c = let s = c.args.job.now in
     let left = c.args.left in
     let p = c.requires in
     let low : at < length s = omega arith in
-    steps-bad s at left p.0 p.1 p.2 low (opening_neither c.Opens-of.result c.get_u8.result (get_or s at 0) c.Opens-of.ensures c.get_u8.ensures c.in-Neither.is)
+    steps-bad s at left p.0 p.1 p.2 low (opening_neither c.opens_of.result c.get_u8.result (get_or s at 0) c.opens_of.ensures c.get_u8.ensures c.in-Neither.is)
