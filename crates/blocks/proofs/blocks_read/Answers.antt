@@ -14,5 +14,5 @@ returns c = let args = c.args in
     c.read_blocks.new.out
     (read_answer c.read_blocks.result)
     c.read_numbers-n.result
-    c.read_blocks.ensures
+    (c.read_blocks.ensures.result_value, c.read_blocks.ensures.out_after)
     c.read_numbers-n.ensures

@@ -14,5 +14,5 @@ returns c = let args = c.args in
     c.write_blocks.new.out
     (written_answer c.write_blocks.result)
     c.written_numbers-n.result
-    c.write_blocks.ensures
+    (c.write_blocks.ensures.result_value, c.write_blocks.ensures.out_after)
     c.written_numbers-n.ensures

@@ -16,14 +16,13 @@ loop-k-init c = let args = c.args in
     (search rules, joined-none (data_of args.file.now) args.out.now, search rules)
 
 pub copy-requires : goal.copy-requires
-copy-requires c = let told = let k = c.loop-k.k in
+copy-requires c =
+    let k = c.loop-k.k in
     let n = c.args.n in
     let file = c.args.file.now in
-    omega (
-      arith,
-      used_small n file c.requires.0 c.requires.1 k (omega arith),
-      inside_job n file c.requires.0 c.requires.1 k (omega arith),
-    ) in record { n_in_bounds = told.0; n_in_bounds_2 = told.1 }
+    let small = used_small n file c.requires.0 c.requires.1 k (omega arith) in
+    let inside = inside_job n file c.requires.0 c.requires.1 k (omega arith) in
+    record { n_in_bounds = omega (arith, small, inside); n_in_bounds_2 = omega (arith, small, inside) }
 
 pub loop-k-preserved : goal.loop-k-preserved
 loop-k-preserved c = let args = c.args in (
