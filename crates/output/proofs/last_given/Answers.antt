@@ -1,5 +1,4 @@
 -- `output::last_given` meets its contract: no node behind has a slot above the last one found. Assumes nothing.
-use mathlib.Core.Logic.{⊎_elim}
 use Prim.Native.Nat.{◌-◌, ◌≤◌}
 use native.Mathlib.Omega.{arith}
 use Rattle.store.specs.Regions.{GIVEN}
@@ -7,6 +6,7 @@ use Rattle.store.specs.Store.{store}
 use Rattle.output.specs.Contents.{NoneAbove}
 use Rattle.output.proofs.Owners.{above_more}
 use Rattle.output.proofs.last_given.Goals as goal
+use Rattle.output.proofs.last_given.Goals.{then-last-given, else-last-given}
 
 pub load-n-requires : goal.load-n-requires
 load-n-requires c = let q = c.requires in (q.0, omega (arith, q.1.named))
@@ -24,7 +24,7 @@ pub loop-k-smaller : goal.loop-k-smaller
 loop-k-smaller c = omega (arith, c.loop-k-test.true)
 
 pub loop-k-preserved : goal.loop-k-preserved
-loop-k-preserved c = let a = c.args in let l = c.loop-k in let read = c.load-given.ensures.word in (omega (arith, c.loop-k-test.true), above_more (store a.p.now a.w.now GIVEN) l.k l.last c.if-last-given.new l.invariant.1 (⊎_elim (λ w. (omega (arith, read), omega (arith, read))) (λ w. (omega (arith, read), omega (arith, read))) c.if-last-given.branch))
+loop-k-preserved c = let a = c.args in let l = c.loop-k in let read = c.load-given.ensures.word in (omega (arith, c.loop-k-test.true), above_more (store a.p.now a.w.now GIVEN) l.k l.last c.if-last-given.last l.invariant.1 (elim c.if-last-given.branch [ then-last-given w ↦ (omega (arith, read), omega (arith, read)) | else-last-given w ↦ (omega (arith, read), omega (arith, read)) ]))
 
 pub returns : goal.returns
 returns c = let l = c.loop-k in λ i h. l.invariant.1 i (omega (arith, h, c.loop-k-test.false, c.load-n.ensures.word))

@@ -21,4 +21,4 @@ pub is_wide-requires : goal.is_wide-requires
 is_wide-requires c = let a = c.args in let q = c.requires in let t = store a.p.now a.w.now in (q.0, q.1, q.3.made, rw c.owner_of.ensures (λ h. ((owner_is a.job.now a.p.now t q.1 q.2 q.3 (a.slot - 1) false (omega arith)).1 h).0))
 
 pub returns : goal.returns
-returns c = let a = c.args in let t = store a.p.now a.w.now in c.is_IsWide.ensures ∙ ap (wide_in a.job.now t) c.owner_of.ensures ∙ sym (wide_later a.job.now t (a.slot - 1) (omega arith))
+returns c = let a = c.args in let t = store a.p.now a.w.now in c.is_wide.ensures ∙ ap (wide_in a.job.now t) c.owner_of.ensures ∙ sym (wide_later a.job.now t (a.slot - 1) (omega arith))
