@@ -52,7 +52,7 @@ pub loop-slot-smaller : goal.loop-slot-smaller
 loop-slot-smaller c = omega (arith, c.loop-slot-test.true)
 
 pub loop-slot-preserved : goal.loop-slot-preserved
-loop-slot-preserved c = let a = c.args in let q = c.requires in let l = c.loop-slot in let t = store a.p.now a.w.now in let inside = rw c.load-end.ensures.word at c.loop-slot-test.true in let good = content_good a.job.now a.p.now t q.2 q.1 l.slot l.raws l.held l.wide l.invariant.0 inside c.next_content-content.result c.next_content-content.ensures in (walked_next a.job.now a.p.now t q.2 q.1 l.slot l.raws l.held l.wide l.invariant.0 inside c.next_content-content.result c.next_content-content.ensures c.if-slot-held.raws c.if-slot-held.held c.is_wide-wide.result c.is_wide-wide.ensures (elim c.if-slot-held.branch [ then-slot-held w ↦ sweep_hit_on a.job.now a.p.now t q.2 q.1 l.slot l.raws l.held l.wide l.invariant.0 inside w.if-slot-held.true c.if-slot-held.raws c.if-slot-held.held w.held_slot-held.result w.raws-is w.held-is w.held_slot-held.ensures | else-slot-held w ↦ sweep_miss-on a.job.now a.p.now t q.2 q.1 l.slot l.raws l.held l.wide l.invariant.0 inside w.if-slot-held.false c.if-slot-held.raws c.if-slot-held.held w.raws-is w.held-is ]), size-next a.job.now a.p.now t q.2 q.1 l.slot l.raws l.held l.wide l.invariant.0 inside c.next_content-content.result c.next_content-content.ensures l.size c.content_length-size.result l.invariant.1 c.content_length-size.ensures, omega (arith, c.content_length-size.ensures, content_bound a.job.now t c.next_content-content.result (λ i. (c.type_inv.job i).fits) q.2.owned.made good, l.invariant.2))
+loop-slot-preserved c = let a = c.args in let q = c.requires in let l = c.loop-slot in let t = store a.p.now a.w.now in let inside = rw c.load-end.ensures.word at c.loop-slot-test.true in let good = content_good a.job.now a.p.now t q.2 q.1 l.slot l.raws l.held l.wide l.invariant.0 inside c.next_content-content.result c.next_content-content.ensures in (walked_next a.job.now a.p.now t q.2 q.1 l.slot l.raws l.held l.wide l.invariant.0 inside c.next_content-content.result c.next_content-content.ensures c.if-slot-held.raws c.if-slot-held.held c.is_wide-wide.result c.is_wide-wide.ensures (elim c.if-slot-held.branch [ then-slot-held w ↦ sweep_hit_on a.job.now a.p.now t q.2 q.1 l.slot l.raws l.held l.wide l.invariant.0 inside w.if-slot-held.true c.if-slot-held.raws c.if-slot-held.held w.held_slot-held-then-slot-held.result w.raws-is w.held-is w.held_slot-held-then-slot-held.ensures | else-slot-held w ↦ sweep_miss-on a.job.now a.p.now t q.2 q.1 l.slot l.raws l.held l.wide l.invariant.0 inside w.if-slot-held.false c.if-slot-held.raws c.if-slot-held.held w.raws-is w.held-is ]), size-next a.job.now a.p.now t q.2 q.1 l.slot l.raws l.held l.wide l.invariant.0 inside c.next_content-content.result c.next_content-content.ensures l.size c.content_length-size.result l.invariant.1 c.content_length-size.ensures, omega (arith, c.content_length-size.ensures, content_bound a.job.now t c.next_content-content.result (λ i. (c.type_inv.job i).fits) q.2.owned.made good, l.invariant.2))
 
 pub returns : goal.returns
 returns c = let a = c.args in let q = c.requires in let l = c.loop-slot in let t = store a.p.now a.w.now in size-end a.job.now a.p.now t q.2 l.slot l.raws l.held l.wide l.invariant.0 (rw c.load-end.ensures.word at c.loop-slot-test.false) l.size l.invariant.1

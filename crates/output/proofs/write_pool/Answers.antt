@@ -55,7 +55,7 @@ pub loop-slot-smaller : goal.loop-slot-smaller
 loop-slot-smaller c = omega (arith, c.loop-slot-test.true)
 
 pub loop-slot-preserved : goal.loop-slot-preserved
-loop-slot-preserved c = let a = c.args in let q = c.requires in let l = c.loop-slot in let t = store a.p.now a.w.now in let inside = rw c.load-end.ensures.word at c.loop-slot-test.true in let room = content_room a.job.now a.p.now t q.2 q.1 l.slot l.raws l.held l.wide l.invariant.1 inside c.next_content-holds.result c.next_content-holds.ensures l.at l.invariant.2.next in (c.write_content-at.auto.pool ∙ l.invariant.0, walked_next a.job.now a.p.now t q.2 q.1 l.slot l.raws l.held l.wide l.invariant.1 inside c.next_content-holds.result c.next_content-holds.ensures c.if-slot-held.raws c.if-slot-held.held c.is_wide-wide.result c.is_wide-wide.ensures (elim c.if-slot-held.branch [ then-slot-held w ↦ sweep_hit_on a.job.now a.p.now t q.2 q.1 l.slot l.raws l.held l.wide l.invariant.1 inside w.if-slot-held.true c.if-slot-held.raws c.if-slot-held.held w.held_slot-held.result w.raws-is w.held-is w.held_slot-held.ensures | else-slot-held w ↦ sweep_miss-on a.job.now a.p.now t q.2 q.1 l.slot l.raws l.held l.wide l.invariant.1 inside w.if-slot-held.false c.if-slot-held.raws c.if-slot-held.held w.raws-is w.held-is ]), pool_next a.job.now a.p.now t q.2 q.1 l.slot l.raws l.held l.wide l.invariant.1 inside c.next_content-holds.result c.next_content-holds.ensures (omega (arith, room, q.3, c.put_u16.auto.d, l.invariant.2.next)) l.invariant.2 c.write_content-at.ensures)
+loop-slot-preserved c = let a = c.args in let q = c.requires in let l = c.loop-slot in let t = store a.p.now a.w.now in let inside = rw c.load-end.ensures.word at c.loop-slot-test.true in let room = content_room a.job.now a.p.now t q.2 q.1 l.slot l.raws l.held l.wide l.invariant.1 inside c.next_content-holds.result c.next_content-holds.ensures l.at l.invariant.2.next in (c.write_content-at.auto.pool ∙ l.invariant.0, walked_next a.job.now a.p.now t q.2 q.1 l.slot l.raws l.held l.wide l.invariant.1 inside c.next_content-holds.result c.next_content-holds.ensures c.if-slot-held.raws c.if-slot-held.held c.is_wide-wide.result c.is_wide-wide.ensures (elim c.if-slot-held.branch [ then-slot-held w ↦ sweep_hit_on a.job.now a.p.now t q.2 q.1 l.slot l.raws l.held l.wide l.invariant.1 inside w.if-slot-held.true c.if-slot-held.raws c.if-slot-held.held w.held_slot-held-then-slot-held.result w.raws-is w.held-is w.held_slot-held-then-slot-held.ensures | else-slot-held w ↦ sweep_miss-on a.job.now a.p.now t q.2 q.1 l.slot l.raws l.held l.wide l.invariant.1 inside w.if-slot-held.false c.if-slot-held.raws c.if-slot-held.held w.raws-is w.held-is ]), pool_next a.job.now a.p.now t q.2 q.1 l.slot l.raws l.held l.wide l.invariant.1 inside c.next_content-holds.result c.next_content-holds.ensures (omega (arith, room, q.3, c.put_u16.auto.d, l.invariant.2.next)) l.invariant.2 c.write_content-at.ensures)
 
 pub shape_of-pool : goal.shape_of-pool
 shape_of-pool c = c.loop-slot.invariant.0 ∙ c.put_u16.auto.d
