@@ -11,14 +11,12 @@ use Rattle.class_file.proofs.is_proper.Goals as goal
 
 pub returns-in_default : goal.returns-in_default
 returns-in_default c = let args = c.args in
-    let note = c.type_inv.table in
     no_pool_lem args.pool.now args.name args.count args.bootstraps.now
     (pool_bad args.pool.now 0 (replicate 65536 0) c.note_pool.new.places c.note_pool.ensures c.in_default.is)
 
 pub returns-then-next-pool : goal.returns-then-next-pool
 returns-then-next-pool c = let args = c.args in
     let pool = args.pool.now in
-    let note = c.type_inv.table in
     let next = c.in-Good.next in
     let after = c.note_pool.new.places in
     let told = pool_good pool 0 (replicate 65536 0) after c.note_pool.ensures next c.in-Good.is in
@@ -27,7 +25,6 @@ returns-then-next-pool c = let args = c.args in
 pub returns-then-not-is_named : goal.returns-then-not-is_named
 returns-then-not-is_named c = let args = c.args in
     let pool = args.pool.now in
-    let note = c.type_inv.table in
     let next = c.in-Good.next in
     let after = c.note_pool.new.places in
     let told = pool_good pool 0 (replicate 65536 0) after c.note_pool.ensures next c.in-Good.is in
@@ -42,7 +39,6 @@ returns-then-bootstraps-gt-MOST_BOOTSTRAPS c = λ right. omega (arith, right.sho
 pub returns : goal.returns
 returns c = let args = c.args in
     let pool = args.pool.now in
-    let note = c.type_inv.table in
     let next = c.in-Good.next in
     let after = c.note_pool.new.places in
     let told = pool_good pool 0 (replicate 65536 0) after c.note_pool.ensures next c.in-Good.is in

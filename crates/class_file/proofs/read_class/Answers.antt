@@ -14,12 +14,10 @@ returns-then-not-has_head c = let file = c.args.file.now in
 
 pub returns-in_default : goal.returns-in_default
 returns-in_default c = let file = c.args.file.now in
-    let note = c.type_inv.table in
     no_pool_there file (λ i. (c.type_inv.file i).fits) (pool_bad file 8 (replicate 65536 0) c.note_pool.new.places c.note_pool.ensures c.in_default.is)
 
 pub no_members-requires : goal.no_members-requires
 no_members-requires c = let file = c.args.file.now in
-    let note = c.type_inv.table in
     let next = c.in-Good.next in
     let after = c.note_pool.new.places in
     let told = pool_good file 8 (replicate 65536 0) after c.note_pool.ensures next c.in-Good.is in
@@ -27,7 +25,6 @@ no_members-requires c = let file = c.args.file.now in
 
 pub returns-then-not-no_members : goal.returns-then-not-no_members
 returns-then-not-no_members c = let file = c.args.file.now in
-    let note = c.type_inv.table in
     let next = c.in-Good.next in
     let after = c.note_pool.new.places in
     let told = pool_good file 8 (replicate 65536 0) after c.note_pool.ensures next c.in-Good.is in
@@ -35,7 +32,6 @@ returns-then-not-no_members c = let file = c.args.file.now in
 
 pub read_attributes-requires : goal.read_attributes-requires
 read_attributes-requires c = let file = c.args.file.now in
-    let note = c.type_inv.table in
     let next = c.in-Good.next in
     let after = c.note_pool.new.places in
     let told = pool_good file 8 (replicate 65536 0) after c.note_pool.ensures next c.in-Good.is in

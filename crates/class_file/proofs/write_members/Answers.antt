@@ -7,6 +7,26 @@ use Rattle.jvms.specs.Written.{bytes2}
 use Rattle.raw_const.proofs.Writes.{wrote_then}
 use Rattle.class_file.proofs.write_members.Goals as goal
 
+pub write_short-next-requires-2 : goal.write_short-next-requires-2
+unfolding bytes2
+write_short-next-requires-2 c = omega arith
+
+pub write_short-next-requires-3 : goal.write_short-next-requires-3
+unfolding bytes2
+write_short-next-requires-3 c = omega arith
+
+pub write_short-next-requires-4 : goal.write_short-next-requires-4
+unfolding bytes2
+write_short-next-requires-4 c = omega arith
+
+pub write_short-next-requires-5 : goal.write_short-next-requires-5
+unfolding bytes2
+write_short-next-requires-5 c = omega arith
+
+pub write_short-requires : goal.write_short-requires
+unfolding bytes2
+write_short-requires c = omega arith
+
 pub returns : goal.returns
 unfolding bytes2
 returns c = let room : c.args.at + 12 ≤ length c.args.out.now = c.requires in
