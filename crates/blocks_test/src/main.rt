@@ -4,6 +4,8 @@
 
 ghost use Rattle.std.specs.Prelude.{◌<◌, ◌≤◌};
 
+use std::io::Result;
+
 // What bytes are: a job of the tests or its file, or the job of case b or its file.
 const JOB: u8 = 0;
 
@@ -114,80 +116,95 @@ fn holds(s: &[u8], form: u8, size: usize, written: usize) -> bool {
     true
 }
 
-// A case's numbers, the three numbers returned, and whether the output holds what it should.
-fn line(what: &[u8], n: usize, room: usize, code: u32, place: usize, size: usize, right: bool) {
-    io::write_all(1, what);
-    io::print_decimal(1, n as u64);
-    io::write_all(1, b" into ");
-    io::print_decimal(1, room as u64);
-    io::write_all(1, b": ");
-    io::print_decimal(1, code as u64);
-    io::write_all(1, b" ");
-    io::print_decimal(1, place as u64);
-    io::write_all(1, b" ");
-    io::print_decimal(1, size as u64);
-    verdict(right);
+fn verdict(right: bool) -> &'static str {
+    if right { "ok" } else { "WRONG" }
 }
 
-fn verdict(right: bool) {
-    if right {
-        io::write_all(1, b" ok\n");
-    } else {
-        io::write_all(1, b" WRONG\n");
-    }
+// A case's numbers, the three numbers returned, and whether the output holds what it should.
+fn line(
+    rt: &impl Print,
+    what: &str,
+    n: usize,
+    room: usize,
+    code: u32,
+    place: usize,
+    size: usize,
+    right: bool,
+) -> Result<()> {
+    let word = verdict(right);
+    println!(rt; "{what}{n} into {room}: {code} {place} {size} {word}")
 }
 
 // Writes a job, whose file is of this form.
-fn write_job(job: &[u8], out: &mut [u8], form: u8) {
+fn write_job(rt: &impl Print, job: &[u8], out: &mut [u8], form: u8) -> Result<()> {
     fill(out, JOB, 0, 0);
     let mut place = 9;
     let mut size = 9;
     let code = blocks::blocks_write(job, out, &mut place, &mut size);
     line(
-        b"write ",
+        rt,
+        "write ",
         job.len(),
         out.len(),
         code,
         place,
         size,
         holds(out, form, job.len(), size),
-    );
+    )
 }
 
 // Reads a file, whose job is of this form.
-fn read_file(file: &[u8], out: &mut [u8], form: u8) {
+fn read_file(rt: &impl Print, file: &[u8], out: &mut [u8], form: u8) -> Result<()> {
     fill(out, JOB, 0, 0);
     let mut place = 9;
     let mut size = 9;
     let code = blocks::blocks_read(file, out, &mut place, &mut size);
     line(
-        b"read ",
+        rt,
+        "read ",
         file.len(),
         out.len(),
         code,
         place,
         size,
         holds(out, form, 0, size),
-    );
+    )
 }
 
 // Writes the first n bytes of a job.
-fn write(job: &mut [u8], form: u8, n: usize, out: &mut [u8], file_form: u8, room: usize) {
+fn write(
+    rt: &impl Print,
+    job: &mut [u8],
+    form: u8,
+    n: usize,
+    out: &mut [u8],
+    file_form: u8,
+    room: usize,
+) -> Result<()> {
     fill(job, form, 0, n);
     if n <= job.len() {
         if room <= out.len() {
-            write_job(&job[..n], &mut out[..room], file_form);
+            write_job(rt, &job[..n], &mut out[..room], file_form)?;
         }
     }
+    Ok(())
 }
 
 // Reads the first n bytes of a file.
-fn read(file: &[u8], n: usize, out: &mut [u8], form: u8, room: usize) {
+fn read(
+    rt: &impl Print,
+    file: &[u8],
+    n: usize,
+    out: &mut [u8],
+    form: u8,
+    room: usize,
+) -> Result<()> {
     if n <= file.len() {
         if room <= out.len() {
-            read_file(&file[..n], &mut out[..room], form);
+            read_file(rt, &file[..n], &mut out[..room], form)?;
         }
     }
+    Ok(())
 }
 
 fn put(file: &mut [u8], at: usize, byte: u8) {
@@ -213,13 +230,14 @@ const WRITES: [[usize; 2]; 11] = [
     [1048577, 0],
 ];
 
-fn writes(job: &mut [u8], file: &mut [u8]) {
+fn writes(rt: &impl Print, job: &mut [u8], file: &mut [u8]) -> Result<()> {
     let mut i = 0;
     while i < 11 {
         let c = WRITES[i];
-        write(job, JOB, c[0], file, FILE, c[1]);
+        write(rt, job, JOB, c[0], file, FILE, c[1])?;
         i += 1;
     }
+    Ok(())
 }
 
 // The first bytes, so many, of the file of a job of so many bytes, into so much room.
@@ -244,14 +262,15 @@ const READS: [[usize; 3]; 15] = [
     [1024, 505, 504],
 ];
 
-fn reads(job: &mut [u8], file: &mut [u8]) {
+fn reads(rt: &impl Print, job: &mut [u8], file: &mut [u8]) -> Result<()> {
     let mut i = 0;
     while i < 15 {
         let c = READS[i];
         fill(file, FILE, c[1], c[0]);
-        read(file, c[0], job, JOB, c[2]);
+        read(rt, file, c[0], job, JOB, c[2])?;
         i += 1;
     }
+    Ok(())
 }
 
 // The file of a job, in three blocks, with two bytes changed: the job's size, then each byte's place and its value. The
@@ -276,16 +295,17 @@ const DAMAGES: [[usize; 5]; 10] = [
     [1512, 1535, 0, 511, 0],
 ];
 
-fn damages(job: &mut [u8], file: &mut [u8]) {
+fn damages(rt: &impl Print, job: &mut [u8], file: &mut [u8]) -> Result<()> {
     let mut i = 0;
     while i < 10 {
         let c = DAMAGES[i];
         fill(file, FILE, c[0], 1536);
         put(file, c[1], (c[2] % 256) as u8);
         put(file, c[3], (c[4] % 256) as u8);
-        read(file, 1536, job, JOB, 1600);
+        read(rt, file, 1536, job, JOB, 1600)?;
         i += 1;
     }
+    Ok(())
 }
 
 // Reads a file that ends with block k: 1 if it is refused with 19 at that block, else 0.
@@ -337,7 +357,7 @@ fn refused_values(file: &mut [u8], out: &mut [u8], k: usize, place: usize, check
 }
 
 // Old memory in the last block of a job's file: each value at each place behind the used bytes is refused, and nothing is written.
-fn old_memory(file: &mut [u8], out: &mut [u8], size: usize) {
+fn old_memory(rt: &impl Print, file: &mut [u8], out: &mut [u8], size: usize) -> Result<()> {
     let k = size / 504 % 100;
     let used = used_of(size, k);
     let check = check_of(k, used);
@@ -349,54 +369,69 @@ fn old_memory(file: &mut [u8], out: &mut [u8], size: usize) {
         refused += refused_values(file, out, k, place, check);
         place += 1;
     }
-    count_line(size, refused, 255 * (504 - used), k, holds(out, JOB, 0, 0));
+    count_line(
+        rt,
+        size,
+        refused,
+        255 * (504 - used),
+        k,
+        holds(out, JOB, 0, 0),
+    )
 }
 
 // How many of the files were refused at block k, and whether the output is as it was.
-fn count_line(size: usize, refused: usize, files: usize, k: usize, right: bool) {
-    io::write_all(1, b"old memory behind ");
-    io::print_decimal(1, size as u64);
-    io::write_all(1, b" bytes: ");
-    io::print_decimal(1, refused as u64);
-    io::write_all(1, b" of ");
-    io::print_decimal(1, files as u64);
-    io::write_all(1, b" refused at block ");
-    io::print_decimal(1, k as u64);
-    verdict(right);
+fn count_line(
+    rt: &impl Print,
+    size: usize,
+    refused: usize,
+    files: usize,
+    k: usize,
+    right: bool,
+) -> Result<()> {
+    let word = verdict(right);
+    println!(rt; "old memory behind {size} bytes: {refused} of {files} refused at block {k} {word}")
 }
 
 // Old memory in a file of n bytes.
-fn remember(file: &mut [u8], n: usize, out: &mut [u8], room: usize, size: usize) {
+fn remember(
+    rt: &impl Print,
+    file: &mut [u8],
+    n: usize,
+    out: &mut [u8],
+    room: usize,
+    size: usize,
+) -> Result<()> {
     if n <= file.len() {
         if room <= out.len() {
-            old_memory(&mut file[..n], &mut out[..room], size);
+            old_memory(rt, &mut file[..n], &mut out[..room], size)?;
         }
     }
+    Ok(())
 }
 
 // An empty job, and jobs of three blocks with much padding and with one byte of it.
-fn old_memories(job: &mut [u8], file: &mut [u8]) {
-    remember(file, 512, job, 20, 0);
-    remember(file, 1536, job, 1600, 1010);
-    remember(file, 1536, job, 1600, 1511);
+fn old_memories(rt: &impl Print, job: &mut [u8], file: &mut [u8]) -> Result<()> {
+    remember(rt, file, 512, job, 20, 0)?;
+    remember(rt, file, 1536, job, 1600, 1010)?;
+    remember(rt, file, 1536, job, 1600, 1511)
 }
 
-fn case_b(job: &mut [u8], file: &mut [u8]) {
-    write(job, JOB_B, 18, file, FILE_B, 513);
+fn case_b(rt: &impl Print, job: &mut [u8], file: &mut [u8]) -> Result<()> {
+    write(rt, job, JOB_B, 18, file, FILE_B, 513)?;
     fill(file, FILE_B, 0, 512);
-    read(file, 512, job, JOB_B, 19);
+    read(rt, file, 512, job, JOB_B, 19)
 }
 
-fn run(job: &mut [u8], file: &mut [u8]) {
-    case_b(job, file);
-    writes(job, file);
-    reads(job, file);
-    damages(job, file);
-    old_memories(job, file);
+fn run(rt: &impl Print, job: &mut [u8], file: &mut [u8]) -> Result<()> {
+    case_b(rt, job, file)?;
+    writes(rt, job, file)?;
+    reads(rt, job, file)?;
+    damages(rt, job, file)?;
+    old_memories(rt, job, file)
 }
 
-fn main() {
+fn main(rt: HostRuntime) -> Result<()> {
     let mut job = [0u8; 1048577];
     let mut file = [0u8; 1065985];
-    run(&mut job, &mut file);
+    run(rt, &mut job, &mut file)?;
 }

@@ -10,7 +10,8 @@
 ghost use Rattle.std.specs.Prelude.{◌≤◌, length};
 
 use class_file::{ClassRead, Written};
-use frames::{FRAME_CUT, GO_ON, STREAM_ENDS};
+use frames::{FRAME_CUT, GO_ON, READ_FAILED, STREAM_ENDS};
+use std::io::{Result, Stderr, Stdin, Stdout};
 
 // The first n bytes in hex, if there are so many.
 fn put_bytes(text: &mut [u8], start: usize, bytes: &[u8], n: usize) -> usize {
@@ -38,6 +39,7 @@ fn put_written(text: &mut [u8], written: Written, file: &[u8]) -> usize {
 
 // Writes a file of a frame's numbers, pool and bootstrap methods; whether its line was written.
 fn write_part(
+    output: &mut Stdout,
     head: &[u8; 14],
     pool: &[u8],
     n: usize,
@@ -45,7 +47,7 @@ fn write_part(
     size: usize,
     file: &mut [u8],
     text: &mut [u8],
-) -> bool
+) -> Result<bool>
     requires n_in_bounds { n ≤ length pool.now }
     requires size_in_bounds { size ≤ length methods.now }
 {
@@ -62,7 +64,7 @@ fn write_part(
         file,
     );
     let end = put_written(text, written, file);
-    frames::end_line(text, end)
+    frames::end_line(output, text, end)
 }
 
 fn put_three(text: &mut [u8], at: usize, a: usize, b: usize, c: usize) -> usize {
@@ -124,79 +126,108 @@ fn put_read(text: &mut [u8], read: ClassRead) -> usize {
 }
 
 // Reads the file that the first n bytes are; whether its line was written.
-fn read_part(file: &[u8], n: usize, text: &mut [u8]) -> bool
+fn read_part(output: &mut Stdout, file: &[u8], n: usize, text: &mut [u8]) -> Result<bool>
     requires { n ≤ length file.now }
 {
     let end = put_read(text, class_file::read_class(&file[..n]));
-    frames::end_line(text, end)
+    frames::end_line(output, text, end)
 }
 
 fn next_write(
+    input: &mut Stdin,
+    output: &mut Stdout,
     pool: &mut [u8; 262208],
     methods: &mut [u8; 131072],
     file: &mut [u8; 196608],
     text: &mut [u8; 524288],
-) -> u8 {
+) -> Result<u8> {
     let mut head = [0u8; 14];
-    if !frames::read_part(&mut head, 14) {
-        return FRAME_CUT;
+    if !frames::read_part(input, &mut head, 14)? {
+        return Ok(FRAME_CUT);
     }
-    let n = frames::next_block(pool);
+    let n = frames::next_block(input, pool)?;
     if 262144 < n {
-        return FRAME_CUT;
+        return Ok(FRAME_CUT);
     }
-    let size = frames::next_block(methods);
+    let size = frames::next_block(input, methods)?;
     if 131072 < size {
-        return FRAME_CUT;
+        return Ok(FRAME_CUT);
     }
-    frames::after(write_part(&head, pool, n, methods, size, file, text))
+    let written = write_part(output, &head, pool, n, methods, size, file, text);
+    Ok(frames::after(written.unwrap_or(false)))
 }
 
-fn next_read(file: &mut [u8; 262208], text: &mut [u8; 524288]) -> u8 {
-    let n = frames::next_block(file);
+fn next_read(input: &mut Stdin, output: &mut Stdout, file: &mut [u8; 262208], text: &mut [u8; 524288]) -> Result<u8> {
+    let n = frames::next_block(input, file)?;
     if 262208 < n {
-        return FRAME_CUT;
+        return Ok(FRAME_CUT);
     }
-    frames::after(read_part(file, n, text))
+    let written = read_part(output, file, n, text);
+    Ok(frames::after(written.unwrap_or(false)))
 }
 
 // One class, if there is one. A pool or a file that is read stands in `bytes`.
 fn next_class(
+    input: &mut Stdin,
+    output: &mut Stdout,
+    bytes: &mut [u8; 262208],
+    methods: &mut [u8; 131072],
+    file: &mut [u8; 196608],
+    text: &mut [u8; 524288],
+) -> Result<u8> {
+    let mut kind = [0u8; 1];
+    if !frames::read_part(input, &mut kind, 1)? {
+        return Ok(STREAM_ENDS);
+    }
+    if kind[0] == 0 {
+        return next_write(input, output, bytes, methods, file, text);
+    }
+    next_read(input, output, bytes, text)
+}
+
+// The next class; a read that fails ends the stream.
+fn go_on(
+    input: &mut Stdin,
+    output: &mut Stdout,
     bytes: &mut [u8; 262208],
     methods: &mut [u8; 131072],
     file: &mut [u8; 196608],
     text: &mut [u8; 524288],
 ) -> u8 {
-    let mut kind = [0u8; 1];
-    if !frames::read_part(&mut kind, 1) {
-        return STREAM_ENDS;
-    }
-    if kind[0] == 0 {
-        return next_write(bytes, methods, file, text);
-    }
-    next_read(bytes, text)
+    next_class(input, output, bytes, methods, file, text).unwrap_or(READ_FAILED)
 }
 
 // Classes in turn; how the stream ends is told.
 fn run_stream(
+    input: &mut Stdin,
+    output: &mut Stdout,
+    errors: &mut Stderr,
     bytes: &mut [u8; 262208],
     methods: &mut [u8; 131072],
     file: &mut [u8; 196608],
     text: &mut [u8; 524288],
-) {
+) -> Result<()> {
     let mut classes: u64 = 0;
-    let mut how = next_class(bytes, methods, file, text);
+    let mut how = go_on(input, output, bytes, methods, file, text);
     while classes < u64::MAX && how == GO_ON {
         classes += 1;
-        how = next_class(bytes, methods, file, text);
+        how = go_on(input, output, bytes, methods, file, text);
     }
-    frames::tell(b"class_file_run", how, classes);
+    frames::tell(errors, b"class_file_run", how, classes)
 }
 
-fn main() {
+fn main(rt: HostRuntime) -> Result<()> {
     let mut bytes = [0u8; 262208];
     let mut methods = [0u8; 131072];
     let mut file = [0u8; 196608];
     let mut text = [0u8; 524288];
-    run_stream(&mut bytes, &mut methods, &mut file, &mut text);
+    run_stream(
+        &mut rt.stdin(),
+        &mut rt.stdout(),
+        &mut rt.stderr(),
+        &mut bytes,
+        &mut methods,
+        &mut file,
+        &mut text,
+    )
 }

@@ -6,18 +6,15 @@
 ghost use Rattle.std.specs.Prelude.{◌<◌, ◌≤◌, length};
 
 use job::{Formed, form};
-use libc::STDOUT_FILENO;
+use std::io::{BufWriter, Result, Write};
 
-fn tell(right: bool) {
-    if right {
-        io::write_all(STDOUT_FILENO, b".");
-    } else {
-        io::write_all(STDOUT_FILENO, b"F");
-    }
+fn tell(output: &mut impl Write, right: bool) -> Result<()> {
+    let dot: &[u8] = if right { b"." } else { b"F" };
+    output.write_all(dot)
 }
 
-fn end_line() {
-    io::write_all(STDOUT_FILENO, b"\n");
+fn end_line(output: &mut impl Write) -> Result<()> {
+    output.write_all(b"\n")
 }
 
 fn is_refused(job: &[u8], code: u32, place: usize) -> bool {
@@ -43,12 +40,12 @@ fn is_counted(job: &[u8], expected: [usize; 8]) -> bool {
     }
 }
 
-fn refused(job: &[u8], code: u32, place: usize) {
-    tell(is_refused(job, code, place));
+fn refused(output: &mut impl Write, job: &[u8], code: u32, place: usize) -> Result<()> {
+    tell(output, is_refused(job, code, place))
 }
 
-fn counted(job: &[u8], expected: [usize; 8]) {
-    tell(is_counted(job, expected));
+fn counted(output: &mut impl Write, job: &[u8], expected: [usize; 8]) -> Result<()> {
+    tell(output, is_counted(job, expected))
 }
 
 fn is_set(job: &[u8], highest: usize, version: usize) -> bool {
@@ -58,200 +55,241 @@ fn is_set(job: &[u8], highest: usize, version: usize) -> bool {
     }
 }
 
-fn set(job: &[u8], highest: usize, version: usize) {
-    tell(is_set(job, highest, version));
+fn set(output: &mut impl Write, job: &[u8], highest: usize, version: usize) -> Result<()> {
+    tell(output, is_set(job, highest, version))
 }
 
 // Decided points 1 and 2: which record, and which number within a record.
-fn first_faults() {
-    refused(b"\x07\x01\x00\x00\xff", 4, 0);
-    refused(b"\x09\x01\x00\x07\x03", 3, 0);
-    refused(b"\x50\x60\x02\x01\x00\x00\x00", 4, 1);
-    refused(b"", 3, 0);
-    refused(b"\x50", 3, 1);
-    refused(b"\x50\x60\x02", 3, 1);
-    refused(b"\x50\x60\x02\x00\x00\x00\x00", 3, 2);
-    end_line();
+fn first_faults(output: &mut impl Write) -> Result<()> {
+    refused(output, b"\x07\x01\x00\x00\xff", 4, 0)?;
+    refused(output, b"\x09\x01\x00\x07\x03", 3, 0)?;
+    refused(output, b"\x50\x60\x02\x01\x00\x00\x00", 4, 1)?;
+    refused(output, b"", 3, 0)?;
+    refused(output, b"\x50", 3, 1)?;
+    refused(output, b"\x50\x60\x02", 3, 1)?;
+    refused(output, b"\x50\x60\x02\x00\x00\x00\x00", 3, 2)?;
+    end_line(output)
 }
 
 // Decided point 3: tags are decimal, so 20 is the byte 14 and 15 is no tag. Point 4: an empty name is a name.
-fn tags_and_names() {
+fn tags_and_names(output: &mut impl Write) -> Result<()> {
     counted(
+        output,
         b"\x14\x00\x00\x01\x50\x60\x02\x00\x00\x00",
         [1, 1, 0, 1, 0, 0, 0, 0],
-    );
-    refused(b"\x15\x00\x00\x01\x50\x60\x02\x00\x00\x00", 3, 0);
+    )?;
+    refused(output, b"\x15\x00\x00\x01\x50\x60\x02\x00\x00\x00", 3, 0)?;
     counted(
+        output,
         b"\x41\x00\x00\x00\x03\x50\x60\x02\x00\x00\x00",
         [1, 0, 0, 0, 1, 0, 0, 0],
-    );
+    )?;
     counted(
+        output,
         b"\x42\x00\x02\x00\x50\x60\x02\x00\x00\x00",
         [1, 0, 0, 0, 1, 0, 0, 0],
-    );
-    end_line();
+    )?;
+    end_line(output)
 }
 
 // Decided point 4: 41, 43, 51, 52 and the second reference of tag 17 number constants, of which there are none here; 42,
 // 44 and the first reference of tag 17 number bootstraps, of which there is one.
-fn two_tables() {
+fn two_tables(output: &mut impl Write) -> Result<()> {
     refused(
+        output,
         b"\x40\x00\x00\x09\x00\x00\x41\x01a\x01\x00\x00\x50\x60\x02\x00\x00\x00",
         4,
         1,
-    );
+    )?;
     counted(
+        output,
         b"\x40\x00\x00\x09\x00\x00\x42\x01a\x01\x00\x00\x50\x60\x02\x00\x00\x00",
         [2, 0, 1, 1, 1, 0, 0, 0],
-    );
+    )?;
     refused(
+        output,
         b"\x40\x00\x00\x09\x00\x00\x43\x00\x01\x00\x00\x50\x60\x02\x00\x00\x00",
         4,
         1,
-    );
+    )?;
     counted(
+        output,
         b"\x40\x00\x00\x09\x00\x00\x44\x00\x01\x00\x00\x50\x60\x02\x00\x00\x00",
         [2, 0, 1, 1, 0, 0, 1, 0],
-    );
+    )?;
     refused(
+        output,
         b"\x40\x00\x00\x09\x00\x00\x50\x51\x01\x00\x00\x60\x02\x00\x00\x00",
         4,
         2,
-    );
+    )?;
     refused(
+        output,
         b"\x40\x00\x00\x09\x00\x00\x50\x52\x01\x00\x00\x60\x02\x00\x00\x00",
         4,
         2,
-    );
+    )?;
     counted(
+        output,
         b"\x40\x00\x00\x09\x00\x00\x11\x01\x00\x00\x00\x00\x01\x50\x60\x02\x00\x00\x00",
         [2, 1, 1, 3, 0, 0, 0, 0],
-    );
+    )?;
     refused(
+        output,
         b"\x40\x00\x00\x09\x00\x00\x11\x01\x00\x00\x01\x00\x00\x50\x60\x02\x00\x00\x00",
         4,
         1,
-    );
-    end_line();
+    )?;
+    end_line(output)
 }
 
 // The known jobs a to e of document 01, every one of them well formed.
-fn known_jobs_to_e() {
-    counted(b"\x50\x60\x02\x00\x00\x00", [0, 0, 0, 0, 0, 0, 0, 0]);
-    counted(b"\x50\x60\x00\x00\x00\x00", [0, 0, 0, 0, 0, 0, 0, 0]);
+fn known_jobs_to_e(output: &mut impl Write) -> Result<()> {
     counted(
+        output,
+        b"\x50\x60\x02\x00\x00\x00",
+        [0, 0, 0, 0, 0, 0, 0, 0],
+    )?;
+    counted(
+        output,
+        b"\x50\x60\x00\x00\x00\x00",
+        [0, 0, 0, 0, 0, 0, 0, 0],
+    )?;
+    counted(
+        output,
         b"\x01\x00\x01A\x07\x01\x00\x00\x50\x51\x01\x00\x01\x60\x02\x01\x00\x00",
         [2, 2, 0, 1, 0, 0, 0, 1],
-    );
+    )?;
     counted(
+        output,
         b"\x01\x00\x03foo\x01\x00\x03foo\x07\x01\x00\x01\x43\x00\x05\x00\x00\x50\x51\x01\x00\x02\x60\x02\x00\x00\x00",
         [4, 3, 0, 1, 0, 1, 0, 1],
-    );
+    )?;
     counted(
+        output,
         b"\x03\x00\x00\x00\x01\x05\x00\x00\x00\x00\x00\x00\x00\x02\x03\x00\x00\x00\x03\x43\x00\x02\x00\x00\x50\x51\x01\x00\x01\x51\x01\x00\x02\x60\x02\x00\x00\x00",
         [4, 3, 0, 0, 0, 1, 0, 2],
-    );
+    )?;
     counted(
+        output,
         b"\x05\x00\x00\x00\x00\x00\x00\x00\x02\x43\x00\x07\x00\x00\x43\x00\x07\x00\x00\x50\x60\x02\x00\x00\x00",
         [3, 1, 0, 0, 0, 2, 0, 0],
-    );
+    )?;
     counted(
+        output,
         b"\x03\x00\x00\x00\x01\x05\x00\x00\x00\x00\x00\x00\x00\x02\x43\x00\x07\x00\x00\x43\x00\x07\x00\x01\x50\x60\x02\x00\x00\x00",
         [4, 2, 0, 0, 0, 2, 0, 0],
-    );
+    )?;
     counted(
+        output,
         b"\x03\x00\x00\x00\x01\x05\x00\x00\x00\x00\x00\x00\x00\x02\x43\x00\x07\x00\x01\x43\x00\x08\x00\x00\x50\x60\x02\x00\x00\x00",
         [4, 2, 0, 0, 0, 2, 0, 0],
-    );
-    end_line();
+    )?;
+    end_line(output)
 }
 
 // The known jobs f to i.
-fn known_jobs_from_f() {
+fn known_jobs_from_f(output: &mut impl Write) -> Result<()> {
     counted(
+        output,
         b"\x41\x01a\x02\x01b\x41\x01b\x02\x01a\x50\x60\x02\x00\x00\x00",
         [2, 0, 0, 0, 2, 0, 0, 0],
-    );
+    )?;
     counted(
+        output,
         b"\x41\x01a\x02\x01b\x41\x01b\x02\x01a\x50\x51\x02\x01a\x60\x02\x00\x00\x00",
         [2, 0, 0, 0, 2, 0, 0, 1],
-    );
+    )?;
     counted(
+        output,
         b"\x50\x51\x02\x01x\x60\x02\x00\x00\x00",
         [0, 0, 0, 0, 0, 0, 0, 1],
-    );
+    )?;
     counted(
+        output,
         b"\x40\x00\x00\x09\x00\x00\x44\x00\x02\x00\x00\x50\x60\x02\x00\x00\x00",
         [2, 0, 1, 1, 0, 0, 1, 0],
-    );
+    )?;
     counted(
+        output,
         b"\x07\x00\x00\x00\x50\x51\x01\x00\x00\x60\x02\x01\x00\x00",
         [1, 1, 0, 1, 0, 0, 0, 1],
-    );
+    )?;
     counted(
+        output,
         b"\x07\x00\x00\x09\x50\x51\x01\x00\x00\x60\x02\x01\x00\x00",
         [1, 1, 0, 1, 0, 0, 0, 1],
-    );
+    )?;
     counted(
+        output,
         b"\x50\x52\x00\x00\xff\x60\x02\x00\x00\x00",
         [0, 0, 0, 0, 0, 0, 0, 1],
-    );
+    )?;
     counted(
+        output,
         b"\x50\x52\x00\x01\x00\x60\x02\x00\x00\x00",
         [0, 0, 0, 0, 0, 0, 0, 1],
-    );
-    end_line();
+    )?;
+    end_line(output)
 }
 
 // Document 02, No. 10: record 49 is the first, gives a slot, and is not cut.
-fn highest_slots() {
-    set(b"\x50\x60\x02\x00\x00\x00", 65534, 55);
-    set(b"\x49\x00\x01\x50\x60\x02\x00\x00\x00", 1, 55);
-    set(b"\x49\xff\xfe\x50\x60\x02\x00\x00\x00", 65534, 55);
-    refused(b"\x49\x00\x00\x50\x60\x02\x00\x00\x00", 26, 0);
-    refused(b"\x49\xff\xff\x50\x60\x02\x00\x00\x00", 26, 0);
-    refused(b"\x49\x00", 3, 0);
-    refused(b"\x49\x00\x01\x49\x00\x01", 3, 1);
-    refused(b"\x48\x49\x00\x00", 3, 1);
-    refused(b"\x01\x00\x00\x49\x00\x01", 3, 1);
-    refused(b"\x50\x49\x00\x01", 3, 1);
-    end_line();
+fn highest_slots(output: &mut impl Write) -> Result<()> {
+    set(output, b"\x50\x60\x02\x00\x00\x00", 65534, 55)?;
+    set(output, b"\x49\x00\x01\x50\x60\x02\x00\x00\x00", 1, 55)?;
+    set(output, b"\x49\xff\xfe\x50\x60\x02\x00\x00\x00", 65534, 55)?;
+    refused(output, b"\x49\x00\x00\x50\x60\x02\x00\x00\x00", 26, 0)?;
+    refused(output, b"\x49\xff\xff\x50\x60\x02\x00\x00\x00", 26, 0)?;
+    refused(output, b"\x49\x00", 3, 0)?;
+    refused(output, b"\x49\x00\x01\x49\x00\x01", 3, 1)?;
+    refused(output, b"\x48\x49\x00\x00", 3, 1)?;
+    refused(output, b"\x01\x00\x00\x49\x00\x01", 3, 1)?;
+    refused(output, b"\x50\x49\x00\x01", 3, 1)?;
+    end_line(output)
 }
 
 // No. 5: record 47 comes once, before 50, with any number.
-fn versions() {
-    set(b"\x47\x00\x32\x50\x60\x02\x00\x00\x00", 65534, 50);
-    set(b"\x47\x00\x00\x50\x60\x02\x00\x00\x00", 65534, 0);
+fn versions(output: &mut impl Write) -> Result<()> {
+    set(output, b"\x47\x00\x32\x50\x60\x02\x00\x00\x00", 65534, 50)?;
+    set(output, b"\x47\x00\x00\x50\x60\x02\x00\x00\x00", 65534, 0)?;
     set(
+        output,
         b"\x49\x00\x09\x01\x00\x00\x47\xff\xff\x50\x60\x02\x00\x00\x00",
         9,
         65535,
-    );
-    refused(b"\x47\x00\x32\x47\x00\x32", 3, 1);
-    refused(b"\x47\x00", 3, 0);
-    refused(b"\x50\x47\x00\x32", 3, 1);
-    end_line();
+    )?;
+    refused(output, b"\x47\x00\x32\x47\x00\x32", 3, 1)?;
+    refused(output, b"\x47\x00", 3, 0)?;
+    refused(output, b"\x50\x47\x00\x32", 3, 1)?;
+    end_line(output)
 }
 
 // No. 8: which text is told, and where record 48 counts.
-fn held_texts() {
-    refused(b"\x01\x00\x01\x00\x48", 25, 0);
-    refused(b"\x48\x01\x00\x01\x00\x50\x60\x02\x00\x00\x00", 25, 1);
-    refused(b"\x01\x00\x01\x00\x01\x00\x01\x00\x48", 25, 0);
-    refused(b"\x01\x00\x01\x00\x07\x01\x00\x01\x48", 4, 1);
-    refused(b"\x01\x00\x01\x00\x48\x48", 25, 0);
-    refused(b"\x48\x48", 3, 1);
-    refused(b"\x01\x00\x01\x00\x50\x48", 3, 2);
-    refused(b"\x48\x01\x00\x02\x00", 3, 1);
+fn held_texts(output: &mut impl Write) -> Result<()> {
+    refused(output, b"\x01\x00\x01\x00\x48", 25, 0)?;
+    refused(
+        output,
+        b"\x48\x01\x00\x01\x00\x50\x60\x02\x00\x00\x00",
+        25,
+        1,
+    )?;
+    refused(output, b"\x01\x00\x01\x00\x01\x00\x01\x00\x48", 25, 0)?;
+    refused(output, b"\x01\x00\x01\x00\x07\x01\x00\x01\x48", 4, 1)?;
+    refused(output, b"\x01\x00\x01\x00\x48\x48", 25, 0)?;
+    refused(output, b"\x48\x48", 3, 1)?;
+    refused(output, b"\x01\x00\x01\x00\x50\x48", 3, 2)?;
+    refused(output, b"\x48\x01\x00\x02\x00", 3, 1)?;
     counted(
+        output,
         b"\x01\x00\x01\x00\x50\x60\x02\x00\x00\x00",
         [1, 1, 0, 0, 0, 0, 0, 0],
-    );
+    )?;
     counted(
+        output,
         b"\x48\x41\x01\x00\x00\x00\x00\x50\x60\x02\x00\x00\x00",
         [2, 0, 0, 0, 1, 0, 0, 0],
-    );
-    end_line();
+    )?;
+    end_line(output)
 }
 
 // A text of three bytes under record 48, accepted or not.
@@ -266,81 +304,91 @@ fn is_held(a: u8, b: u8, c: u8) -> bool {
 }
 
 // The forms of JVMS 4.4.7: one, two and three bytes, overlong and surrogate ones too; then bytes that no form has in their place.
-fn forms_of_texts() {
-    tell(is_held(0x01, 0x41, 0x7f));
-    tell(is_held(0xc0, 0x80, 0x41));
-    tell(is_held(0x41, 0xdf, 0xbf));
-    tell(is_held(0xe0, 0x80, 0x80));
-    tell(is_held(0xed, 0xa0, 0x80));
-    tell(is_held(0xef, 0xbf, 0xbf));
-    tell(!is_held(0x41, 0x00, 0x41));
-    tell(!is_held(0x80, 0x41, 0x41));
-    tell(!is_held(0xbf, 0x41, 0x41));
-    tell(!is_held(0x41, 0x41, 0xc0));
-    tell(!is_held(0xc0, 0x41, 0x41));
-    tell(!is_held(0xc0, 0xc0, 0x80));
-    tell(!is_held(0x41, 0xe0, 0x80));
-    tell(!is_held(0xe0, 0x80, 0x41));
-    tell(!is_held(0xe0, 0x7f, 0x80));
-    tell(!is_held(0xf0, 0x80, 0x80));
-    tell(!is_held(0x41, 0x41, 0xff));
-    end_line();
+fn forms_of_texts(output: &mut impl Write) -> Result<()> {
+    tell(output, is_held(0x01, 0x41, 0x7f))?;
+    tell(output, is_held(0xc0, 0x80, 0x41))?;
+    tell(output, is_held(0x41, 0xdf, 0xbf))?;
+    tell(output, is_held(0xe0, 0x80, 0x80))?;
+    tell(output, is_held(0xed, 0xa0, 0x80))?;
+    tell(output, is_held(0xef, 0xbf, 0xbf))?;
+    tell(output, !is_held(0x41, 0x00, 0x41))?;
+    tell(output, !is_held(0x80, 0x41, 0x41))?;
+    tell(output, !is_held(0xbf, 0x41, 0x41))?;
+    tell(output, !is_held(0x41, 0x41, 0xc0))?;
+    tell(output, !is_held(0xc0, 0x41, 0x41))?;
+    tell(output, !is_held(0xc0, 0xc0, 0x80))?;
+    tell(output, !is_held(0x41, 0xe0, 0x80))?;
+    tell(output, !is_held(0xe0, 0x80, 0x41))?;
+    tell(output, !is_held(0xe0, 0x7f, 0x80))?;
+    tell(output, !is_held(0xf0, 0x80, 0x80))?;
+    tell(output, !is_held(0x41, 0x41, 0xff))?;
+    end_line(output)
 }
 
 // No. 3: an expression is whole, or ends in a byte that is neither leaf tag nor sign; then its kinds and its depth are judged, then its
 // divisors.
-fn expressions() {
+fn expressions(output: &mut impl Write) -> Result<()> {
     refused(
+        output,
         b"\x46\x2b\x2b\x2b\x2b\x2b\x2b\x2b\x2b\x2b\x2b\x2b\x2b\x2b\x2b\x2b\x2b\x2b\x2b\x2b\x2b\x2b\x2b\x2b\x2b\x2b\x2b\x2b\x2b\x2b\x2b\x2b\x2b",
         3,
         0,
-    );
-    refused(b"\x46\x2b\x03\x00\x00\x00\x00\x04", 3, 0);
-    refused(b"\x46\x00", 22, 0);
+    )?;
+    refused(output, b"\x46\x2b\x03\x00\x00\x00\x00\x04", 3, 0)?;
+    refused(output, b"\x46\x00", 22, 0)?;
     refused(
+        output,
         b"\x46\x2b\x2f\x03\x00\x00\x00\x00\x03\x00\x00\x00\x00\x04\x00\x00\x00\x00",
         22,
         0,
-    );
+    )?;
     refused(
+        output,
         b"\x46\x2a\x03\x00\x00\x00\x00\x2f\x03\x00\x00\x00\x00\x03\x00\x00\x00\x00\x50\x51\x01\x00\x00\x60\x02\x00\x00\x00",
         23,
         0,
-    );
-    refused(b"\x50\x46\x00", 3, 1);
+    )?;
+    refused(output, b"\x50\x46\x00", 3, 1)?;
     refused(
+        output,
         b"\x46\x2b\x2b\x2b\x2b\x2b\x2b\x2b\x2b\x2b\x2b\x2b\x2b\x2b\x2b\x2b\x2b\x2b\x2b\x2b\x2b\x2b\x2b\x2b\x2b\x2b\x2b\x2b\x2b\x2b\x2b\x2b\x2b\x03\x00\x00\x00\x00\x03\x00\x00\x00\x00\x03\x00\x00\x00\x00\x03\x00\x00\x00\x00\x03\x00\x00\x00\x00\x03\x00\x00\x00\x00\x03\x00\x00\x00\x00\x03\x00\x00\x00\x00\x03\x00\x00\x00\x00\x03\x00\x00\x00\x00\x03\x00\x00\x00\x00\x03\x00\x00\x00\x00\x03\x00\x00\x00\x00\x03\x00\x00\x00\x00\x03\x00\x00\x00\x00\x03\x00\x00\x00\x00\x03\x00\x00\x00\x00\x03\x00\x00\x00\x00\x03\x00\x00\x00\x00\x03\x00\x00\x00\x00\x03\x00\x00\x00\x00\x03\x00\x00\x00\x00\x03\x00\x00\x00\x00\x03\x00\x00\x00\x00\x03\x00\x00\x00\x00\x03\x00\x00\x00\x00\x03\x00\x00\x00\x00\x03\x00\x00\x00\x00\x03\x00\x00\x00\x00\x03\x00\x00\x00\x00\x03\x00\x00\x00\x00\x03\x00\x00\x00\x00\x03\x00\x00\x00\x00\x50\x60\x02\x00\x00\x00",
         22,
         0,
-    );
+    )?;
     counted(
+        output,
         b"\x46\x2b\x2b\x2b\x2b\x2b\x2b\x2b\x2b\x2b\x2b\x2b\x2b\x2b\x2b\x2b\x2b\x2b\x2b\x2b\x2b\x2b\x2b\x2b\x2b\x2b\x2b\x2b\x2b\x2b\x2b\x2b\x03\x00\x00\x00\x00\x03\x00\x00\x00\x00\x03\x00\x00\x00\x00\x03\x00\x00\x00\x00\x03\x00\x00\x00\x00\x03\x00\x00\x00\x00\x03\x00\x00\x00\x00\x03\x00\x00\x00\x00\x03\x00\x00\x00\x00\x03\x00\x00\x00\x00\x03\x00\x00\x00\x00\x03\x00\x00\x00\x00\x03\x00\x00\x00\x00\x03\x00\x00\x00\x00\x03\x00\x00\x00\x00\x03\x00\x00\x00\x00\x03\x00\x00\x00\x00\x03\x00\x00\x00\x00\x03\x00\x00\x00\x00\x03\x00\x00\x00\x00\x03\x00\x00\x00\x00\x03\x00\x00\x00\x00\x03\x00\x00\x00\x00\x03\x00\x00\x00\x00\x03\x00\x00\x00\x00\x03\x00\x00\x00\x00\x03\x00\x00\x00\x00\x03\x00\x00\x00\x00\x03\x00\x00\x00\x00\x03\x00\x00\x00\x00\x03\x00\x00\x00\x00\x03\x00\x00\x00\x00\x50\x60\x02\x00\x00\x00",
         [1, 1, 0, 0, 0, 0, 0, 0],
-    );
+    )?;
     counted(
+        output,
         b"\x46\x03\x00\x00\x00\x00\x03\x00\x00\x00\x00\x50\x51\x01\x00\x00\x51\x01\x00\x01\x60\x02\x00\x00\x00",
         [2, 2, 0, 0, 0, 0, 0, 2],
-    );
+    )?;
     counted(
+        output,
         b"\x46\x03\x00\x00\x00\x00\x03\x00\x00\x00\x01\x50\x51\x01\x00\x00\x60\x02\x00\x00\x00",
         [2, 2, 0, 0, 0, 0, 0, 1],
-    );
+    )?;
     counted(
+        output,
         b"\x46\x2b\x04\x7f\xc0\x00\x01\x04\x00\x00\x00\x00\x50\x51\x01\x00\x00\x60\x02\x00\x00\x00",
         [1, 1, 0, 0, 0, 0, 0, 1],
-    );
+    )?;
     counted(
+        output,
         b"\x46\x04\x7f\x80\x00\x01\x50\x51\x01\x00\x00\x60\x02\x00\x00\x00",
         [1, 1, 0, 0, 0, 0, 0, 1],
-    );
-    refused(b"\x46", 3, 0);
-    refused(b"\x46\x03\x00\x00", 3, 0);
+    )?;
+    refused(output, b"\x46", 3, 0)?;
+    refused(output, b"\x46\x03\x00\x00", 3, 0)?;
     refused(
+        output,
         b"\x46\x2f\x05\x00\x00\x00\x00\x00\x00\x00\x01\x05\x00\x00\x00\x00\x00\x00\x00\x00",
         23,
         0,
-    );
-    end_line();
+    )?;
+    end_line(output)
 }
 
 // Puts a record's bytes at a place of a job, if they fit there.
@@ -417,58 +465,75 @@ fn record_at(n: usize) -> usize {
 }
 
 // The job cut after every byte but its last is 3 at the record that is cut or missing.
-fn cut_everywhere(job: &[u8]) {
+fn cut_everywhere(output: &mut impl Write, job: &[u8]) -> Result<()> {
     let mut n = 0;
     while n < job.len() {
-        refused(&job[0..n], 3, record_at(n));
+        refused(output, &job[0..n], 3, record_at(n))?;
         n += 1;
     }
-    end_line();
+    end_line(output)
 }
 
 // The same for that job alone: its length is in its type.
-fn refused_job(job: &[u8; 162], code: u32, place: usize) {
-    refused(job, code, place);
+fn refused_job(output: &mut impl Write, job: &[u8; 162], code: u32, place: usize) -> Result<()> {
+    refused(output, job, code, place)
 }
 
-fn counted_job(job: &[u8; 162]) {
-    counted(job, [24, 17, 2, 22, 3, 1, 1, 3]);
+fn counted_job(output: &mut impl Write, job: &[u8; 162]) -> Result<()> {
+    counted(output, job, [24, 17, 2, 22, 3, 1, 1, 3])
 }
 
 // The job with another byte at a place is refused with this number, at the record that has the byte.
-fn refused_with(job: [u8; 162], at: usize, byte: u8, code: u32) {
+fn refused_with(
+    output: &mut impl Write,
+    job: [u8; 162],
+    at: usize,
+    byte: u8,
+    code: u32,
+) -> Result<()> {
     let mut other = job;
     if at < 162 {
         other[at] = byte;
     }
-    refused_job(&other, code, record_at(at));
+    refused_job(output, &other, code, record_at(at))
 }
 
 // The job with another byte at a place is still well formed, and counts the same.
-fn counted_with(job: [u8; 162], at: usize, byte: u8) {
+fn counted_with(output: &mut impl Write, job: [u8; 162], at: usize, byte: u8) -> Result<()> {
     let mut other = job;
     if at < 162 {
         other[at] = byte;
     }
-    counted_job(&other);
+    counted_job(output, &other)
 }
 
-fn refused_at_each(job: [u8; 162], places: &[usize], byte: u8, code: u32) {
+fn refused_at_each(
+    output: &mut impl Write,
+    job: [u8; 162],
+    places: &[usize],
+    byte: u8,
+    code: u32,
+) -> Result<()> {
     let mut i = 0;
     while i < places.len() {
-        refused_with(job, places[i], byte, code);
+        refused_with(output, job, places[i], byte, code)?;
         i += 1;
     }
-    end_line();
+    end_line(output)
 }
 
-fn counted_at_each(job: [u8; 162], places: &[usize], byte: u8) {
+fn counted_at_each(
+    output: &mut impl Write,
+    job: [u8; 162],
+    places: &[usize],
+    byte: u8,
+) -> Result<()> {
     let mut i = 0;
     while i < places.len() {
-        counted_with(job, places[i], byte);
+        counted_with(output, job, places[i], byte)?;
         i += 1;
     }
-    end_line();
+    end_line(output)
 }
 
 // Where records begin: 15 is no kind of any.
@@ -499,31 +564,31 @@ const MISSING: [u8; 19] = [
 ];
 
 // A record may cite the last entry before it, and none from itself on.
-fn wrong_numbers(job: [u8; 162]) {
+fn wrong_numbers(output: &mut impl Write, job: [u8; 162]) -> Result<()> {
     let mut i = 0;
     while i < 19 {
         let at = NUMBERS[i];
         let missing = MISSING[i];
         if 0 < missing {
-            refused_with(job, at, missing, 4);
-            counted_with(job, at, missing - 1);
+            refused_with(output, job, at, missing, 4)?;
+            counted_with(output, job, at, missing - 1)?;
         }
         i += 1;
     }
-    end_line();
+    end_line(output)
 }
 
 // Requests and 60 before 50, 50 and definitions after it.
-fn out_of_place(job: [u8; 162]) {
-    refused_with(job, 33, 0x51, 3);
-    refused_with(job, 33, 0x60, 3);
-    refused_with(job, 144, 0x52, 3);
-    refused_with(job, 145, 0x50, 3);
-    refused_with(job, 149, 0x07, 3);
-    refused_with(job, 153, 0x41, 3);
-    counted_with(job, 158, 0);
-    counted_with(job, 158, 2);
-    end_line();
+fn out_of_place(output: &mut impl Write, job: [u8; 162]) -> Result<()> {
+    refused_with(output, job, 33, 0x51, 3)?;
+    refused_with(output, job, 33, 0x60, 3)?;
+    refused_with(output, job, 144, 0x52, 3)?;
+    refused_with(output, job, 145, 0x50, 3)?;
+    refused_with(output, job, 149, 0x07, 3)?;
+    refused_with(output, job, 153, 0x41, 3)?;
+    counted_with(output, job, 158, 0)?;
+    counted_with(output, job, 158, 2)?;
+    end_line(output)
 }
 
 // Entries of so many bytes, a kind and zeros, up to a place.
@@ -538,151 +603,183 @@ fn fill(job: &mut [u8], kind: u8, size: usize, end: usize)
 }
 
 // What stands behind 65,536 entries is refused at its record, 65,536.
-fn refused_behind(job: &mut [u8], at: usize, record: &[u8], code: u32) {
+fn refused_behind(
+    output: &mut impl Write,
+    job: &mut [u8],
+    at: usize,
+    record: &[u8],
+    code: u32,
+) -> Result<()> {
     let n = record.len();
     if n <= job.len() {
         if at <= job.len() - n {
             writer::copy(record, 0, job, at, n);
             let end = at + n;
-            refused(&job[0..end], code, 65536);
+            refused(output, &job[0..end], code, 65536)?;
         }
     }
+    Ok(())
 }
 
-fn counted_behind(job: &mut [u8], at: usize, record: &[u8], expected: [usize; 8]) {
+fn counted_behind(
+    output: &mut impl Write,
+    job: &mut [u8],
+    at: usize,
+    record: &[u8],
+    expected: [usize; 8],
+) -> Result<()> {
     let n = record.len();
     if n <= job.len() {
         if at <= job.len() - n {
             writer::copy(record, 0, job, at, n);
             let end = at + n;
-            counted(&job[0..end], expected);
+            counted(output, &job[0..end], expected)?;
         }
     }
+    Ok(())
 }
 
 // 65,536 texts of no bytes: one constant more is 5, which comes after 3 and before 4, and the last text can be cited.
-fn full_constants(job: &mut [u8])
+fn full_constants(output: &mut impl Write, job: &mut [u8]) -> Result<()>
     requires { 196608 ≤ length job.old }
 {
     fill(job, 1, 3, 196608);
     counted_behind(
+        output,
         job,
         196608,
         b"\x50\x60\x02\x00\x00\x00",
         [65536, 65536, 0, 0, 0, 0, 0, 0],
-    );
-    refused_behind(job, 196608, b"\x01\x00\x00\x50\x60\x02\x00\x00\x00", 5);
+    )?;
     refused_behind(
+        output,
+        job,
+        196608,
+        b"\x01\x00\x00\x50\x60\x02\x00\x00\x00",
+        5,
+    )?;
+    refused_behind(
+        output,
         job,
         196608,
         b"\x11\x01\x00\x00\x01\x00\x00\x50\x60\x02\x00\x00\x00",
         5,
-    );
-    refused_behind(job, 196608, b"\x01\x00", 3);
-    refused_behind(job, 196608, b"\x07\x03\x00\x00\x50", 3);
+    )?;
+    refused_behind(output, job, 196608, b"\x01\x00", 3)?;
+    refused_behind(output, job, 196608, b"\x07\x03\x00\x00\x50", 3)
 }
 
-fn full_constants_cited(job: &mut [u8])
+fn full_constants_cited(output: &mut impl Write, job: &mut [u8]) -> Result<()>
     requires { 196608 ≤ length job.old }
 {
     fill(job, 1, 3, 196608);
     counted_behind(
+        output,
         job,
         196608,
         b"\x43\x00\x01\xff\xff\x50\x60\x02\x00\x00\x00",
         [65537, 65536, 0, 0, 0, 1, 0, 0],
-    );
+    )?;
     counted_behind(
+        output,
         job,
         196608,
         b"\x40\x01\xff\xff\x00\x00\x50\x60\x02\x00\x00\x00",
         [65537, 65536, 1, 1, 0, 0, 0, 0],
-    );
+    )
 }
 
 // An expression more is 5 before 22 and 23, and 3 if it is cut.
-fn full_constants_worked(job: &mut [u8])
+fn full_constants_worked(output: &mut impl Write, job: &mut [u8]) -> Result<()>
     requires { 196608 ≤ length job.old }
 {
     fill(job, 1, 3, 196608);
-    refused_behind(job, 196608, b"\x46\x00", 5);
+    refused_behind(output, job, 196608, b"\x46\x00", 5)?;
     refused_behind(
+        output,
         job,
         196608,
         b"\x46\x2f\x03\x00\x00\x00\x00\x03\x00\x00\x00\x00",
         5,
-    );
-    refused_behind(job, 196608, b"\x46\x2b", 3);
+    )?;
+    refused_behind(output, job, 196608, b"\x46\x2b", 3)
 }
 
 // 65,536 bootstraps of no arguments: the same for a bootstrap more, and there is still room for a constant.
-fn full_bootstraps(job: &mut [u8])
+fn full_bootstraps(output: &mut impl Write, job: &mut [u8]) -> Result<()>
     requires { 393216 ≤ length job.old }
 {
     fill(job, 0x40, 6, 393216);
     counted_behind(
+        output,
         job,
         393216,
         b"\x50\x60\x02\x00\x00\x00",
         [65536, 0, 65536, 65536, 0, 0, 0, 0],
-    );
+    )?;
     refused_behind(
+        output,
         job,
         393216,
         b"\x40\x01\x00\x00\x00\x00\x50\x60\x02\x00\x00\x00",
         5,
-    );
-    refused_behind(job, 393216, b"\x40\x01\x00\x00\x00", 3);
+    )?;
+    refused_behind(output, job, 393216, b"\x40\x01\x00\x00\x00", 3)?;
     counted_behind(
+        output,
         job,
         393216,
         b"\x01\x00\x00\x50\x60\x02\x00\x00\x00",
         [65537, 1, 65536, 65536, 0, 0, 0, 0],
-    );
+    )?;
     counted_behind(
+        output,
         job,
         393216,
         b"\x12\x01\xff\xff\x00\x00\x01\x50\x60\x02\x00\x00\x00",
         [65537, 1, 65536, 65538, 0, 0, 0, 0],
-    );
+    )
 }
 
-fn full_tables() {
+fn full_tables(output: &mut impl Write) -> Result<()> {
     let mut texts = [0u8; 196700];
-    full_constants(&mut texts);
-    full_constants_cited(&mut texts);
-    full_constants_worked(&mut texts);
-    end_line();
+    full_constants(output, &mut texts)?;
+    full_constants_cited(output, &mut texts)?;
+    full_constants_worked(output, &mut texts)?;
+    end_line(output)?;
     let mut bootstraps = [0u8; 393300];
-    full_bootstraps(&mut bootstraps);
-    end_line();
+    full_bootstraps(output, &mut bootstraps)?;
+    end_line(output)
 }
 
-fn main() {
-    first_faults();
-    tags_and_names();
-    two_tables();
-    known_jobs_to_e();
-    known_jobs_from_f();
-    highest_slots();
-    versions();
-    held_texts();
-    forms_of_texts();
-    expressions();
+fn main(rt: HostRuntime) -> Result<()> {
+    let mut stream = BufWriter::new(rt.alloc(), rt.stdout())?;
+    let output = &mut stream;
+    first_faults(output)?;
+    tags_and_names(output)?;
+    two_tables(output)?;
+    known_jobs_to_e(output)?;
+    known_jobs_from_f(output)?;
+    highest_slots(output)?;
+    versions(output)?;
+    held_texts(output)?;
+    forms_of_texts(output)?;
+    expressions(output)?;
     let mut job = [0u8; 162];
     put_literals(&mut job);
     put_references(&mut job);
     put_bootstraps(&mut job);
     put_names_and_raw(&mut job);
     put_requests(&mut job);
-    counted(&job, [24, 17, 2, 22, 3, 1, 1, 3]);
-    end_line();
-    cut_everywhere(&job);
-    refused_at_each(job, &STARTS, 0x15, 3);
-    refused_at_each(job, &FORMS, 3, 3);
-    refused_at_each(job, &LENGTHS, 0xff, 3);
-    counted_at_each(job, &FREE, 0xff);
-    wrong_numbers(job);
-    out_of_place(job);
-    full_tables();
+    counted(output, &job, [24, 17, 2, 22, 3, 1, 1, 3])?;
+    end_line(output)?;
+    cut_everywhere(output, &job)?;
+    refused_at_each(output, job, &STARTS, 0x15, 3)?;
+    refused_at_each(output, job, &FORMS, 3, 3)?;
+    refused_at_each(output, job, &LENGTHS, 0xff, 3)?;
+    counted_at_each(output, job, &FREE, 0xff)?;
+    wrong_numbers(output, job)?;
+    out_of_place(output, job)?;
+    full_tables(output)?;
+    output.flush()
 }

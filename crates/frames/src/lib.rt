@@ -94,7 +94,7 @@ fn read_block(input: &mut impl Read, s: &mut [u8], n: usize) -> Result<usize>
     ensures { IfOk result (λ size. BlockRead s.old s.new size) }
 {
     let all = read_part(input, s, n)?;
-    Ok(block_length(n, all))
+    Ok(if all { n } else { CUT })
 }
 
 // Reads n bytes in parts through s and keeps none of them; the length that stands for such a block.
@@ -143,15 +143,22 @@ pub fn next_or_skipped(input: &mut impl Read, s: &mut [u8]) -> Result<usize>
     read_block(input, s, n)
 }
 
+fn ending(how: u8) -> &'static str {
+    if how == STREAM_ENDS {
+        "whole stream,"
+    } else if how == FRAME_CUT {
+        "cut or too long behind"
+    } else if how == READ_FAILED {
+        "read failed behind"
+    } else {
+        "output failed behind"
+    }
+}
+
 // Says how the stream ends.
 pub fn tell(errors: &mut impl Write, program: &[u8], how: u8, frames: u64) -> Result<()> {
+    let end = ending(how);
     errors.write_all(program)?;
-    let end = match how {
-        STREAM_ENDS => "whole stream,",
-        FRAME_CUT => "cut or too long behind",
-        READ_FAILED => "read failed behind",
-        _ => "output failed behind",
-    };
     writeln!(errors, ": {end} {frames} frames")
 }
 

@@ -2,49 +2,70 @@
 // from `cases` by examples/frames; `stdout` is document 01's texts and the Rust driver's answers.
 #![tactic(auto)]
 
-use libc::{STDIN_FILENO, STDOUT_FILENO};
+use std::io::{ErrorKind, Read, Result, Stdin, Stdout, Write};
 
 // Reads the first n bytes; whether all of them came.
-fn read_part(s: &mut [u8], n: usize) -> bool {
+fn read_part(input: &mut Stdin, s: &mut [u8], n: usize) -> Result<bool> {
     if s.len() < n {
-        return false;
+        return Ok(false);
     }
-    io::read_full(STDIN_FILENO, &mut s[..n]) == n
+    match input.read_exact(&mut s[..n]) {
+        Ok(()) => Ok(true),
+        Err(error) => {
+            if error.kind() == ErrorKind::UnexpectedEof {
+                Ok(false)
+            } else {
+                Err(error)
+            }
+        }
+    }
 }
 
-fn write_part(s: &[u8], n: usize) -> bool {
+fn write_part(output: &mut Stdout, s: &[u8], n: usize) -> Result<bool> {
     if s.len() < n {
-        return false;
+        return Ok(false);
     }
-    io::write_all(STDOUT_FILENO, &s[..n])
+    output.write_all(&s[..n])?;
+    Ok(true)
 }
 
-fn print_text(file: &[u8], n: usize, out: &mut [u8; 1245184]) -> bool {
+fn print_text(
+    output: &mut Stdout,
+    file: &[u8],
+    n: usize,
+    out: &mut [u8; 1245184],
+) -> Result<bool> {
     if file.len() < n {
-        return false;
+        return Ok(false);
     }
     let k = poolrun_text::text(&file[..n], out);
-    write_part(out, k)
+    write_part(output, out, k)
 }
 
 // One file, if there is one; whether to go on.
-fn next_file(file: &mut [u8; 4096], out: &mut [u8; 1245184]) -> bool {
+fn next_file(
+    input: &mut Stdin,
+    output: &mut Stdout,
+    file: &mut [u8; 4096],
+    out: &mut [u8; 1245184],
+) -> Result<bool> {
     let mut head = [0u8; 4];
-    if !read_part(&mut head, 4) {
-        return false;
+    if !read_part(input, &mut head, 4)? {
+        return Ok(false);
     }
     let n = writer::get_u32(&head, 0) as usize;
-    if !read_part(file, n) {
-        return false;
+    if !read_part(input, file, n)? {
+        return Ok(false);
     }
-    print_text(file, n, out)
+    print_text(output, file, n, out)
 }
 
-fn main() {
+fn main(rt: HostRuntime) -> Result<()> {
     let mut file = [0u8; 4096];
     let mut out = [0u8; 1245184];
     let mut turns = u64::MAX;
-    while 0 < turns && next_file(&mut file, &mut out) {
+    while 0 < turns && next_file(&mut rt.stdin(), &mut rt.stdout(), &mut file, &mut out)? {
         turns -= 1;
     }
+    Ok(())
 }

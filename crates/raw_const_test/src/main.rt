@@ -7,17 +7,12 @@ ghost use Rattle.definition.specs.Basics.{lookup};
 ghost use Rattle.definition.specs.Shapes.{shapes};
 ghost use Rattle.raw_const.specs.Entries.{LiteralFits};
 
-use libc::STDOUT_FILENO;
 use raw_const::{Extent, Shape};
+use std::io::Result;
 
-fn say(name: &[u8], ok: bool) {
-    if ok {
-        io::write_all(STDOUT_FILENO, b"ok ");
-    } else {
-        io::write_all(STDOUT_FILENO, b"WRONG ");
-    }
-    io::write_all(STDOUT_FILENO, name);
-    io::write_all(STDOUT_FILENO, b"\n");
+fn say(rt: &impl Print, name: &str, ok: bool) -> Result<()> {
+    let verdict = if ok { "ok" } else { "WRONG" };
+    println!(rt; "{verdict} {name}")
 }
 
 // Can an entry of this tag have a literal of so many bytes?
@@ -216,20 +211,20 @@ fn rows() -> bool {
     written && raw_const::row_length(3) == 8 && raw_const::row_length(1) == 4
 }
 
-fn main() {
-    say(b"numbers", numbers());
-    say(b"references", references());
-    say(b"later tags", later_tags());
-    say(b"unknown 0", unknown(0));
-    say(b"unknown 2", unknown(2));
-    say(b"unknown 13", unknown(13));
-    say(b"unknown 14", unknown(14));
-    say(b"unknown 21", unknown(21));
-    say(b"unknown 255", unknown(255));
-    say(b"long text", long_text());
-    say(b"Long is wide", raw_const::is_long(5));
-    say(b"Double is wide", raw_const::is_long(6));
-    say(b"Float is narrow", !raw_const::is_long(4));
-    say(b"Class is narrow", !raw_const::is_long(7));
-    say(b"rows", rows());
+fn main(rt: HostRuntime) -> Result<()> {
+    say(&rt, "numbers", numbers())?;
+    say(&rt, "references", references())?;
+    say(&rt, "later tags", later_tags())?;
+    say(&rt, "unknown 0", unknown(0))?;
+    say(&rt, "unknown 2", unknown(2))?;
+    say(&rt, "unknown 13", unknown(13))?;
+    say(&rt, "unknown 14", unknown(14))?;
+    say(&rt, "unknown 21", unknown(21))?;
+    say(&rt, "unknown 255", unknown(255))?;
+    say(&rt, "long text", long_text())?;
+    say(&rt, "Long is wide", raw_const::is_long(5))?;
+    say(&rt, "Double is wide", raw_const::is_long(6))?;
+    say(&rt, "Float is narrow", !raw_const::is_long(4))?;
+    say(&rt, "Class is narrow", !raw_const::is_long(7))?;
+    say(&rt, "rows", rows())
 }

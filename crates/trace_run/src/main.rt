@@ -7,7 +7,8 @@
 
 ghost use Rattle.std.specs.Prelude.{◌≡◌, ◌*◌, ◌≤◌, length};
 
-use frames::{FRAME_CUT, GO_ON};
+use frames::{FRAME_CUT, GO_ON, READ_FAILED};
+use std::io::{Result, Stderr, Stdin, Stdout};
 use trace::Traced;
 
 // A flag that is given: its slot in two bytes, and its value.
@@ -74,24 +75,26 @@ fn put_traced(text: &mut [u8], traced: Traced) -> usize {
 
 // Runs a trace over a pool and flags; whether its line was written.
 fn run_part(
+    output: &mut Stdout,
     pool: &[u8],
     n: usize,
     trace: &[u8],
     size: usize,
     flags: &mut [u8],
     text: &mut [u8],
-) -> bool
+) -> Result<bool>
     requires n_in_bounds { n ≤ length pool.now }
     requires size_in_bounds { size ≤ length trace.now }
 {
     let traced = trace::run_trace(&pool[..n], &trace[..size], flags);
     let end = put_traced(text, traced);
     let end = put_flags(text, end, flags);
-    frames::end_line(text, end)
+    frames::end_line(output, text, end)
 }
 
 // Sets the flags that are given in a table of a length, and runs the trace over it.
 fn run_given(
+    output: &mut Stdout,
     pool: &[u8],
     n: usize,
     trace: &[u8],
@@ -100,7 +103,7 @@ fn run_given(
     given: &[u8],
     number: usize,
     text: &mut [u8],
-) -> bool
+) -> Result<bool>
     requires n_in_bounds { n ≤ length pool.now }
     requires size_in_bounds { size ≤ length trace.now }
     requires slots_bound { slots ≤ 65600 }
@@ -108,59 +111,87 @@ fn run_given(
 {
     let mut flags = no_flags();
     set_flags(&mut flags, given, number);
-    run_part(pool, n, trace, size, &mut flags[..slots], text)
+    run_part(output, pool, n, trace, size, &mut flags[..slots], text)
 }
 
 // One trace, if there is one.
 fn next_trace(
+    input: &mut Stdin,
+    output: &mut Stdout,
+    pool: &mut [u8; 262144],
+    trace: &mut [u8; 4194304],
+    given: &mut [u8; 196608],
+    text: &mut [u8; 1048576],
+) -> Result<u8> {
+    let n = frames::next_block(input, pool)?;
+    if 262144 < n {
+        return Ok(frames::without(n));
+    }
+    let size = frames::next_block(input, trace)?;
+    if 4194304 < size {
+        return Ok(FRAME_CUT);
+    }
+    let mut head = [0u8; 6];
+    if !frames::read_part(input, &mut head, 6)? {
+        return Ok(FRAME_CUT);
+    }
+    let slots = writer::get_u32(&head, 0) as usize;
+    let number = writer::get_u16(&head, 4) as usize;
+    if 65600 < slots {
+        return Ok(FRAME_CUT);
+    }
+    if !frames::read_part(input, given, FLAG * number)? {
+        return Ok(FRAME_CUT);
+    }
+    let written = run_given(
+        output, pool, n, trace, size, slots, given, number, text,
+    );
+    Ok(frames::after(written.unwrap_or(false)))
+}
+
+// The next trace; a read that fails ends the stream.
+fn go_on(
+    input: &mut Stdin,
+    output: &mut Stdout,
     pool: &mut [u8; 262144],
     trace: &mut [u8; 4194304],
     given: &mut [u8; 196608],
     text: &mut [u8; 1048576],
 ) -> u8 {
-    let n = frames::next_block(pool);
-    if 262144 < n {
-        return frames::without(n);
-    }
-    let size = frames::next_block(trace);
-    if 4194304 < size {
-        return FRAME_CUT;
-    }
-    let mut head = [0u8; 6];
-    if !frames::read_part(&mut head, 6) {
-        return FRAME_CUT;
-    }
-    let slots = writer::get_u32(&head, 0) as usize;
-    let number = writer::get_u16(&head, 4) as usize;
-    if 65600 < slots {
-        return FRAME_CUT;
-    }
-    if !frames::read_part(given, FLAG * number) {
-        return FRAME_CUT;
-    }
-    frames::after(run_given(pool, n, trace, size, slots, given, number, text))
+    next_trace(input, output, pool, trace, given, text).unwrap_or(READ_FAILED)
 }
 
 // Traces in turn; how the stream ends is told.
 fn run_stream(
+    input: &mut Stdin,
+    output: &mut Stdout,
+    errors: &mut Stderr,
     pool: &mut [u8; 262144],
     trace: &mut [u8; 4194304],
     given: &mut [u8; 196608],
     text: &mut [u8; 1048576],
-) {
+) -> Result<()> {
     let mut traces: u64 = 0;
-    let mut how = next_trace(pool, trace, given, text);
+    let mut how = go_on(input, output, pool, trace, given, text);
     while traces < u64::MAX && how == GO_ON {
         traces += 1;
-        how = next_trace(pool, trace, given, text);
+        how = go_on(input, output, pool, trace, given, text);
     }
-    frames::tell(b"trace_run", how, traces);
+    frames::tell(errors, b"trace_run", how, traces)
 }
 
-fn main() {
+fn main(rt: HostRuntime) -> Result<()> {
     let mut pool = [0u8; 262144];
     let mut trace = [0u8; 4194304];
     let mut given = [0u8; 196608];
     let mut text = [0u8; 1048576];
-    run_stream(&mut pool, &mut trace, &mut given, &mut text);
+    run_stream(
+        &mut rt.stdin(),
+        &mut rt.stdout(),
+        &mut rt.stderr(),
+        &mut pool,
+        &mut trace,
+        &mut given,
+        &mut text,
+    )
 }
