@@ -8,8 +8,6 @@ use Rattle.pool.proofs.Answering.{replied_unresolved, became, there_now, live_no
 use borrow.Author.Rules.{rules}
 use Rattle.pool.proofs.answer.Goals as goal
 -- `pool::answer` meets its contract. Resolved, given a slot, kept, or refused at the first that fails. Assumes nothing.
-mod Lts
-mod Tie
 use native.Mathlib.Omega.{arith}
 
 pub request_goal-goal-requires : goal.request_goal-goal-requires

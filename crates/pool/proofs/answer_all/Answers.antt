@@ -9,8 +9,6 @@ use Rattle.pool.proofs.InTurn.{Replying, replying_begin, in_turn, turn_next, pla
 use borrow.Author.Rules.{rules}
 use Rattle.pool.proofs.answer_all.Goals as goal
 -- `pool::answer_all` meets its contract. The loop keeps that what the rest of the requests gives, behind the answers so far, is the whole. Assumes nothing.
-mod Lts
-mod Tie
 use native.Mathlib.Omega.{arith}
 
 pub size_of-n-requires : goal.size_of-n-requires

@@ -8,8 +8,6 @@ use Prim.Native.Nat.{◌-◌}
 use borrow.Author.Rules.{rules}
 use Rattle.pool.proofs.gaps_between.Goals as goal
 -- `pool::gaps_between` meets its contract. The loop keeps `Between`, that what is written and what the rest will give are the whole. Assumes nothing.
-mod Lts
-mod Tie
 use Rattle.store.proofs.Stores.{length-store}
 
 pub loop-i-init : goal.loop-i-init

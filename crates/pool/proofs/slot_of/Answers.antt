@@ -6,8 +6,6 @@ use Rattle.pool.proofs.Slotting.{pool_sizes, node_given, kept_told, give-asks, s
 use borrow.Author.Rules.{rules}
 use Rattle.pool.proofs.slot_of.Goals as goal
 -- `pool::slot_of` meets its contract. A child that has a slot keeps it, and else the one that was found is given. Assumes nothing.
-mod Lts
-mod Tie
 use native.Mathlib.Omega.{arith}
 
 pub has_slot-requires : goal.has_slot-requires

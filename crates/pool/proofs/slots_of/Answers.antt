@@ -11,8 +11,6 @@ use Rattle.pool.proofs.Nodal.{node_place_lem, entry_places}
 use borrow.Author.Rules.{rules}
 use Rattle.pool.proofs.slots_of.Goals as goal
 -- `pool::slots_of` meets its contract. The loop keeps that what the rest of the children gives, behind what those passed have, is the whole. Assumes nothing.
-mod Lts
-mod Tie
 use native.Mathlib.Omega.{arith}
 
 pub first_child-first-requires : goal.first_child-first-requires

@@ -5,8 +5,6 @@ use native.Mathlib.Omega.{arith}
 use borrow.Author.Rules.{rules}
 use Rattle.pool.proofs.start_pool.Goals as goal
 -- `pool::start_pool` meets its contract. Gaps and stack are those of the raw slots in their order. Assumes nothing.
-mod Lts
-mod Tie
 use Rattle.store.proofs.Stores.{length-store}
 
 pub load-n-requires : goal.load-n-requires

@@ -5,8 +5,6 @@ use Rattle.pool.proofs.Taking.{slot-asks, save_asks, took_all}
 use borrow.Author.Rules.{rules}
 use Rattle.pool.proofs.take_slot.Goals as goal
 -- `pool::take_slot` meets its contract. What the allocator answers is what the definition's does, and the positions stay words. Assumes nothing.
-mod Lts
-mod Tie
 use native.Mathlib.Omega.{arith}
 
 pub take_slot-found-requires : goal.take_slot-found-requires
