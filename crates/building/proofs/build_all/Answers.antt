@@ -4,8 +4,6 @@ use Rattle.store.specs.Store.{store}
 use borrow.Author.Rules.{rules}
 use Rattle.building.proofs.build_all.Goals as goal
 -- `building::build_all` meets its contract. Assumes nothing.
-mod Lts
-mod Tie
 use Rattle.building.proofs.Whole.{standing_first, raws_refused, working_first, owners_first, built}
 
 pub slot_raw_rows-code-requires : goal.slot_raw_rows-code-requires

@@ -9,8 +9,6 @@ use native.Mathlib.Omega.{arith}
 use borrow.Author.Rules.{rules}
 use Rattle.building.proofs.drain.Goals as goal
 -- `building::drain` meets its contract. The loop keeps that what is left on the stack, with fuel for it, is the whole. Assumes nothing.
-mod Lts
-mod Tie
 use Rattle.building.proofs.Emptying.{Emptying, emptying_begin, emptying_end, turn_asks, turn_less, emptying_refused, emptying_next}
 
 pub loop-w-init : goal.loop-w-init

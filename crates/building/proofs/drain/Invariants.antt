@@ -7,6 +7,7 @@ use Rattle.store.specs.Store.{store}
 use mathlib.Core.Path.{◌≡◌, refl}
 use native.Mathlib.Omega.{arith}
 use borrow.Author.Rules.{rules}
+use Rattle.building.proofs.Emptying.{Emptying}
 use Rattle.building.proofs.drain.Given as goal
 
 abbrev pub invariant-loop-w : goal.invariant-loop-w

@@ -10,8 +10,6 @@ use native.Mathlib.Omega.{arith}
 use borrow.Author.Rules.{rules}
 use Rattle.building.proofs.finish.Goals as goal
 -- `building::finish` meets its contract. The loop keeps that what the rest of the children gives, behind the numbers of those passed, is the whole. Assumes nothing.
-mod Lts
-mod Tie
 use Rattle.building.proofs.Fields.{Numbering, numbering_begin, numbering_end, numbering_refused, numbering_next, fields_many, fields_room, field_is, field_there}
 
 pub first_child-first-requires : goal.first_child-first-requires

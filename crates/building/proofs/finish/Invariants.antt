@@ -8,6 +8,7 @@ use Rattle.store.specs.Store.{store}
 use mathlib.Core.Path.{◌≡◌, refl}
 use native.Mathlib.Omega.{arith}
 use borrow.Author.Rules.{rules}
+use Rattle.building.proofs.Fields.{Numbering}
 use Rattle.building.proofs.finish.Given as goal
 
 abbrev pub invariant-loop-i : goal.invariant-loop-i

@@ -10,4 +10,4 @@ pub returns-then-version-ge-NEWEST : goal.returns-then-version-ge-NEWEST
 returns-then-version-ge-NEWEST c = sym (newest-known c.args.version _ c.if-version-ge-NEWEST.true)
 
 pub returns : goal.returns
-returns c = c.is_Known.ensures ∙ ap (known _) c.node_tag.ensures
+returns c = c.is_known.ensures ∙ ap (known _) c.node_tag.ensures

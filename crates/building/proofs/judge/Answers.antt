@@ -5,8 +5,6 @@ use mathlib.Core.Path.{sym, ◌∙◌}
 use borrow.Author.Rules.{rules}
 use Rattle.building.proofs.judge.Goals as goal
 -- `building::judge` meets its contract. The kind that is asked for is the node's. Assumes nothing.
-mod Lts
-mod Tie
 use Rattle.building.proofs.Emptying.{judged-not, judged-so}
 
 pub has_kind-requires : goal.has_kind-requires

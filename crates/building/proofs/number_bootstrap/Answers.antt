@@ -9,8 +9,6 @@ use borrow.Author.Rules.{rules}
 use borrow.Author.Tests.{ltb-true}
 use Rattle.building.proofs.number_bootstrap.Goals as goal
 -- `building::number_bootstrap` meets its contract. Assumes nothing.
-mod Lts
-mod Tie
 use Rattle.building.proofs.Stepping.{bootstrap_had, bootstrap_refused, unindexed_tells, bootstrap_unindexed, bootstrap_indexed}
 
 pub has_index-requires : goal.has_index-requires

@@ -11,8 +11,6 @@ use native.Mathlib.Omega.{arith}
 use borrow.Author.Rules.{rules}
 use Rattle.building.proofs.number_child.Goals as goal
 -- `building::number_child` meets its contract. Assumes nothing.
-mod Lts
-mod Tie
 use Rattle.building.proofs.Stepping.{child_bootstrap, unslotted_tells, child_unslotted, child_slotted}
 
 pub is_bootstrap-requires : goal.is_bootstrap-requires

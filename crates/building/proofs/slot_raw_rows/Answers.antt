@@ -9,8 +9,6 @@ use native.Mathlib.Omega.{arith}
 use borrow.Author.Rules.{rules}
 use Rattle.building.proofs.slot_raw_rows.Goals as goal
 -- `building::slot_raw_rows` meets its contract. The loop keeps that what the raw bootstraps below give, in front of the rows of those above, is the whole. Assumes nothing.
-mod Lts
-mod Tie
 use Rattle.building.proofs.Falling.{Falling, falling_begin, falling_end, next-raws, next-asks, falling_refused, falling_next}
 
 pub raw_rows-i-requires : goal.raw_rows-i-requires

@@ -7,6 +7,7 @@ use Rattle.store.specs.Store.{store}
 use mathlib.Core.Path.{◌≡◌, refl}
 use native.Mathlib.Omega.{arith}
 use borrow.Author.Rules.{rules}
+use Rattle.building.proofs.Falling.{Falling}
 use Rattle.building.proofs.slot_raw_rows.Given as goal
 
 abbrev pub invariant-loop-i : goal.invariant-loop-i
