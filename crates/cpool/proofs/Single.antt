@@ -11,8 +11,8 @@ use Rattle.cpool.specs.declared.ClassLength.TheVariants as classLength
 use Rattle.cpool.specs.declared.Outcome.{Outcome}
 use Rattle.cpool.specs.declared.Outcome.TheVariants as outcome
 use Rattle.cpool.specs.Ran.{Numbers, Slices, given, bytes_of, told, is_built, memory_of, Ran, Told}
-use Rattle.cpool.proofs.Walks.run.Reads as run
-use Rattle.cpool.proofs.Walks.cpool_run.Reads as cpool-run
+use Rattle.cpool.proofs.run.Reads as run
+use Rattle.cpool.proofs.cpool_run.Reads as cpool_run
 
 -- AN OUTCOME IS KNOWN BY ITS CASE AND ITS NUMBERS
 
@@ -97,7 +97,7 @@ single κs a r r' s s' h h' =
 
 pub single_told :
     (κs : Lfts 9) (a : _) (r r' : ℕ) (s s' : _) →
-    cpool-run.Learnt κs a r s → cpool-run.Learnt κs a r' s' →
+    cpool_run.Learnt κs a r s → cpool_run.Learnt κs a r' s' →
     (r ≡ r')
     × (s.1.0.now ≡ s'.1.0.now)
     × (s.1.1.0.now ≡ s'.1.1.0.now)

@@ -7,18 +7,16 @@ use Rattle.cpool.specs.Ran.{slices}
 use Rattle.cpool.proofs.Ending.{ran_long, ran_few_words, ran_few_gaps, ran_on}
 use Rattle.cpool.proofs.run.Goals as goal
 -- `cpool::run` meets its contract. Assumes nothing.
-mod Lts
-mod Tie
 use borrow.Author.Rules.{rules}
 
 pub returns-then-job-gt-LONGEST_JOB : goal.returns-then-job-gt-LONGEST_JOB
-returns-then-job-gt-LONGEST_JOB c = let a = c.args in ran_long a.job.now (slices a.work.now a.gaps.now a.answers.now a.marks.now a.pool.now a.bootstraps.now a.class-name.now) (omega (arith, c.if-job-gt-LONGEST_JOB.true))
+returns-then-job-gt-LONGEST_JOB c = let a = c.args in ran_long a.job.now (slices a.work.now a.gaps.now a.answers.now a.marks.now a.pool.now a.bootstraps.now a.class_name.now) (omega (arith, c.if-job-gt-LONGEST_JOB.true))
 
 pub returns-then-work-job : goal.returns-then-work-job
-returns-then-work-job c = let a = c.args in ran_few_words a.job.now (slices a.work.now a.gaps.now a.answers.now a.marks.now a.pool.now a.bootstraps.now a.class-name.now) (omega (arith, c.if-job-gt-LONGEST_JOB.false)) (omega (arith, c.if-work-job.true))
+returns-then-work-job c = let a = c.args in ran_few_words a.job.now (slices a.work.now a.gaps.now a.answers.now a.marks.now a.pool.now a.bootstraps.now a.class_name.now) (omega (arith, c.if-job-gt-LONGEST_JOB.false)) (omega (arith, c.if-work-job.true))
 
 pub returns-then-gaps-job : goal.returns-then-gaps-job
-returns-then-gaps-job c = let a = c.args in ran_few_gaps a.job.now (slices a.work.now a.gaps.now a.answers.now a.marks.now a.pool.now a.bootstraps.now a.class-name.now) (omega (arith, c.if-job-gt-LONGEST_JOB.false)) (omega (arith, c.if-work-job.false)) (omega (arith, c.if-gaps-job.true))
+returns-then-gaps-job c = let a = c.args in ran_few_gaps a.job.now (slices a.work.now a.gaps.now a.answers.now a.marks.now a.pool.now a.bootstraps.now a.class_name.now) (omega (arith, c.if-job-gt-LONGEST_JOB.false)) (omega (arith, c.if-work-job.false)) (omega (arith, c.if-gaps-job.true))
 
 pub run_formed-outcome-requires : goal.run_formed-outcome-requires
 run_formed-outcome-requires c = (omega (arith, c.if-job-gt-LONGEST_JOB.false), omega (arith, c.if-work-job.false), omega (arith, c.if-gaps-job.false))
@@ -30,4 +28,4 @@ pub clear_gaps-requires : goal.clear_gaps-requires
 clear_gaps-requires c = tt
 
 pub returns : goal.returns
-returns c = let a = c.args in let f = c.run_formed-outcome in ran_on a.job.now (slices a.work.now a.gaps.now a.answers.now a.marks.now a.pool.now a.bootstraps.now a.class-name.now) (slices c.clear_words.new.w c.clear_gaps.new.gaps f.new.answers f.new.marks f.new.pool f.new.bootstraps f.new.class_name) f.result (λ i. (c.type_inv.job i).fits) (omega (arith, c.if-job-gt-LONGEST_JOB.false)) (omega (arith, c.if-work-job.false)) (omega (arith, c.if-gaps-job.false)) f.ensures (c.clear_words.ensures ∙ ap (λ n. replicate n 0) f.auto.w) (c.clear_gaps.ensures ∙ ap (λ n. replicate n no_gap) f.auto.gaps)
+returns c = let a = c.args in let f = c.run_formed-outcome in ran_on a.job.now (slices a.work.now a.gaps.now a.answers.now a.marks.now a.pool.now a.bootstraps.now a.class_name.now) (slices c.clear_words.new.w c.clear_gaps.new.gaps f.new.answers f.new.marks f.new.pool f.new.bootstraps f.new.class_name) f.result (λ i. (c.type_inv.job i).fits) (omega (arith, c.if-job-gt-LONGEST_JOB.false)) (omega (arith, c.if-work-job.false)) (omega (arith, c.if-gaps-job.false)) f.ensures (c.clear_words.ensures ∙ ap (λ n. replicate n 0) f.auto.w) (c.clear_gaps.ensures ∙ ap (λ n. replicate n no_gap) f.auto.gaps)

@@ -3,8 +3,6 @@ use Rattle.cpool.specs.Stages.{outputs}
 use Rattle.cpool.proofs.Ending.{counted, gave_unformed}
 use Rattle.cpool.proofs.run_formed.Goals as goal
 -- `cpool::run_formed` meets its contract. Assumes nothing.
-mod Lts
-mod Tie
 use borrow.Author.Rules.{rules}
 
 pub form-requires : goal.form-requires
@@ -17,4 +15,4 @@ pub returns-in-Counts : goal.returns-in-Counts
 returns-in-Counts c = c.build.ensures
 
 pub returns-in-Refused : goal.returns-in-Refused
-returns-in-Refused c = let a = c.args in gave_unformed a.job.now (outputs a.answers.now a.marks.now a.pool.now a.bootstraps.now a.class-name.now) _ _ (sym c.in-Refused.is ∙ c.form.ensures)
+returns-in-Refused c = let a = c.args in gave_unformed a.job.now (outputs a.answers.now a.marks.now a.pool.now a.bootstraps.now a.class_name.now) _ _ (sym c.in-Refused.is ∙ c.form.ensures)

@@ -14,7 +14,7 @@ unfolding Fits
 slice_bounds-put_built-end c = let a = c.args in
     let fits =
     subst
-    (λ (o : Outcome). Fits o (length a.out.now) (length a.answers.now) (length a.marks.now) (length a.pool.now) (length a.bootstraps.now) (length a.class-name.now))
+    (λ (o : Outcome). Fits o (length a.out.now) (length a.answers.now) (length a.marks.now) (length a.pool.now) (length a.bootstraps.now) (length a.class_name.now))
     c.in-Built.is
     c.requires in
     sym (length-take-le c.in-Built.asked a.answers.now fits.0)
@@ -24,7 +24,7 @@ unfolding Fits
 slice_bounds-put_built-end-in-Built c = let a = c.args in
     let fits =
     subst
-    (λ (o : Outcome). Fits o (length a.out.now) (length a.answers.now) (length a.marks.now) (length a.pool.now) (length a.bootstraps.now) (length a.class-name.now))
+    (λ (o : Outcome). Fits o (length a.out.now) (length a.answers.now) (length a.marks.now) (length a.pool.now) (length a.bootstraps.now) (length a.class_name.now))
     c.in-Built.is
     c.requires in
     sym (length-take-le c.in-Built.asked a.marks.now fits.1)
@@ -34,7 +34,7 @@ unfolding Fits
 slice_bounds-put_built-end-in-Built-2 c = let a = c.args in
     let fits =
     subst
-    (λ (o : Outcome). Fits o (length a.out.now) (length a.answers.now) (length a.marks.now) (length a.pool.now) (length a.bootstraps.now) (length a.class-name.now))
+    (λ (o : Outcome). Fits o (length a.out.now) (length a.answers.now) (length a.marks.now) (length a.pool.now) (length a.bootstraps.now) (length a.class_name.now))
     c.in-Built.is
     c.requires in
     sym (length-take-le c.in-Built.pool_size a.pool.now fits.2)
@@ -44,7 +44,7 @@ unfolding Fits
 slice_bounds-put_built-end-in-Built-3 c = let a = c.args in
     let fits =
     subst
-    (λ (o : Outcome). Fits o (length a.out.now) (length a.answers.now) (length a.marks.now) (length a.pool.now) (length a.bootstraps.now) (length a.class-name.now))
+    (λ (o : Outcome). Fits o (length a.out.now) (length a.answers.now) (length a.marks.now) (length a.pool.now) (length a.bootstraps.now) (length a.class_name.now))
     c.in-Built.is
     c.requires in
     sym (length-take-le c.in-Built.rows_size a.bootstraps.now fits.3)
@@ -54,7 +54,7 @@ unfolding Fits
 put_built-requires c = let a = c.args in
     let fits =
     subst
-    (λ (o : Outcome). Fits o (length a.out.now) (length a.answers.now) (length a.marks.now) (length a.pool.now) (length a.bootstraps.now) (length a.class-name.now))
+    (λ (o : Outcome). Fits o (length a.out.now) (length a.answers.now) (length a.marks.now) (length a.pool.now) (length a.bootstraps.now) (length a.class_name.now))
     c.in-Built.is
     c.requires in
     room_cut a.answers.now a.marks.now a.pool.now a.bootstraps.now fits.0 fits.1 fits.2 fits.3 fits.4
@@ -64,7 +64,7 @@ unfolding Fits
 put_refusal-requires c = let a = c.args in
     let fits =
     subst
-    (λ (o : Outcome). Fits o (length a.out.now) (length a.answers.now) (length a.marks.now) (length a.pool.now) (length a.bootstraps.now) (length a.class-name.now))
+    (λ (o : Outcome). Fits o (length a.out.now) (length a.answers.now) (length a.marks.now) (length a.pool.now) (length a.bootstraps.now) (length a.class_name.now))
     c.in-Refused.is
     c.requires in
     fits
@@ -73,10 +73,10 @@ pub returns-in-Built : goal.returns-in-Built
 unfolding text_of
 returns-in-Built c = let a = c.args in
     let told = c.put_built.ensures in
-    reworded (ap (λ (o : Outcome). text_of o a.answers.now a.marks.now a.pool.now a.bootstraps.now a.class-name.now) (sym c.in-Built.is)) told
+    reworded (ap (λ (o : Outcome). text_of o a.answers.now a.marks.now a.pool.now a.bootstraps.now a.class_name.now) (sym c.in-Built.is)) told
 
 pub returns-in-Refused : goal.returns-in-Refused
 unfolding text_of
 returns-in-Refused c = let a = c.args in
     let told = c.put_refusal.ensures in
-    reworded (ap (λ (o : Outcome). text_of o a.answers.now a.marks.now a.pool.now a.bootstraps.now a.class-name.now) (sym c.in-Refused.is)) told
+    reworded (ap (λ (o : Outcome). text_of o a.answers.now a.marks.now a.pool.now a.bootstraps.now a.class_name.now) (sym c.in-Refused.is)) told

@@ -22,5 +22,5 @@ pub returns : goal.returns
 returns c = let a = c.args in
     let texts = then (then (then c.put_asked-first.ensures.behind c.put_pool-second.ensures.behind) c.put_bootstraps-third.ensures.behind) c.put_last.ensures.behind in
     let all =
-    built_is a.answers.now a.marks.now a.pool.now a.count a.bootstraps.now a.name (name_of a.size a.class-name.now) a.visits in
+    built_is a.answers.now a.marks.now a.pool.now a.count a.bootstraps.now a.name (name_of a.size a.class_name.now) a.visits in
     reworded all texts

@@ -16,4 +16,4 @@ returns c = let d = c.type_inv.digits in
     let n = c.args.n in
     let put = c.put_digits in
     let short = few c.decimal-k.result n (omega arith) c.decimal-k.ensures.len in
-    record { upper_bound = omega (arith, short, put.ensures.value); behind = reworded (c.before.before.before.before.before.decimal.ensures.1.1 ∙ decimal-is c.decimal-k.result n c.decimal-k.ensures.len) put.ensures.behind }
+    record { upper_bound = omega (arith, short, put.ensures.value); behind = reworded (c.decimal-k.ensures.digits ∙ decimal-is c.decimal-k.result n c.decimal-k.ensures.len) put.ensures.behind }

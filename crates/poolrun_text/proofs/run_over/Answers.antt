@@ -6,8 +6,6 @@ use native.Mathlib.Omega.{arith}
 use mathlib.Core.Path.{sym}
 use Rattle.poolrun_text.proofs.run_over.Goals as goal
 -- `poolrun_text::run_over` meets its contract. What `run` promises is what the definition prints. Assumes nothing.
-mod Lts
-mod Tie
 use Rattle.poolrun_text.proofs.Putting.{reworded}
 
 pub slice_bounds-run-end : goal.slice_bounds-run-end
@@ -21,7 +19,7 @@ pub print-requires : goal.print-requires
 print-requires c = let r = c.run-outcome in
     let a = c.args in
     let l = c.requires.lengths in
-    let before = slices a.work.now a.gaps.now a.answers.now a.marks.now a.pool.now a.bootstraps.now a.class-name.now in
+    let before = slices a.work.now a.gaps.now a.answers.now a.marks.now a.pool.now a.bootstraps.now a.class_name.now in
     let after = slices r.new.work r.new.gaps r.new.answers r.new.marks r.new.pool r.new.bootstraps r.new.class_name in
     fits-ran
     (take a.n a.job.now)
@@ -65,7 +63,7 @@ pub returns : goal.returns
 returns c = let r = c.run-outcome in
     let a = c.args in
     let l = c.requires.lengths in
-    let before = slices a.work.now a.gaps.now a.answers.now a.marks.now a.pool.now a.bootstraps.now a.class-name.now in
+    let before = slices a.work.now a.gaps.now a.answers.now a.marks.now a.pool.now a.bootstraps.now a.class_name.now in
     let after = slices r.new.work r.new.gaps r.new.answers r.new.marks r.new.pool r.new.bootstraps r.new.class_name in
     let told = c.print.ensures in
     reworded (text_over (take a.n a.job.now) before after r.result r.ensures l) told

@@ -4,8 +4,6 @@ use Rattle.slots.specs.declared.Gap.{Gap}
 use Rattle.poolrun_text.proofs.Running.{lengths_lent}
 use Rattle.poolrun_text.proofs.run_text.Goals as goal
 -- `poolrun_text::run_text` meets its contract. The arrays are as long as their types say. Assumes nothing.
-mod Lts
-mod Tie
 use mathlib.Core.Path.{sym}
 
 pub no_gap-gap-requires : goal.no_gap-gap-requires
