@@ -6,8 +6,6 @@ use native.Mathlib.Omega.{arith}
 use borrow.Author.Rules.{rules}
 use Rattle.ending.proofs.end_pool.Goals as goal
 -- `ending::end_pool` meets its contract: the count goes by the gaps that the name leaves. Assumes nothing.
-mod Lts
-mod Tie
 use Rattle.ending.proofs.Counting.{can_name, count_asks, count_small, ended}
 
 pub name_slot-code-requires : goal.name_slot-code-requires

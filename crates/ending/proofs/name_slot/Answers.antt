@@ -7,8 +7,6 @@ use native.Mathlib.Omega.{arith}
 use borrow.Author.Rules.{rules}
 use Rattle.ending.proofs.name_slot.Goals as goal
 -- `ending::name_slot` meets its contract: no name, the slot that the text's node has, or one that is taken. Assumes nothing.
-mod Lts
-mod Tie
 use Rattle.ending.proofs.Naming.{not_named, named-shared, named_new}
 
 pub name_wanted-requires : goal.name_wanted-requires
