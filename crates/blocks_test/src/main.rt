@@ -433,5 +433,5 @@ fn run(rt: &impl Print, job: &mut [u8], file: &mut [u8]) -> Result<()> {
 fn main(rt: HostRuntime) -> Result<()> {
     let mut job = [0u8; 1048577];
     let mut file = [0u8; 1065985];
-    run(rt, &mut job, &mut file)?;
+    run(&rt, &mut job, &mut file)
 }

@@ -157,7 +157,12 @@ fn next_write(
     Ok(frames::after(written.unwrap_or(false)))
 }
 
-fn next_read(input: &mut Stdin, output: &mut Stdout, file: &mut [u8; 262208], text: &mut [u8; 524288]) -> Result<u8> {
+fn next_read(
+    input: &mut Stdin,
+    output: &mut Stdout,
+    file: &mut [u8; 262208],
+    text: &mut [u8; 524288],
+) -> Result<u8> {
     let n = frames::next_block(input, file)?;
     if 262208 < n {
         return Ok(FRAME_CUT);

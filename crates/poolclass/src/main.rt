@@ -3,15 +3,15 @@
 // second as super class (0 where there is none), and the BootstrapMethods attribute if the job's build has the name. Nothing else is looked
 // at: whether those slots hold classes is the job's affair.
 //
-// A refusal is told on standard error as `refused CODE PLACE`; the file's own (27: bootstrap methods and no name) has place 0. A read that
-// fails counts as the input's end.
+// A refusal is told on standard error as `refused CODE PLACE`; the file's own (27: bootstrap methods and no name) has place 0. A read or a
+// write that fails ends the program with its error; an output that can't be written is told on standard error besides.
 #![tactic(auto)]
 
 ghost use Rattle.std.specs.Prelude.{◌≤◌};
 
 use class_file::Written;
 use cpool::Outcome;
-use libc::{STDERR_FILENO, STDIN_FILENO};
+use std::io::{Read, Result, Stderr, Stdout, Write};
 
 const LONGEST_JOB: usize = 65536;
 
@@ -32,16 +32,12 @@ fn answer(answers: &[u16], asked: usize, i: usize) -> u16 {
     if i < n { answers[i] } else { 0 }
 }
 
-fn say(text: &[u8]) -> bool {
-    io::write_all(STDERR_FILENO, text)
+fn say(errors: &mut Stderr, text: &str) -> Result<()> {
+    errors.write_all(text.as_bytes())
 }
 
-fn tell_refusal(code: u32, place: usize) {
-    say(b"refused ");
-    io::print_decimal(STDERR_FILENO, code as u64);
-    say(b" ");
-    io::print_decimal(STDERR_FILENO, place as u64);
-    say(b"\n");
+fn tell_refusal(errors: &mut Stderr, code: u32, place: usize) -> Result<()> {
+    writeln!(errors, "refused {code} {place}")
 }
 
 // Runs a job over gaps of the stack; its marks and its class name aren't used.
@@ -55,7 +51,7 @@ fn run_job(
     let gap = slots::no_gap();
     let mut gaps = [gap; 13109];
     let mut marks = [0u8; 21846];
-    let mut class_name = io::large_buffer();
+    let mut class_name = [0u8; 65536];
     cpool::run(
         job,
         work,
@@ -134,37 +130,51 @@ fn place_of(outcome: Outcome) -> usize {
     }
 }
 
-fn put_written(written: Written, place: usize, file: &[u8]) {
+fn put_written(
+    output: &mut Stdout,
+    errors: &mut Stderr,
+    written: Written,
+    place: usize,
+    file: &[u8],
+) -> Result<()> {
     match written {
         Written::File(n) => {
-            if !frames::write_part(file, n) {
-                say(b"poolclass: the output can't be written\n");
+            let put = frames::write_part(output, file, n);
+            if !matches!(&put, Ok(true)) {
+                say(errors, "poolclass: the output can't be written\n")?;
             }
+            put?;
+            Ok(())
         }
-        Written::Refused(code) => tell_refusal(code, place),
+        Written::Refused(code) => tell_refusal(errors, code, place),
     }
 }
 
 fn make_file(
+    output: &mut Stdout,
+    errors: &mut Stderr,
     job: &[u8],
     work: &mut [u32; 394240],
     answers: &mut [u16; 21846],
     pool: &mut [u8; 524288],
     bootstraps: &mut [u8; 262144],
     file: &mut [u8; 786496],
-) {
+) -> Result<()> {
     let outcome = run_job(job, work, answers, pool, bootstraps);
     let written = write_outcome(outcome, answers, pool, bootstraps, file);
-    put_written(written, place_of(outcome), file);
+    put_written(output, errors, written, place_of(outcome), file)
 }
 
-fn main() {
+fn main(rt: HostRuntime) -> Result<()> {
     // One byte more than a job may have, so that a longer one is seen.
-    let mut job = [0u8; 65537];
-    let n = io::read_full(STDIN_FILENO, &mut job);
-    if LONGEST_JOB < n {
-        say(b"poolclass: the job has more than 65,536 bytes\n");
-        return;
+    let mut job = Vec::new(rt.alloc());
+    let mut input = rt.stdin().take(65537);
+    input.read_to_end(&mut job)?;
+    if LONGEST_JOB < job.len() {
+        return say(
+            &mut rt.stderr(),
+            "poolclass: the job has more than 65,536 bytes\n",
+        );
     }
     let mut work = [0u32; 394240];
     let mut answers = [0u16; 21846];
@@ -172,11 +182,13 @@ fn main() {
     let mut bootstraps = [0u8; 262144];
     let mut file = [0u8; 786496];
     make_file(
-        &job[..n],
+        &mut rt.stdout(),
+        &mut rt.stderr(),
+        &job,
         &mut work,
         &mut answers,
         &mut pool,
         &mut bootstraps,
         &mut file,
-    );
+    )
 }

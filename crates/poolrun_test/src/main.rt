@@ -29,12 +29,7 @@ fn write_part(output: &mut Stdout, s: &[u8], n: usize) -> Result<bool> {
     Ok(true)
 }
 
-fn print_text(
-    output: &mut Stdout,
-    file: &[u8],
-    n: usize,
-    out: &mut [u8; 1245184],
-) -> Result<bool> {
+fn print_text(output: &mut Stdout, file: &[u8], n: usize, out: &mut [u8; 1245184]) -> Result<bool> {
     if file.len() < n {
         return Ok(false);
     }

@@ -1,7 +1,7 @@
 // Runs stored jobs, packed as packed.rt says, and prints a line for each. `stdout` has the Rust's lines for them, so that the builder is
 // held to the Rust where there is no Rust; `make` beside src/ makes both files anew.
 //
-// All memory is the stack's, the only one that there is: 6.6 MB, enough for jobs of 200,000 bytes and outputs of 65,536. Of longer jobs only
+// Memory is the stack's, 6.6 MB, but for the text that waits to be written: enough for jobs of 200,000 bytes and outputs of 65,536. Of longer jobs only
 // those are stored that are too long for any memory; the others are run from Rust, over the heap (docs/DECISIONS.md).
 #![tactic(auto)]
 
@@ -13,6 +13,10 @@ ghost use Rattle.std.specs.Prelude.{◌≤◌};
 use cpool::Outcome;
 use packed::{Lent, ROOM, lent_of, next_packed};
 use slots::Gap;
+use std::io::{BufWriter, Result, Stdin, Write};
+
+// How much text waits before it is written.
+const WAITING: usize = 16384;
 
 fn least(a: usize, b: usize) -> usize
     ensures { result ≤ b }
@@ -82,6 +86,8 @@ fn run_lent(
 
 // One job, if there is one; whether to go on.
 fn next_job(
+    input: &mut Stdin,
+    text: &mut impl Write,
     job: &mut [u8; 1114112],
     work: &mut [u32; 1201024],
     gaps: &mut [Gap],
@@ -90,20 +96,23 @@ fn next_job(
     pool: &mut [u8; 65536],
     bootstraps: &mut [u8; 65536],
     class_name: &mut [u8; 65536],
-) -> bool {
+) -> Result<bool> {
     let mut head = [0u8; 25];
-    let n = next_packed(job, &mut head);
+    let n = next_packed(input, job, &mut head)?;
     if ROOM < n {
-        return false;
+        return Ok(false);
     }
     let lent = lent_of(&head);
     let outcome = run_lent(
         job, n, lent, work, gaps, answers, marks, pool, bootstraps, class_name,
     );
-    line::print_outcome(outcome, answers, marks, pool, bootstraps, class_name)
+    line::print_outcome(text, outcome, answers, marks, pool, bootstraps, class_name)?;
+    Ok(true)
 }
 
 fn run_all(
+    input: &mut Stdin,
+    text: &mut impl Write,
     job: &mut [u8; 1114112],
     work: &mut [u32; 1201024],
     gaps: &mut [Gap],
@@ -112,19 +121,22 @@ fn run_all(
     pool: &mut [u8; 65536],
     bootstraps: &mut [u8; 65536],
     class_name: &mut [u8; 65536],
-) {
+) -> Result<()> {
     let mut turns = u64::MAX;
     while 0 < turns
         && next_job(
-            job, work, gaps, answers, marks, pool, bootstraps, class_name,
-        )
+            input, text, job, work, gaps, answers, marks, pool, bootstraps, class_name,
+        )?
     {
         turns -= 1;
     }
+    Ok(())
 }
 
 // Runs all jobs over gaps for the longest that runs.
 fn run_over_gaps(
+    input: &mut Stdin,
+    text: &mut impl Write,
     job: &mut [u8; 1114112],
     work: &mut [u32; 1201024],
     answers: &mut [u16; 65536],
@@ -132,15 +144,15 @@ fn run_over_gaps(
     pool: &mut [u8; 65536],
     bootstraps: &mut [u8; 65536],
     class_name: &mut [u8; 65536],
-) {
+) -> Result<()> {
     let gap = slots::no_gap();
     let mut gaps = [gap; 40002];
     run_all(
-        job, work, &mut gaps, answers, marks, pool, bootstraps, class_name,
-    );
+        input, text, job, work, &mut gaps, answers, marks, pool, bootstraps, class_name,
+    )
 }
 
-fn main() {
+fn main(rt: HostRuntime) -> Result<()> {
     let mut job = [0u8; 1114112];
     let mut work = [0u32; 1201024];
     let mut answers = [0u16; 65536];
@@ -148,7 +160,10 @@ fn main() {
     let mut pool = [0u8; 65536];
     let mut bootstraps = [0u8; 65536];
     let mut class_name = [0u8; 65536];
+    let mut text = BufWriter::with_capacity(rt.alloc(), WAITING, rt.stdout())?;
     run_over_gaps(
+        &mut rt.stdin(),
+        &mut text,
         &mut job,
         &mut work,
         &mut answers,
@@ -156,5 +171,5 @@ fn main() {
         &mut pool,
         &mut bootstraps,
         &mut class_name,
-    );
+    )
 }

@@ -5,6 +5,7 @@
 ghost use Rattle.std.specs.Prelude.{◌+◌, ◌≤◌};
 
 use frames::read_part;
+use std::io::{Result, Stdin};
 
 // More than the longest job has, for those that are too long.
 pub(crate) const ROOM: usize = 1114112;
@@ -80,28 +81,33 @@ fn repeat(job: &mut [u8; 1114112], start: usize, pattern: &mut [u8; 65536], part
     at
 }
 
-fn next_part(job: &mut [u8; 1114112], at: usize, pattern: &mut [u8; 65536]) -> usize {
+fn next_part(
+    input: &mut Stdin,
+    job: &mut [u8; 1114112],
+    at: usize,
+    pattern: &mut [u8; 65536],
+) -> Result<usize> {
     let mut head = [0u8; 12];
-    if !read_part(&mut head, 12) {
-        return BROKEN;
+    if !read_part(input, &mut head, 12)? {
+        return Ok(BROKEN);
     }
     let part = part_of(&head);
-    if !read_part(pattern, part.size as usize) {
-        return BROKEN;
+    if !read_part(input, pattern, part.size as usize)? {
+        return Ok(BROKEN);
     }
-    repeat(job, at, pattern, part)
+    Ok(repeat(job, at, pattern, part))
 }
 
 // Unpacks a job of so many parts; its length.
-fn unpack(job: &mut [u8; 1114112], parts: u8) -> usize {
+fn unpack(input: &mut Stdin, job: &mut [u8; 1114112], parts: u8) -> Result<usize> {
     let mut pattern = [0u8; 65536];
     let mut at = 0;
     let mut left = parts;
     while 0 < left {
-        at = next_part(job, at, &mut pattern);
+        at = next_part(input, job, at, &mut pattern)?;
         left -= 1;
     }
-    at
+    Ok(at)
 }
 
 fn number(head: &[u8; 25], at: usize) -> usize
@@ -122,9 +128,13 @@ pub(crate) fn lent_of(head: &[u8; 25]) -> Lent {
 }
 
 // Reads the next job and what stands ahead of it; its length, past all room if there is none.
-pub(crate) fn next_packed(job: &mut [u8; 1114112], head: &mut [u8; 25]) -> usize {
-    if !read_part(head, 25) {
-        return BROKEN;
+pub(crate) fn next_packed(
+    input: &mut Stdin,
+    job: &mut [u8; 1114112],
+    head: &mut [u8; 25],
+) -> Result<usize> {
+    if !read_part(input, head, 25)? {
+        return Ok(BROKEN);
     }
-    unpack(job, head[0])
+    unpack(input, job, head[0])
 }

@@ -143,9 +143,7 @@ fn next_trace(
     if !frames::read_part(input, given, FLAG * number)? {
         return Ok(FRAME_CUT);
     }
-    let written = run_given(
-        output, pool, n, trace, size, slots, given, number, text,
-    );
+    let written = run_given(output, pool, n, trace, size, slots, given, number, text);
     Ok(frames::after(written.unwrap_or(false)))
 }
 
