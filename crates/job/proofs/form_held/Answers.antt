@@ -41,9 +41,12 @@ pub overflow_sub-result : goal.overflow_sub-result
 overflow_sub-result c = let s = c.args.job.now in
     let l = c.loop-at in
     let m = rw c.in-To.is at c.form_definition.ensures in
-    (definitions_broken s l.at l.counts c.loop-at-test.true (omega (arith, l.invariant.1))
-    (λ e. c.if-get_u8-eq80.false (c.get_u8.ensures ∙ e)) c.in-To.next c.in-To.more m l.broken c.is_broken-here.result c.first_broken-broken.result c.is_broken-here.ensures c.first_broken-broken.ensures
-    (sym c.texts_hold.ensures ∙ not-true c.texts_hold.result c.if-not-texts_hold.true-raw)).0
+    omega (
+      arith,
+      (definitions_broken s l.at l.counts c.loop-at-test.true (omega (arith, l.invariant.1))
+          (λ e. c.if-get_u8-eq80.false (c.get_u8.ensures ∙ e)) c.in-To.next c.in-To.more m l.broken c.is_broken-here.result c.first_broken-broken.result c.is_broken-here.ensures c.first_broken-broken.ensures
+          (sym c.texts_hold.ensures ∙ not-true c.texts_hold.result c.if-not-texts_hold.true-raw)).0,
+    )
 
 pub returns-then-not-texts_hold : goal.returns-then-not-texts_hold
 returns-then-not-texts_hold c = let s = c.args.job.now in

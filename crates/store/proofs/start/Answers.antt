@@ -14,9 +14,6 @@ slice_bounds-lay-end c = sym (lay_asks c.args.c c.args.n c.sizes_for-sizes.resul
 pub lay-requires : goal.lay-requires
 lay-requires c = let a = lay_asks c.args.c c.args.n c.sizes_for-sizes.result c.sizes_for-sizes.ensures c.requires.0 c.requires.3 in (c.requires.1, a.0, a.1)
 
-pub bounds-p-9 : goal.bounds-p-9
-bounds-p-9 c = omega (arith, places_length c.args.c c.args.n c.sizes_for-sizes.result c.lay.new.p c.sizes_for-sizes.ensures c.lay.ensures)
-
 pub slice_bounds-clear_words-end : goal.slice_bounds-clear_words-end
 slice_bounds-clear_words-end c = zeros-fit c.args.c c.args.n c.sizes_for-sizes.result c.lay.new.p c.sizes_for-sizes.ensures c.lay.ensures c.args.w.now c.requires.2 _ (omega arith)
 
