@@ -11,14 +11,13 @@ use lib.Seq.{drop-drop, take-take}
 use borrow.Author.Tests.{eqb-true, eq-eqb}
 use Rattle.definition.specs.Basics.{same}
 use Rattle.definition.specs.Bytes.{be4}
-use Rattle.definition.specs.Shapes.{Entry, is_wide}
-use Rattle.definition.specs.Job.{Reference, define}
+use Rattle.definition.specs.Shapes.{is_wide}
 use Rattle.facts.proofs.Lists.{equal, tests_agree, same_true, same_refl}
 use Rattle.laws.specs.Statements.{IsBytes}
 use Rattle.writer.specs.Numbers.{number4}
 use Rattle.writer.proofs.Laws.{be4-number}
 use Rattle.job.specs.declared.Stretch.{Stretch}
-use Rattle.job.specs.Stored.{Found, Spans, EntryStands, WhatEntry, any_definition, is_worked}
+use Rattle.job.specs.Stored.{Spans, EntryStands, WhatEntry, is_worked}
 use Rattle.store.specs.Store.{IsWord}
 use Rattle.store.specs.Chains.{mixed}
 use Rattle.store.specs.Entries.{WordsAt}

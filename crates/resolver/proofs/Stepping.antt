@@ -9,8 +9,8 @@ use lib.ListN.{length, get_or, get_elem?, set, take, length-append, length-map}
 use lib.Seq.{get_or-set_other}
 use Rattle.definition.specs.Basics.{good, bad, every, from}
 use Rattle.definition.specs.Shapes.{Entry}
-use Rattle.definition.specs.Resolving.{Goal, table_entry, refusal, Mark, fresh, underway, done, Resolved, Item, enter, leave}
-use Rattle.definition.specs.Resolving.{kids_at, visited, leaving, entering, step, work, fuel_for}
+use Rattle.definition.specs.Resolving.{Goal, table_entry, Mark, fresh, underway, done, Resolved, Item, enter, leave}
+use Rattle.definition.specs.Resolving.{kids_at, visited, entering, step, work, fuel_for}
 use Rattle.facts.proofs.Lists.{found_inside, map-set, equal, order}
 use Rattle.facts.proofs.Outcomes.{when_good}
 use Rattle.facts.proofs.Chunks.{length_from}

@@ -1,12 +1,12 @@
 -- What is resolved, as it stands in the regions. Assumes nothing.
-use Rattle.std.specs.Prelude.{Bool, true, false, List, [], ◌∷◌, map, ◌≡◌, ℕ, zero, suc, ◌+◌, ◌-◌, ◌≤◌, ◌<◌, eqb, ltb, length, get_or}
+use Rattle.std.specs.Prelude.{List, [], ◌∷◌, map, ◌≡◌, ℕ, zero, suc, ◌+◌, ◌-◌, ◌≤◌, ◌<◌, ltb, length, get_or}
 use Rattle.definition.specs.Basics.{Result, good, bad, only, position}
 use Rattle.definition.specs.Resolving.{Resolved, fuel_for, resolve}
 use Rattle.definition.specs.Places.{became}
 use Rattle.laws.specs.Faithful.{owing}
 use Rattle.laws.specs.Faithful.{Faithful}
 use Rattle.store.specs.Store.{Store, Kept}
-use Rattle.store.specs.JobIn.{counts_in, entries_in, linked_in}
+use Rattle.store.specs.JobIn.{entries_in, linked_in}
 use Rattle.store.specs.Regions.{COUNTS, MARKS, NODE-HEADS, NODE-LINKS, OFFSETS, FIRSTS, SIZES, GOALS, CHILDREN, NODES, STACK, VALUES, NODE-COUNT, VISITS}
 use Rattle.store.specs.Words.{ENTRY, REFUSED, mark_word, goal_word}
 use Rattle.store.specs.Entries.{Entered, Linked}

@@ -7,7 +7,6 @@ use Prim.Native.Nat.{ℕ, zero, suc, ◌-◌, ◌<◌}
 use native.Mathlib.Omega.{arith}
 use lib.ListN.{length, get_or, get_elem?, take}
 use Rattle.definition.specs.Shapes.{Kind}
-use Rattle.definition.specs.Job.{name}
 use Rattle.definition.specs.Definitions.{Naming, name_target}
 use Rattle.facts.proofs.Lists.{none≢some, some_inj, inside_found}
 use Rattle.store.specs.Chains.{head_of}

@@ -10,9 +10,9 @@ use Rattle.definition.specs.Resolving.{goal_of}
 use Rattle.job.specs.Stored.{Found, any_definition}
 use Rattle.store.specs.Store.{Store, Kept}
 use Rattle.store.specs.Chains.{head_of, Chains}
-use Rattle.store.specs.JobIn.{definitions_in, counts_in, entries_in, constants_in, namings_in}
-use Rattle.store.specs.Regions.{COUNTS, NAME-HEADS, NAME-LINKS, NAME-PLACES, NAME-GOALS, GOALS, NAME-COUNT}
-use Rattle.store.specs.Words.{reference_word, IsReference, goal_word, IsGoal}
+use Rattle.store.specs.JobIn.{counts_in, entries_in, constants_in, namings_in}
+use Rattle.store.specs.Regions.{COUNTS, NAME-HEADS, NAME-LINKS, NAME-PLACES, NAME-COUNT}
+use Rattle.store.specs.Words.{reference_word, goal_word, IsGoal}
 use Rattle.interner.specs.Nodes.{hash_bytes}
 
 -- the first byte of a record that names a thing of this kind

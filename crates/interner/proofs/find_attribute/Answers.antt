@@ -8,8 +8,7 @@ use Rattle.definition.specs.Numbering.{attribute_name}
 use Rattle.store.specs.Store.{size, store}
 use Rattle.store.specs.Regions.{NODE-HEADS}
 use Rattle.interner.specs.Nodes.{hash_bytes}
-use Rattle.interner.proofs.Finding.{Looking, looking_start, looking_low, looking_inside, looking_hit, looking_on, looking_less, looking_miss}
-use borrow.Author.Rules.{rules}
+use Rattle.interner.proofs.Finding.{looking_start, looking_low, looking_inside, looking_hit, looking_on, looking_less, looking_miss}
 use Rattle.interner.proofs.find_attribute.Goals as goal
 
 pub attribute_name-name-requires : goal.attribute_name-name-requires

@@ -1,5 +1,5 @@
 -- `interner::find_node` meets its contract: no node from the link on, along the chain, is what the entry would be. Assumes nothing.
-use Rattle.interner.proofs.Finding.{Looking, entry_keyed, looking_start, looking_low, looking_inside, looking_hit, looking_on, looking_less, looking_miss}
+use Rattle.interner.proofs.Finding.{entry_keyed, looking_start, looking_low, looking_inside, looking_hit, looking_on, looking_less, looking_miss}
 use Rattle.interner.proofs.Reading.{places, node_heads}
 use Rattle.store.proofs.Stores.{length-store}
 use Rattle.store.specs.Regions.{NODE-HEADS}

@@ -1,11 +1,8 @@
 -- `interner::find_node` meets its contract: no node from the link on, along the chain, is what the entry would be. Assumes nothing.
-use Rattle.interner.proofs.Finding.{Looking, entry_keyed, looking_start, looking_low, looking_inside, looking_hit, looking_on, looking_less, looking_miss}
-use Rattle.interner.proofs.Reading.{places, node_heads}
-use Rattle.store.proofs.Stores.{length-store}
+use Rattle.interner.proofs.Finding.{Looking}
 use Rattle.store.specs.Regions.{NODE-HEADS}
 use Rattle.store.specs.Store.{size, store}
 use Rattle.interner.specs.Nodes.{node_in_lem, hash_in}
-use native.Mathlib.Omega.{arith}
 use Rattle.interner.proofs.find_node.Given as goal
 
 abbrev pub invariant-loop-link : goal.invariant-loop-link

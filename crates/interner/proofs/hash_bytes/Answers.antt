@@ -1,8 +1,6 @@
 -- `interner::hash_bytes` meets its contract: the bytes that are left make the hash into that of all. Assumes nothing.
-use Rattle.interner.proofs.Runs.{Hashing, hashing_begin, hashing_one, hashing_four, hashing_end}
-use Prim.Native.Nat.{◌-◌}
+use Rattle.interner.proofs.Runs.{hashing_begin, hashing_one, hashing_four, hashing_end}
 use native.Mathlib.Omega.{arith}
-use borrow.Author.Rules.{rules}
 use Rattle.interner.proofs.hash_bytes.Goals as goal
 
 pub loop-i-init : goal.loop-i-init

@@ -1,8 +1,6 @@
 -- `interner::hash_bytes` meets its contract: the bytes that are left make the hash into that of all. Assumes nothing.
-use Rattle.interner.proofs.Runs.{Hashing, hashing_begin, hashing_one, hashing_four, hashing_end}
+use Rattle.interner.proofs.Runs.{Hashing}
 use Prim.Native.Nat.{◌-◌}
-use native.Mathlib.Omega.{arith}
-use borrow.Author.Rules.{rules}
 use Rattle.interner.proofs.hash_bytes.Given as goal
 
 abbrev pub invariant-loop-i : goal.invariant-loop-i

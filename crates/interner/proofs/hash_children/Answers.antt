@@ -1,10 +1,10 @@
 -- `interner::hash_children` meets its contract: the hash is that of the children behind. Assumes nothing.
-use Rattle.interner.proofs.Children.{Folding, folding_begin, folding_next, folding_end}
+use Rattle.interner.proofs.Children.{folding_begin, folding_next, folding_end}
 use Rattle.store.proofs.Stores.{in_words}
 use Rattle.store.specs.Store.{store}
 use Rattle.store.specs.Regions.{CHILDREN}
 use lib.ListN.{length}
-use Prim.Native.Nat.{◌+◌, ◌-◌}
+use Prim.Native.Nat.{◌+◌}
 use native.Mathlib.Omega.{arith}
 use Rattle.interner.proofs.hash_children.Goals as goal
 

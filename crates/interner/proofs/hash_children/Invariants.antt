@@ -1,11 +1,8 @@
 -- `interner::hash_children` meets its contract: the hash is that of the children behind. Assumes nothing.
-use Rattle.interner.proofs.Children.{Folding, folding_begin, folding_next, folding_end}
-use Rattle.store.proofs.Stores.{in_words}
+use Rattle.interner.proofs.Children.{Folding}
 use Rattle.store.specs.Store.{store}
 use Rattle.store.specs.Regions.{CHILDREN}
-use lib.ListN.{length}
-use Prim.Native.Nat.{◌+◌, ◌-◌}
-use native.Mathlib.Omega.{arith}
+use Prim.Native.Nat.{◌-◌}
 use Rattle.interner.proofs.hash_children.Given as goal
 
 abbrev pub invariant-loop-i : goal.invariant-loop-i

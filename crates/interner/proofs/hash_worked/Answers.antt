@@ -1,6 +1,6 @@
 -- `interner::hash_worked` meets its contract: its words are what `hash_bytes` would mix. Assumes nothing.
 use native.Mathlib.Omega.{arith}
-use mathlib.Core.Path.{sym, ap, ◌∙◌}
+use mathlib.Core.Path.{sym, ◌∙◌}
 use Rattle.store.specs.Store.{store}
 use Rattle.store.specs.Regions.{VALUES}
 use Rattle.store.proofs.Worked.{words_stand}

@@ -2,7 +2,6 @@
 use Rattle.interner.proofs.Attribute.{name_fits, other_tag, other_length, by_bytes}
 use Rattle.interner.proofs.Words.{text_plain}
 use native.Mathlib.Omega.{arith}
-use borrow.Author.Rules.{rules}
 use Rattle.interner.proofs.is_attribute.Goals as goal
 
 pub returns-then-tag_at-ne1 : goal.returns-then-tag_at-ne1

@@ -2,7 +2,6 @@
 use mathlib.Core.Logic.{inl, inr}
 use mathlib.Core.Path.{refl}
 use native.Mathlib.Omega.{arith}
-use borrow.Author.Rules.{rules}
 use Rattle.interner.proofs.keep_lower.Goals as goal
 
 pub returns-then-load-e : goal.returns-then-load-e

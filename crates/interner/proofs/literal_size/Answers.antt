@@ -1,5 +1,4 @@
 -- `interner::literal_size` meets its contract. Assumes nothing.
-use native.Mathlib.Omega.{arith}
 use mathlib.Core.Path.{sym, ◌∙◌}
 use Rattle.interner.proofs.Runs.{spans_long}
 use Rattle.interner.proofs.Words.{stands_inside, size-wide, size-narrow}

@@ -1,10 +1,10 @@
 -- `interner::same_children` meets its contract: the children behind are the same. Assumes nothing.
-use Rattle.interner.proofs.Children.{Matching, matching_begin, matching_next, matching_not, matching_end}
+use Rattle.interner.proofs.Children.{matching_begin, matching_next, matching_not, matching_end}
 use Rattle.store.proofs.Stores.{in_words}
 use Rattle.store.specs.Store.{store}
 use Rattle.store.specs.Regions.{CHILDREN}
 use lib.ListN.{length}
-use Prim.Native.Nat.{◌+◌, ◌-◌}
+use Prim.Native.Nat.{◌+◌}
 use native.Mathlib.Omega.{arith}
 use Rattle.interner.proofs.same_children.Goals as goal
 

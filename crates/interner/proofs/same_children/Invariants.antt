@@ -1,11 +1,8 @@
 -- `interner::same_children` meets its contract: the children behind are the same. Assumes nothing.
-use Rattle.interner.proofs.Children.{Matching, matching_begin, matching_next, matching_not, matching_end}
-use Rattle.store.proofs.Stores.{in_words}
+use Rattle.interner.proofs.Children.{Matching}
 use Rattle.store.specs.Store.{store}
 use Rattle.store.specs.Regions.{CHILDREN}
-use lib.ListN.{length}
-use Prim.Native.Nat.{◌+◌, ◌-◌}
-use native.Mathlib.Omega.{arith}
+use Prim.Native.Nat.{◌-◌}
 use Rattle.interner.proofs.same_children.Given as goal
 
 abbrev pub invariant-loop-i : goal.invariant-loop-i

@@ -1,6 +1,5 @@
 -- `interner::same_runs` meets its contract: the bytes that are left are the same just where all are. Assumes nothing.
-use Rattle.interner.proofs.Runs.{Comparing, comparing_begin, comparing_next, comparing_not, comparing_end}
-use Prim.Native.Nat.{◌-◌}
+use Rattle.interner.proofs.Runs.{comparing_begin, comparing_next, comparing_not, comparing_end}
 use native.Mathlib.Omega.{arith}
 use Rattle.interner.proofs.same_runs.Goals as goal
 

@@ -1,7 +1,6 @@
 -- `interner::same_runs` meets its contract: the bytes that are left are the same just where all are. Assumes nothing.
-use Rattle.interner.proofs.Runs.{Comparing, comparing_begin, comparing_next, comparing_not, comparing_end}
+use Rattle.interner.proofs.Runs.{Comparing}
 use Prim.Native.Nat.{◌-◌}
-use native.Mathlib.Omega.{arith}
 use Rattle.interner.proofs.same_runs.Given as goal
 
 abbrev pub invariant-loop-i : goal.invariant-loop-i

@@ -1,6 +1,5 @@
 -- `interner::same_worked` meets its contract: literals as long as each other are the same if their words are. Assumes nothing.
 use native.Mathlib.Omega.{arith}
-use mathlib.Core.Path.{sym, ◌∙◌}
 use Rattle.interner.proofs.Words.{four-least, eight_is, sizes_differ, firsts_differ, one_same, two-same}
 use Rattle.interner.proofs.same_worked.Goals as goal
 

@@ -1,12 +1,12 @@
 -- `resolver::push_children` meets its contract: the goals behind lie on the stack, from the top down. Assumes nothing.
-use mathlib.Core.Path.{◌≡◌, refl, ◌∙◌}
-use Prim.Native.Nat.{◌+◌, ◌-◌, ◌<◌}
+use mathlib.Core.Path.{refl, ◌∙◌}
+use Prim.Native.Nat.{◌+◌, ◌<◌}
 use native.Mathlib.Omega.{arith}
 use lib.ListN.{length}
 use Rattle.store.specs.Regions.{STACK}
-use Rattle.store.specs.Store.{store, size}
+use Rattle.store.specs.Store.{size}
 use Rattle.store.proofs.Stores.{length-store, in_words}
-use Rattle.resolver.proofs.Children.{Pushing, pushing_begin, pushing_next, pushing_end}
+use Rattle.resolver.proofs.Children.{pushing_begin, pushing_next, pushing_end}
 use Rattle.resolver.proofs.push_children.Goals as goal
 
 pub load-first-requires : goal.load-first-requires

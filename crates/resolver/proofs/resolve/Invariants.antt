@@ -1,19 +1,15 @@
 -- `resolver::resolve` meets its contract: what is left of the definition's run is the whole, and what is owed falls with each item.
 -- Assumes nothing.
-use mathlib.Core.Path.{◌≡◌, refl, ◌∙◌}
+use mathlib.Core.Path.{◌≡◌}
 use mathlib.Core.List.{map}
 use Prim.Native.Nat.{◌+◌}
-use native.Mathlib.Omega.{arith}
 use lib.ListN.{length}
 use Rattle.laws.specs.Faithful.{owing}
 use Rattle.store.specs.Words.{mark_word}
-use Rattle.store.specs.Regions.{COUNTS, MARKS, NODE-HEADS, STACK}
+use Rattle.store.specs.Regions.{MARKS, NODE-HEADS}
 use Rattle.store.specs.JobIn.{linked_in}
 use Rattle.store.specs.Store.{store, size}
-use Rattle.store.proofs.Laying.{work-sizes}
-use Rattle.store.proofs.Stores.{length-store}
-use Rattle.resolver.proofs.Going.{Resolving, goal_fits, begin, table_now, visits_fit, running_top, resolving_next, resolving_less, end_refused, end-good}
-use Rattle.resolver.proofs.Stepping.{few_of}
+use Rattle.resolver.proofs.Going.{Resolving}
 use Rattle.resolver.proofs.resolve.Given as goal
 
 abbrev pub invariant-loop-n : goal.invariant-loop-n

@@ -4,13 +4,10 @@ use Rattle.sym_refs.proofs.Lookup.{item_there, told-yes, told-no}
 use native.Mathlib.Omega.{arith}
 use Rattle.store.specs.Words.{label_at}
 use Rattle.store.specs.Regions.{NAME-HEADS, NAME-LINKS, NAME-PLACES}
-use Rattle.store.specs.Chains.{head_of}
 use Rattle.store.specs.Store.{store, size}
 use Rattle.store.proofs.Searching.{sought_hit, sought_miss}
 use Rattle.store.proofs.Stores.{length-store}
-use Rattle.store.proofs.Walking.{Down}
-use Rattle.sym_refs.specs.Leading.{Named}
-use Rattle.sym_refs.specs.Names.{hash_name, name_count}
+use Rattle.sym_refs.specs.Names.{name_count}
 use Rattle.sym_refs.proofs.Rooms.{room}
 use Rattle.sym_refs.proofs.Lookup.{name_start, name_on}
 use Rattle.sym_refs.proofs.find_name.Goals as goal

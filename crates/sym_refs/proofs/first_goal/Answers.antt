@@ -3,7 +3,6 @@ use native.Mathlib.Omega.{arith}
 use Rattle.store.specs.Store.{store}
 use Rattle.sym_refs.proofs.Rooms.{room}
 use Rattle.sym_refs.proofs.Firsts.{first_inside, first_name_stands, first_reference-stands, first_is, first_small, first_undefined, first_named}
-use borrow.Author.Rules.{rules}
 use Rattle.sym_refs.proofs.first_goal.Goals as goal
 
 pub load-at-requires : goal.load-at-requires

@@ -5,7 +5,6 @@ use Rattle.store.specs.Store.{store, size}
 use Rattle.sym_refs.specs.Names.{name_count}
 use Rattle.sym_refs.proofs.Rooms.{room}
 use Rattle.sym_refs.proofs.Ends.{goes_low, goes_none, goes_name}
-use borrow.Author.Rules.{rules}
 use Rattle.sym_refs.proofs.goal_of.Goals as goal
 
 pub returns-then-reference-lt-SYM : goal.returns-then-reference-lt-SYM

@@ -1,16 +1,11 @@
 -- `sym_refs::jump_names` meets its contract. The loop keeps that each name leads at least its span, and twice the span below i. Assumes nothing.
-use native.Mathlib.Omega.{arith}
 use Prim.Native.Nat.{◌-◌}
 use lib.ListN.{length}
-use mathlib.Core.Path.{refl, ◌≡◌, ◌∙◌}
+use mathlib.Core.Path.{◌≡◌}
 use mathlib.Core.List.{[], ◌∷◌}
 use Rattle.store.specs.Regions.{NAME-GOALS}
 use Rattle.store.specs.Store.{store, size, Kept}
-use Rattle.store.proofs.Keeping.{kept_put}
-use Rattle.store.proofs.Stores.{length-store}
-use Rattle.sym_refs.proofs.Jumping.{Turning, turn_start, turn_to, inner_hop}
-use Rattle.sym_refs.proofs.Rounds.{round-end}
-use borrow.Author.Rules.{rules}
+use Rattle.sym_refs.proofs.Jumping.{Turning}
 use Rattle.sym_refs.proofs.jump_names.Given as goal
 
 abbrev pub invariant-loop-i : goal.invariant-loop-i

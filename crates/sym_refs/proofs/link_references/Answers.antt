@@ -1,13 +1,11 @@
 -- `sym_refs::link_references` meets its contract. The loop links the references below i. Assumes nothing.
 use native.Mathlib.Omega.{arith}
-use Prim.Native.Nat.{◌-◌}
-use lib.ListN.{length}
-use mathlib.Core.Path.{refl, ◌≡◌, ◌∙◌}
+use mathlib.Core.Path.{refl, ◌∙◌}
 use Rattle.store.specs.Regions.{COUNTS, NAME-HEADS, NAME-LINKS, NAME-PLACES, NAME-GOALS, GOALS}
 use Rattle.store.specs.Store.{store, size}
 use Rattle.store.proofs.Stores.{length-store}
 use Rattle.sym_refs.proofs.Rooms.{room}
-use Rattle.sym_refs.proofs.Ends.{Linking, link_begin, link_next, link_end}
+use Rattle.sym_refs.proofs.Ends.{link_begin, link_next, link_end}
 use borrow.Author.Rules.{rules}
 use Rattle.sym_refs.proofs.link_references.Goals as goal
 

@@ -1,14 +1,10 @@
 -- `sym_refs::link_references` meets its contract. The loop links the references below i. Assumes nothing.
-use native.Mathlib.Omega.{arith}
 use Prim.Native.Nat.{◌-◌}
 use lib.ListN.{length}
-use mathlib.Core.Path.{refl, ◌≡◌, ◌∙◌}
-use Rattle.store.specs.Regions.{COUNTS, NAME-HEADS, NAME-LINKS, NAME-PLACES, NAME-GOALS, GOALS}
+use mathlib.Core.Path.{◌≡◌}
+use Rattle.store.specs.Regions.{GOALS}
 use Rattle.store.specs.Store.{store, size}
-use Rattle.store.proofs.Stores.{length-store}
-use Rattle.sym_refs.proofs.Rooms.{room}
-use Rattle.sym_refs.proofs.Ends.{Linking, link_begin, link_next, link_end}
-use borrow.Author.Rules.{rules}
+use Rattle.sym_refs.proofs.Ends.{Linking}
 use Rattle.sym_refs.proofs.link_references.Given as goal
 
 abbrev pub invariant-loop-i : goal.invariant-loop-i

@@ -1,7 +1,6 @@
 -- `sym_refs::names_same` meets its contract. Assumes nothing.
 use native.Mathlib.Omega.{arith}
 use Rattle.sym_refs.proofs.Comparing.{name_room, naming_room, other_kind, other_size, same_size}
-use borrow.Author.Rules.{rules}
 use Rattle.sym_refs.proofs.names_same.Goals as goal
 
 pub get_u8-n-requires : goal.get_u8-n-requires

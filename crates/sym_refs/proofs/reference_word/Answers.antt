@@ -2,7 +2,6 @@
 use native.Mathlib.Omega.{arith}
 use Rattle.sym_refs.proofs.Rooms.{room}
 use Rattle.sym_refs.proofs.Worded.{raw_worded, constant_worded, bootstrap_worded, name_worded, bootstrap_name_worded}
-use borrow.Author.Rules.{rules}
 use Rattle.sym_refs.proofs.reference_word.Goals as goal
 
 pub reference_at-requires : goal.reference_at-requires

@@ -1,14 +1,13 @@
 -- `sym_refs::resolve_names` meets its contract. The loop keeps that each name leads at least `span` steps, until that is past the number of names. Assumes nothing.
 use native.Mathlib.Omega.{arith}
-use Prim.Native.Nat.{◌-◌, ◌+◌}
-use lib.ListN.{length}
+use Prim.Native.Nat.{◌+◌}
 use mathlib.Core.Logic.{⊎_elim}
-use mathlib.Core.Path.{refl, ◌≡◌, ◌∙◌, ap}
+use mathlib.Core.Path.{refl, ◌∙◌, ap}
 use Rattle.store.specs.Regions.{NAME-GOALS}
-use Rattle.store.specs.Store.{store, size}
+use Rattle.store.specs.Store.{size}
 use Rattle.sym_refs.proofs.Rooms.{room}
 use Rattle.sym_refs.proofs.Ends.{follow-end}
-use Rattle.sym_refs.proofs.Rounds.{Following, follow-begin, follow-next}
+use Rattle.sym_refs.proofs.Rounds.{follow-begin, follow-next}
 use borrow.Author.Rules.{rules}
 use Rattle.sym_refs.proofs.resolve_names.Goals as goal
 

@@ -1,15 +1,10 @@
 -- `sym_refs::resolve_names` meets its contract. The loop keeps that each name leads at least `span` steps, until that is past the number of names. Assumes nothing.
-use native.Mathlib.Omega.{arith}
 use Prim.Native.Nat.{◌-◌, ◌+◌}
 use lib.ListN.{length}
-use mathlib.Core.Logic.{⊎_elim}
-use mathlib.Core.Path.{refl, ◌≡◌, ◌∙◌, ap}
+use mathlib.Core.Path.{◌≡◌}
 use Rattle.store.specs.Regions.{NAME-GOALS}
 use Rattle.store.specs.Store.{store, size}
-use Rattle.sym_refs.proofs.Rooms.{room}
-use Rattle.sym_refs.proofs.Ends.{follow-end}
-use Rattle.sym_refs.proofs.Rounds.{Following, follow-begin, follow-next}
-use borrow.Author.Rules.{rules}
+use Rattle.sym_refs.proofs.Rounds.{Following}
 use Rattle.sym_refs.proofs.resolve_names.Given as goal
 
 abbrev pub invariant-loop-span : goal.invariant-loop-span

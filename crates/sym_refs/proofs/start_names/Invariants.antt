@@ -1,14 +1,10 @@
 -- `sym_refs::start_names` meets its contract. The loop keeps that the names below i lead where they do in a step. Assumes nothing.
-use native.Mathlib.Omega.{arith}
 use Prim.Native.Nat.{◌-◌}
 use lib.ListN.{length}
-use mathlib.Core.Path.{refl, ◌≡◌, ◌∙◌}
-use Rattle.store.specs.Regions.{COUNTS, NAME-HEADS, NAME-LINKS, NAME-PLACES, NAME-GOALS}
+use mathlib.Core.Path.{◌≡◌}
+use Rattle.store.specs.Regions.{NAME-GOALS}
 use Rattle.store.specs.Store.{store, size}
-use Rattle.store.proofs.Stores.{length-store}
-use Rattle.sym_refs.proofs.Rooms.{room}
-use Rattle.sym_refs.proofs.Rounds.{Starting, start_begin, start_next, start_end}
-use borrow.Author.Rules.{rules}
+use Rattle.sym_refs.proofs.Rounds.{Starting}
 use Rattle.sym_refs.proofs.start_names.Given as goal
 
 abbrev pub invariant-loop-i : goal.invariant-loop-i
