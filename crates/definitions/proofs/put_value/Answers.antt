@@ -31,9 +31,6 @@ save-requires c = (search rules, omega (arith, words_stand c.args.job.now c.args
 pub overflow_add-at : goal.overflow_add-at
 overflow_add-at c = omega arith
 
-pub overflow_cast-low : goal.overflow_cast-low
-overflow_cast-low c = omega arith
-
 pub save-requires-2 : goal.save-requires-2
 save-requires-2 c = (search rules, words_stand c.args.job.now c.args.at c.requires.2 c.requires.3 c.args.p.now c.requires.1 1 (omega arith), omega arith)
 
