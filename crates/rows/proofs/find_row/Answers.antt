@@ -3,7 +3,7 @@ use native.Mathlib.Omega.{arith}
 use Rattle.store.specs.Regions.{INDEXES, ROW-HEADS}
 use Rattle.store.specs.Store.{store}
 use Rattle.store.proofs.Stores.{length-store}
-use Rattle.rows.proofs.Finding.{Looking, looking_start, looking_low, looking_node, looking_hit, looking_on, looking_less, looking_miss}
+use Rattle.rows.proofs.Finding.{looking_start, looking_low, looking_node, looking_hit, looking_on, looking_less, looking_miss}
 use Rattle.rows.proofs.find_row.Goals as goal
 
 pub first_link-link-requires : goal.first_link-link-requires

@@ -1,11 +1,9 @@
 -- `rows::hash_row` meets its contract. The hash is that of the slots behind. Assumes nothing.
 use native.Mathlib.Omega.{arith}
 use mathlib.Core.Path.{refl}
-use Prim.Native.Nat.{◌-◌}
-use lib.ListN.{length, get_or}
-use Rattle.store.specs.Regions.{GIVEN, FIRSTS, SIZES, CHILDREN, NODES}
+use lib.ListN.{length}
 use Rattle.store.specs.Store.{store}
-use Rattle.rows.proofs.Slotting.{slot_at, Folding, folding_begin, folding_next, folding_end, hashed_row}
+use Rattle.rows.proofs.Slotting.{folding_begin, folding_next, folding_end, hashed_row}
 use Rattle.rows.proofs.Reading.{kid_place, kid_add, kid_small}
 use Rattle.rows.proofs.hash_row.Goals as goal
 

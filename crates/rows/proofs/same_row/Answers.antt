@@ -1,11 +1,9 @@
 -- `rows::same_row` meets its contract. The slots behind are the same. Assumes nothing.
 use native.Mathlib.Omega.{arith}
 use mathlib.Core.Path.{refl}
-use Prim.Native.Nat.{◌-◌}
-use lib.ListN.{length, get_or}
-use Rattle.store.specs.Regions.{GIVEN, FIRSTS, SIZES, CHILDREN, NODES}
+use lib.ListN.{length}
 use Rattle.store.specs.Store.{store}
-use Rattle.rows.proofs.Slotting.{slot_at, Matching, matching_begin, matching_next, rows_differ, rows_unlike, rows_alike}
+use Rattle.rows.proofs.Slotting.{matching_begin, matching_next, rows_differ, rows_unlike, rows_alike}
 use Rattle.rows.proofs.Reading.{kid_place, kid_add, kid_small}
 use Rattle.rows.proofs.same_row.Goals as goal
 

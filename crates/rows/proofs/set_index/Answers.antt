@@ -1,7 +1,6 @@
 -- `rows::set_index` meets its contract. By the places of bootstraps. Assumes nothing.
 use Rattle.store.specs.Store.{store}
 use Rattle.rows.proofs.Reading.{node_place_lem, boot_behind, boot_place}
-use borrow.Author.Rules.{rules}
 use Rattle.rows.proofs.set_index.Goals as goal
 
 pub load-e-requires : goal.load-e-requires

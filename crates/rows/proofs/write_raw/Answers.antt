@@ -2,12 +2,10 @@
 use Rattle.rows.proofs.Reading.{counter, raws_few}
 use native.Mathlib.Omega.{arith}
 use mathlib.Core.Path.{◌∙◌}
-use Prim.Native.Nat.{◌-◌}
 use Rattle.store.specs.Regions.{COUNTS}
 use Rattle.store.specs.Store.{store}
 use Rattle.store.proofs.Stores.{length-store}
-use Rattle.rows.specs.Rowed.{raw_rows}
-use Rattle.rows.proofs.Writing.{WritingIn, writing_begin, writing_less, writing_low, writing_next, wrote_raws}
+use Rattle.rows.proofs.Writing.{writing_begin, writing_less, writing_low, writing_next, wrote_raws}
 use borrow.Author.Rules.{rules}
 use Rattle.rows.proofs.write_raw.Goals as goal
 
