@@ -2,8 +2,6 @@ use native.Mathlib.Omega.{arith}
 use Rattle.builder.proofs.JoinLaying.{top-few, laid_asked, to_build, laid_built, to_end, laid_named, to_own, laid_all}
 use Rattle.builder.proofs.lay_out.Goals as goal
 -- `builder::lay_out` meets its contract: each call gets what the one before it left. Assumes nothing.
-mod Lts
-mod Tie
 use mathlib.Core.Path.{◌∙◌}
 
 pub ask-code-requires : goal.ask-code-requires

@@ -7,8 +7,6 @@ use Rattle.requests.proofs.Words.{asked_refused, asked_all}
 use borrow.Author.Rules.{rules}
 use Rattle.requests.proofs.ask.Goals as goal
 -- `requests::ask` meets its contract. Record 50 hands to the pool's start, and that to the requests. Assumes nothing.
-mod Lts
-mod Tie
 use native.Mathlib.Omega.{arith}
 
 pub returns-then-code-ne0 : goal.returns-then-code-ne0
