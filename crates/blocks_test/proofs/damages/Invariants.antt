@@ -6,7 +6,7 @@ use lib.ListN.{length}
 use Rattle.blocks_test.proofs.damages.Given as goal
 
 abbrev pub invariant-loop-i : goal.invariant-loop-i
-invariant-loop-i l = (l.i ≤ 10) × (length l.job ≡ length l.initial.job) × (length l.file ≡ length l.initial.file)
+invariant-loop-i g l = (l.i ≤ 10) × (length l.job ≡ length l.initial.job) × (length l.file ≡ length l.initial.file)
 
 abbrev pub decreases-loop-i : goal.decreases-loop-i
-decreases-loop-i l = 10 - l.i
+decreases-loop-i g l = 10 - l.i

@@ -7,4 +7,4 @@ abbrev pub invariant-loop-classes : goal.invariant-loop-classes
 invariant-loop-classes l = Unit {0}
 
 abbrev pub decreases-loop-classes : goal.decreases-loop-classes
-decreases-loop-classes l = 18446744073709551615 - l.how
+decreases-loop-classes l = 18446744073709551615 - l.classes

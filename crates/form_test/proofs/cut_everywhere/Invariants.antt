@@ -5,7 +5,7 @@ use borrow.Author.Rules.{rules}
 use Rattle.form_test.proofs.cut_everywhere.Given as goal
 
 abbrev pub invariant-loop-n : goal.invariant-loop-n
-invariant-loop-n l = l.n ≤ length l.job
+invariant-loop-n g l = l.n ≤ length l.job
 
 abbrev pub decreases-loop-n : goal.decreases-loop-n
-decreases-loop-n l = length l.job - l.n
+decreases-loop-n g l = length l.job - l.n

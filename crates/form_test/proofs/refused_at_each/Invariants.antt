@@ -5,7 +5,7 @@ use borrow.Author.Rules.{rules}
 use Rattle.form_test.proofs.refused_at_each.Given as goal
 
 abbrev pub invariant-loop-i : goal.invariant-loop-i
-invariant-loop-i l = l.i ≤ length l.places
+invariant-loop-i g l = l.i ≤ length l.places
 
 abbrev pub decreases-loop-i : goal.decreases-loop-i
-decreases-loop-i l = length l.places - l.i
+decreases-loop-i g l = length l.places - l.i

@@ -4,7 +4,7 @@ use borrow.Author.Rules.{rules}
 use Rattle.form_test.proofs.wrong_numbers.Given as goal
 
 abbrev pub invariant-loop-i : goal.invariant-loop-i
-invariant-loop-i l = l.i ≤ 19
+invariant-loop-i g l = l.i ≤ 19
 
 abbrev pub decreases-loop-i : goal.decreases-loop-i
-decreases-loop-i l = 19 - l.i
+decreases-loop-i g l = 19 - l.i

@@ -7,4 +7,4 @@ abbrev pub invariant-loop-pools : goal.invariant-loop-pools
 invariant-loop-pools l = Unit {0}
 
 abbrev pub decreases-loop-pools : goal.decreases-loop-pools
-decreases-loop-pools l = 18446744073709551615 - l.how
+decreases-loop-pools l = 18446744073709551615 - l.pools

@@ -1,7 +1,7 @@
 use Rattle.replay.proofs.run_all.Given as goal
 
 abbrev pub invariant-loop-turns : goal.invariant-loop-turns
-invariant-loop-turns l = length l.gaps ≡ length l.initial.gaps
+invariant-loop-turns g l = length l.gaps ≡ length l.initial.gaps
 
 abbrev pub decreases-loop-turns : goal.decreases-loop-turns
-decreases-loop-turns l = l.turns
+decreases-loop-turns g l = l.turns

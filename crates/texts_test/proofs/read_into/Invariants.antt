@@ -5,7 +5,7 @@ use lib.ListN.{length}
 use Rattle.texts_test.proofs.read_into.Given as goal
 
 abbrev pub invariant-loop-i : goal.invariant-loop-i
-invariant-loop-i l = i ≤ length l.units
+invariant-loop-i g l = l.i ≤ length l.units
 
 abbrev pub decreases-loop-i : goal.decreases-loop-i
-decreases-loop-i l = length l.units - i
+decreases-loop-i g l = length l.units - l.i

@@ -5,7 +5,7 @@ use lib.ListN.{length}
 use Rattle.texts_test.proofs.write_into.Given as goal
 
 abbrev pub invariant-loop-i : goal.invariant-loop-i
-invariant-loop-i l = i ≤ length l.text
+invariant-loop-i g l = l.i ≤ length l.text
 
 abbrev pub decreases-loop-i : goal.decreases-loop-i
-decreases-loop-i l = length l.text - i
+decreases-loop-i g l = length l.text - l.i

@@ -7,4 +7,4 @@ abbrev pub invariant-loop-traces : goal.invariant-loop-traces
 invariant-loop-traces l = Unit {0}
 
 abbrev pub decreases-loop-traces : goal.decreases-loop-traces
-decreases-loop-traces l = 18446744073709551615 - l.how
+decreases-loop-traces l = 18446744073709551615 - l.traces

@@ -1,1 +1,0 @@
--- The laws that the proofs of the crate cite.
