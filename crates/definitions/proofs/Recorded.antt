@@ -14,7 +14,7 @@ use Rattle.definition.specs.Numbering.{Literal, entries, is_bootstrap, constants
 use Rattle.definition.specs.Definitions.{same_kind_lem}
 use Rattle.definition.specs.Resolving.{place_of}
 use Rattle.definition.specs.Places.{records_of, table_records}
-use Rattle.facts.proofs.Lists.{clash, none≢some, some_inj, inside_found, found_read, found_append, place_behind, only_here, only-later}
+use Rattle.facts.proofs.Lists.{clash, none≢some, inside_found, found_read, found_append, place_behind, only_here, only-later}
 use Rattle.laws.specs.Counted.{count_in}
 use Rattle.store.specs.JobIn.{job_in, definitions_in, table_in, constants_in, entries_in}
 use Rattle.definitions.specs.Defining.{done_in, Turn, records_in}

@@ -14,7 +14,7 @@ use Rattle.definition.specs.Form.{kind_of}
 use Rattle.definition.specs.Numbering.{constants_of}
 use Rattle.definition.specs.Resolving.{place_of}
 use Rattle.laws.specs.Counted.{count_in}
-use Rattle.job.specs.Stored.{Found, any_definition, is_worked}
+use Rattle.job.specs.Stored.{Found, any_definition}
 use Rattle.store.specs.Store.{Store}
 use Rattle.store.specs.JobIn.{definitions_in, constants_in}
 use Rattle.store.specs.Regions.{OFFSETS, VALUES}

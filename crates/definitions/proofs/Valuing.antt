@@ -1,20 +1,19 @@
 -- The value of a constant worked out is kept, and so its record is still the one in turn. Assumes nothing.
 use mathlib.Core.Bool.{Bool, true, false, cond}
-use mathlib.Core.List.{List, [], ◌∷◌, ◌++◌}
+use mathlib.Core.List.{List, [], ◌∷◌}
 use mathlib.Core.Path.{◌≡◌, refl, sym, ap, subst, ◌∙◌}
-use Prim.Native.Nat.{ℕ, suc, ◌+◌, ◌/◌, ◌≤◌, ◌<◌}
+use Prim.Native.Nat.{ℕ, ◌+◌, ◌/◌, ◌<◌}
 use native.Mathlib.Omega.{arith}
 use lib.ListN.{length, get_or, set, take, length-set}
 use lib.Seq.{get_or-set_same, get_or-set_other}
 use borrow.Author.Tests.{eq-eqb}
 use Rattle.definition.specs.Basics.{every}
-use Rattle.definition.specs.Bytes.{be4}
 use Rattle.definition.specs.Shapes.{Entry, is_wide}
 use Rattle.definition.specs.Job.{Reference}
 use Rattle.definition.specs.Definitions.{Defined}
 use Rattle.laws.specs.Statements.{IsBytes}
 use Rattle.job.specs.Stored.{EntryStands, WhatEntry, is_worked, words_bytes}
-use Rattle.store.specs.Store.{Store, size, put, Kept}
+use Rattle.store.specs.Store.{Store, size, put}
 use Rattle.store.specs.JobIn.{namings_in, constants_in}
 use Rattle.store.specs.Regions.{COUNTS, NAME-HEADS, RAW-HEADS, NAME-LINKS, RAW-LINKS, RECORDS, OFFSETS, FIRSTS, SIZES, GOALS, NAME-PLACES, RAW-KEYS, RAW-ENTRIES, VALUES, CONSTANT-COUNT, Work}
 use Rattle.store.specs.Words.{number_bytes}

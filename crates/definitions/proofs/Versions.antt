@@ -1,8 +1,8 @@
 -- The version that the definitions in turn leave is the one that the form pass counted. Assumes nothing.
 use mathlib.Core.List.{List, [], ◌∷◌, map}
-use mathlib.Core.Path.{◌≡◌, refl, sym, ap, ◌∙◌}
+use mathlib.Core.Path.{◌≡◌, sym, ap, ◌∙◌}
 use Prim.Native.Nat.{ℕ, suc}
-use Rattle.definition.specs.Basics.{good, ◌>>=◌, at_record, unless}
+use Rattle.definition.specs.Basics.{good, at_record, unless}
 use Rattle.definition.specs.Settings.{version, texts, highest}
 use Rattle.definition.specs.Shapes.{constant, bootstrap, Entry, is_wide}
 use Rattle.definition.specs.Job.{Reference, Definition, define, named, placed, setting}

@@ -11,7 +11,7 @@ use lib.Seq.{get_or-set_same, get_or-set_other}
 use Rattle.definition.specs.Basics.{good, bad}
 use Rattle.definition.specs.Shapes.{Entry}
 use Rattle.definition.specs.Job.{Reference}
-use Rattle.definition.specs.Numbering.{entries, literals, numbered_definition, numbered}
+use Rattle.definition.specs.Numbering.{literals, numbered_definition, numbered}
 use Rattle.definition.specs.Definitions.{Defined, define_all, nothing_defined}
 use Rattle.facts.proofs.Lists.{none≢some, found_inside, inside_found, order}
 use Rattle.job.specs.Forms.{references_in, counts_of}

@@ -11,7 +11,7 @@ use Rattle.store.specs.Store.{Store, size, Kept}
 use Rattle.store.specs.Chains.{last, Heads, NumbersIn}
 use Rattle.store.specs.JobIn.{table_in, entries_in, constants_in}
 use Rattle.store.specs.Regions.{COUNTS, MARKS, GIVEN, INDEXES, RAW-HEADS, OWNER-HEADS, OWNER-LINKS, FIRSTS, SIZES, CHILDREN, RAW-KEYS, RAW-ENTRIES, ORDER, NODES, HELD-COUNT, NAME-SLOT, POOL-COUNT}
-use Rattle.store.specs.Words.{ENTRY, HALF, cut, child_slot}
+use Rattle.store.specs.Words.{ENTRY, HALF, cut}
 use Rattle.interner.specs.Nodes.{node_count, EnteredIn}
 use Rattle.raws.specs.Raws.{raw_count, held_count}
 

@@ -1,6 +1,5 @@
 -- `definitions::after_naming` meets its contract. Assumes nothing.
 use Rattle.definitions.proofs.Reading.{label_stands, target_stands, target_end}
-use borrow.Author.Rules.{rules}
 use Rattle.definitions.proofs.after_naming.Goals as goal
 
 pub name_at-requires : goal.name_at-requires

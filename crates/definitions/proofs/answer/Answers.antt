@@ -1,6 +1,5 @@
 -- `definitions::answer` meets its contract. Assumes nothing.
 use Rattle.definitions.proofs.Reading.{answer-yes, answer-no}
-use borrow.Author.Rules.{rules}
 use Rattle.definitions.proofs.answer.Goals as goal
 
 pub returns-then-code-eq0 : goal.returns-then-code-eq0

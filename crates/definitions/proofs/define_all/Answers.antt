@@ -1,15 +1,12 @@
 -- `definitions::define_all` meets its contract. Assumes nothing.
-use Rattle.definitions.proofs.Whole.{SameBehind, all_begin, all_place, all_next, all_refused, all_kept, all_counters, all_low, all_finish}
+use Rattle.definitions.proofs.Whole.{all_begin, all_place, all_next, all_refused, all_kept, all_counters, all_low, all_finish}
 use Rattle.definitions.proofs.Rooms.{room}
-use Rattle.definitions.specs.Defining.{Defining, defined_regions}
 use Rattle.store.proofs.Stores.{length-store}
 use Rattle.store.specs.Regions.{COUNTS}
-use Rattle.store.specs.Store.{store, Kept}
-use Rattle.definition.specs.Definitions.{Defined, nothing_defined}
-use lib.ListN.{length}
+use Rattle.store.specs.Store.{store}
+use Rattle.definition.specs.Definitions.{nothing_defined}
 use native.Mathlib.Omega.{arith}
-use Prim.Native.Nat.{◌≤◌, ◌-◌}
-use mathlib.Core.Path.{◌≡◌, refl}
+use mathlib.Core.Path.{refl}
 use borrow.Author.Rules.{rules}
 use Rattle.definitions.proofs.define_all.Goals as goal
 

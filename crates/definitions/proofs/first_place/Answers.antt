@@ -2,7 +2,6 @@
 use Rattle.definitions.proofs.Reading.{first_yes, first_no}
 use mathlib.Core.Path.{sym, ◌∙◌}
 use native.Mathlib.Omega.{arith}
-use borrow.Author.Rules.{rules}
 use borrow.Author.Tests.{eqb-true, eqb-false}
 use Rattle.definitions.proofs.first_place.Goals as goal
 

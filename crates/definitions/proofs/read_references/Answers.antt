@@ -2,17 +2,11 @@
 use Rattle.definitions.proofs.Rooms.{room}
 use Rattle.definitions.proofs.Turning.{reading_begin, read_end, kid_stands, kid_read, word_small}
 use Rattle.definitions.proofs.Reading.{place_short}
-use Rattle.definitions.specs.Kids.{HasKids, ReadSoFar}
 use Rattle.store.proofs.Keeping.{kept_put}
 use Rattle.store.proofs.Stores.{length-store}
 use Rattle.store.specs.Regions.{GOALS}
-use Rattle.store.specs.Store.{store, Kept}
-use Rattle.definition.specs.Job.{Reference}
-use Rattle.definition.specs.Shapes.{Entry}
-use mathlib.Core.List.{List}
-use lib.ListN.{length}
+use Rattle.store.specs.Store.{store}
 use native.Mathlib.Omega.{arith}
-use Prim.Native.Nat.{ℕ, ◌≤◌, ◌-◌}
 use mathlib.Core.Path.{◌≡◌, refl, ◌∙◌}
 use mathlib.Core.List.{[], ◌∷◌}
 use borrow.Author.Rules.{rules}

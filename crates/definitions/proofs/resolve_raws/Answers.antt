@@ -1,11 +1,9 @@
 -- `definitions::resolve_raws` meets its contract. Assumes nothing.
-use Rattle.definitions.proofs.Ends.{SoFar, table_still, raws_begin, same-raw, raws_next, raws_refused, raws_end}
+use Rattle.definitions.proofs.Ends.{table_still, raws_begin, same-raw, raws_next, raws_refused, raws_end}
 use Rattle.definitions.proofs.Rooms.{room}
 use Rattle.store.specs.Regions.{NODE-HEADS, ORDER}
 use Rattle.store.specs.Store.{size, store}
-use lib.ListN.{length}
 use native.Mathlib.Omega.{arith}
-use Prim.Native.Nat.{◌≤◌, ◌-◌}
 use mathlib.Core.Path.{◌≡◌, refl}
 use borrow.Author.Rules.{rules}
 use Rattle.definitions.proofs.resolve_raws.Goals as goal

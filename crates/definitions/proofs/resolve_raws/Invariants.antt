@@ -1,13 +1,10 @@
 -- `definitions::resolve_raws` meets its contract. Assumes nothing.
-use Rattle.definitions.proofs.Ends.{SoFar, table_still, raws_begin, same-raw, raws_next, raws_refused, raws_end}
-use Rattle.definitions.proofs.Rooms.{room}
-use Rattle.store.specs.Regions.{NODE-HEADS, ORDER}
+use Rattle.definitions.proofs.Ends.{SoFar}
+use Rattle.store.specs.Regions.{NODE-HEADS}
 use Rattle.store.specs.Store.{size, store}
 use lib.ListN.{length}
-use native.Mathlib.Omega.{arith}
 use Prim.Native.Nat.{◌≤◌, ◌-◌}
-use mathlib.Core.Path.{◌≡◌, refl}
-use borrow.Author.Rules.{rules}
+use mathlib.Core.Path.{◌≡◌}
 use Rattle.definitions.proofs.resolve_raws.Given as goal
 
 abbrev pub invariant-loop-i : goal.invariant-loop-i

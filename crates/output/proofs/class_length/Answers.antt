@@ -1,5 +1,4 @@
 -- `output::class_length` meets its contract. Assumes nothing.
-use borrow.Author.Rules.{rules}
 use Rattle.output.proofs.Classes.{none-length, bytes-length, attribute-long}
 use Rattle.output.proofs.class_length.Goals as goal
 

@@ -1,7 +1,6 @@
 -- `output::class_name` meets its contract: the class slot's content is a Class or not, and its first child's slot is read as any slot is. Assumes nothing.
 use mathlib.Core.Path.{ap, ◌∙◌}
 use native.Mathlib.Omega.{arith}
-use borrow.Author.Rules.{rules}
 use Rattle.store.specs.Store.{store}
 use Rattle.output.specs.Contents.{content_in}
 use Rattle.output.proofs.Classes.{name_missing, class_node, name_there}

@@ -1,6 +1,5 @@
 -- `output::class_slot` meets its contract: the form byte and the number are those that the build record's reader finds. Assumes nothing.
 use native.Mathlib.Omega.{arith}
-use borrow.Author.Rules.{rules}
 use Rattle.store.specs.Store.{store}
 use Rattle.store.specs.Regions.{ANSWERS}
 use Rattle.store.specs.JobIn.{job_in}

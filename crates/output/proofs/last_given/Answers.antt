@@ -1,9 +1,7 @@
 -- `output::last_given` meets its contract: no node behind has a slot above the last one found. Assumes nothing.
-use Prim.Native.Nat.{◌-◌, ◌≤◌}
 use native.Mathlib.Omega.{arith}
 use Rattle.store.specs.Regions.{GIVEN}
 use Rattle.store.specs.Store.{store}
-use Rattle.output.specs.Contents.{NoneAbove}
 use Rattle.output.proofs.Owners.{above_more}
 use Rattle.output.proofs.last_given.Goals as goal
 use Rattle.output.proofs.last_given.Goals.{then-last-given, else-last-given}

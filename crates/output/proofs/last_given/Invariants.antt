@@ -1,11 +1,8 @@
 -- `output::last_given` meets its contract: no node behind has a slot above the last one found. Assumes nothing.
-use mathlib.Core.Logic.{⊎_elim}
 use Prim.Native.Nat.{◌-◌, ◌≤◌}
-use native.Mathlib.Omega.{arith}
 use Rattle.store.specs.Regions.{GIVEN}
 use Rattle.store.specs.Store.{store}
 use Rattle.output.specs.Contents.{NoneAbove}
-use Rattle.output.proofs.Owners.{above_more}
 use Rattle.output.proofs.last_given.Given as goal
 
 abbrev pub invariant-loop-k : goal.invariant-loop-k

@@ -1,5 +1,4 @@
 -- `output::node_length` meets its contract. Assumes nothing.
-use Rattle.output.specs.Contents.{finished_in}
 use Rattle.store.specs.Store.{store}
 use Rattle.output.proofs.Showing.{node_places, node_stands, tag_read, size-read, shown-fits, has_kids, length-kids, length-literal}
 use Rattle.output.proofs.node_length.Goals as goal

@@ -1,12 +1,10 @@
 -- `output::own_slots` meets its contract: the nodes behind stand in the chains of their slots. Assumes nothing.
-use mathlib.Core.Path.{◌≡◌, refl, ◌∙◌}
-use Prim.Native.Nat.{◌-◌}
+use mathlib.Core.Path.{refl, ◌∙◌}
 use native.Mathlib.Omega.{arith}
-use lib.ListN.{length}
 use Rattle.store.specs.Regions.{OWNER-HEADS, OWNER-LINKS}
 use Rattle.store.specs.Store.{store}
 use Rattle.store.proofs.Stores.{length-store}
-use Rattle.output.proofs.Owners.{Owning, owning_begin, owning_next, owning_end}
+use Rattle.output.proofs.Owners.{owning_begin, owning_next, owning_end}
 use Rattle.output.proofs.own_slots.Goals as goal
 
 pub load-n-requires : goal.load-n-requires

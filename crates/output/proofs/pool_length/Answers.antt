@@ -1,14 +1,11 @@
 -- `output::pool_length` meets its contract: the loop has measured the slots behind, and goes over them as `write_pool` does. Assumes nothing.
-use mathlib.Core.Path.{◌≡◌}
-use Prim.Native.Nat.{◌+◌, ◌-◌, ◌*◌, ◌≤◌}
 use native.Mathlib.Omega.{arith}
-use lib.ListN.{length}
 use Rattle.store.specs.Store.{store}
 use Rattle.output.specs.Contents.{slot_in}
 use Rattle.output.proofs.Pools.{held-few}
 use Rattle.output.proofs.Shown.{content_bound}
 use Rattle.output.proofs.Holding.{sweep_low}
-use Rattle.output.proofs.Pools.{Walked, below, below_none, walked_begin, content_good, walked_next, size-next, size-end, sweep_hit_on, sweep_miss-on}
+use Rattle.output.proofs.Pools.{below_none, walked_begin, content_good, walked_next, size-next, size-end, sweep_hit_on, sweep_miss-on}
 use Rattle.output.proofs.pool_length.Goals as goal
 use Rattle.output.proofs.pool_length.Goals.{then-slot-held, else-slot-held}
 

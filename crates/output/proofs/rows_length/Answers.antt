@@ -1,12 +1,10 @@
 -- `output::rows_length` meets its contract: the loop has measured the rows behind, and goes over them as `write_rows` does. Assumes nothing.
-use mathlib.Core.Path.{◌≡◌, sym, ap}
-use Prim.Native.Nat.{◌*◌, ◌-◌, ◌≤◌}
+use mathlib.Core.Path.{sym, ap}
 use native.Mathlib.Omega.{arith}
 use lib.ListN.{length}
 use Rattle.store.specs.Store.{store}
-use Rattle.facts.proofs.Chunks.{joined}
 use Rattle.output.specs.Rows.{row_at_in, constants_for}
-use Rattle.output.proofs.Filling.{Filled, filled-begin, filled_next, row_ready, row_adds, row_bound, rows_size, joined-start}
+use Rattle.output.proofs.Filling.{filled-begin, filled_next, row_ready, row_adds, row_bound, rows_size, joined-start}
 use Rattle.output.proofs.rows_length.Goals as goal
 
 pub row_count-end-requires : goal.row_count-end-requires

@@ -1,12 +1,11 @@
 -- `output::rows_length` meets its contract: the loop has measured the rows behind, and goes over them as `write_rows` does. Assumes nothing.
-use mathlib.Core.Path.{◌≡◌, sym, ap}
+use mathlib.Core.Path.{◌≡◌}
 use Prim.Native.Nat.{◌*◌, ◌-◌, ◌≤◌}
-use native.Mathlib.Omega.{arith}
 use lib.ListN.{length}
 use Rattle.store.specs.Store.{store}
 use Rattle.facts.proofs.Chunks.{joined}
 use Rattle.output.specs.Rows.{row_at_in, constants_for}
-use Rattle.output.proofs.Filling.{Filled, filled-begin, filled_next, row_ready, row_adds, row_bound, rows_size, joined-start}
+use Rattle.output.proofs.Filling.{Filled}
 use Rattle.output.proofs.rows_length.Given as goal
 
 abbrev pub invariant-loop-index : goal.invariant-loop-index

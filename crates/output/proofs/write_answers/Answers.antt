@@ -1,10 +1,8 @@
 -- `output::write_answers` meets its contract: the loop has copied the answers before i. Assumes nothing.
-use mathlib.Core.Path.{◌≡◌, refl}
-use Prim.Native.Nat.{◌-◌, ◌≤◌}
+use mathlib.Core.Path.{refl}
 use native.Mathlib.Omega.{arith}
-use lib.Seq.{paste, paste-zero}
-use lib.ListN.{length, length-set}
-use borrow.Author.Rules.{rules}
+use lib.Seq.{paste-zero}
+use lib.ListN.{length-set}
 use Rattle.store.specs.Store.{store}
 use Rattle.store.specs.Regions.{ANSWERS}
 use Rattle.store.proofs.Stores.{length-store}

@@ -2,7 +2,6 @@
 use mathlib.Core.Path.{ap}
 use native.Mathlib.Omega.{arith}
 use lib.ListN.{length}
-use borrow.Author.Rules.{rules}
 use Rattle.output.proofs.Shown.{name_length}
 use Rattle.output.proofs.Classes.{name_bytes, bytes-length, attribute-long, wrote_none, wrote_name, wrote_attribute}
 use Rattle.output.proofs.write_class.Goals as goal

@@ -3,7 +3,6 @@ use mathlib.Core.Path.{ap}
 use mathlib.Core.List.{[]}
 use native.Mathlib.Omega.{arith}
 use lib.ListN.{length}
-use borrow.Author.Rules.{rules}
 use Rattle.definition.specs.Numbering.{attribute_name}
 use Rattle.output.specs.Contents.{finished_in, shown_in, text_entry}
 use Rattle.store.specs.Store.{store}

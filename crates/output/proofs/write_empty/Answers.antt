@@ -1,5 +1,4 @@
 -- `output::write_empty` meets its contract. Assumes nothing.
-use borrow.Author.Rules.{rules}
 use Rattle.output.proofs.Shown.{wrote_empty}
 use Rattle.output.proofs.write_empty.Goals as goal
 

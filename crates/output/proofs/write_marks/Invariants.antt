@@ -1,14 +1,10 @@
 -- `output::write_marks` meets its contract: the loop has copied the marks before i. Assumes nothing.
-use mathlib.Core.Path.{◌≡◌, refl}
+use mathlib.Core.Path.{◌≡◌}
 use Prim.Native.Nat.{◌-◌, ◌≤◌}
-use native.Mathlib.Omega.{arith}
-use lib.Seq.{paste, paste-zero}
-use lib.ListN.{length, length-set}
-use borrow.Author.Rules.{rules}
+use lib.Seq.{paste}
+use lib.ListN.{length}
 use Rattle.store.specs.Store.{store}
 use Rattle.store.specs.Regions.{ORIGINS}
-use Rattle.store.proofs.Stores.{length-store}
-use Rattle.output.proofs.Rowing.{answers_next, answers_end}
 use Rattle.output.proofs.write_marks.Given as goal
 
 abbrev pub invariant-loop-i : goal.invariant-loop-i

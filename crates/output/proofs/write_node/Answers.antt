@@ -1,6 +1,5 @@
 -- `output::write_node` meets its contract: a node has children or a literal, and is written from those. Assumes nothing.
 use native.Mathlib.Omega.{arith}
-use borrow.Author.Rules.{rules}
 use Rattle.output.specs.Contents.{finished_in}
 use Rattle.store.specs.Store.{store}
 use mathlib.Core.Path.{sym, ◌∙◌}

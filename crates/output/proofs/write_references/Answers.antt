@@ -1,5 +1,4 @@
 -- `output::write_references` meets its contract: the numbers of the first two children are those of the entry shown. Assumes nothing.
-use borrow.Author.Rules.{rules}
 use Rattle.store.specs.Store.{store}
 use Rattle.output.proofs.Shown.{place_inside, kids_room, kid_ready, references-bytes, references-fit}
 use Rattle.output.proofs.Showing.{node_places, node_stands, tag_read, byte_read}

@@ -1,13 +1,12 @@
 -- `output::write_rows` meets its contract: the loop has written the rows behind, and each turn writes one behind them. Assumes nothing.
-use mathlib.Core.Path.{◌≡◌, refl, ◌∙◌}
+use mathlib.Core.Path.{◌≡◌}
 use Prim.Native.Nat.{◌-◌}
-use native.Mathlib.Omega.{arith}
 use lib.ListN.{length}
 use Rattle.store.specs.Store.{store}
 use Rattle.facts.proofs.Chunks.{joined}
 use Rattle.raw_const.specs.Entries.{Wrote}
 use Rattle.output.specs.Rows.{row_at_in, constants_for}
-use Rattle.output.proofs.Filling.{Filled, filled-begin, filled_next, row_ready, row_room, row_written, rows_written, wrote_start}
+use Rattle.output.proofs.Filling.{Filled}
 use Rattle.output.proofs.write_rows.Given as goal
 
 abbrev pub invariant-loop-index : goal.invariant-loop-index

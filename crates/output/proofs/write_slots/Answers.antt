@@ -1,15 +1,13 @@
 -- `output::write_slots` meets its contract: the loop has written the slots before i, and each turn writes one behind them. Assumes nothing.
 use mathlib.Core.Path.{◌≡◌, refl, ap, ◌∙◌}
-use Prim.Native.Nat.{◌+◌, ◌-◌, ◌≤◌}
+use Prim.Native.Nat.{◌+◌}
 use native.Mathlib.Omega.{arith}
 use lib.ListN.{length}
 use Rattle.store.specs.Store.{store}
 use Rattle.store.specs.Regions.{GIVEN, CHILDREN}
 use Rattle.store.proofs.Stores.{in_words}
-use Rattle.raw_const.specs.Entries.{Wrote}
 use Rattle.store.specs.Words.{child_slot}
-use Rattle.output.specs.Rows.{slots_from}
-use Rattle.output.proofs.Rowing.{shorts, slots-none, slots-more, slots_length}
+use Rattle.output.proofs.Rowing.{slots-none, slots-more, slots_length}
 use Rattle.output.proofs.write_slots.Goals as goal
 
 pub loop-i-init : goal.loop-i-init
