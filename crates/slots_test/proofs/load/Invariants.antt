@@ -1,7 +1,5 @@
-use mathlib.Core.Path.{◌≡◌, refl}
-use native.Mathlib.Omega.{arith}
-use lib.ListN.{length, length-set}
-use borrow.Author.Rules.{rules}
+-- `slots_test::load` meets its contract: the loop keeps the table's length. Assumes nothing.
+use Rattle.std.proofs.Common.{◌≡◌, ◌-◌, length}
 use Rattle.slots_test.proofs.load.Given as goal
 
 abbrev pub invariant-loop-i : goal.invariant-loop-i

@@ -1,8 +1,5 @@
-use mathlib.Core.Logic.{⊎_elim}
-use mathlib.Core.Path.{◌≡◌, refl}
-use native.Mathlib.Omega.{arith}
-use lib.ListN.{length}
-use borrow.Author.Rules.{rules}
+-- `slots_test::wrong_answers` meets its contract: the loop keeps the table's length, and no more are wrong than were asked. Assumes nothing.
+use Rattle.std.proofs.Common.{◌≡◌, ◌≤◌, ◌-◌, length}
 use Rattle.slots_test.proofs.wrong_answers.Given as goal
 
 abbrev pub invariant-loop-i : goal.invariant-loop-i
