@@ -7,7 +7,7 @@ use Prim.Native.Nat.{ℕ, ◌+◌, ◌-◌, ◌≤◌, ◌<◌}
 use native.Mathlib.Omega.{arith}
 use lib.ListN.{length, get_or, take, length-map, length-take, length-append}
 use lib.Seq.{get_or-set_same, get_or-set_other}
-use Rattle.definition.specs.Basics.{Result, good, bad, ◌>>=◌, every}
+use Rattle.definition.specs.Basics.{Result, good, bad, every}
 use Rattle.definition.specs.Job.{Request}
 use Rattle.definition.specs.Resolving.{Goal, Resolved, child_of, resolve}
 use Rattle.definition.specs.Building.{Pool, slot_of, Origin, origin_of, mark_of}
@@ -29,8 +29,7 @@ use Rattle.resolver.specs.Resolved.{resolved_in, Became, Table, AtRest, visits_o
 use Rattle.resolver.proofs.Meanings.{child_raw, child_entry, done_found}
 use Rattle.resolver.proofs.Going.{told-good, told-bad}
 use Rattle.resolver.proofs.Handing.{resolved_became, resolved_grows}
-use Rattle.pool.specs.Pooled.{gaps_in, PooledIn, LiveIn, NodesThere, moving, Goes, code_in, mark_in, Marked, Slotted}
-use Rattle.pool.specs.declared.Reply.{Reply}
+use Rattle.pool.specs.Pooled.{gaps_in, PooledIn, LiveIn, NodesThere, moving, Goes, Slotted}
 use Rattle.pool.specs.Replying.{goal_for, LeadsTo, low, KeptAnswer, ready_so_far, Asking, asked_counters, asked_regions, Replied}
 use Rattle.pool.proofs.Words.{not-among}
 use Rattle.pool.proofs.Giving.{SameGaps, slots_same, gaps_live_same}

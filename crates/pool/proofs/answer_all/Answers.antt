@@ -1,11 +1,9 @@
-use mathlib.Core.Path.{◌≡◌, refl, sym, ◌∙◌}
-use Prim.Native.Nat.{◌-◌}
-use lib.ListN.{length}
+use mathlib.Core.Path.{refl, sym, ◌∙◌}
 use Rattle.store.proofs.Stores.{length-store}
 use Rattle.store.specs.Store.{store}
 use Rattle.store.specs.Regions.{COUNTS, ANSWERS, ORIGINS}
 use Rattle.pool.proofs.Asked.{request_inside, refers}
-use Rattle.pool.proofs.InTurn.{Replying, replying_begin, in_turn, turn_next, place_next, answer-asks, replying_refused, replying_next, counted_is, replied_on, requests_counted, ended}
+use Rattle.pool.proofs.InTurn.{replying_begin, in_turn, turn_next, place_next, answer-asks, replying_refused, replying_next, counted_is, replied_on, requests_counted, ended}
 use borrow.Author.Rules.{rules}
 use Rattle.pool.proofs.answer_all.Goals as goal
 -- `pool::answer_all` meets its contract. The loop keeps that what the rest of the requests gives, behind the answers so far, is the whole. Assumes nothing.

@@ -1,5 +1,4 @@
 -- `pool::child_count` meets its contract. By the two loads. Assumes nothing.
-use borrow.Author.Rules.{rules}
 use Rattle.pool.proofs.child_count.Goals as goal
 
 pub returns : goal.returns

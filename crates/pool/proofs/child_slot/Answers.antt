@@ -4,7 +4,6 @@ use mathlib.Core.Path.{sym, ◌∙◌}
 use Rattle.store.specs.Store.{store}
 use Rattle.store.specs.Regions.{GIVEN}
 use Rattle.pool.proofs.Words.{child_raw, child_node}
-use borrow.Author.Rules.{rules}
 use Rattle.pool.proofs.child_slot.Goals as goal
 
 pub returns-then-child-lt-ENTRY : goal.returns-then-child-lt-ENTRY

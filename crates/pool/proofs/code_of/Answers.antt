@@ -1,6 +1,5 @@
 -- `pool::code_of` meets its contract. By cases. Assumes nothing.
 use Rattle.pool.specs.Pooled.{code_in}
-use borrow.Author.Rules.{rules}
 use Rattle.pool.proofs.code_of.Goals as goal
 
 pub returns-in-Raw : goal.returns-in-Raw

@@ -1,5 +1,4 @@
 -- `pool::first_child` meets its contract. By the two loads. Assumes nothing.
-use borrow.Author.Rules.{rules}
 use Rattle.pool.proofs.first_child.Goals as goal
 
 pub returns : goal.returns

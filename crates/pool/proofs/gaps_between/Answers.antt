@@ -1,11 +1,7 @@
 use Rattle.store.specs.Store.{store}
 use Rattle.store.specs.Regions.{RAW-KEYS, ORDER}
-use Rattle.pool.proofs.Gapping.{Between, between_start, key_low, push_asks, push_goes, last-asks, last_goes}
-use Rattle.pool.specs.Starting.{order_keys}
-use Rattle.definition.specs.Slots.{gaps_from}
+use Rattle.pool.proofs.Gapping.{between_start, key_low, push_asks, push_goes, last-asks, last_goes}
 use native.Mathlib.Omega.{arith}
-use Prim.Native.Nat.{◌-◌}
-use borrow.Author.Rules.{rules}
 use Rattle.pool.proofs.gaps_between.Goals as goal
 -- `pool::gaps_between` meets its contract. The loop keeps `Between`, that what is written and what the rest will give are the whole. Assumes nothing.
 use Rattle.store.proofs.Stores.{length-store}

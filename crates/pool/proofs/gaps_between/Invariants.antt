@@ -1,11 +1,9 @@
 use Rattle.store.specs.Store.{store}
 use Rattle.store.specs.Regions.{RAW-KEYS, ORDER}
-use Rattle.pool.proofs.Gapping.{Between, between_start, key_low, push_asks, push_goes, last-asks, last_goes}
+use Rattle.pool.proofs.Gapping.{Between}
 use Rattle.pool.specs.Starting.{order_keys}
 use Rattle.definition.specs.Slots.{gaps_from}
-use native.Mathlib.Omega.{arith}
 use Prim.Native.Nat.{◌-◌}
-use borrow.Author.Rules.{rules}
 use Rattle.pool.proofs.gaps_between.Given as goal
 
 abbrev pub invariant-loop-i : goal.invariant-loop-i

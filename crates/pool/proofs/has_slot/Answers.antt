@@ -4,7 +4,6 @@ use Rattle.store.specs.Regions.{GIVEN}
 use Rattle.pool.proofs.Words.{told}
 use Rattle.facts.proofs.Lists.{true≢false}
 use mathlib.Core.Logic.{inl}
-use borrow.Author.Rules.{rules}
 use Rattle.pool.proofs.has_slot.Goals as goal
 
 pub returns-then-child-lt-ENTRY : goal.returns-then-child-lt-ENTRY

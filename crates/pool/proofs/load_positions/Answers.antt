@@ -1,5 +1,4 @@
 -- `pool::load_positions` meets its contract. By the three loads. Assumes nothing.
-use borrow.Author.Rules.{rules}
 use Rattle.pool.proofs.load_positions.Goals as goal
 
 pub returns : goal.returns

@@ -1,5 +1,4 @@
 -- `pool::node_at` meets its contract. By the two loads. Assumes nothing.
-use borrow.Author.Rules.{rules}
 use Rattle.pool.proofs.node_at.Goals as goal
 
 pub returns : goal.returns

@@ -1,7 +1,6 @@
 -- `pool::node_is_wide` meets its contract. Assumes nothing.
 use mathlib.Core.Path.{ap, ◌∙◌}
 use Rattle.definition.specs.Shapes.{is_wide}
-use borrow.Author.Rules.{rules}
 use Rattle.pool.proofs.node_is_wide.Goals as goal
 
 pub returns : goal.returns

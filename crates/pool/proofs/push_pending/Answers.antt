@@ -1,5 +1,4 @@
 -- `pool::push_pending` meets its contract. By the count and the store. Assumes nothing.
-use borrow.Author.Rules.{rules}
 use Rattle.pool.proofs.push_pending.Goals as goal
 
 pub returns : goal.returns

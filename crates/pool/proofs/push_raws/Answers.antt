@@ -4,11 +4,8 @@ use Rattle.store.specs.Store.{store}
 use Rattle.store.specs.Regions.{COUNTS, PENDING}
 use Rattle.raws.specs.Raws.{held_count}
 use Rattle.pool.proofs.Stacking.{pushed_none, push_raw_asks, pushed_next}
-use Rattle.pool.specs.Starting.{RawsPushed}
-use lib.ListN.{length}
 use native.Mathlib.Omega.{arith}
 use mathlib.Core.Path.{◌≡◌, refl, sym, ◌∙◌}
-use Prim.Native.Nat.{◌-◌, ◌≤◌}
 use borrow.Author.Rules.{rules}
 use Rattle.pool.proofs.push_raws.Goals as goal
 

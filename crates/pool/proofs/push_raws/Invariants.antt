@@ -1,15 +1,10 @@
 -- `pool::push_raws` meets its contract. The loop keeps that the nodes of the places passed are on the stack. Assumes nothing.
-use Rattle.store.proofs.Stores.{length-store}
 use Rattle.store.specs.Store.{store}
-use Rattle.store.specs.Regions.{COUNTS, PENDING}
 use Rattle.raws.specs.Raws.{held_count}
-use Rattle.pool.proofs.Stacking.{pushed_none, push_raw_asks, pushed_next}
 use Rattle.pool.specs.Starting.{RawsPushed}
 use lib.ListN.{length}
-use native.Mathlib.Omega.{arith}
-use mathlib.Core.Path.{◌≡◌, refl, sym, ◌∙◌}
+use mathlib.Core.Path.{◌≡◌}
 use Prim.Native.Nat.{◌-◌, ◌≤◌}
-use borrow.Author.Rules.{rules}
 use Rattle.pool.proofs.push_raws.Given as goal
 
 abbrev pub invariant-loop-i : goal.invariant-loop-i

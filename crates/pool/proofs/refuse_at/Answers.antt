@@ -5,7 +5,6 @@ use Rattle.store.proofs.Stores.{length-store}
 use Rattle.store.specs.Store.{store}
 use Rattle.store.specs.Regions.{COUNTS}
 use Rattle.pool.proofs.Nodal.{place_told}
-use borrow.Author.Rules.{rules}
 use Rattle.pool.proofs.refuse_at.Goals as goal
 
 pub returns : goal.returns

@@ -1,5 +1,4 @@
 -- `pool::save_positions` meets its contract. By the three stores. Assumes nothing.
-use borrow.Author.Rules.{rules}
 use Rattle.pool.proofs.save_positions.Goals as goal
 
 pub returns : goal.returns

@@ -1,11 +1,9 @@
 use mathlib.Core.Bool.{false}
-use mathlib.Core.Path.{◌≡◌, refl}
-use Prim.Native.Nat.{◌-◌}
-use lib.ListN.{length}
+use mathlib.Core.Path.{refl}
 use Rattle.store.proofs.Stores.{length-store}
 use Rattle.store.specs.Store.{store}
 use Rattle.store.specs.Regions.{NODES}
-use Rattle.pool.proofs.Children.{Slotting, slotting_begin, slotting_end, slotting_refused, slotting_next, kids_count, kids_room, child_is, child_asks, child_tells}
+use Rattle.pool.proofs.Children.{slotting_begin, slotting_end, slotting_refused, slotting_next, kids_count, kids_room, child_is, child_asks, child_tells}
 use Rattle.pool.proofs.Slotting.{slotted_code}
 use Rattle.pool.proofs.Nodal.{node_place_lem, entry_places}
 use borrow.Author.Rules.{rules}
