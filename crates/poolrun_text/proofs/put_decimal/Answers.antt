@@ -7,12 +7,11 @@ use Rattle.printing.proofs.Decimals.{decimal-is, few}
 use Rattle.poolrun_text.proofs.put_decimal.Goals as goal
 
 pub put_digits-requires : goal.put_digits-requires
-put_digits-requires c = let d = c.type_inv.digits in
-    let a = c.args in
-    (few c.decimal-k.result a.n (omega arith) c.decimal-k.ensures.len, omega arith)
+put_digits-requires c =
+    (few c.decimal-k.result c.args.n (omega arith) c.decimal-k.ensures.len, omega arith)
 
 pub returns : goal.returns
-returns c = let d = c.type_inv.digits in
+returns c =
     let n = c.args.n in
     let put = c.put_digits in
     let short = few c.decimal-k.result n (omega arith) c.decimal-k.ensures.len in

@@ -6,4 +6,4 @@ use Rattle.poolrun_text.proofs.put_unnamed.Goals as goal
 
 pub returns : goal.returns
 unfolding class_text line ascii
-returns c = let told = c.put_word.ensures in record { value = told.0; behind = told.1 }
+returns c = record { value = c.put_word.ensures.value; behind = c.put_word.ensures.behind }
