@@ -1,15 +1,13 @@
-use Rattle.building.specs.Working.{owing}
 use Rattle.rows.proofs.Starting.{row_room}
-use lib.ListN.{length}
 use Rattle.store.proofs.Stores.{length-store}
 use Rattle.store.specs.Regions.{NODES, PENDING}
 use Rattle.store.specs.Store.{store}
-use mathlib.Core.Path.{◌≡◌, refl}
+use mathlib.Core.Path.{refl}
 use native.Mathlib.Omega.{arith}
 use borrow.Author.Rules.{rules}
 use Rattle.building.proofs.drain.Goals as goal
 -- `building::drain` meets its contract. The loop keeps that what is left on the stack, with fuel for it, is the whole. Assumes nothing.
-use Rattle.building.proofs.Emptying.{Emptying, emptying_begin, emptying_end, turn_asks, turn_less, emptying_refused, emptying_next}
+use Rattle.building.proofs.Emptying.{emptying_begin, emptying_end, turn_asks, turn_less, emptying_refused, emptying_next}
 
 pub loop-w-init : goal.loop-w-init
 loop-w-init c = let a = c.args in let q = c.requires in let s = a.job.now in let p = a.p.now in let t = store p a.w.now in (refl, refl, emptying_begin s p a.version t a.gaps.now q.3 q.2)

@@ -1,12 +1,7 @@
 use Rattle.building.specs.Working.{owing}
-use Rattle.rows.proofs.Starting.{row_room}
 use lib.ListN.{length}
-use Rattle.store.proofs.Stores.{length-store}
-use Rattle.store.specs.Regions.{NODES, PENDING}
 use Rattle.store.specs.Store.{store}
-use mathlib.Core.Path.{◌≡◌, refl}
-use native.Mathlib.Omega.{arith}
-use borrow.Author.Rules.{rules}
+use mathlib.Core.Path.{◌≡◌}
 use Rattle.building.proofs.Emptying.{Emptying}
 use Rattle.building.proofs.drain.Given as goal
 

@@ -1,16 +1,14 @@
 use Rattle.building.proofs.Lasting.{there_now}
 use Rattle.pool.proofs.Nodal.{node_place_lem, entry_places}
-use lib.ListN.{length}
-use Prim.Native.Nat.{◌-◌}
 use Rattle.store.proofs.Stores.{length-store}
 use Rattle.store.specs.Regions.{NODES}
 use Rattle.store.specs.Store.{store}
-use mathlib.Core.Path.{◌≡◌, refl}
+use mathlib.Core.Path.{refl}
 use native.Mathlib.Omega.{arith}
 use borrow.Author.Rules.{rules}
 use Rattle.building.proofs.finish.Goals as goal
 -- `building::finish` meets its contract. The loop keeps that what the rest of the children gives, behind the numbers of those passed, is the whole. Assumes nothing.
-use Rattle.building.proofs.Fields.{Numbering, numbering_begin, numbering_end, numbering_refused, numbering_next, fields_many, fields_room, field_is, field_there}
+use Rattle.building.proofs.Fields.{numbering_begin, numbering_end, numbering_refused, numbering_next, fields_many, fields_room, field_is, field_there}
 
 pub first_child-first-requires : goal.first_child-first-requires
 first_child-first-requires c = let a = c.args in let q = c.requires in let s = a.job.now in let p = a.p.now in let t = store p a.w.now in let there = there_now s p t q.1 q.2.standing in (search rules, node_place_lem s p t there a.k q.3, (entry_places s p t there a.k q.3).firsts)

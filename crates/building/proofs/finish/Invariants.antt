@@ -1,13 +1,7 @@
-use Rattle.building.proofs.Lasting.{there_now}
-use Rattle.pool.proofs.Nodal.{node_place_lem, entry_places}
 use lib.ListN.{length}
 use Prim.Native.Nat.{◌-◌}
-use Rattle.store.proofs.Stores.{length-store}
-use Rattle.store.specs.Regions.{NODES}
 use Rattle.store.specs.Store.{store}
-use mathlib.Core.Path.{◌≡◌, refl}
-use native.Mathlib.Omega.{arith}
-use borrow.Author.Rules.{rules}
+use mathlib.Core.Path.{◌≡◌}
 use Rattle.building.proofs.Fields.{Numbering}
 use Rattle.building.proofs.finish.Given as goal
 

@@ -1,5 +1,4 @@
 -- `building::has_index` meets its contract. Assumes nothing.
-use borrow.Author.Rules.{rules}
 use Rattle.building.proofs.has_index.Goals as goal
 
 pub returns : goal.returns

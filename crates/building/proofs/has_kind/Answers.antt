@@ -1,7 +1,6 @@
 -- `building::has_kind` meets its contract: the newest version has every kind, under another it is the node's tag that is asked for. Assumes
 -- nothing.
-use mathlib.Core.Path.{◌≡◌, sym, ap, ◌∙◌}
-use borrow.Author.Rules.{rules}
+use mathlib.Core.Path.{sym, ap, ◌∙◌}
 use Rattle.definition.specs.Settings.{known}
 use Rattle.building.proofs.Versions.{newest-known}
 use Rattle.building.proofs.has_kind.Goals as goal

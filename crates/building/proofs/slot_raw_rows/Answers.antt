@@ -1,5 +1,4 @@
 use Rattle.rows.proofs.Starting.{row_room}
-use lib.ListN.{length}
 use Prim.Native.Nat.{suc, ◌-◌}
 use Rattle.store.proofs.Stores.{length-store}
 use Rattle.store.specs.Regions.{NODES}
@@ -9,7 +8,7 @@ use native.Mathlib.Omega.{arith}
 use borrow.Author.Rules.{rules}
 use Rattle.building.proofs.slot_raw_rows.Goals as goal
 -- `building::slot_raw_rows` meets its contract. The loop keeps that what the raw bootstraps below give, in front of the rows of those above, is the whole. Assumes nothing.
-use Rattle.building.proofs.Falling.{Falling, falling_begin, falling_end, next-raws, next-asks, falling_refused, falling_next}
+use Rattle.building.proofs.Falling.{falling_begin, falling_end, next-raws, next-asks, falling_refused, falling_next}
 
 pub raw_rows-i-requires : goal.raw_rows-i-requires
 raw_rows-i-requires c = let a = c.args in let q = c.requires in let s = a.job.now in let p = a.p.now in let t = store p a.w.now in (search rules, row_room s p q.1, q.2.raws)

@@ -1,12 +1,6 @@
-use Rattle.rows.proofs.Starting.{row_room}
 use lib.ListN.{length}
-use Prim.Native.Nat.{suc, ◌-◌}
-use Rattle.store.proofs.Stores.{length-store}
-use Rattle.store.specs.Regions.{NODES}
 use Rattle.store.specs.Store.{store}
-use mathlib.Core.Path.{◌≡◌, refl}
-use native.Mathlib.Omega.{arith}
-use borrow.Author.Rules.{rules}
+use mathlib.Core.Path.{◌≡◌}
 use Rattle.building.proofs.Falling.{Falling}
 use Rattle.building.proofs.slot_raw_rows.Given as goal
 
