@@ -15,7 +15,7 @@ use Rattle.definition.specs.Job.{Reference}
 use Rattle.definition.specs.Numbering.{top_of, bootstraps_of, literals, literal_of, constants_of}
 use Rattle.definition.specs.Definitions.{half, Defined, tag_at}
 use Rattle.definition.specs.Resolving.{Node, done}
-use Rattle.definition.specs.Building.{Made, attribute_text, build_all, kids_of, behind, content_of, nothing, empty_text, holds}
+use Rattle.definition.specs.Building.{Made, attribute_text, build_all, kids_of, behind, content_of, nothing, empty_text}
 use Rattle.definition.specs.Layout.{Ready, index_nodes}
 use Rattle.definition.specs.Run.{shown}
 use Rattle.facts.specs.Lists.{Among}

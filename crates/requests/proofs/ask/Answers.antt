@@ -4,7 +4,6 @@ use Rattle.definitions.proofs.Beginning.{on_kept}
 use Rattle.requests.proofs.Starting.{can_start, some-start}
 use Rattle.requests.proofs.Handing.{started_asking, requests_at, few_visits, few_places}
 use Rattle.requests.proofs.Words.{asked_refused, asked_all}
-use borrow.Author.Rules.{rules}
 use Rattle.requests.proofs.ask.Goals as goal
 -- `requests::ask` meets its contract. Record 50 hands to the pool's start, and that to the requests. Assumes nothing.
 use native.Mathlib.Omega.{arith}
