@@ -1,5 +1,4 @@
 -- `cpool::class_bytes` meets its contract. By cases on the length. Assumes nothing.
-use borrow.Author.Rules.{rules}
 use Rattle.cpool.specs.Ran.{bytes_of}
 use Rattle.cpool.proofs.class_bytes.Goals as goal
 

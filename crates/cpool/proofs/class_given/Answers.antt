@@ -1,5 +1,4 @@
 -- `cpool::class_given` meets its contract. By cases on the length. Assumes nothing.
-use borrow.Author.Rules.{rules}
 use Rattle.cpool.specs.Ran.{given}
 use Rattle.cpool.proofs.class_given.Goals as goal
 

@@ -1,5 +1,4 @@
 -- `cpool::class_told` meets its contract. Assumes nothing.
-use borrow.Author.Rules.{rules}
 use Rattle.cpool.proofs.Telling.{told_none, told-bytes, told-attribute}
 use Rattle.cpool.proofs.class_told.Goals as goal
 

@@ -1,5 +1,4 @@
 -- `cpool::give_out` meets its contract: it measures, tests, then writes. Assumes nothing.
-use borrow.Author.Rules.{rules}
 use mathlib.Core.Path.{◌∙◌, sym}
 use native.Mathlib.Omega.{arith}
 use Rattle.cpool.specs.Stages.{outputs}

@@ -1,5 +1,4 @@
 -- `cpool::refused` meets its contract. Assumes nothing.
-use borrow.Author.Rules.{rules}
 use Rattle.cpool.proofs.Telling.{tells_refused}
 use Rattle.cpool.proofs.refused.Goals as goal
 

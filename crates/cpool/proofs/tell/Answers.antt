@@ -1,5 +1,4 @@
 -- `cpool::tell` meets its contract. By cases on the outcome. Assumes nothing.
-use borrow.Author.Rules.{rules}
 use Rattle.cpool.proofs.Telling.{listed-built, listed-refused}
 use Rattle.cpool.proofs.tell.Goals as goal
 
