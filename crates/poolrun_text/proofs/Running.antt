@@ -1,15 +1,15 @@
 -- What is printed of a run over `poolrun_lent`'s memory is what the definition prints of it. Assumes nothing.
-use mathlib.Core.Bool.{Bool, true, false}
-use mathlib.Core.List.{List, [], ◌∷◌, ◌++◌, map}
+use mathlib.Core.Bool.{true, false}
+use mathlib.Core.List.{List, [], ◌∷◌, map}
 use mathlib.Core.Option.{Option, none, some}
 use mathlib.Core.Path.{◌≡◌, refl, sym, ap, ◌∙◌}
-use Prim.Native.Nat.{ℕ, suc, ◌+◌, ◌*◌, ◌-◌, ◌<◌, ◌≤◌}
+use Prim.Native.Nat.{ℕ, suc, ◌≤◌}
 use native.Mathlib.Omega.{arith}
 use lib.Dec.{eqb}
 use lib.ListN.{length, take, drop, replicate, length-append, length-replicate}
 use lib.Seq.{length-take-le}
-use Rattle.definition.specs.Basics.{Result, good, bad, Refusal}
-use Rattle.definition.specs.Run.{Built, Lent, lent_of, run, returned, class_out, overwrite}
+use Rattle.definition.specs.Basics.{good}
+use Rattle.definition.specs.Run.{Lent, lent_of, run, returned, class_out, overwrite}
 use Rattle.definition.specs.Blocks.{printed, poolrun_lent}
 use Rattle.slots.specs.declared.Gap.{Gap}
 use Rattle.slots.specs.Gaps.{gap_of}
@@ -20,7 +20,7 @@ use Rattle.cpool.specs.declared.Outcome.TheVariants as outcome
 use Rattle.cpool.specs.Ran.{Numbers, told, is_built, given, bytes_of, class_size, numbers, Slices, memory_of, result_of, Ran}
 use Rattle.cpool.specs.Promises.{handed}
 use Rattle.cpool.proofs.Handed.{numbers-built, answers_built, marks_built, marks_many, pool_built, bootstraps_built, class_built, built_result, refused_result}
-use Rattle.poolrun_text.specs.Text.{built_text, refused_text, name_of, text_of, Room, Fits, Lengths}
+use Rattle.poolrun_text.specs.Text.{built_text, name_of, text_of, Room, Fits, Lengths}
 use Rattle.poolrun_text.proofs.Texts.{refused_is}
 
 -- the class name as it is handed

@@ -1,13 +1,13 @@
 -- The parts of what is printed make up the whole. Assumes nothing.
 use mathlib.Core.List.{List, [], ◌∷◌, ◌++◌, append-nil, append_assoc}
-use mathlib.Core.Option.{Option, none, some}
+use mathlib.Core.Option.{Option}
 use mathlib.Core.Path.{◌≡◌, refl, sym, ap, ◌∙◌}
 use Prim.Native.Nat.{ℕ, zero, suc, ◌+◌, ◌/◌, ◌%◌, ◌<◌, ◌≤◌}
 use native.Mathlib.Numerals.{add-one}
 use native.Mathlib.Omega.{arith}
 use lib.ListN.{length, take, get_or}
 use lib.Seq.{take_all}
-use Rattle.definition.specs.Basics.{good, bad}
+use Rattle.definition.specs.Basics.{bad}
 use Rattle.definition.specs.Ascii.{ascii, decimal, hex, hex_digit}
 use Rattle.definition.specs.Blocks.{line, class_text, mark_text, answer_lines, printed}
 use Rattle.poolrun_text.proofs.Putting.{parts_more}

@@ -1,10 +1,10 @@
 -- The parts of what is printed, and what it is to put them into a buffer one behind the other. Assumes nothing.
-use Rattle.std.specs.Prelude.{true, false, List, [], ◌∷◌, ◌++◌, map, ◌≡◌, ℕ, ◌+◌, ◌*◌, ◌/◌, ◌%◌, ◌≤◌, length, take, drop}
+use Rattle.std.specs.Prelude.{List, [], ◌∷◌, ◌++◌, ◌≡◌, ℕ, ◌+◌, ◌*◌, ◌/◌, ◌%◌, ◌≤◌, length, take, drop}
 use Rattle.std.proofs.Math.Option.{Option, none, some}
-use Rattle.definition.specs.Basics.{Result, good, bad, Refusal, concat}
+use Rattle.definition.specs.Basics.{good}
 use Rattle.definition.specs.Ascii.{ascii, decimal, hex, hex_digit}
 use Rattle.definition.specs.Blocks.{line, class_text, answer_lines, printed, poolrun_lent}
-use Rattle.definition.specs.Run.{Built, run}
+use Rattle.definition.specs.Run.{run}
 use Rattle.blocks.specs.declared.BlocksRead.{BlocksRead}
 use Rattle.blocks.specs.declared.BlocksRead.TheVariants as blocks_read
 use Rattle.cpool.specs.declared.ClassLength.{ClassLength}

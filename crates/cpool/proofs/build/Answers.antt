@@ -1,3 +1,4 @@
+-- `cpool::build` meets its contract. Assumes nothing.
 use mathlib.Core.Path.{refl}
 use native.Mathlib.Omega.{arith}
 use Rattle.store.proofs.Laying.{work-sizes}
@@ -5,8 +6,6 @@ use Rattle.cpool.specs.Stages.{outputs}
 use Rattle.cpool.proofs.Refusals.{layout-word}
 use Rattle.cpool.proofs.Ending.{gave_unlaid, gave_laid}
 use Rattle.cpool.proofs.build.Goals as goal
-
--- `cpool::build` meets its contract. Assumes nothing.
 
 pub lay_out-code-requires : goal.lay_out-code-requires
 lay_out-code-requires c = let q = c.requires in (q.0, q.1, refl, q.2, q.3)

@@ -1,8 +1,7 @@
+-- `cpool::cpool_run` meets its contract: what run ensures, told by numbers. Assumes nothing.
 use Rattle.cpool.specs.Ran.{slices}
 use Rattle.cpool.proofs.Ending.{told-run}
 use Rattle.cpool.proofs.cpool_run.Goals as goal
-
--- `cpool::cpool_run` meets its contract: what run ensures, told by numbers. Assumes nothing.
 
 pub run-outcome-requires : goal.run-outcome-requires
 run-outcome-requires c = tt

@@ -1,3 +1,4 @@
+-- `cpool::run` meets its contract. Assumes nothing.
 use mathlib.Core.Path.{◌∙◌, ap}
 use lib.ListN.{replicate}
 use native.Mathlib.Omega.{arith}
@@ -5,8 +6,6 @@ use Rattle.slots.specs.Gaps.{no_gap}
 use Rattle.cpool.specs.Ran.{slices}
 use Rattle.cpool.proofs.Ending.{ran_long, ran_few_words, ran_few_gaps, ran_on}
 use Rattle.cpool.proofs.run.Goals as goal
-
--- `cpool::run` meets its contract. Assumes nothing.
 
 pub returns-then-job-gt-LONGEST_JOB : goal.returns-then-job-gt-LONGEST_JOB
 returns-then-job-gt-LONGEST_JOB c = let a = c.args in ran_long a.job.now (slices a.work.now a.gaps.now a.answers.now a.marks.now a.pool.now a.bootstraps.now a.class_name.now) (omega (arith, c.if-job-gt-LONGEST_JOB.true))

@@ -1,9 +1,8 @@
+-- `cpool::run_formed` meets its contract. Assumes nothing.
 use mathlib.Core.Path.{◌∙◌, sym}
 use Rattle.cpool.specs.Stages.{outputs}
 use Rattle.cpool.proofs.Ending.{counted, gave_unformed}
 use Rattle.cpool.proofs.run_formed.Goals as goal
-
--- `cpool::run_formed` meets its contract. Assumes nothing.
 
 pub form-requires : goal.form-requires
 form-requires c = tt

@@ -1,7 +1,6 @@
 -- `poolrun_text::digit` meets its contract. Assumes nothing.
 use Rattle.printing.proofs.Decimals.{hex-low, hex-high}
 use native.Mathlib.Omega.{arith}
-use borrow.Author.Rules.{rules}
 use Rattle.poolrun_text.proofs.digit.Goals as goal
 
 pub returns-then-n-lt10 : goal.returns-then-n-lt10

@@ -2,7 +2,6 @@
 use lib.ListN.{replicate}
 use Rattle.poolrun_text.proofs.Putting.{reworded}
 use Rattle.poolrun_text.proofs.Reading.{read_text_lem}
-use borrow.Author.Rules.{rules}
 use Rattle.poolrun_text.proofs.file_text.Goals as goal
 
 pub read_text-requires : goal.read_text-requires

@@ -6,7 +6,6 @@ use Rattle.cpool.specs.declared.Outcome.{Outcome}
 use lib.Seq.{length-take-le}
 use lib.ListN.{length}
 use mathlib.Core.Path.{sym, ap, subst}
-use borrow.Author.Rules.{rules}
 use Rattle.poolrun_text.proofs.print.Goals as goal
 
 pub slice_bounds-put_built-end : goal.slice_bounds-put_built-end

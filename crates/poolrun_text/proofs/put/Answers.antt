@@ -1,6 +1,5 @@
 -- `poolrun_text::put` meets its contract. Assumes nothing.
 use mathlib.Core.Path.{refl}
-use borrow.Author.Rules.{rules}
 use Rattle.poolrun_text.proofs.Putting.{byte_behind}
 use Rattle.poolrun_text.proofs.put.Goals as goal
 

@@ -1,6 +1,5 @@
 -- `poolrun_text::put_answer` meets its contract. Assumes nothing.
 use native.Mathlib.Omega.{arith}
-use borrow.Author.Rules.{rules}
 use Rattle.definition.specs.Blocks.{line}
 use Rattle.poolrun_text.proofs.Putting.{then}
 use Rattle.poolrun_text.proofs.put_answer.Goals as goal

@@ -2,14 +2,11 @@
 use Rattle.definition.specs.Blocks.{line, mark_text, answer_lines}
 use Rattle.definition.specs.Ascii.{decimal}
 use mathlib.Core.List.{◌++◌}
-use mathlib.Core.Path.{◌≡◌, refl, ap, ◌∙◌}
-use Prim.Native.Nat.{◌+◌, ◌*◌, ◌-◌, ◌≤◌}
+use mathlib.Core.Path.{refl, ap, ◌∙◌}
 use native.Mathlib.Omega.{arith}
-use lib.ListN.{length, take, get_or}
-use Rattle.poolrun_text.specs.Text.{Behind}
+use lib.ListN.{take, get_or}
 use Rattle.poolrun_text.proofs.Putting.{none-behind, then, reworded}
 use Rattle.poolrun_text.proofs.Texts.{lines_more, lines-all}
-use borrow.Author.Rules.{rules}
 use Rattle.poolrun_text.proofs.put_answers.Goals as goal
 
 pub loop-i-init : goal.loop-i-init

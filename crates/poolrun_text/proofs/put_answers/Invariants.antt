@@ -1,15 +1,9 @@
 -- `poolrun_text::put_answers` meets its contract. The loop keeps: the lines of the first i answers stand there. Assumes nothing.
-use Rattle.definition.specs.Blocks.{line, mark_text, answer_lines}
-use Rattle.definition.specs.Ascii.{decimal}
-use mathlib.Core.List.{◌++◌}
-use mathlib.Core.Path.{◌≡◌, refl, ap, ◌∙◌}
+use Rattle.definition.specs.Blocks.{answer_lines}
+use mathlib.Core.Path.{◌≡◌}
 use Prim.Native.Nat.{◌+◌, ◌*◌, ◌-◌, ◌≤◌}
-use native.Mathlib.Omega.{arith}
-use lib.ListN.{length, take, get_or}
+use lib.ListN.{length, take}
 use Rattle.poolrun_text.specs.Text.{Behind}
-use Rattle.poolrun_text.proofs.Putting.{none-behind, then, reworded}
-use Rattle.poolrun_text.proofs.Texts.{lines_more, lines-all}
-use borrow.Author.Rules.{rules}
 use Rattle.poolrun_text.proofs.put_answers.Given as goal
 
 abbrev pub invariant-loop-i : goal.invariant-loop-i

@@ -3,7 +3,6 @@ use Rattle.poolrun_text.proofs.Putting.{then}
 use Rattle.poolrun_text.specs.Text.{asked_text}
 use Rattle.definition.specs.Ascii.{ascii}
 use native.Mathlib.Omega.{arith}
-use mathlib.Core.Path.{refl}
 use borrow.Author.Rules.{rules}
 use Rattle.poolrun_text.proofs.put_asked.Goals as goal
 

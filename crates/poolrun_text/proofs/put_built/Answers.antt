@@ -3,7 +3,6 @@ use Rattle.poolrun_text.proofs.Texts.{built_is}
 use Rattle.poolrun_text.proofs.Putting.{then, reworded}
 use Rattle.poolrun_text.specs.Text.{name_of}
 use native.Mathlib.Omega.{arith}
-use borrow.Author.Rules.{rules}
 use Rattle.poolrun_text.proofs.put_built.Goals as goal
 
 pub put_asked-first-requires : goal.put_asked-first-requires

@@ -6,7 +6,6 @@ use Rattle.definition.specs.Ascii.{hex_digit}
 use Rattle.poolrun_text.specs.Text.{two_digits_lem}
 use Rattle.poolrun_text.proofs.Putting.{then, reworded}
 use native.Mathlib.Omega.{arith}
-use borrow.Author.Rules.{rules}
 use Rattle.poolrun_text.proofs.put_byte.Goals as goal
 
 pub returns : goal.returns

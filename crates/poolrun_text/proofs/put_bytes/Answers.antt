@@ -2,7 +2,6 @@
 use native.Mathlib.Omega.{arith}
 use Rattle.definition.specs.Blocks.{line}
 use Rattle.poolrun_text.proofs.Putting.{then}
-use borrow.Author.Rules.{rules}
 use Rattle.poolrun_text.proofs.put_bytes.Goals as goal
 
 pub returns : goal.returns

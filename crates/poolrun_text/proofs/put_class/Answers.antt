@@ -5,7 +5,6 @@ use Rattle.cpool.specs.Ran.{bytes_of}
 use Rattle.definition.specs.Blocks.{class_text}
 use native.Mathlib.Omega.{arith}
 use mathlib.Core.Path.{sym, ap}
-use borrow.Author.Rules.{rules}
 use Rattle.poolrun_text.proofs.put_class.Goals as goal
 
 pub put_named-requires : goal.put_named-requires

@@ -1,7 +1,6 @@
 -- `poolrun_text::put_decimal` meets its contract. Assumes nothing.
 use mathlib.Core.Path.{◌∙◌}
 use native.Mathlib.Omega.{arith}
-use borrow.Author.Rules.{rules}
 use Rattle.poolrun_text.proofs.Putting.{reworded}
 use Rattle.printing.proofs.Decimals.{decimal-is, few}
 use Rattle.poolrun_text.proofs.put_decimal.Goals as goal

@@ -1,7 +1,6 @@
 -- `poolrun_text::put_digits` meets its contract. Assumes nothing.
 use mathlib.Core.Path.{refl}
 use native.Mathlib.Omega.{arith}
-use borrow.Author.Rules.{rules}
 use Rattle.poolrun_text.proofs.Putting.{word_behind}
 use Rattle.poolrun_text.proofs.put_digits.Goals as goal
 

@@ -1,13 +1,8 @@
 -- `poolrun_text::put_hex` meets its contract. The loop keeps: the digits of the first i bytes stand there. Assumes nothing.
-use mathlib.Core.List.{[]}
-use mathlib.Core.Path.{◌≡◌, refl, ◌∙◌}
-use Prim.Native.Nat.{◌+◌, ◌*◌, ◌-◌, ◌≤◌}
+use mathlib.Core.Path.{refl, ◌∙◌}
 use native.Mathlib.Omega.{arith}
-use lib.ListN.{length, take}
-use borrow.Author.Rules.{rules}
 use Rattle.definition.specs.Basics.{concat}
 use Rattle.definition.specs.Ascii.{hex}
-use Rattle.poolrun_text.specs.Text.{Behind}
 use Rattle.poolrun_text.proofs.Putting.{none-behind, then, reworded}
 use Rattle.poolrun_text.proofs.Texts.{hex-more, hex-all}
 use Rattle.poolrun_text.proofs.put_hex.Goals as goal

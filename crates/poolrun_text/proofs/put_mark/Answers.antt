@@ -2,7 +2,6 @@
 use native.Mathlib.Omega.{arith}
 use Rattle.poolrun_text.proofs.Putting.{reworded}
 use Rattle.poolrun_text.proofs.Texts.{mark_raw, mark_new, mark_old}
-use borrow.Author.Rules.{rules}
 use Rattle.poolrun_text.proofs.put_mark.Goals as goal
 
 pub returns-then-mark-eq0 : goal.returns-then-mark-eq0

@@ -2,8 +2,6 @@
 use Rattle.poolrun_text.specs.Text.{refused_text}
 use Rattle.definition.specs.Ascii.{ascii}
 use native.Mathlib.Omega.{arith}
-use mathlib.Core.Path.{refl}
-use borrow.Author.Rules.{rules}
 use Rattle.poolrun_text.proofs.put_refusal.Goals as goal
 
 pub put_two-requires : goal.put_two-requires

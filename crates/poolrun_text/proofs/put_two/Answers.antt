@@ -1,6 +1,5 @@
 -- `poolrun_text::put_two` meets its contract. Assumes nothing.
 use native.Mathlib.Omega.{arith}
-use borrow.Author.Rules.{rules}
 use Rattle.definition.specs.Ascii.{decimal}
 use Rattle.poolrun_text.proofs.Putting.{then, reworded}
 use Rattle.poolrun_text.proofs.Texts.{spaced}

@@ -1,7 +1,6 @@
 -- `poolrun_text::put_unnamed` meets its contract. Assumes nothing.
 use Rattle.definition.specs.Blocks.{line, class_text}
 use Rattle.definition.specs.Ascii.{ascii}
-use borrow.Author.Rules.{rules}
 use Rattle.poolrun_text.proofs.put_unnamed.Goals as goal
 
 pub returns : goal.returns

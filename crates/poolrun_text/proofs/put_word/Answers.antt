@@ -3,7 +3,6 @@ use mathlib.Core.Path.{refl}
 use native.Mathlib.Omega.{arith}
 use lib.ListN.{length}
 use lib.Seq.{take-length}
-use borrow.Author.Rules.{rules}
 use Rattle.poolrun_text.proofs.Putting.{word_behind, reworded}
 use Rattle.poolrun_text.proofs.put_word.Goals as goal
 

@@ -4,7 +4,6 @@ use Rattle.poolrun_text.specs.Text.{ReadInto, read_text}
 use Rattle.blocks.specs.declared.BlocksRead.{BlocksRead}
 use lib.ListN.{length}
 use mathlib.Core.Path.{sym, ap, subst}
-use borrow.Author.Rules.{rules}
 use Rattle.poolrun_text.proofs.read_text.Goals as goal
 
 pub run_text-requires : goal.run_text-requires

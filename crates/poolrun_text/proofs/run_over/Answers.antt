@@ -1,12 +1,12 @@
+-- `poolrun_text::run_over` meets its contract. What `run` promises is what the definition prints. Assumes nothing.
 use Rattle.poolrun_text.proofs.Running.{fits-ran, text_over}
 use Rattle.cpool.specs.Ran.{slices}
 use lib.Seq.{length-take-le}
 use lib.ListN.{length, take}
 use native.Mathlib.Omega.{arith}
 use mathlib.Core.Path.{sym}
-use Rattle.poolrun_text.proofs.run_over.Goals as goal
--- `poolrun_text::run_over` meets its contract. What `run` promises is what the definition prints. Assumes nothing.
 use Rattle.poolrun_text.proofs.Putting.{reworded}
+use Rattle.poolrun_text.proofs.run_over.Goals as goal
 
 pub slice_bounds-run-end : goal.slice_bounds-run-end
 slice_bounds-run-end c = let a = c.args in

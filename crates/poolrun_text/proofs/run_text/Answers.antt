@@ -1,10 +1,10 @@
+-- `poolrun_text::run_text` meets its contract. The arrays are as long as their types say. Assumes nothing.
 use Prim.Native.Nat.{ℕ}
 use lib.ListN.{length-replicate}
 use Rattle.slots.specs.declared.Gap.{Gap}
 use Rattle.poolrun_text.proofs.Running.{lengths_lent}
-use Rattle.poolrun_text.proofs.run_text.Goals as goal
--- `poolrun_text::run_text` meets its contract. The arrays are as long as their types say. Assumes nothing.
 use mathlib.Core.Path.{sym}
+use Rattle.poolrun_text.proofs.run_text.Goals as goal
 
 pub no_gap-gap-requires : goal.no_gap-gap-requires
 no_gap-gap-requires c = tt

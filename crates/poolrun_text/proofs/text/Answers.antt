@@ -2,7 +2,6 @@
 use Rattle.poolrun_text.proofs.Putting.{whole, reworded}
 use Rattle.poolrun_text.proofs.Reading.{long_text}
 use native.Mathlib.Omega.{arith}
-use borrow.Author.Rules.{rules}
 use Rattle.poolrun_text.proofs.text.Goals as goal
 
 pub file_text-requires : goal.file_text-requires
