@@ -1,3 +1,5 @@
+-- `replay::run_all` meets its contract: the loop keeps the number of gaps that are lent. Assumes nothing.
+use Rattle.std.proofs.Common.{◌≡◌, length}
 use Rattle.replay.proofs.run_all.Given as goal
 
 abbrev pub invariant-loop-turns : goal.invariant-loop-turns
