@@ -192,7 +192,7 @@ fn built(built: &Built) -> String {
         .as_ref()
         .map_or("none".into(), |name| format!("some ({})", packed(name)));
     format!(
-        "good (record {{ answers = {}; marks = {}; pool = {}; bootstrapCount = {}; bootstraps = {}; \
+        "good (record {{ answers = {}; marks = {}; pool = {}; bootstrap_count = {}; bootstraps = {}; \
          name = {}; class = {class}; visits = {} }})",
         numbers(built.answers.iter()),
         numbers(built.marks.iter().map(|mark| *mark as u8)),
@@ -234,7 +234,7 @@ fn packed(bytes: &[u8]) -> String {
             continue;
         }
         parts.push(texts(&bytes[from..at]));
-        parts.push(format!("emptyTexts {run}"));
+        parts.push(format!("empty_texts {run}"));
         at += 3 * run;
         from = at;
     }

@@ -132,7 +132,7 @@ impl Scratch {
     fn check(&self, list: &str) -> io::Result<String> {
         fs::write(self.folder.join("crates.txt"), list)?;
         let said = Command::new("rt")
-            .arg("check")
+            .args(["all", "check"])
             .current_dir(&self.folder)
             .output()?;
         Ok(format!(
@@ -168,7 +168,7 @@ impl Scratch {
         for number in batch {
             let (name, claim) = (format!("claim{number}"), &claims[*number]);
             text.push_str(&format!(
-                "\n{name} : {claim}\nunfolding opened digit bytes emptyTexts\n{name} = refl\n"
+                "\n{name} : {claim}\nunfolding opened digit bytes empty_texts\n{name} = refl\n"
             ));
         }
         fs::write(folder.join("specs/Claims.antt"), text)
@@ -198,17 +198,12 @@ fn batch_verdicts(output: &str, place: usize, batch: &[usize]) -> Option<Verdict
 /// Whether a crate is proved; nothing, if the checker came to no verdict on it. It ends with 1 where it refuses, and with 3
 /// where it can't tell.
 fn is_proved(output: &str, name: &str) -> Option<bool> {
-    let start = format!("rt: {name} ");
-    let end = output.lines().find_map(|line| line.strip_prefix(&start))?;
-    if end.starts_with("proved (") {
-        Some(true)
-    } else if ["NOT PROVED (exit 1,", "NOT PROVED (exit 3,"]
-        .iter()
-        .any(|refused| end.starts_with(refused))
-    {
-        Some(false)
-    } else {
-        None
+    let (_, summary) = output.split_once("\n== summary\n")?;
+    let start = format!("{name}: ");
+    match summary.lines().find_map(|line| line.strip_prefix(&start))? {
+        "ok" => Some(true),
+        "failed (1)" | "failed (3)" => Some(false),
+        _ => None,
     }
 }
 
@@ -266,7 +261,13 @@ fn copy_tree(from: &Path, to: &Path) -> io::Result<()> {
 mod tests {
     use super::*;
 
-    const PROVED: &str = "rt: definition proved (1 s)\nrt: batch0 proved (9 s)\nrt: ok, 2 crates\n";
+    const PROVED: &str =
+        "== batch0\nlogic=proved\n== summary\ndefinition: ok\nbatch0: ok\n2 of 2 crates ok\n";
+
+    /// An output that ends with what is said of a crate.
+    fn ended(errors: &str, end: &str) -> String {
+        format!("{errors}logic=not-proved\n== summary\n{end}\n")
+    }
 
     fn said(output: &str) -> Option<Vec<(usize, Verdict)>> {
         batch_verdicts(output, 0, &[7, 8]).map(|verdicts| verdicts.into_iter().collect())
@@ -280,13 +281,17 @@ mod tests {
 
     #[test]
     fn only_claims_with_an_error_are_told_of_a_batch_not_proved() {
-        let output = "Claims.antt:9:1: error: `claim8`: the two types differ\n\
-                      rt: batch0 NOT PROVED (exit 1, 4 s)\n";
-        assert_eq!(said(output), Some(vec![(8, Verdict::Differs)]));
-        let output = "Claims.antt:9:1: error: `claim7`: stopped at the step limit\n\
-                      Claims.antt:9:1: error: `claim70`: the two types differ\n\
-                      rt: batch0 NOT PROVED (exit 3, 4 s)\n";
-        assert_eq!(said(output), Some(vec![(7, Verdict::TooLong)]));
+        let output = ended(
+            "Claims.antt:9:1: error: `claim8`: the two types differ\n",
+            "batch0: failed (1)",
+        );
+        assert_eq!(said(&output), Some(vec![(8, Verdict::Differs)]));
+        let output = ended(
+            "Claims.antt:9:1: error: `claim7`: stopped at the step limit\n\
+             Claims.antt:9:1: error: `claim70`: the two types differ\n",
+            "batch0: failed (3)",
+        );
+        assert_eq!(said(&output), Some(vec![(7, Verdict::TooLong)]));
     }
 
     #[test]
@@ -294,33 +299,33 @@ mod tests {
         let error = "Claims.antt:9:1: error: `claim8`: the two types differ\n";
         for end in [
             "",
-            "rt: batch0 NOT PROVED (exit 2, 4 s)\n",
-            "rt: batch0 NOT PROVED (exit 137, 4 s)\n",
-            "rt: batch0 NOT PROVED (exit 139, 4 s)\n",
-            "rt: batch0 NOT PROVED: its dependency definition is not proved\n",
-            "rt: batch1 NOT PROVED (exit 1, 4 s)\n",
-            "rt: batch1 proved (4 s)\n",
+            "batch0: failed (2)",
+            "batch0: failed (137)",
+            "batch0: failed (-9)",
+            "batch0: not run, since definition failed",
+            "batch1: failed (1)",
+            "batch1: ok",
         ] {
-            assert_eq!(said(&format!("{error}{end}")), None, "{end}");
+            assert_eq!(said(&ended(error, end)), None, "{end}");
         }
-        assert_eq!(said("rt: batch0 NOT PROVED (exit 1, 4 s)\n"), None);
-        let other =
-            "Claims.antt:1:1: error: `digit`: no such name\nrt: batch0 NOT PROVED (exit 1, 4 s)\n";
-        assert_eq!(said(other), None);
+        assert_eq!(said(error), None);
+        assert_eq!(said(&ended("", "batch0: failed (1)")), None);
+        let other = "Claims.antt:1:1: error: `digit`: no such name\n";
+        assert_eq!(said(&ended(other, "batch0: failed (1)")), None);
     }
 
     #[test]
     fn a_computed_theorem_fails_by_an_error_in_its_own_file_alone() {
-        let end = "rt: definition NOT PROVED (exit 1, 2 s)\n";
-        let error = "crates/definition/proofs/Starred.antt:9:1: error: `starredHold`: expected\n";
+        let refused = |errors: &str| ended(errors, "definition: failed (1)");
+        let error = "./proofs/Starred.antt:9:1: error: `starred_hold`: expected\n";
         let told = |output: &str| table_verdict(output, "proofs/Starred.antt");
         assert_eq!(told(PROVED), Some(true));
-        assert_eq!(told(&format!("{error}{end}")), Some(false));
-        assert_eq!(told(end), None);
+        assert_eq!(told(&refused(error)), Some(false));
+        assert_eq!(told(&refused("")), None);
         assert_eq!(told(error), None);
-        let broken = "crates/definition/specs/Slots.antt:9:1: error: no such name\n";
-        assert_eq!(told(&format!("{broken}{error}{end}")), None);
+        let broken = "./specs/Slots.antt:9:1: error: no such name\n";
+        assert_eq!(told(&refused(&format!("{broken}{error}"))), None);
         let long = error.replace("expected", STEP_LIMIT);
-        assert_eq!(told(&format!("{long}{end}")), None);
+        assert_eq!(told(&refused(&long)), None);
     }
 }

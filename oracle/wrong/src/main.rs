@@ -76,7 +76,7 @@ fn run(root: &Path, names: &[String]) -> Result<bool, Box<dyn Error>> {
     let bench = Bench {
         root,
         folder: &folder.0,
-        toolchain: Toolchain::find(root)?,
+        toolchain: Toolchain::find()?,
         sets: sets::make_all(&folder.0)?,
     };
     for set in &bench.sets {
