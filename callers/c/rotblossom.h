@@ -1,7 +1,7 @@
 /* The constant-pool builder, its block file, and texts with their units, for C and C++.
  *
  * Link target/staticlib/libcpool.a for cpool_run, target/staticlib/libblocks.a for the block functions and target/staticlib/libtexts.a
- * for the text functions; `tools/library cpool blocks texts` proves and writes them, for x86-64 or for the machine that it runs on.
+ * for the text functions; `tools/library cpool blocks texts` proves and writes them, for x86-64 processors of level v2 (with SSE4.2).
  * Documents 01 and 02 are the pages of rules: what a job is, and what each refusal number means.
  *
  * What a caller owes, to every function here:
