@@ -3,7 +3,7 @@
 // line on standard error.
 #![tactic(auto)]
 
-ghost use Rattle.std.specs.Prelude.{false, [], ◌∷◌, ◌≡◌, ◌≤◌, ◌<◌, length, drop, IfOk, OnErr};
+ghost use Rattle.std.specs.Prelude.{true, false, [], ◌∷◌, ◌≡◌, ◌≤◌, ◌<◌, length, drop, IfOk, OnErr};
 ghost use Rattle.definition.specs.Ascii.{ascii, decimal, hex};
 ghost use Rattle.frames.specs.Line.{put, put_number};
 ghost use Rattle.frames.specs.Stream.{no_more, cut, too_long_lem, after_line, without_block, PartRead, BlockRead};
@@ -49,7 +49,8 @@ pub fn without(size: usize) -> u8
 
 // Reads until the bytes are full or the input ends; how many came.
 fn read_full(input: &mut impl Read, s: &mut [u8]) -> Result<usize>
-    ensures { IfOk result (λ got. got ≤ length s.new) }
+    ensures within { IfOk result (λ got. got ≤ length s.new) }
+    ensures none { length s.old ≡ 0 → result ≡ Ok 0 }
 {
     let mut done = 0;
     while done < s.len() {
@@ -62,10 +63,12 @@ fn read_full(input: &mut impl Read, s: &mut [u8]) -> Result<usize>
     Ok(done)
 }
 
-// Reads the first n bytes; whether all of them came.
+// Reads the first n bytes; whether all of them came. No error comes where none is read.
 pub fn read_part(input: &mut impl Read, s: &mut [u8], n: usize) -> Result<bool>
     ensures ok { IfOk result (λ all. PartRead s.old n s.new all) }
     ensures err { OnErr result (drop n s.new ≡ drop n s.old) }
+    ensures fewer { length s.old < n → (result ≡ Ok false) × (s.new ≡ s.old) }
+    ensures nothing { n ≡ 0 → result ≡ Ok true }
 {
     if s.len() < n {
         return Ok(false);
