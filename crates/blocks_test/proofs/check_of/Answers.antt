@@ -1,6 +1,5 @@
 -- `blocks_test::check_of` meets its contract. Both products are bounded. Assumes nothing.
 use native.Mathlib.Omega.{arith}
-use borrow.Author.Rules.{rules}
 use Rattle.blocks_test.proofs.Products.{weights_low, weights_high, bytes_high}
 use Rattle.blocks_test.proofs.check_of.Goals as goal
 

@@ -1,7 +1,6 @@
 -- `blocks_test::damages` meets its contract. The loop keeps: i is inside the table, and the lengths. Assumes nothing.
 use mathlib.Core.Path.{◌≡◌}
 use Prim.Native.Nat.{◌≤◌, ◌-◌}
-use borrow.Author.Rules.{rules}
 use lib.ListN.{length}
 use Rattle.blocks_test.proofs.damages.Given as goal
 

@@ -1,7 +1,6 @@
 -- `blocks_test::fill` meets its contract. The loop keeps: i is inside, and the length. Assumes nothing.
 use mathlib.Core.Path.{◌≡◌}
 use Prim.Native.Nat.{◌≤◌, ◌-◌}
-use borrow.Author.Rules.{rules}
 use lib.ListN.{length}
 use Rattle.blocks_test.proofs.fill.Given as goal
 

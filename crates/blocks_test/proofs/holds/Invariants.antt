@@ -1,6 +1,5 @@
 -- `blocks_test::holds` meets its contract. The loop keeps: i is inside. Assumes nothing.
 use Prim.Native.Nat.{◌≤◌, ◌-◌}
-use borrow.Author.Rules.{rules}
 use lib.ListN.{length}
 use Rattle.blocks_test.proofs.holds.Given as goal
 

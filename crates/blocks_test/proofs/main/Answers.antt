@@ -1,7 +1,6 @@
 -- `blocks_test::main` meets its contract. The arrays are as long as their types say. Assumes nothing.
 use mathlib.Core.Path.{sym}
 use Prim.Native.Nat.{ℕ}
-use borrow.Author.Rules.{rules}
 use lib.ListN.{length-replicate}
 use Rattle.blocks_test.proofs.main.Goals as goal
 

@@ -1,6 +1,5 @@
 -- `frames::put_hex` meets its contract. Assumes nothing.
 use mathlib.Core.Path.{ap, ◌∙◌}
-use borrow.Author.Rules.{rules}
 use Rattle.frames.specs.Line.{put}
 use Rattle.frames.proofs.Lines.{two_digits}
 use Rattle.frames.proofs.put_hex.Goals as goal

@@ -1,6 +1,5 @@
 -- `frames::put_number` meets its contract. Assumes nothing.
 use mathlib.Core.Path.{ap, ◌∙◌}
-use borrow.Author.Rules.{rules}
 use Rattle.definition.specs.Ascii.{ascii, decimal}
 use Rattle.frames.specs.Line.{put}
 use Rattle.frames.proofs.put_number.Goals as goal

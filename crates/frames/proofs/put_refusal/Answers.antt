@@ -1,6 +1,5 @@
 -- `frames::put_refusal` meets its contract. Assumes nothing.
 use mathlib.Core.Path.{ap, ◌∙◌}
-use borrow.Author.Rules.{rules}
 use Rattle.definition.specs.Ascii.{ascii}
 use Rattle.frames.specs.Line.{put_number}
 use Rattle.frames.proofs.put_refusal.Goals as goal
