@@ -1,8 +1,8 @@
 // Runs stored jobs, packed as packed.rt says, and prints a line for each. `stdout` has the Rust's lines for them, so that the builder is
 // held to the Rust where there is no Rust; `make` beside src/ makes both files anew.
 //
-// Memory is the stack's, 6.6 MB, but for the text that waits to be written: enough for jobs of 200,000 bytes and outputs of 65,536. Of longer jobs only
-// those are stored that are too long for any memory; the others are run from Rust, over the heap (docs/DECISIONS.md).
+// Memory is the stack's, 6.6 MB, but for the text that waits to be written: enough for jobs of 200,000 bytes and outputs of 65,536. Of
+// longer jobs only those are stored that are too long for any memory; the others are run from Rust, over the heap (docs/DECISIONS.md).
 #![tactic(auto)]
 
 mod line;

@@ -1,5 +1,4 @@
 -- `raw_const_test::cuts_are_bad` meets its contract: the loop stops at the end of the bytes. Assumes nothing.
-use borrow.Author.Rules.{rules}
 use Prim.Native.Nat.{◌-◌, ◌≤◌}
 use lib.ListN.{length}
 use Rattle.raw_const_test.proofs.cuts_are_bad.Given as goal

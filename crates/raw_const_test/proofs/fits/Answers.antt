@@ -1,6 +1,5 @@
 -- `raw_const_test::fits` meets its contract: each arm tests what its shape asks of a literal. Assumes nothing.
 use borrow.Author.Tests.{ltb-true, eqb-true}
-use borrow.Author.Rules.{rules}
 use Rattle.raw_const_test.proofs.Literals.{literal_fits}
 use Rattle.raw_const_test.proofs.fits.Goals as goal
 

@@ -1,6 +1,5 @@
 -- `raw_const_test::row` meets its contract: the tests before the write are what it requires. Assumes nothing.
 use borrow.Author.Tests.{not-false}
-use borrow.Author.Rules.{rules}
 use Prim.Native.Nat.{◌-◌}
 use native.Mathlib.Omega.{arith}
 use lib.ListN.{length}

@@ -1,5 +1,4 @@
 -- `raw_const_test::walk` meets its contract: the loop stops at the end of the tags. Assumes nothing.
-use borrow.Author.Rules.{rules}
 use Prim.Native.Nat.{◌-◌, ◌≤◌}
 use lib.ListN.{length}
 use Rattle.raw_const_test.proofs.walk.Given as goal

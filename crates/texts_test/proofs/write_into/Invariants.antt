@@ -1,6 +1,5 @@
 -- `texts_test::write_into` meets its contract. The loop keeps: i is at most the length. Assumes nothing.
 use Prim.Native.Nat.{◌-◌, ◌≤◌}
-use borrow.Author.Rules.{rules}
 use lib.ListN.{length}
 use Rattle.texts_test.proofs.write_into.Given as goal
 
