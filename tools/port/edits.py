@@ -4,7 +4,7 @@
 usage: tools/port/edits.py OLDER [CRATE..]
 
 OLDER is a checkout from before the port. How a word is spelled today is read off the files: their lines stand side by side. An edit is
-written only if each of its old texts stands once in today's file; the others are named in lines that begin 'left:'.
+respelled word by word, and one whose old text doesn't stand once in today's file is named in a line that begins 'left:', for a look by hand.
 """
 
 import collections
@@ -72,9 +72,6 @@ def spelled(text, words):
     return TOKEN.sub(lambda m: words.get(m[0], m[0]), text)
 
 
-def loose(text):
-    return "".join(TOKEN.findall(text))
-
 
 def stands(text, wanted):
     """The one stretch of a line of the text that has these tokens, or None."""
@@ -96,36 +93,27 @@ def main(argv):
         if not os.path.isdir(folder) or (only and crate not in only):
             continue
         counts = collections.defaultdict(collections.Counter)
-        below = {crate, "definition", "facts"}
-        for c in below:
+        for c in {crate, "definition", "facts"}:
             learn(older, c, counts)
         words = {s: c.most_common(1)[0][0] for s, c in counts.items()}
         for edit in sorted(os.listdir(folder)):
-            text = read(os.path.join(folder, edit))
-            out, name, why, pending = [], None, None, None
-            for line in text.split("\n"):
+            out, why, now, is_as_it_was = [], None, "", False
+            for line in read(os.path.join(folder, edit)).split("\n"):
                 if line.startswith("file: "):
                     name = line[6:].strip()
                     path = today(crate, name)
                     now = read(path) if path else ""
-                    if not path:
-                        why = f"no file {name}"
+                    why = why if path else f"no file {name}"
                 elif line.startswith("old: "):
                     given = line[5:]
-                    mine = spelled(given, words)
-                    lead = len(given) - len(given.lstrip(" "))
-                    if now.count(given) == 1:
-                        found = given
-                    else:
+                    is_as_it_was = now.count(given) == 1
+                    if not is_as_it_was:
+                        mine = spelled(given, words)
                         found = stands(now, mine) or stands(now, tight(given))
-                        if not found:
-                            why = f"{name} has not once: {mine}"
-                            found = mine
-                    line = "old: " + found
-                elif line.startswith("new: "):
-                    given = line[5:]
-                    new = given if found == text_old(text, line) else spelled(given, words).strip() if True else given
-                    line = "new: " + (given if now.count(text_old(text, line)) == 1 else new)
+                        why = why if found else f"{name} has not once: {mine}"
+                        line = "old: " + (found or mine)
+                elif line.startswith("new: ") and not is_as_it_was:
+                    line = "new: " + spelled(line[5:], words).strip()
                 out.append(line)
             if why:
                 print(f"left: {crate}/must-fail/{edit}: {why}")
@@ -134,12 +122,6 @@ def main(argv):
                 it.write("\n".join(out))
             done += not why
     print(f"{done} edits fit, {left} left")
-
-
-def text_old(text, line):
-    """The old text that stands before this new text."""
-    at = text.index(line)
-    return re.findall(r"(?m)^old: (.*)$", text[:at])[-1]
 
 
 if __name__ == "__main__":

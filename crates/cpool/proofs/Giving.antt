@@ -2,10 +2,10 @@
 use mathlib.Core.Bool.{Bool, true, false, ◌&&◌}
 use mathlib.Core.List.{List}
 use mathlib.Core.Path.{◌≡◌, sym, ap, subst, ◌∙◌}
-use Prim.Native.Nat.{ℕ, ◌≤◌}
+use Prim.Native.Nat.{ℕ, ◌≤◌, ◌<◌}
 use lib.Dec.{leb}
 use lib.ListN.{length}
-use borrow.Author.Tests.{leb-true}
+use borrow.Author.Tests.{leb-true, le-leb, lt-leb}
 use Rattle.definition.specs.Basics.{Result, good, bad, Refusal}
 use Rattle.definition.specs.Run.{Built, class_out, fits, overwrite, output_after}
 use Rattle.facts.proofs.Lists.{both_true}
@@ -21,6 +21,13 @@ use Rattle.output.specs.Names.{NameIs, class_in}
 use Rattle.builder.specs.Rendered.{Rendered}
 use Rattle.cpool.specs.declared.Outcome.{Outcome}
 use Rattle.cpool.specs.Stages.{Outputs, room_of, fitted, Tells, Gave}
+
+-- one test of room behind the other
+pub no_room : (a n : ℕ) (rest : Bool) → n < a → false ≡ (leb a n && rest)
+no_room a n rest h = rw (lt-leb a n h)
+
+pub room_then : (a n : ℕ) (x rest : Bool) → a ≤ n → x ≡ rest → x ≡ (leb a n && rest)
+room_then a n x rest h e = rw (le-leb a n h) e
 
 -- all five hold
 pub record Room (a p b c : ℕ) (o : Outputs) : Type 0 where
