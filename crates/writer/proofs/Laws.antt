@@ -1,14 +1,15 @@
 -- Laws of stores, copies and fills, over plain lists. Assumes nothing.
 use mathlib.Core.Path.{◌≡◌, refl, sym, ap, ◌∙◌}
 use mathlib.Core.List.{List, [], ◌∷◌, ◌++◌, append_assoc, append-nil}
-use Prim.Native.Nat.{ℕ, zero, suc, ◌+◌, ◌*◌, ◌/◌, ◌%◌, ◌<◌, ◌≤◌}
+use Prim.Native.Nat.{ℕ, zero, suc, ◌+◌, ◌/◌, ◌%◌, ◌<◌, ◌≤◌}
 use native.Mathlib.Nat.{not-suc-le-zero, le_of_suc-le-suc, le_refl, add_assoc}
 use native.Mathlib.Numerals.{add-one}
 use native.Mathlib.Omega.{arith}
 use lib.ListN.{length, get_or, set, take, drop, replicate, length-drop}
-use lib.Seq.{paste, paste-suc, take-paste, drop-paste, drop-drop, take-append-add, take-length, drop-length, sets-eq, get_or-drop, drop-cons, take-add}
-use Rattle.definition.specs.Bytes.{be2, be4}
-use Rattle.writer.specs.Numbers.{number2, number4}
+use lib.Seq.{paste, paste-suc, take-paste, drop-paste, drop-drop, take-append-add, take-length, drop-length, sets-eq, get_or-drop}
+use Rattle.std.specs.Int.{bytes_high_first}
+use Rattle.definition.specs.Bytes.{be2, be4, be8}
+pub use Rattle.writer.specs.Standing.{be4-halves, be2-number, be4-number}
 
 -- a copy behind a copy is one copy of both
 pub paste-paste :
@@ -38,46 +39,6 @@ two-stores d at x small room =
     ∙ ap (λ k. set (set d at (x / 256 % 256)) k (x % 256)) (add-one at)
     ∙ sets-eq (be2 x) d at room
 
--- four bytes of a number are two of its upper half and two of its lower half
-pub be4-halves : (x : ℕ) → be2 (x / 65536) ++ be2 (x % 65536) ≡ be4 x
-unfolding be2 be4
-be4-halves x =
-    let first : x / 65536 / 256 % 256 ≡ x / 16777216 % 256 = omega arith in
-    let third : x % 65536 / 256 % 256 ≡ x / 256 % 256 = omega arith in
-    let fourth : x % 65536 % 256 ≡ x % 256 = omega arith in
-    λ i. first i ∷ x / 65536 % 256 ∷ third i ∷ fourth i ∷ []
-
--- the number that is read at a place has the bytes that stand there
-module _ (s : List ℕ) (bytes : (i : ℕ) → get_or s i 0 < 256) where
-  pub be2-number : (at : ℕ) → at + 2 ≤ length s → take 2 (drop at s) ≡ be2 (number2 s at)
-  unfolding be2
-  be2-number at inside =
-      let a = get_or s at 0 in
-      let b = get_or s (at + 1) 0 in
-      let small : a < 256 = bytes at in
-      let small' : b < 256 = bytes (at + 1) in
-      let high : a ≡ (256 * a + b) / 256 % 256 = omega arith in
-      let low : b ≡ (256 * a + b) % 256 = omega arith in
-      ap (take 2) (drop-cons s at 0 (omega arith))
-      ∙ ap (λ l. a ∷ take 1 l) (ap (λ j. drop j s) (sym (add-one at)) ∙ drop-cons s (at + 1) 0 (omega arith))
-      ∙ (λ i. high i ∷ low i ∷ [])
-
-  pub be4-number : (at : ℕ) → at + 4 ≤ length s → take 4 (drop at s) ≡ be4 (number4 s at)
-  be4-number at inside =
-      let n = number4 s at in
-      let b₀ : get_or s at 0 < 256 = bytes at in
-      let b₁ : get_or s (at + 1) 0 < 256 = bytes (at + 1) in
-      let b₂ : get_or s (at + 2) 0 < 256 = bytes (at + 2) in
-      let b₃ : get_or s (at + 2 + 1) 0 < 256 = bytes (at + 2 + 1) in
-      let high : number2 s at ≡ n / 65536 = omega arith in
-      let low : number2 s (at + 2) ≡ n % 65536 = omega arith in
-      take-add 2 2 (drop at s)
-      ∙ ap (λ l. take 2 (drop at s) ++ take 2 l) (drop-drop 2 at s)
-      ∙ ap (λ l. l ++ take 2 (drop (at + 2) s)) (be2-number at (omega arith))
-      ∙ ap (λ l. be2 (number2 s at) ++ l) (be2-number (at + 2) (omega arith))
-      ∙ (λ i. be2 (high i) ++ be2 (low i))
-      ∙ be4-halves n
-
 -- a turn of the loop that copies
 pub copy_more :
     (d s : List ℕ) (at from i : ℕ) → at + i < length d → from + i < length s →
@@ -98,3 +59,16 @@ module _ {A : Type 0} (a : A) where
 
   pub fill_all : (i : ℕ) (d : List A) → length d ≡ i → replicate i a ++ drop i d ≡ replicate (length d) a
   fill_all i d e = rw (← e) (ap (λ l. replicate (length d) a ++ l) (drop-length d) ∙ append-nil (replicate (length d) a))
+
+-- the bytes of eight as std has them
+pub eight-bytes : (x : ℕ) → bytes_high_first 8 x ≡ be8 x
+unfolding be8 be4
+eight-bytes x =
+    let b₇ : x / 72057594037927936 % 256 ≡ x / 4294967296 / 16777216 % 256 = omega arith in
+    let b₆ : x / 281474976710656 % 256 ≡ x / 4294967296 / 65536 % 256 = omega arith in
+    let b₅ : x / 1099511627776 % 256 ≡ x / 4294967296 / 256 % 256 = omega arith in
+    let b₃ : x / 16777216 % 256 ≡ x % 4294967296 / 16777216 % 256 = omega arith in
+    let b₂ : x / 65536 % 256 ≡ x % 4294967296 / 65536 % 256 = omega arith in
+    let b₁ : x / 256 % 256 ≡ x % 4294967296 / 256 % 256 = omega arith in
+    let b₀ : x % 256 ≡ x % 4294967296 % 256 = omega arith in
+    λ i. b₇ i ∷ b₆ i ∷ b₅ i ∷ x / 4294967296 % 256 ∷ b₃ i ∷ b₂ i ∷ b₁ i ∷ b₀ i ∷ []

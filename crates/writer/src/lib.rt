@@ -1,69 +1,113 @@
-// Numbers, runs of bytes and clears in slices: Krakatau's BufWriter, at places that the caller gives. A number's most
-// significant byte comes first (document 01, "A job").
+// Numbers, runs of bytes and clears in slices: Krakatau's BufWriter, at places that the caller gives. A number's most significant
+// byte comes first (document 01, "A job").
 #![tactic(auto)]
 
-ghost use Rattle.std.specs.Prelude.{◌≡◌, ◌+◌, ◌<◌, ◌≤◌, length, get_or, set, drop, replicate};
+ghost use Rattle.std.specs.Prelude.{◌≡◌, List, [], ◌∷◌, ℕ, ◌+◌, ◌<◌, ◌≤◌, length, get_or, take, drop, replicate};
 ghost use Rattle.std.proofs.Math.Seq.{paste};
 ghost use Rattle.definition.specs.Bytes.{be2, be4, be8};
 ghost use Rattle.writer.specs.Numbers.{number2, number4, number8};
+ghost use Rattle.writer.specs.Standing.{be1-number, be2-number, be4-number, be8-number};
 
-pub fn get_u8(s: &[u8], at: usize) -> u8
-    requires { at < length s.now }
-    ensures { result ≡ get_or s.now at 0 }
-{
-    s[at]
+// An unsigned number in a slice, its most significant byte first.
+pub trait BigEndian: Copy {
+    // How many bytes it takes, the bytes of one, and the one that stands at a place.
+    ghost width: { ℕ };
+
+    ghost bytes: { Self → List ℕ };
+
+    ghost number: { List ℕ → ℕ → Self };
+
+    fn get(s: &[u8], at: usize) -> Self
+        requires { at + width ≤ length s.now }
+        ensures { result ≡ number s.now at };
+
+    fn put(self, d: &mut [u8], at: usize)
+        requires { at + width ≤ length d.old }
+        ensures { d.new ≡ paste d.old at (bytes self) width };
+
+    // The bytes of the number at a place are those that stand there.
+    ghost stands: { (s : List ℕ) → ((i : ℕ) → get_or s i 0 < 256) → (at : ℕ) → at + width ≤ length s → take width (drop at s) ≡ bytes (number s at) };
 }
 
-pub fn get_u16(s: &[u8], at: usize) -> u16
-    requires { at + 2 ≤ length s.now }
-    ensures { result ≡ number2 s.now at }
-{
-    get_u8(s, at) as u16 * 256 + get_u8(s, at + 1) as u16
+impl BigEndian for u8 {
+    ghost width = { 1 };
+
+    ghost bytes = { λ x. x ∷ [] };
+
+    ghost number = { λ s at. get_or s at 0 };
+
+    ghost stands = { be1-number };
+
+    fn get(s: &[u8], at: usize) -> u8 {
+        s[at]
+    }
+
+    fn put(self, d: &mut [u8], at: usize) {
+        copy(&[self], 0, d, at, 1);
+    }
 }
 
-pub fn get_u32(s: &[u8], at: usize) -> u32
-    requires { at + 4 ≤ length s.now }
-    ensures { result ≡ number4 s.now at }
-{
-    get_u16(s, at) as u32 * 65536 + get_u16(s, at + 2) as u32
+impl BigEndian for u16 {
+    ghost width = { 2 };
+
+    ghost bytes = { be2 };
+
+    ghost number = { number2 };
+
+    ghost stands = { be2-number };
+
+    fn get(s: &[u8], at: usize) -> u16 {
+        u16::from_be_bytes([s[at], s[at + 1]])
+    }
+
+    fn put(self, d: &mut [u8], at: usize) {
+        copy(&self.to_be_bytes(), 0, d, at, 2);
+    }
 }
 
-pub fn get_u64(s: &[u8], at: usize) -> u64
-    requires { at + 8 ≤ length s.now }
-    ensures { result ≡ number8 s.now at }
-{
-    get_u32(s, at) as u64 * 4294967296 + get_u32(s, at + 4) as u64
+impl BigEndian for u32 {
+    ghost width = { 4 };
+
+    ghost bytes = { be4 };
+
+    ghost number = { number4 };
+
+    ghost stands = { be4-number };
+
+    fn get(s: &[u8], at: usize) -> u32 {
+        u32::from_be_bytes([s[at], s[at + 1], s[at + 2], s[at + 3]])
+    }
+
+    fn put(self, d: &mut [u8], at: usize) {
+        copy(&self.to_be_bytes(), 0, d, at, 4);
+    }
 }
 
-pub fn put_u8(d: &mut [u8], at: usize, x: u8)
-    requires { at < length d.old }
-    ensures { d.new ≡ set d.old at x }
-{
-    d[at] = x;
-}
+impl BigEndian for u64 {
+    ghost width = { 8 };
 
-pub fn put_u16(d: &mut [u8], at: usize, x: u16)
-    requires { at + 2 ≤ length d.old }
-    ensures { d.new ≡ paste d.old at (be2 x) 2 }
-{
-    put_u8(d, at, (x / 256) as u8);
-    put_u8(d, at + 1, (x % 256) as u8);
-}
+    ghost bytes = { be8 };
 
-pub fn put_u32(d: &mut [u8], at: usize, x: u32)
-    requires { at + 4 ≤ length d.old }
-    ensures { d.new ≡ paste d.old at (be4 x) 4 }
-{
-    put_u16(d, at, (x / 65536) as u16);
-    put_u16(d, at + 2, (x % 65536) as u16);
-}
+    ghost number = { number8 };
 
-pub fn put_u64(d: &mut [u8], at: usize, x: u64)
-    requires { at + 8 ≤ length d.old }
-    ensures { d.new ≡ paste d.old at (be8 x) 8 }
-{
-    put_u32(d, at, (x / 4294967296) as u32);
-    put_u32(d, at + 4, (x % 4294967296) as u32);
+    ghost stands = { be8-number };
+
+    fn get(s: &[u8], at: usize) -> u64 {
+        u64::from_be_bytes([
+            s[at],
+            s[at + 1],
+            s[at + 2],
+            s[at + 3],
+            s[at + 4],
+            s[at + 5],
+            s[at + 6],
+            s[at + 7],
+        ])
+    }
+
+    fn put(self, d: &mut [u8], at: usize) {
+        copy(&self.to_be_bytes(), 0, d, at, 8);
+    }
 }
 
 // Copies n bytes of src, from a place, to a place of dst.
@@ -72,19 +116,11 @@ pub fn copy(src: &[u8], from: usize, dst: &mut [u8], at: usize, n: usize)
     requires n_in_bounds_2 { at + n ≤ length dst.old }
     ensures { dst.new ≡ paste dst.old at (drop from src.now) n }
 {
-    let mut i = 0;
-    while i < n {
-        dst[at + i] = src[from + i];
-        i += 1;
-    }
+    dst[at..at + n].copy_from_slice(&src[from..from + n]);
 }
 
 pub fn clear_words(w: &mut [u32])
     ensures { w.new ≡ replicate (length w.old) 0 }
 {
-    let mut i = 0;
-    while i < w.len() {
-        w[i] = 0;
-        i += 1;
-    }
+    w.fill(0);
 }

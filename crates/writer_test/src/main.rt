@@ -1,7 +1,10 @@
 // Reads, writes, copies and clears on vectors worked out by hand. A line for each says ok or WRONG.
 #![tactic(auto)]
 
+ghost use Rattle.std.specs.Prelude.{◌≤◌};
+
 use std::io;
+use writer::BigEndian;
 
 fn say(rt: &impl Print, name: &str, ok: bool) -> io::Result<()> {
     let verdict = if ok { "ok" } else { "WRONG" };
@@ -12,33 +15,17 @@ fn reads(s: &[u8]) -> bool {
     if s.len() < 9 {
         return false;
     }
-    (writer::get_u8(s, 1) == 0x81)
-        & (writer::get_u16(s, 1) == 0x8182)
-        & (writer::get_u32(s, 1) == 0x81828384)
-        & (writer::get_u64(s, 1) == 0x8182838485868788)
+    (u8::get(s, 1) == 0x81)
+        & (u16::get(s, 1) == 0x8182)
+        & (u32::get(s, 1) == 0x81828384)
+        & (u64::get(s, 1) == 0x8182838485868788)
 }
 
-fn put_1(expected: &[u8]) -> bool {
+fn puts<T: BigEndian>(x: T, expected: &[u8]) -> bool
+    requires { T.width ≤ 8 }
+{
     let mut d = [0xeeu8; 10];
-    writer::put_u8(&mut d, 1, 0x81);
-    check::same(&d, expected)
-}
-
-fn put_2(expected: &[u8]) -> bool {
-    let mut d = [0xeeu8; 10];
-    writer::put_u16(&mut d, 1, 0x8182);
-    check::same(&d, expected)
-}
-
-fn put_4(expected: &[u8]) -> bool {
-    let mut d = [0xeeu8; 10];
-    writer::put_u32(&mut d, 1, 0x81828384);
-    check::same(&d, expected)
-}
-
-fn put_8(expected: &[u8]) -> bool {
-    let mut d = [0xeeu8; 10];
-    writer::put_u64(&mut d, 1, 0x8182838485868788);
+    x.put(&mut d, 1);
     check::same(&d, expected)
 }
 
@@ -63,22 +50,25 @@ fn main(rt: HostRuntime) -> io::Result<()> {
     say(
         &rt,
         "put 1",
-        put_1(b"\xee\x81\xee\xee\xee\xee\xee\xee\xee\xee"),
+        puts(0x81u8, b"\xee\x81\xee\xee\xee\xee\xee\xee\xee\xee"),
     )?;
     say(
         &rt,
         "put 2",
-        put_2(b"\xee\x81\x82\xee\xee\xee\xee\xee\xee\xee"),
+        puts(0x8182u16, b"\xee\x81\x82\xee\xee\xee\xee\xee\xee\xee"),
     )?;
     say(
         &rt,
         "put 4",
-        put_4(b"\xee\x81\x82\x83\x84\xee\xee\xee\xee\xee"),
+        puts(0x81828384u32, b"\xee\x81\x82\x83\x84\xee\xee\xee\xee\xee"),
     )?;
     say(
         &rt,
         "put 8",
-        put_8(b"\xee\x81\x82\x83\x84\x85\x86\x87\x88\xee"),
+        puts(
+            0x8182838485868788u64,
+            b"\xee\x81\x82\x83\x84\x85\x86\x87\x88\xee",
+        ),
     )?;
     say(
         &rt,
