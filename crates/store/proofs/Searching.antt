@@ -1,11 +1,12 @@
 -- A walk along a chain finds what is sought: the end of any walk, and the walk for a number. Assumes nothing.
 use mathlib.Core.List.{List}
-use mathlib.Core.Path.{◌≡◌, ap}
+use mathlib.Core.Path.{◌≡◌, refl, ap, subst}
 use Prim.Native.Nat.{ℕ, ◌+◌, ◌-◌, ◌≤◌, ◌<◌}
 use native.Mathlib.Omega.{arith}
 use lib.ListN.{length, get_or}
 use Rattle.store.specs.Store.{Store, size}
-use Rattle.store.specs.Chains.{head_of, Sought, NumbersIn}
+use Rattle.std.specs.Prelude.{Some, None}
+use Rattle.store.specs.Chains.{head_of, link_of, Sought, NumbersIn}
 use Rattle.store.proofs.Hashing.{head_lt}
 use Rattle.store.proofs.Walking.{Down, walk_start, walk_on}
 
@@ -15,6 +16,13 @@ sought_hit is n e l h t = record { low = l; hit = λ _. t; miss = λ z. absurd (
 pub sought_miss : (hash : ℕ → ℕ) (is : ℕ → Type 0) (k n e : ℕ) → e ≤ 0 → Down hash is k n e → Sought is n 0
 sought_miss hash is k n e z d =
     record { low = omega arith; hit = λ l. absurd (omega arith); miss = λ _ i l. d.past i (omega arith) l }
+
+-- what a search that found an item, or none, tells
+pub sought_item : (is : ℕ → Type 0) (n i : ℕ) → Sought is n (link_of (Some i)) → is i × (i < n)
+sought_item is n i s = let e : i + 1 - 1 ≡ i = omega arith in (subst is e (s.hit (omega arith)), omega (arith, s.low))
+
+pub sought_none : (is : ℕ → Type 0) (n : ℕ) → Sought is n (link_of None) → (i : ℕ) → i < n → is i → ⊥
+sought_none is n s = s.miss refl
 
 -- the walk for item numbers n, at e
 abbrev pub ForNumber : List ℕ → Store → ℕ → ℕ → ℕ → ℕ → Type 0

@@ -1,6 +1,6 @@
 -- Hash chains over any items: a head for each hash, and from each item a link to the one before it with the same hash. A link is 0, or one
 -- more than an item. Assumes nothing.
-use Rattle.std.specs.Prelude.{Bool, true, false, cond, List, ◌≡◌, ℕ, zero, suc, ◌+◌, ◌-◌, ◌*◌, ◌/◌, ◌%◌, ◌≤◌, ◌<◌, eqb, ltb, length, get_or}
+use Rattle.std.specs.Prelude.{Bool, true, false, cond, List, ◌≡◌, ℕ, zero, suc, ◌+◌, ◌-◌, ◌*◌, ◌/◌, ◌%◌, ◌≤◌, ◌<◌, eqb, ltb, length, get_or, Option, None, Some}
 use Rattle.store.specs.Store.{Store, size, put}
 
 -- one more number in a hash
@@ -21,6 +21,11 @@ last q (suc i) = cond (q i) (suc i) (last q i)
 pub record Chains (hash : ℕ → ℕ) (heads links : List ℕ) (n : ℕ) : Type 0 where
   pub first : (k : ℕ) → k < length heads → get_or heads k 0 ≡ last (λ i. eqb (hash i) k) n
   pub next : (i : ℕ) → i < n → get_or links i 0 ≡ last (λ j. eqb (hash j) (hash i)) i
+
+-- the link to an item that was found, or to none
+abbrev pub link_of : Option ℕ → ℕ
+link_of None = 0
+link_of (Some i) = i + 1
 
 -- a search among the first n items for one that is sought: one more than such an item, or 0 and there is none
 pub record Sought (is : ℕ → Type 0) (n r : ℕ) : Type 0 where

@@ -1,6 +1,6 @@
 -- The job that well-formed bytes are, and its parts as the builder goes over them. Assumes nothing.
-use Rattle.std.specs.Prelude.{List, [], ◌∷◌, ◌++◌, ◌≡◌, ℕ, ◌+◌, ◌≤◌, length}
-use Rattle.definition.specs.Basics.{Result, good, bad}
+use Rattle.std.specs.Prelude.{List, [], ◌∷◌, ◌++◌, ◌≡◌, ℕ, ◌≤◌, length}
+use Rattle.definition.specs.Basics.{good, bad}
 use Rattle.definition.specs.Shapes.{Entry}
 use Rattle.definition.specs.Job.{Reference, Definition, define, named, placed, setting, slot, Job}
 use Rattle.definition.specs.Form.{form}

@@ -1,7 +1,7 @@
 -- What the words of the regions mean: references, goals, items of the stack, marks. Assumes nothing.
-use Rattle.std.specs.Prelude.{Bool, true, false, List, ◌++◌, ◌⊎◌, ◌≡◌, ℕ, zero, suc, ◌+◌, ◌-◌, ◌≤◌, ◌<◌, ltb, length, get_or, take, drop}
+use Rattle.std.specs.Prelude.{true, false, List, ◌++◌, ◌⊎◌, ◌≡◌, ℕ, zero, suc, ◌+◌, ◌-◌, ◌≤◌, ◌<◌, ltb, get_or, take, drop}
 use Rattle.definition.specs.Basics.{from}
-use Rattle.definition.specs.Bytes.{Parser, be4}
+use Rattle.definition.specs.Bytes.{be4}
 use Rattle.definition.specs.Shapes.{constant, bootstrap, is_wide}
 use Rattle.definition.specs.Job.{Reference, raw, entry, name, short_name}
 use Rattle.definition.specs.Resolving.{Goal, raw_number, table_entry, refusal, Mark, fresh, underway, done, Item, enter, leave}

@@ -1,16 +1,14 @@
 // The lent words as regions: region k is the words from place k up to place k + 1, and only `load`, `save`, `size_of`, `lay` and
-// `start` touch words or places.
+// `start` touch words or places. Regions, counters and what words mean go by number: the caller lends plain words (no heap, fixed
+// memory), and each word of them is a `u32`.
 #![tactic(auto)]
 
 ghost use Rattle.std.specs.Prelude.{◌≡◌, ℕ, ◌+◌, ◌-◌, ◌<◌, ◌≤◌, length, get_or};
 ghost use Rattle.store.specs.Regions.{places_of, sizes_for, Few, Started};
 ghost use Rattle.store.specs.Store.{size, store, put, Laid, On, IsWord, Read};
-ghost use Rattle.store.specs.Chains.{mixed, head_of, Sought, Heads, linked, NumbersIn};
+ghost use Rattle.store.specs.Chains.{mixed, head_of, link_of, Sought, Heads, linked, NumbersIn};
 
 use job::JobCounts;
-
-// How many regions there are, one less than places.
-const REGIONS: usize = 32;
 
 // Regions that start as zeros.
 // The counters, one word each, as named below.
@@ -253,11 +251,8 @@ fn lay(p: &mut [usize], sizes: &[usize])
     ensures { p.new ≡ places_of 0 sizes.now }
 {
     p[0] = 0;
-    let mut k = 0;
-    while k < REGIONS {
-        let b = p[k];
-        p[k + 1] = b + sizes[k];
-        k += 1;
+    for (k, size) in sizes.iter().enumerate() {
+        p[k + 1] = p[k] + *size;
     }
 }
 
@@ -322,17 +317,17 @@ pub fn push_link(w: &mut [u32], p: &[usize], heads: usize, key: usize, i: usize)
     save(w, p, heads, head, i + 1);
 }
 
-// 1 + an item of the chains whose number, in region `keys`, is n; 0 if there is none.
-pub fn find_number(w: &[u32], p: &[usize], heads: usize, keys: usize, n: usize) -> usize
+// An item of the chains whose number, in region `keys`, is n.
+pub fn find_number(w: &[u32], p: &[usize], heads: usize, keys: usize, n: usize) -> Option<usize>
     requires { On p.now (length w.now) × Heads p.now heads × IsWord n × ((count : ℕ) × NumbersIn p.now (store p.now w.now) heads keys count) }
-    ensures { (count : ℕ) → NumbersIn p.now (store p.now w.now) heads keys count → Sought (λ i. get_or (store p.now w.now keys) i 0 ≡ n) count result }
+    ensures { (count : ℕ) → NumbersIn p.now (store p.now w.now) heads keys count → Sought (λ i. get_or (store p.now w.now keys) i 0 ≡ n) count (link_of result) }
 {
     let mut link = first_link(w, p, heads, n);
-    while 0 < link {
-        if load(w, p, keys, link - 1) == n {
-            return link;
+    while let Some(i) = link.checked_sub(1) {
+        if load(w, p, keys, i) == n {
+            return Some(i);
         }
-        link = load(w, p, heads + LINKS, link - 1);
+        link = load(w, p, heads + LINKS, i);
     }
-    0
+    None
 }

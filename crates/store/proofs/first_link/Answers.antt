@@ -1,5 +1,4 @@
 -- `store::first_link` meets its contract. Assumes nothing.
-use borrow.Author.Rules.{rules}
 use Rattle.store.proofs.first_link.Goals as goal
 
 pub load-requires : goal.load-requires

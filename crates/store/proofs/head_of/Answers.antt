@@ -3,7 +3,6 @@ use mathlib.Core.Path.{sym}
 use Prim.Native.Nat.{◌-◌, ◌*◌}
 use native.Mathlib.Omega.{arith}
 use Rattle.store.proofs.Hashing.{head_small, head_large, scaled-below, scaled_fits}
-use borrow.Author.Rules.{rules}
 use Rattle.store.proofs.head_of.Goals as goal
 
 pub overflow_mul-result-else-key-heads : goal.overflow_mul-result-else-key-heads

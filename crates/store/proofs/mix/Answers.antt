@@ -4,7 +4,6 @@ use Prim.Native.Nat.{◌+◌, ◌*◌, ◌/◌, ◌%◌}
 use native.Mathlib.Nat.{mod-lt}
 use mathlib.Core.Path.{refl}
 use Rattle.store.specs.Chains.{mixed}
-use borrow.Author.Rules.{rules}
 use Rattle.store.proofs.mix.Goals as goal
 
 pub overflow_add-result : goal.overflow_add-result

@@ -2,7 +2,6 @@
 use native.Mathlib.Omega.{arith}
 use mathlib.Core.Path.{sym, ◌∙◌}
 use Rattle.store.proofs.Starting.{lay_asks, places_length, zeros-fit, zeros-are, same-words, started}
-use borrow.Author.Rules.{rules}
 use Rattle.store.proofs.start.Goals as goal
 
 pub sizes_for-sizes-requires : goal.sizes_for-sizes-requires
