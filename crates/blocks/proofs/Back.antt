@@ -9,10 +9,12 @@ use Rattle.definition.specs.Run.{overwrite}
 use Rattle.definition.specs.Blocks.{read_blocks, write_blocks, blocks_after}
 use Rattle.facts.proofs.Results.{good_inj, bad≢good}
 use Rattle.laws.proofs.Blocks.BlocksBack.{blocks_back}
-use Rattle.blocks.specs.Answers.{read_answer, written_answer, length_of}
-use Rattle.blocks.specs.declared.BlocksRead.{BlocksRead}
-use Rattle.blocks.specs.declared.BlocksWritten.{BlocksWritten}
-use Rattle.blocks.proofs.Single.{read_inj}
+use Rattle.std.specs.Prelude.{Ok}
+use Rattle.std.specs.Prelude.{Result as Outcome}
+use Rattle.refusal.specs.Numbers.{told_of}
+use Rattle.refusal.specs.declared.Refused.{Refused}
+use Rattle.blocks.specs.Answers.{length_of}
+use Rattle.blocks.proofs.Single.{told_inj}
 
 -- a length answered is that of a file, with which the output begins
 file_written :
@@ -27,18 +29,18 @@ file_written (bad r) out n e = bad≢good (sym e)
 -- `write_blocks` answers n and leaves `file`; `read_blocks` on its first n bytes, with room for the job, then answers the
 -- job's length and leaves the job
 pub read_back_lem :
-    (job out file room after : List ℕ) (n : ℕ) (r : BlocksRead) →
-    written_answer (BlocksWritten.Written n) ≡ length_of (write_blocks (length out) job) →
+    (job out file room after : List ℕ) (n : ℕ) (r : Outcome ℕ Refused) →
+    told_of {T = ℕ} (Ok n) ≡ length_of (write_blocks (length out) job) →
     file ≡ blocks_after (write_blocks (length out) job) out →
-    read_answer r ≡ length_of (read_blocks (length room) (take n file)) →
+    told_of r ≡ length_of (read_blocks (length room) (take n file)) →
     after ≡ blocks_after (read_blocks (length room) (take n file)) room →
     length job ≤ length room →
-    (r ≡ BlocksRead.Read (length job)) × (after ≡ overwrite job room)
-unfolding written_answer read_answer length_of blocks_after
+    (r ≡ Ok (length job)) × (after ≡ overwrite job room)
+unfolding told_of length_of blocks_after
 read_back_lem job out file room after n r wrote left answered leaves fits =
     let (bytes, written, begins) = file_written (write_blocks (length out) job) out n wrote in
     let read : read_blocks (length room) (take n file) ≡ good job =
     ap (λ f. read_blocks (length room) (take n f)) left
     ∙ ap (read_blocks (length room)) begins
     ∙ blocks_back (length out) (length room) job bytes written fits in
-    (read_inj r (BlocksRead.Read (length job)) (answered ∙ ap length_of read), leaves ∙ ap (λ x. blocks_after x room) read)
+    (told_inj r (Ok (length job)) (answered ∙ ap length_of read), leaves ∙ ap (λ x. blocks_after x room) read)

@@ -24,12 +24,12 @@ module _ (result : Result Refusal (List ℕ)) (before : List ℕ) where
 pub told :
     (result : Result Refusal (List ℕ)) (before after : List ℕ) (answer : Result Refusal ℕ) (numbers : Numbers) →
     (answer ≡ length_of result) × (after ≡ blocks_after result before) → numbers ≡ numbers_of answer →
-    Told result numbers.0 numbers.1 numbers.2 before after
+    Told result numbers.code numbers.place numbers.size before after
 told result before after answer numbers ended e =
     let all : numbers ≡ numbers_of (length_of result) = e ∙ ap numbers_of ended.0 in
     record {
-      code_is = ap (λ n. n.0) all;
-      place_is = ap (λ n. n.1) all;
-      size_is = ap (λ n. n.2) all;
+      code_is = ap (λ n. n.code) all;
+      place_is = ap (λ n. n.place) all;
+      size_is = ap (λ n. n.size) all;
       after_is = ended.1;
     }

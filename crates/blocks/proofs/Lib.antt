@@ -3,6 +3,7 @@ pub mod Sums
 pub mod Written
 pub mod Writing
 pub mod Right
+pub mod Zeros
 pub mod Joined
 pub mod Reading
 pub mod Single

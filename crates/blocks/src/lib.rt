@@ -1,14 +1,18 @@
 // The block file of document 01, both ways.
 #![tactic(auto)]
 
-ghost use Rattle.std.specs.Prelude.{◌≡◌, false, suc, ◌+◌, ◌*◌, ◌<◌, ◌≤◌, min, eqb, length, replicate};
+ghost use Rattle.std.specs.Prelude.{◌≡◌, ℕ, suc, ◌+◌, ◌*◌, ◌<◌, ◌≤◌, min, eqb, length, replicate, MatchOption};
 ghost use Rattle.std.proofs.Math.Seq.{paste};
 ghost use Rattle.definition.specs.Basics.{concat, from};
 ghost use Rattle.definition.specs.Run.{overwrite};
 ghost use Rattle.definition.specs.Blocks.{weighted, blocks_for, written_block, write_blocks};
 ghost use Rattle.definition.specs.Blocks.{right_use, padding, all_zero, right_block, block_at, used_in, read_blocks, blocks_after};
-ghost use Rattle.blocks.specs.Answers.{read_answer, written_answer, length_of, numbers_of, Told};
-ghost use Rattle.blocks.specs.File.{data_of, RightBelow};
+ghost use Rattle.refusal.specs.Numbers.{told_of};
+ghost use Rattle.blocks.specs.Answers.{length_of, numbers_of, Told};
+ghost use Rattle.blocks.specs.File.{data_of, RightBelow, FirstWrong};
+
+use refusal::{Refusal, Refused};
+use writer::BigEndian;
 
 // A block: number and use, two bytes each, 504 bytes of a job, and a check over the 508 bytes before it.
 const BLOCK: usize = 512;
@@ -23,23 +27,11 @@ const MOST_BLOCKS: usize = 2081;
 
 const LONGEST_JOB: usize = 1048576;
 
-#[derive(Drop)]
-pub enum BlocksWritten {
-    // The file's length.
-    Written(usize),
-    TooLong,
-    NoRoom,
-}
-
-#[derive(Drop)]
-pub enum BlocksRead {
-    // The job's length.
-    Read(usize),
-    NotBlocks,
-    TooLong,
-    // The first block that isn't right.
-    BadBlock(usize),
-    NoRoom,
+// A refusal that isn't a block's has place 0.
+fn refused(refusal: Refusal) -> Refused
+    ensures { result ≡ record { refusal = refusal; place = 0 } }
+{
+    Refused { refusal, place: 0 }
 }
 
 // The sum over the bytes of (position + 1) x byte.
@@ -48,10 +40,8 @@ fn weighted_sum(s: &[u8]) -> u32
     ensures { result ≡ weighted 0 s.now }
 {
     let mut sum: u32 = 0;
-    let mut i: usize = 0;
-    while i < s.len() {
-        sum += (i + 1) as u32 * s[i] as u32;
-        i += 1;
+    for (i, &b) in s.iter().enumerate() {
+        sum += (i + 1) as u32 * b as u32;
     }
     sum
 }
@@ -61,18 +51,14 @@ fn pad(d: &mut [u8], at: usize, n: usize)
     requires { at + n ≤ length d.old }
     ensures { d.new ≡ paste d.old at (replicate n 0) n }
 {
-    let mut i = 0;
-    while i < n {
-        d[at + i] = 0;
-        i += 1;
-    }
+    d[at..at + n].fill(0);
 }
 
 // How many of the bytes that are left go into a block.
 fn in_block(left: usize) -> usize
     ensures { result ≡ min 504 left }
 {
-    if left < CONTENT { left } else { CONTENT }
+    left.min(CONTENT)
 }
 
 // Writes block k of a job, which begins in it.
@@ -83,23 +69,21 @@ fn put_block(job: &[u8], out: &mut [u8], k: usize)
     let base = BLOCK * k;
     let from = CONTENT * k;
     let used = in_block(job.len() - from);
-    writer::put_u16(out, base, k as u16);
-    writer::put_u16(out, base + 2, used as u16);
+    (k as u16).put(out, base);
+    (used as u16).put(out, base + 2);
     writer::copy(job, from, out, base + HEAD, used);
     pad(out, base + HEAD + used, CONTENT - used);
     let end = base + CHECKED;
     let check = weighted_sum(&out[base..end]);
-    writer::put_u32(out, end, check);
+    check.put(out, end);
 }
 
 fn put_blocks(job: &[u8], out: &mut [u8], n: usize)
     requires { (n ≤ 2081) × (504 * n ≤ length job.now + 504) × (512 * n ≤ length out.old) }
     ensures { out.new ≡ overwrite (concat (from (written_block job.now) 0 n)) out.old }
 {
-    let mut k = 0;
-    while k < n {
+    for k in 0..n {
         put_block(job, out, k);
-        k += 1;
     }
 }
 
@@ -113,20 +97,20 @@ fn blocks_for(size: usize) -> usize
     }
 }
 
-pub fn write_blocks(job: &[u8], out: &mut [u8]) -> BlocksWritten
-    ensures result_value { written_answer result ≡ length_of (write_blocks (length out.old) job.now) }
+pub fn write_blocks(job: &[u8], out: &mut [u8]) -> Result<usize, Refused>
+    ensures result_value { told_of result ≡ length_of (write_blocks (length out.old) job.now) }
     ensures out_after { out.new ≡ blocks_after (write_blocks (length out.old) job.now) out.old }
 {
     let n = blocks_for(job.len());
     let file_size = BLOCK * n;
     if LONGEST_JOB < job.len() {
-        return BlocksWritten::TooLong;
+        return Err(refused(Refusal::JobTooLong));
     }
     if out.len() < file_size {
-        return BlocksWritten::NoRoom;
+        return Err(refused(Refusal::OutputTooShort));
     }
     put_blocks(job, out, n);
-    BlocksWritten::Written(file_size)
+    Ok(file_size)
 }
 
 // Whether block k of n may use this many bytes: all but the last use 504, and only an empty job's one block uses none.
@@ -150,20 +134,13 @@ fn used_in(file: &[u8], k: usize) -> usize
     requires { 512 * k + 512 ≤ length file.now }
     ensures { result ≡ used_in (block_at file.now k) }
 {
-    writer::get_u16(file, BLOCK * k + 2) as usize
+    u16::get(file, BLOCK * k + 2) as usize
 }
 
 fn all_zero(bytes: &[u8]) -> bool
     ensures { result ≡ all_zero bytes.now }
 {
-    let mut i = 0;
-    while i < bytes.len() {
-        if bytes[i] != 0 {
-            return false;
-        }
-        i += 1;
-    }
-    true
+    bytes.iter().all(|&b| b == 0)
 }
 
 // Whether the bytes of block k behind the used ones are zero. Its use was tested before: no block has more than 504.
@@ -183,10 +160,10 @@ fn right_block(file: &[u8], last: usize, k: usize) -> bool
 {
     let base = BLOCK * k;
     let end = base + CHECKED;
-    if writer::get_u32(file, end) != weighted_sum(&file[base..end]) {
+    if u32::get(file, end) != weighted_sum(&file[base..end]) {
         return false;
     }
-    if writer::get_u16(file, base) as usize != k {
+    if u16::get(file, base) as usize != k {
         return false;
     }
     let used = used_in(file, k);
@@ -196,20 +173,11 @@ fn right_block(file: &[u8], last: usize, k: usize) -> bool
     zero_padding(file, k)
 }
 
-// The first block that isn't right, or n.
-fn first_wrong(file: &[u8], n: usize) -> usize
+fn first_wrong(file: &[u8], n: usize) -> Option<usize>
     requires { (0 < n) × (n ≤ 2081) × (512 * n ≤ length file.now) }
-    ensures { (result ≤ n) × RightBelow n file.now result × (result < n → right_block n file.now result ≡ false) }
+    ensures { MatchOption result (RightBelow n file.now n) (FirstWrong n file.now) }
 {
-    let last = n - 1;
-    let mut k = 0;
-    while k < n {
-        if !right_block(file, last, k) {
-            return k;
-        }
-        k += 1;
-    }
-    k
+    (0..n).find(|&k| !right_block(file, n - 1, k))
 }
 
 // The length of the job in n right blocks: all but the last are full.
@@ -226,66 +194,64 @@ fn take_blocks(file: &[u8], out: &mut [u8], n: usize)
         × (length (concat (from (data_of file.now) 0 n)) ≤ length out.old) }
     ensures { out.new ≡ overwrite (concat (from (data_of file.now) 0 n)) out.old }
 {
-    let mut k = 0;
-    while k < n {
+    for k in 0..n {
         let used = used_in(file, k);
         writer::copy(file, BLOCK * k + HEAD, out, CONTENT * k, used);
-        k += 1;
     }
 }
 
-pub fn read_blocks(file: &[u8], out: &mut [u8]) -> BlocksRead
-    ensures result_value { read_answer result ≡ length_of (read_blocks (length out.old) file.now) }
+pub fn read_blocks(file: &[u8], out: &mut [u8]) -> Result<usize, Refused>
+    ensures result_value { told_of result ≡ length_of (read_blocks (length out.old) file.now) }
     ensures out_after { out.new ≡ blocks_after (read_blocks (length out.old) file.now) out.old }
 {
-    if file.len() == 0 {
-        return BlocksRead::NotBlocks;
-    }
-    if file.len() % BLOCK != 0 {
-        return BlocksRead::NotBlocks;
+    if file.len() == 0 || file.len() % BLOCK != 0 {
+        return Err(refused(Refusal::NotBlocks));
     }
     let n = file.len() / BLOCK;
     if MOST_BLOCKS < n {
-        return BlocksRead::TooLong;
+        return Err(refused(Refusal::JobTooLong));
     }
-    let wrong = first_wrong(file, n);
-    if wrong < n {
-        return BlocksRead::BadBlock(wrong);
+    if let Some(wrong) = first_wrong(file, n) {
+        return Err(Refused {
+            refusal: Refusal::BadBlock,
+            place: wrong,
+        });
     }
     let size = job_size(file, n);
     if LONGEST_JOB < size {
-        return BlocksRead::TooLong;
+        return Err(refused(Refusal::JobTooLong));
     }
     if out.len() < size {
-        return BlocksRead::NoRoom;
+        return Err(refused(Refusal::OutputTooShort));
     }
     take_blocks(file, out, n);
-    BlocksRead::Read(size)
+    Ok(size)
 }
 
 // An answer as document 01 numbers it: its number, its place and the length, with 0 for whatever isn't there.
-#[derive(Drop)]
-struct Numbers(u32, usize, usize);
-
-fn read_numbers(answer: BlocksRead) -> Numbers
-    ensures { result ≡ numbers_of (read_answer answer) }
-{
-    match answer {
-        BlocksRead::Read(n) => Numbers(0, 0, n),
-        BlocksRead::NotBlocks => Numbers(20, 0, 0),
-        BlocksRead::TooLong => Numbers(1, 0, 0),
-        BlocksRead::BadBlock(k) => Numbers(19, k, 0),
-        BlocksRead::NoRoom => Numbers(18, 0, 0),
-    }
+#[derive(Clone, Copy, Debug, PartialEq, Eq)]
+struct Numbers {
+    code: u32,
+    place: usize,
+    size: usize,
 }
 
-fn written_numbers(answer: BlocksWritten) -> Numbers
-    ensures { result ≡ numbers_of (written_answer answer) }
-{
-    match answer {
-        BlocksWritten::Written(n) => Numbers(0, 0, n),
-        BlocksWritten::TooLong => Numbers(1, 0, 0),
-        BlocksWritten::NoRoom => Numbers(18, 0, 0),
+impl From<Result<usize, Refused>> for Numbers {
+    ghost from_gives = { λ answer n. n ≡ numbers_of (told_of answer) };
+
+    fn from(answer: Result<usize, Refused>) -> Numbers {
+        match answer {
+            Ok(n) => Numbers {
+                code: 0,
+                place: 0,
+                size: n,
+            },
+            Err(refused) => Numbers {
+                code: refused.refusal.into(),
+                place: refused.place,
+                size: 0,
+            },
+        }
     }
 }
 
@@ -300,10 +266,10 @@ pub extern "C" fn blocks_read(
     ensures { Told (read_blocks (length out.old) file.now)
         result place.new size.new out.old out.new }
 {
-    let n = read_numbers(read_blocks(file, out));
-    *place = n.1;
-    *size = n.2;
-    n.0
+    let n = Numbers::from(read_blocks(file, out));
+    *place = n.place;
+    *size = n.size;
+    n.code
 }
 
 // write_blocks for Rust and C, in the same way.
@@ -317,8 +283,8 @@ pub extern "C" fn blocks_write(
     ensures { Told (write_blocks (length out.old) job.now)
         result place.new size.new out.old out.new }
 {
-    let n = written_numbers(write_blocks(job, out));
-    *place = n.1;
-    *size = n.2;
-    n.0
+    let n = Numbers::from(write_blocks(job, out));
+    *place = n.place;
+    *size = n.size;
+    n.code
 }

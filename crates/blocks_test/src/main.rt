@@ -7,13 +7,13 @@ ghost use Rattle.std.specs.Prelude.{◌<◌, ◌≤◌};
 use std::io::Result;
 
 // What bytes are: a job of the tests or its file, or the job of case b or its file.
-const JOB: u8 = 0;
-
-const FILE: u8 = 1;
-
-const JOB_B: u8 = 2;
-
-const FILE_B: u8 = 3;
+#[derive(Clone, Copy)]
+enum Form {
+    Job,
+    File,
+    JobB,
+    FileB,
+}
 
 // What an output holds before a call.
 const BEFORE: u8 = 7;
@@ -85,35 +85,28 @@ fn file_byte(size: usize, at: usize) -> u8 {
 }
 
 // What stands at a place of bytes of which so many are written; size is the job's, for the file of a job of the tests.
-fn wanted(form: u8, size: usize, written: usize, at: usize) -> u8 {
+fn wanted(form: Form, size: usize, written: usize, at: usize) -> u8 {
     if written <= at {
         return BEFORE;
     }
     match form {
-        JOB => job_byte(at),
-        FILE => file_byte(size, at),
-        JOB_B => job_b_byte(at),
-        _ => file_b_byte(at),
+        Form::Job => job_byte(at),
+        Form::File => file_byte(size, at),
+        Form::JobB => job_b_byte(at),
+        Form::FileB => file_b_byte(at),
     }
 }
 
-fn fill(s: &mut [u8], form: u8, size: usize, written: usize) {
-    let mut i = 0;
-    while i < s.len() {
-        s[i] = wanted(form, size, written, i);
-        i += 1;
+fn fill(s: &mut [u8], form: Form, size: usize, written: usize) {
+    for (i, b) in s.iter_mut().enumerate() {
+        *b = wanted(form, size, written, i);
     }
 }
 
-fn holds(s: &[u8], form: u8, size: usize, written: usize) -> bool {
-    let mut i = 0;
-    while i < s.len() {
-        if s[i] != wanted(form, size, written, i) {
-            return false;
-        }
-        i += 1;
-    }
-    true
+fn holds(s: &[u8], form: Form, size: usize, written: usize) -> bool {
+    s.iter()
+        .enumerate()
+        .all(|(i, &b)| b == wanted(form, size, written, i))
 }
 
 fn verdict(right: bool) -> &'static str {
@@ -136,8 +129,8 @@ fn line(
 }
 
 // Writes a job, whose file is of this form.
-fn write_job(rt: &impl Print, job: &[u8], out: &mut [u8], form: u8) -> Result<()> {
-    fill(out, JOB, 0, 0);
+fn write_job(rt: &impl Print, job: &[u8], out: &mut [u8], form: Form) -> Result<()> {
+    fill(out, Form::Job, 0, 0);
     let mut place = 9;
     let mut size = 9;
     let code = blocks::blocks_write(job, out, &mut place, &mut size);
@@ -154,8 +147,8 @@ fn write_job(rt: &impl Print, job: &[u8], out: &mut [u8], form: u8) -> Result<()
 }
 
 // Reads a file, whose job is of this form.
-fn read_file(rt: &impl Print, file: &[u8], out: &mut [u8], form: u8) -> Result<()> {
-    fill(out, JOB, 0, 0);
+fn read_file(rt: &impl Print, file: &[u8], out: &mut [u8], form: Form) -> Result<()> {
+    fill(out, Form::Job, 0, 0);
     let mut place = 9;
     let mut size = 9;
     let code = blocks::blocks_read(file, out, &mut place, &mut size);
@@ -175,10 +168,10 @@ fn read_file(rt: &impl Print, file: &[u8], out: &mut [u8], form: u8) -> Result<(
 fn write(
     rt: &impl Print,
     job: &mut [u8],
-    form: u8,
+    form: Form,
     n: usize,
     out: &mut [u8],
-    file_form: u8,
+    file_form: Form,
     room: usize,
 ) -> Result<()> {
     fill(job, form, 0, n);
@@ -196,7 +189,7 @@ fn read(
     file: &[u8],
     n: usize,
     out: &mut [u8],
-    form: u8,
+    form: Form,
     room: usize,
 ) -> Result<()> {
     if n <= file.len() {
@@ -231,11 +224,8 @@ const WRITES: [[usize; 2]; 11] = [
 ];
 
 fn writes(rt: &impl Print, job: &mut [u8], file: &mut [u8]) -> Result<()> {
-    let mut i = 0;
-    while i < 11 {
-        let c = WRITES[i];
-        write(rt, job, JOB, c[0], file, FILE, c[1])?;
-        i += 1;
+    for [n, room] in WRITES {
+        write(rt, job, Form::Job, n, file, Form::File, room)?;
     }
     Ok(())
 }
@@ -263,12 +253,9 @@ const READS: [[usize; 3]; 15] = [
 ];
 
 fn reads(rt: &impl Print, job: &mut [u8], file: &mut [u8]) -> Result<()> {
-    let mut i = 0;
-    while i < 15 {
-        let c = READS[i];
-        fill(file, FILE, c[1], c[0]);
-        read(rt, file, c[0], job, JOB, c[2])?;
-        i += 1;
+    for [n, size, room] in READS {
+        fill(file, Form::File, size, n);
+        read(rt, file, n, job, Form::Job, room)?;
     }
     Ok(())
 }
@@ -296,14 +283,11 @@ const DAMAGES: [[usize; 5]; 10] = [
 ];
 
 fn damages(rt: &impl Print, job: &mut [u8], file: &mut [u8]) -> Result<()> {
-    let mut i = 0;
-    while i < 10 {
-        let c = DAMAGES[i];
-        fill(file, FILE, c[0], 1536);
-        put(file, c[1], (c[2] % 256) as u8);
-        put(file, c[3], (c[4] % 256) as u8);
-        read(rt, file, 1536, job, JOB, 1600)?;
-        i += 1;
+    for [size, first, byte, second, other] in DAMAGES {
+        fill(file, Form::File, size, 1536);
+        put(file, first, (byte % 256) as u8);
+        put(file, second, (other % 256) as u8);
+        read(rt, file, 1536, job, Form::Job, 1600)?;
     }
     Ok(())
 }
@@ -343,10 +327,8 @@ fn refused_values(file: &mut [u8], out: &mut [u8], k: usize, place: usize, check
     ensures { result ≤ 255 }
 {
     let mut refused = 0;
-    let mut value: usize = 0;
     let mut sum = check % 4294967296;
-    while value < 255 {
-        value += 1;
+    for value in 1..256usize {
         sum += place + 1;
         put(file, 512 * k + place, value as u8);
         put_check(file, 512 * k + 508, sum);
@@ -361,13 +343,11 @@ fn old_memory(rt: &impl Print, file: &mut [u8], out: &mut [u8], size: usize) -> 
     let k = size / 504 % 100;
     let used = used_of(size, k);
     let check = check_of(k, used);
-    fill(file, FILE, size, 512 * (k + 1));
-    fill(out, JOB, 0, 0);
+    fill(file, Form::File, size, 512 * (k + 1));
+    fill(out, Form::Job, 0, 0);
     let mut refused = 0;
-    let mut place = 4 + used;
-    while place < 508 {
+    for place in 4 + used..508 {
         refused += refused_values(file, out, k, place, check);
-        place += 1;
     }
     count_line(
         rt,
@@ -375,7 +355,7 @@ fn old_memory(rt: &impl Print, file: &mut [u8], out: &mut [u8], size: usize) -> 
         refused,
         255 * (504 - used),
         k,
-        holds(out, JOB, 0, 0),
+        holds(out, Form::Job, 0, 0),
     )
 }
 
@@ -417,9 +397,9 @@ fn old_memories(rt: &impl Print, job: &mut [u8], file: &mut [u8]) -> Result<()> 
 }
 
 fn case_b(rt: &impl Print, job: &mut [u8], file: &mut [u8]) -> Result<()> {
-    write(rt, job, JOB_B, 18, file, FILE_B, 513)?;
-    fill(file, FILE_B, 0, 512);
-    read(rt, file, 512, job, JOB_B, 19)
+    write(rt, job, Form::JobB, 18, file, Form::FileB, 513)?;
+    fill(file, Form::FileB, 0, 512);
+    read(rt, file, 512, job, Form::JobB, 19)
 }
 
 fn run(rt: &impl Print, job: &mut [u8], file: &mut [u8]) -> Result<()> {

@@ -1,5 +1,4 @@
 -- `blocks::blocks_for` meets its contract. By cases on the length, as the definition. Assumes nothing.
-use borrow.Author.Rules.{rules}
 use Rattle.definition.specs.Blocks.{blocks_for}
 use Rattle.blocks.proofs.Writing.{blocks_for-some}
 use Rattle.blocks.proofs.blocks_for.Goals as goal

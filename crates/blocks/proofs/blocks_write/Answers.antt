@@ -1,8 +1,7 @@
 -- `blocks::blocks_write` meets its contract. What write_blocks ensures, told by numbers. Assumes nothing.
-use borrow.Author.Rules.{rules}
 use lib.ListN.{length}
 use Rattle.definition.specs.Blocks.{write_blocks}
-use Rattle.blocks.specs.Answers.{written_answer}
+use Rattle.refusal.specs.Numbers.{told_of}
 use Rattle.blocks.proofs.Ends.{told}
 use Rattle.blocks.proofs.blocks_write.Goals as goal
 
@@ -12,7 +11,7 @@ returns c = let args = c.args in
     (write_blocks (length args.out.now) args.job.now)
     args.out.now
     c.write_blocks.new.out
-    (written_answer c.write_blocks.result)
-    c.written_numbers-n.result
+    (told_of c.write_blocks.result)
+    c.from-n.result
     (c.write_blocks.ensures.result_value, c.write_blocks.ensures.out_after)
-    c.written_numbers-n.ensures
+    c.from-n.ensures

@@ -1,9 +1,7 @@
 -- `blocks::put_blocks` meets its contract. The loop keeps: the first k blocks are written, the rest as it was. Assumes nothing.
 use mathlib.Core.Path.{◌∙◌, ap, ◌≡◌}
-use Prim.Native.Nat.{◌≤◌, ◌-◌}
 use native.Mathlib.Omega.{arith}
 use borrow.Author.Rules.{rules}
-use lib.ListN.{length}
 use Rattle.definition.specs.Blocks.{written_block}
 use Rattle.definition.specs.Run.{overwrite}
 use Rattle.facts.proofs.Chunks.{joined}
@@ -13,16 +11,15 @@ use Rattle.blocks.proofs.put_blocks.Goals as goal
 
 pub loop-k-init : goal.loop-k-init
 loop-k-init c = let args = c.args in
-    (search rules, joined-none (written_block args.job.now) args.out.now, search rules)
+    (joined-none (written_block args.job.now) args.out.now, search rules)
 
 pub loop-k-preserved : goal.loop-k-preserved
 loop-k-preserved c = let args = c.args in (
-  search rules,
-  rw (c.put_block.ensures, c.loop-k.invariant.1) (blocks_more args.job.now args.out.now c.loop-k.k),
+  rw (c.put_block.ensures, c.loop-k.invariant.0) (blocks_more args.job.now args.out.now c.loop-k.k),
   search rules,
 )
 
 pub returns : goal.returns
 returns c = let args = c.args in
     let all : c.loop-k.k ≡ args.n = omega arith in
-    c.loop-k.invariant.1 ∙ ap (λ n. overwrite (joined (written_block args.job.now) n) args.out.now) all
+    c.loop-k.invariant.0 ∙ ap (λ n. overwrite (joined (written_block args.job.now) n) args.out.now) all

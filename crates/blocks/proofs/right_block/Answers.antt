@@ -7,38 +7,38 @@ use borrow.Author.Tests.{not-true, not-false}
 use Rattle.blocks.proofs.Right.{wrong_check, wrong_number, wrong_use, as_padding, use_fits}
 use Rattle.blocks.proofs.right_block.Goals as goal
 
-pub returns-then-get_u32-weighted_sum : goal.returns-then-get_u32-weighted_sum
-returns-then-get_u32-weighted_sum c = wrong_check
+pub returns-then-get-weighted_sum : goal.returns-then-get-weighted_sum
+returns-then-get-weighted_sum c = wrong_check
     c.args.file.now
     c.args.k
     (λ i. (c.type_inv.file i).fits)
     (omega arith)
     (suc c.args.last)
-    c.get_u32.result
+    c.get.result
     c.weighted_sum.result
     (omega arith)
     (omega arith)
-    c.get_u32.ensures
+    c.get.ensures
     c.weighted_sum.ensures
-    c.if-get_u32-weighted_sum.true
+    c.if-get-weighted_sum.true
 
-pub returns-then-get_u16-k : goal.returns-then-get_u16-k
-returns-then-get_u16-k c = wrong_number
+pub returns-then-get-k : goal.returns-then-get-k
+returns-then-get-k c = wrong_number
     c.args.file.now
     c.args.k
     (λ i. (c.type_inv.file i).fits)
     (omega arith)
     (suc c.args.last)
-    c.get_u32.result
+    c.get.result
     c.weighted_sum.result
     (omega arith)
     (omega arith)
-    c.get_u32.ensures
+    c.get.ensures
     c.weighted_sum.ensures
-    c.get_u16.result
-    c.get_u16.ensures
-    c.if-get_u32-weighted_sum.false
-    c.if-get_u16-k.true
+    c.get-2.result
+    c.get-2.ensures
+    c.if-get-weighted_sum.false
+    c.if-get-k.true
 
 pub returns-then-not-right_use : goal.returns-then-not-right_use
 returns-then-not-right_use c = wrong_use
@@ -47,16 +47,16 @@ returns-then-not-right_use c = wrong_use
     (λ i. (c.type_inv.file i).fits)
     (omega arith)
     (suc c.args.last)
-    c.get_u32.result
+    c.get.result
     c.weighted_sum.result
     (omega arith)
     (omega arith)
-    c.get_u32.ensures
+    c.get.ensures
     c.weighted_sum.ensures
-    c.get_u16.result
-    c.get_u16.ensures
-    c.if-get_u32-weighted_sum.false
-    c.if-get_u16-k.false
+    c.get-2.result
+    c.get-2.ensures
+    c.if-get-weighted_sum.false
+    c.if-get-k.false
     c.used_in-used.result
     c.used_in-used.ensures
     (sym c.right_use.ensures ∙ not-true c.right_use.result c.if-not-right_use.true-raw)
@@ -73,16 +73,16 @@ returns c = c.zero_padding.ensures
     (λ i. (c.type_inv.file i).fits)
     (omega arith)
     (suc c.args.last)
-    c.get_u32.result
+    c.get.result
     c.weighted_sum.result
     (omega arith)
     (omega arith)
-    c.get_u32.ensures
+    c.get.ensures
     c.weighted_sum.ensures
-    c.get_u16.result
-    c.get_u16.ensures
-    c.if-get_u32-weighted_sum.false
-    c.if-get_u16-k.false
+    c.get-2.result
+    c.get-2.ensures
+    c.if-get-weighted_sum.false
+    c.if-get-k.false
     c.used_in-used.result
     c.used_in-used.ensures
     (sym c.right_use.ensures ∙ not-false c.right_use.result c.if-not-right_use.false-raw)

@@ -1,7 +1,6 @@
 -- `blocks::right_use` meets its contract. Each end is the definition's. Assumes nothing.
 use Prim.Native.Nat.{suc}
 use native.Mathlib.Omega.{arith}
-use borrow.Author.Rules.{rules}
 use Rattle.blocks.proofs.Right.{use_full, use_over, use_only, use_some}
 use Rattle.blocks.proofs.right_use.Goals as goal
 

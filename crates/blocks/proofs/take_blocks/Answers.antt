@@ -1,9 +1,7 @@
 -- `blocks::take_blocks` meets its contract. The loop keeps: what the first k blocks hold is copied. Assumes nothing.
 use mathlib.Core.Path.{◌≡◌, ap, ◌∙◌}
-use Prim.Native.Nat.{◌≤◌, ◌-◌}
 use native.Mathlib.Omega.{arith}
 use borrow.Author.Rules.{rules}
-use lib.ListN.{length}
 use Rattle.definition.specs.Run.{overwrite}
 use Rattle.blocks.specs.File.{data_of}
 use Rattle.blocks.proofs.Joined.{used_small, inside_job, take_more}
@@ -13,7 +11,7 @@ use Rattle.blocks.proofs.take_blocks.Goals as goal
 
 pub loop-k-init : goal.loop-k-init
 loop-k-init c = let args = c.args in
-    (search rules, joined-none (data_of args.file.now) args.out.now, search rules)
+    (joined-none (data_of args.file.now) args.out.now, search rules)
 
 pub copy-requires : goal.copy-requires
 copy-requires c =
@@ -26,8 +24,7 @@ copy-requires c =
 
 pub loop-k-preserved : goal.loop-k-preserved
 loop-k-preserved c = let args = c.args in (
-  search rules,
-  rw (c.copy.ensures, c.used_in-used.ensures, c.loop-k.invariant.1)
+  rw (c.copy.ensures, c.used_in-used.ensures, c.loop-k.invariant.0)
       (take_more args.n args.file.now c.requires.0 c.requires.1 args.out.now c.loop-k.k (omega arith)),
   search rules,
 )
@@ -35,4 +32,4 @@ loop-k-preserved c = let args = c.args in (
 pub returns : goal.returns
 returns c = let args = c.args in
     let all : c.loop-k.k ≡ args.n = omega arith in
-    c.loop-k.invariant.1 ∙ ap (λ n. overwrite (joined (data_of args.file.now) n) args.out.now) all
+    c.loop-k.invariant.0 ∙ ap (λ n. overwrite (joined (data_of args.file.now) n) args.out.now) all

@@ -1,10 +1,6 @@
 -- `blocks::weighted_sum` meets its contract. The loop keeps: what is summed and what is left come to the definition's sum. Assumes nothing.
-use mathlib.Core.Path.{◌≡◌}
-use Prim.Native.Nat.{◌≤◌, ◌-◌, ◌+◌, ◌*◌}
 use native.Mathlib.Omega.{arith}
-use borrow.Author.Rules.{rules}
-use lib.ListN.{get_or, length, drop}
-use Rattle.definition.specs.Blocks.{weighted}
+use lib.ListN.{get_or}
 use Rattle.blocks.proofs.Sums.{sum_more, sum-all, product_small}
 use Rattle.blocks.proofs.weighted_sum.Goals as goal
 
@@ -24,10 +20,9 @@ overflow_add-sum-in-loop-i c = let i = c.loop-i.i in
 pub loop-i-preserved : goal.loop-i-preserved
 loop-i-preserved c = let s = c.args.s.now in
     let i = c.loop-i.i in (
-      search rules,
-      sum_more s i c.loop-i.sum (omega arith) c.loop-i.invariant.1,
+      sum_more s i c.loop-i.sum (omega arith) c.loop-i.invariant.0,
       omega (arith, product_small i (get_or s i 0) (omega arith) (c.type_inv.s i).fits),
     )
 
 pub returns : goal.returns
-returns c = sum-all c.args.s.now c.loop-i.i c.loop-i.sum (omega arith) c.loop-i.invariant.1
+returns c = sum-all c.args.s.now c.loop-i.i c.loop-i.sum (omega arith) c.loop-i.invariant.0

@@ -1,10 +1,9 @@
 -- `blocks::write_blocks` meets its contract. Each end is the definition's. Assumes nothing.
 use Prim.Native.Nat.{◌*◌}
 use native.Mathlib.Omega.{arith}
-use borrow.Author.Rules.{rules}
 use lib.ListN.{length}
 use Rattle.definition.specs.Blocks.{written_block, write_blocks}
-use Rattle.blocks.specs.Answers.{written_answer}
+use Rattle.refusal.specs.Numbers.{told_of, number}
 use Rattle.laws.proofs.Blocks.PartsOfJob.{blocks_few}
 use Rattle.blocks.proofs.Ends.{ends-bad, ends-good}
 use Rattle.facts.proofs.Chunks.{joined}
@@ -16,29 +15,29 @@ pub overflow_mul-file_size : goal.overflow_mul-file_size
 overflow_mul-file_size c = omega (arith, blocks_for-begun (length c.args.job.now))
 
 pub returns-then-job-gt-LONGEST_JOB : goal.returns-then-job-gt-LONGEST_JOB
-unfolding written_answer
-returns-then-job-gt-LONGEST_JOB c = let told = let args = c.args in
+unfolding told_of number
+returns-then-job-gt-LONGEST_JOB c = rw c.refused.ensures (let told = let args = c.args in
     let room = length args.out.now in
     let job = args.job.now in
-    ends-bad (write_blocks room job) args.out.now (record { code = 1; place = 0 }) (write_long room job (omega arith)) in record { result_value = told.0; out_after = told.1 }
+    ends-bad (write_blocks room job) args.out.now (record { code = 1; place = 0 }) (write_long room job (omega arith)) in record { result_value = told.0; out_after = told.1 })
 
 pub returns-then-out-file_size : goal.returns-then-out-file_size
-unfolding written_answer
-returns-then-out-file_size c = let told = let args = c.args in
+unfolding told_of number
+returns-then-out-file_size c = rw c.refused-then-out-file_size.ensures (let told = let args = c.args in
     let room = length args.out.now in
     let job = args.job.now in
     ends-bad
     (write_blocks room job)
     args.out.now
     (record { code = 18; place = 0 })
-    (write_narrow room job (omega arith) (omega arith)) in record { result_value = told.0; out_after = told.1 }
+    (write_narrow room job (omega arith) (omega arith)) in record { result_value = told.0; out_after = told.1 })
 
 pub put_blocks-requires : goal.put_blocks-requires
 put_blocks-requires c = let size = length c.args.job.now in
     omega (arith, blocks_for-begun size, blocks_few size (omega arith))
 
 pub returns : goal.returns
-unfolding written_answer
+unfolding told_of number
 returns c = let told = let args = c.args in
     let room = length args.out.now in
     let job = args.job.now in

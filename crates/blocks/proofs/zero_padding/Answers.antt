@@ -1,7 +1,6 @@
 -- `blocks::zero_padding` meets its contract: the slice is the rest of the block's content. Assumes nothing.
 use mathlib.Core.Path.{ap, ◌∙◌}
 use native.Mathlib.Omega.{arith}
-use borrow.Author.Rules.{rules}
 use Rattle.definition.specs.Blocks.{all_zero}
 use Rattle.blocks.proofs.Right.{padding-is}
 use Rattle.blocks.proofs.zero_padding.Goals as goal
