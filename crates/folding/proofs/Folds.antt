@@ -1,8 +1,10 @@
 -- The folder's steps: what a part and two parts come to, at their places. Assumes nothing.
 use mathlib.Core.Path.{◌≡◌, refl, sym, ap, ◌∙◌, subst}
-use mathlib.Core.Bool.{Bool, true, false, ◌||◌}
+use mathlib.Core.Bool.{Bool, true, false}
 use mathlib.Core.List.{List, []}
 use mathlib.Core.Option.{Option, none, some}
+use Rattle.std.specs.Prelude as std
+use Rattle.std.specs.Prelude.{Some, None}
 use Prim.Native.Nat.{ℕ, zero, suc, ◌+◌, ◌-◌, ◌<◌, ◌≤◌}
 use native.Mathlib.Omega.{arith}
 use lib.Dec.{eqb, leb}
@@ -13,12 +15,9 @@ use Rattle.definition.specs.Basics.{Result, good, bad, lookup}
 use Rattle.definition.specs.Bytes.{return, and_then}
 use Rattle.definition.specs.Expression.{Number, int, float, long, double, tag_of, Sign, Expression, leaf, apply, of_leaf, of_sign, openings, bits, joined, second_part, opened_part, expression, alike, kind_within}
 use Rattle.definition.specs.Value.{computed, value}
-use Rattle.folding.specs.Folding.{opens, kind_of, sign_of, size_of, bits_at, number_of, of_number, Comes, Combines, Reads, joined_as, Folds}
+use Rattle.folding.specs.Folding.{opens, kind_of, sign_of, size_of, bits_at, number_of, of_number, Comes, Combined, Combines, Reads, Folds}
 use Rattle.folding.specs.declared.Value.{Value}
-use Rattle.folding.specs.declared.Combined.{Combined}
-use Rattle.folding.specs.declared.Combined.TheVariants.{Of, Mixed}
 use Rattle.folding.specs.declared.Folded.{Folded}
-use Rattle.folding.specs.declared.Folded.TheVariants as fold
 use Rattle.folding.specs.declared.Opens.{Opens}
 use Rattle.folding.specs.declared.Opens.TheVariants as opening
 use Rattle.folding.proofs.Reading.{bits_at_lem, bits-cut}
@@ -162,48 +161,34 @@ alike_same a b k e = go (eqb (tag_of a) (tag_of b)) refl e
     go true h i = (ap kind_there i, one_tag b a (sym (eqb-true (tag_of a) (tag_of b) h)) ∙ ap kind_there i)
     go false h i = absurd (let z : ◌≡◌ {A = ℕ} 0 1 = cc in omega arith)
 
-or_first : (z t : Bool) (y : Bool) → y ≡ true → (y || z || t) ≡ true
-or_first z t true e = refl
-or_first z t false e = absurd (let z : ◌≡◌ {A = ℕ} 0 1 = cc in omega arith)
-
-or_second : (z t : Bool) (y : Bool) → z ≡ true → (y || z || t) ≡ true
-or_second true t true e = refl
-or_second true t false e = refl
-or_second false t y e = absurd (let z : ◌≡◌ {A = ℕ} 0 1 = cc in omega arith)
-
-or_third : (z t : Bool) (y : Bool) → y ≡ false → z ≡ false → t ≡ (y || z || t)
-or_third false t false e f = refl
-or_third true t y e f = absurd (let z : ◌≡◌ {A = ℕ} 0 1 = cc in omega arith)
-or_third false t true e f = absurd (let z : ◌≡◌ {A = ℕ} 0 1 = cc in omega arith)
-
 comes_apply :
-    (g : Sign) (a b : Expression) (v w x : Value) (y z t : Bool) → Comes (number_of v) (value (number_of v) a) v y → Comes (number_of w) (value (number_of w) b) w z →
-    Combines g v w (Of x t) → Comes (number_of x) (value (number_of x) (apply g a b)) x (y || z || t)
+    (g : Sign) (a b : Expression) (v w x : Value) → Comes (number_of v) (value (number_of v) a) v → Comes (number_of w) (value (number_of w) b) w →
+    Combined g v w x → Comes (number_of x) (value (number_of x) (apply g a b)) x
 unfolding value
-comes_apply g a b v w x y z t p q c =
-    let kinds = alike_same (number_of v) (number_of w) (number_of x) c.0 in
-    go (value k a) (value k b) (subst (λ n. Comes n (value n a) v y) kinds.0 p) (subst (λ n. Comes n (value n b) w z) kinds.1 q)
+comes_apply g a b v w x p q c =
+    let kinds = alike_same (number_of v) (number_of w) (number_of x) c.kind in
+    go (value k a) (value k b) (subst (λ n. Comes n (value n a) v) kinds.0 p) (subst (λ n. Comes n (value n b) w) kinds.1 q)
   where
     k : Number
     k = number_of x
 
-    go : (m n : Result ℕ ℕ) → Comes k m v y → Comes k n w z → Comes k (results.◌>>=◌ m (λ i. results.◌>>=◌ n (λ j. computed k g i j))) x (y || z || t)
-    go (good i) (good j) (e, f) (h, l) = subst (λ u. Comes k (computed k g i j) x u) (or_third z t y f l) (c.1 i j e h)
-    go (good i) (bad n) (e, f) (h, l) = (refl, or_second z t y l)
-    go (bad m) n (e, f) h = (refl, or_first z t y f)
+    go : (m n : Result ℕ ℕ) → Comes k m v → Comes k n w → Comes k (results.◌>>=◌ m (λ i. results.◌>>=◌ n (λ j. computed k g i j))) x
+    go (good i) (good j) e h = c.comes i j e h
+    go (good i) (bad n) e (h, l) = (refl, c.right_none l)
+    go (bad m) n (e, f) h = (refl, c.left_none f)
 
 -- ---- the folder's arms
 
 module _ (s : List ℕ) (at d : ℕ) where
-  pub folds_none : Folds s at 0 fold.Refused
+  pub folds_none : Folds s at 0 None
   unfolding kind_within
   folds_none fuel (leaf k b) r h = refl
   folds_none fuel (apply g a b) r h = refl
 
-  pub folds_neither : none ≡ lookup (get_or s at 0) openings → Folds s at (suc d) fold.Refused
+  pub folds_neither : none ≡ lookup (get_or s at 0) openings → Folds s at (suc d) None
   folds_neither o fuel e r h = neither_read s at fuel e r o h
 
-  pub folds_leaf : (kind : Number) → some (of_leaf kind) ≡ lookup (get_or s at 0) openings → Folds s at (suc d) (fold.To (of_number kind (bits_at kind s (at + 1))) (at + 1 + size_of kind) false)
+  pub folds_leaf : (kind : Number) → some (of_leaf kind) ≡ lookup (get_or s at 0) openings → Folds s at (suc d) (Some (record { value = of_number kind (bits_at kind s (at + 1)); next = at + 1 + size_of kind }))
   unfolding kind_within value
   folds_leaf kind o fuel e r h =
       let l = leaf_read s at kind o fuel e r h in
@@ -211,7 +196,7 @@ module _ (s : List ℕ) (at d : ℕ) where
       let n = number_of_lem kind b in
       record {
         kind = ap (kind_within (suc d)) l.1 ∙ ap some (sym n);
-        comes = subst (λ e. Comes (number_of (of_number kind b)) (value (number_of (of_number kind b)) e) (of_number kind b) false) (sym l.1) (ap (λ k. of_number k b) (sym n), refl);
+        comes = subst (λ e. Comes (number_of (of_number kind b)) (value (number_of (of_number kind b)) e) (of_number kind b)) (sym l.1) (ap (λ k. of_number k b) (sym n));
         behind = l.2;
         within = l.0;
       }
@@ -222,81 +207,63 @@ module _ (s : List ℕ) (at d : ℕ) where
         let p = sign_read s at g o h.fuel h.what h.rest h.read in
         record { fuel = p.fuel; what = p.left; rest = p.middle; read = p.first }
 
-    pub second_reads : (v : Value) (middle : ℕ) (y : Bool) → Folds s (at + 1) d (fold.To v middle y) → Reads s at → Reads s middle
-    second_reads v middle y f h =
+    pub second_reads : (v : Folded) → Folds s (at + 1) d (Some v) → Reads s at → Reads s v.next
+    second_reads v f h =
         let p = sign_read s at g o h.fuel h.what h.rest h.read in
         let l = f p.fuel p.left p.middle p.first in
         record { fuel = p.fuel; what = p.right; rest = h.rest; read = ap (expression p.fuel) l.behind ∙ p.second }
 
-    pub first_refused : Folds s (at + 1) d fold.Refused → Folds s at (suc d) fold.Refused
+    pub first_refused : Folds s (at + 1) d None → Folds s at (suc d) None
     unfolding kind_within alike
     first_refused f fuel e r h =
         let p = sign_read s at g o fuel e r h in
         ap (kind_within (suc d)) p.is ∙ ap (λ k. alike k (kind_within d p.right)) (f p.fuel p.left p.middle p.first)
 
-    module _ (v : Value) (middle : ℕ) (y : Bool) (f : Folds s (at + 1) d (fold.To v middle y)) where
-      pub second-refused : Folds s middle d fold.Refused → Folds s at (suc d) fold.Refused
+    module _ (v : Folded) (f : Folds s (at + 1) d (Some v)) where
+      pub second-refused : Folds s v.next d None → Folds s at (suc d) None
       unfolding kind_within alike
       second-refused f' fuel e r h =
           let p = sign_read s at g o fuel e r h in
           let l = f p.fuel p.left p.middle p.first in
           let m = f' p.fuel p.right r (ap (expression p.fuel) l.behind ∙ p.second) in
-          ap (kind_within (suc d)) p.is ∙ ap (λ k. alike k (kind_within d p.right)) l.kind ∙ ap (alike (some (number_of v))) m
+          ap (kind_within (suc d)) p.is ∙ ap (λ k. alike k (kind_within d p.right)) l.kind ∙ ap (alike (some (number_of v.value))) m
 
-      pub folds_join : (w : Value) (next : ℕ) (z : Bool) → Folds s middle d (fold.To w next z) → (c : Combined) → Combines g v w c → Folds s at (suc d) (joined_as c next y z)
-      unfolding kind_within joined_as
-      folds_join w next z f' (Of x t) c fuel e r h =
+      pub folds_mixed : (w : Folded) → Folds s v.next d (Some w) → Combines g v.value w.value None → Folds s at (suc d) None
+      unfolding kind_within
+      folds_mixed w f' c fuel e r h =
+          let p = sign_read s at g o fuel e r h in
+          let l = f p.fuel p.left p.middle p.first in
+          let m = f' p.fuel p.right r (ap (expression p.fuel) l.behind ∙ p.second) in
+          ap (kind_within (suc d)) p.is ∙ ap (λ k. alike k (kind_within d p.right)) l.kind ∙ ap (alike (some (number_of v.value))) m.kind ∙ c
+
+      pub folds_join : (w : Folded) → Folds s v.next d (Some w) → (x : Value) → Combines g v.value w.value (Some x) → Folds s at (suc d) (Some (record { value = x; next = w.next }))
+      unfolding kind_within
+      folds_join w f' x c fuel e r h =
           let p = sign_read s at g o fuel e r h in
           let l = f p.fuel p.left p.middle p.first in
           let m = f' p.fuel p.right r (ap (expression p.fuel) l.behind ∙ p.second) in
           record {
-            kind = ap (kind_within (suc d)) p.is ∙ ap (λ k. alike k (kind_within d p.right)) l.kind ∙ ap (alike (some (number_of v))) m.kind ∙ c.0;
-            comes = subst (λ e. Comes (number_of x) (value (number_of x) e) x (y || z || t)) (sym p.is) (comes_apply g p.left p.right v w x y z t l.comes m.comes c);
+            kind = ap (kind_within (suc d)) p.is ∙ ap (λ k. alike k (kind_within d p.right)) l.kind ∙ ap (alike (some (number_of v.value))) m.kind ∙ c.kind;
+            comes = subst (λ e. Comes (number_of x) (value (number_of x) e) x) (sym p.is) (comes_apply g p.left p.right v.value w.value x l.comes m.comes c);
             behind = m.behind;
             within = m.within;
           }
-      folds_join w next z f' Mixed c fuel e r h =
-          let p = sign_read s at g o fuel e r h in
-          let l = f p.fuel p.left p.middle p.first in
-          let m = f' p.fuel p.right r (ap (expression p.fuel) l.behind ∙ p.second) in
-          ap (kind_within (suc d)) p.is ∙ ap (λ k. alike k (kind_within d p.right)) l.kind ∙ ap (alike (some (number_of v))) m.kind ∙ c
 
 -- ---- the same in the folder's words
 
-module _ (r : Opens) (x y : ℕ) (e : opens r ≡ lookup x openings) (f : x ≡ y) where
-  pub opening_leaf : (k : _) → r ≡ opening.Leaf k → some (of_leaf (kind_of k)) ≡ lookup y openings
+module _ (r : std.Option Opens) (x : ℕ) (e : opens r ≡ lookup x openings) where
+  pub opening_leaf : (k : _) → r ≡ Some (opening.Leaf k) → some (of_leaf (kind_of k)) ≡ lookup x openings
   unfolding opens
-  opening_leaf k h = ap opens (sym h) ∙ e ∙ ap (λ x. lookup x openings) f
+  opening_leaf k h = ap opens (sym h) ∙ e
 
-  pub opening_sign : (g : _) → r ≡ opening.Parts g → some (of_sign (sign_of g)) ≡ lookup y openings
+  pub opening_sign : (g : _) → r ≡ Some (opening.Parts g) → some (of_sign (sign_of g)) ≡ lookup x openings
   unfolding opens
-  opening_sign g h = ap opens (sym h) ∙ e ∙ ap (λ x. lookup x openings) f
+  opening_sign g h = ap opens (sym h) ∙ e
 
-  pub opening_neither : r ≡ opening.Neither → none ≡ lookup y openings
+  pub opening_neither : r ≡ None → none ≡ lookup x openings
   unfolding opens
-  opening_neither h = ap opens (sym h) ∙ e ∙ ap (λ x. lookup x openings) f
+  opening_neither h = ap opens (sym h) ∙ e
 
-module _ (s : List ℕ) (at deep : ℕ) (any : deep ≡ 0 → ⊥) where
-  up : (r : Folded) → Folds s at (suc (deep - 1)) r → Folds s at deep r
-  up r h = let e : suc (deep - 1) ≡ deep = omega arith in subst (λ d. Folds s at d r) e h
-
-  pub leaf_arm :
-      (kind : Number) → some (of_leaf kind) ≡ lookup (get_or s at 0) openings → (v : Value) → v ≡ of_number kind (bits_at kind s (at + 1)) → (n : ℕ) → n ≡ size_of kind →
-      Folds s at deep (fold.To v (at + 1 + n) false)
-  leaf_arm kind o v e n f = up (fold.To v (at + 1 + n) false) (subst (λ v. Folds s at (suc (deep - 1)) (fold.To v (at + 1 + n) false)) (sym e) (subst (λ n. Folds s at (suc (deep - 1)) (fold.To (of_number kind (bits_at kind s (at + 1))) (at + 1 + n) false)) (sym f) (folds_leaf s at (deep - 1) kind o)))
-
-  pub neither_arm : none ≡ lookup (get_or s at 0) openings → Folds s at deep fold.Refused
-  neither_arm o = up fold.Refused (folds_neither s at (deep - 1) o)
-
-  module _ (g : Sign) (o : some (of_sign g) ≡ lookup (get_or s at 0) openings) where
-    pub first_arm : Folds s (at + 1) (deep - 1) fold.Refused → Folds s at deep fold.Refused
-    first_arm f = up fold.Refused (first_refused s at (deep - 1) g o f)
-
-    module _ (v : Value) (middle : ℕ) (y : Bool) (f : Folds s (at + 1) (deep - 1) (fold.To v middle y)) where
-      pub second-arm : Folds s middle (deep - 1) fold.Refused → Folds s at deep fold.Refused
-      second-arm f' = up fold.Refused (second-refused s at (deep - 1) g o v middle y f f')
-
-      pub join_arm :
-          (w : Value) (next : ℕ) (z : Bool) → Folds s middle (deep - 1) (fold.To w next z) → (c : Combined) → Combines g v w c → (r : Folded) → r ≡ joined_as c next y z →
-          Folds s at deep r
-      join_arm w next z f' c h r e = up r (subst (λ r. Folds s at (suc (deep - 1)) r) (sym e) (folds_join s at (deep - 1) g o v middle y f w next z f' c h))
+-- at a depth that isn't 0
+pub up : (s : List ℕ) (at deep : ℕ) (r : std.Option Folded) → (deep ≡ 0 → ⊥) → Folds s at (suc (deep - 1)) r → Folds s at deep r
+up s at deep r any h = let e : suc (deep - 1) ≡ deep = omega arith in subst (λ d. Folds s at d r) e h

@@ -10,7 +10,7 @@ use lib.Dec.{leb, ltb}
 use Rattle.definition.specs.Expression.{over}
 use Rattle.definition.specs.Value.{negative, negated, magnitude, quotient, integer}
 use Rattle.folding.specs.Folding.{as_whole}
-use Rattle.folding.specs.declared.Whole.TheVariants as whole
+use Rattle.std.specs.Prelude.{Some, None}
 
 once : (n m : ℕ) → m ≤ n → n < m + m → n % m ≡ n - m
 once n m h l = mod-eq-sub-mod h ∙ mod-eq_of_lt (omega arith)
@@ -170,10 +170,10 @@ module _
 
 -- ---- all four signs
 
-pub over_none : (m a b : ℕ) → b ≡ 0 → whole.ByZero ≡ as_whole (integer m over a b)
+pub over_none : (m a b : ℕ) → b ≡ 0 → None ≡ as_whole (integer m over a b)
 unfolding integer as_whole
 over_none m a b e = rw (eq-eqb b 0 e, integer)
 
-pub over-some : (m a b n : ℕ) → (b ≡ 0 → ⊥) → n ≡ quotient m a b → whole.Of n ≡ as_whole (integer m over a b)
+pub over-some : (m a b n : ℕ) → (b ≡ 0 → ⊥) → n ≡ quotient m a b → Some n ≡ as_whole (integer m over a b)
 unfolding integer as_whole
-over-some m a b n e h = rw (ne_eqb b 0 e, integer) (ap whole.Of h)
+over-some m a b n e h = rw (ne_eqb b 0 e, integer) (ap Some h)

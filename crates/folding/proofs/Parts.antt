@@ -9,7 +9,10 @@ use lib.ListN.{length, drop, get_or, length-drop}
 use Rattle.definition.specs.Basics.{lookup}
 use Rattle.definition.specs.Bytes.{return, and_then}
 use Rattle.definition.specs.Expression.{Number, Sign, Expression, leaf, Opening, of_leaf, of_sign, openings, joined, second_part, opened_part, expression, read_expression}
-use Rattle.folding.specs.Folding.{size_of, and_more, parts, Onward, Ends, Reads}
+use Rattle.folding.specs.Folding.{size_of, and_more, parts, Onward, Steps, Ends, Spans, Reads}
+use Rattle.std.specs.Prelude.{Err}
+use Rattle.folding.specs.declared.ExpressionError.{ExpressionError}
+use Rattle.folding.specs.declared.ExpressionError.TheVariants.{Cut, BadByte}
 use Rattle.folding.proofs.Reading.{one_at, one-cut, bits_at_lem, bits-cut, agree, shrinks}
 
 nested :
@@ -176,6 +179,13 @@ module _ (s : List ℕ) (at left : ℕ) (inside : at ≤ length s) (any : 0 < le
           within = omega arith;
           few = omega arith;
         }
+
+-- where no byte leads on, no expression ends
+pub stops :
+    (s : List ℕ) (start at left : ℕ) (e : ExpressionError) → start ≤ at → parts (length s) 1 (drop start s) ≡ parts (length s) left (drop at s) →
+    Steps s at left (Err e) → Spans s start (Err e)
+stops s start at left Cut low same h = part_none s start (sym (same ∙ h))
+stops s start at left (BadByte next) low same h = (part_bad s start next (sym (same ∙ h.0)), omega (arith, h.1, low), h.2)
 
 -- where `end_of` finds an end, `constant_at` may be called
 pub reads_of : (s : List ℕ) (at next : ℕ) → Ends s at next → Reads s at

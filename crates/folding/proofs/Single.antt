@@ -10,9 +10,13 @@ use contract.Lifetimes.{Lfts}
 use Rattle.definition.specs.Expression.{Expression}
 use Rattle.facts.proofs.Lists.{clash, none≢some}
 use Rattle.folding.specs.Folding.{Spans}
+use Rattle.std.specs.Prelude.{Result, Ok, Err}
+use Rattle.refusal.specs.Numbers.{number, answer_of}
+use Rattle.refusal.specs.declared.Refusal.{Refusal}
+use Rattle.refusal.proofs.Numbers.{number-injective}
 use Rattle.folding.specs.declared.Constant.{Constant}
-use Rattle.folding.specs.declared.Span.{Span}
-use Rattle.folding.specs.declared.Span.TheVariants as span
+use Rattle.folding.specs.declared.ExpressionError.{ExpressionError}
+use Rattle.folding.specs.declared.ExpressionError.TheVariants.{Cut, BadByte}
 use Rattle.folding.proofs.constant_at.Reads as constant-at
 use Rattle.folding.proofs.end_of.Reads as end_of_lem
 use Rattle.folding.proofs.tag_at.Reads as tag_at
@@ -31,24 +35,32 @@ abbrev what_of : Option (Option Expression × List ℕ) → Option Expression
 what_of none = none
 what_of (some r) = r.0
 
-one_span : (s : List ℕ) (at : ℕ) (r r' : Span) → Spans s at r → Spans s at r' → r ≡ r'
-one_span s at (span.To n) (span.To m) h k =
-    ap span.To (one_place s n m h.within k.within (ap (rest_of s) (sym h.read ∙ k.read)))
-one_span s at (span.To n) span.Cut h k = clash (cc h.read)
-one_span s at (span.To n) (span.Bad m) h k = none≢some (ap what_of (sym k.0 ∙ h.read))
-one_span s at span.Cut (span.To m) h k = clash (cc k.read)
-one_span s at span.Cut span.Cut h k = refl
-one_span s at span.Cut (span.Bad m) h k = clash (cc k.0)
-one_span s at (span.Bad n) (span.To m) h k = none≢some (ap what_of (sym h.0 ∙ k.read))
-one_span s at (span.Bad n) span.Cut h k = clash (cc h.0)
-one_span s at (span.Bad n) (span.Bad m) h k = ap span.Bad (one_place s n m h.2 k.2 (ap (rest_of s) (sym h.0 ∙ k.0)))
+one_span : (s : List ℕ) (at : ℕ) (r r' : Result ℕ ExpressionError) → Spans s at r → Spans s at r' → r ≡ r'
+one_span s at (Ok n) (Ok m) h k =
+    ap Ok (one_place s n m h.within k.within (ap (rest_of s) (sym h.read ∙ k.read)))
+one_span s at (Ok n) (Err Cut) h k = clash (cc h.read)
+one_span s at (Ok n) (Err (BadByte m)) h k = none≢some (ap what_of (sym k.0 ∙ h.read))
+one_span s at (Err Cut) (Ok m) h k = clash (cc k.read)
+one_span s at (Err Cut) (Err Cut) h k = refl
+one_span s at (Err Cut) (Err (BadByte m)) h k = clash (cc k.0)
+one_span s at (Err (BadByte n)) (Ok m) h k = none≢some (ap what_of (sym h.0 ∙ k.read))
+one_span s at (Err (BadByte n)) (Err Cut) h k = clash (cc h.0)
+one_span s at (Err (BadByte n)) (Err (BadByte m)) h k = ap (λ n. Err (BadByte n)) (one_place s n m h.2 k.2 (ap (rest_of s) (sym h.0 ∙ k.0)))
 
-pub one_end : (κs : Lfts 1) (a : _) (r r' : Span) (s s' : _) → end_of_lem.Learnt κs a r s → end_of_lem.Learnt κs a r' s' → r ≡ r'
+pub one_end : (κs : Lfts 1) (a : _) (r r' : Result ℕ ExpressionError) (s s' : _) → end_of_lem.Learnt κs a r s → end_of_lem.Learnt κs a r' s' → r ≡ r'
 one_end κs a r r' s s' h h' = one_span _ _ r r' h h'
 
+-- a result with a refusal is known by the definition's
+one-answer : (r r' : Result Constant Refusal) → answer_of r ≡ answer_of r' → r ≡ r'
+unfolding answer_of
+one-answer (Ok x) (Ok y) e = let same : x ≡ y = cc in ap Ok same
+one-answer (Ok x) (Err q) e = absurd (let z : ◌≡◌ {A = ℕ} 0 1 = cc in omega arith)
+one-answer (Err p) (Ok y) e = absurd (let z : ◌≡◌ {A = ℕ} 0 1 = cc in omega arith)
+one-answer (Err p) (Err q) e = let same : number p ≡ number q = cc in ap Err (number-injective p q same)
+
 pub one-constant :
-    (κs : Lfts 1) (a : _) (r r' : Constant) (s s' : _) → constant-at.Learnt κs a r s → constant-at.Learnt κs a r' s' → r ≡ r'
-one-constant κs a r r' s s' h h' = h ∙ sym h'
+    (κs : Lfts 1) (a : _) (r r' : Result Constant Refusal) (s s' : _) → constant-at.Learnt κs a r s → constant-at.Learnt κs a r' s' → r ≡ r'
+one-constant κs a r r' s s' h h' = one-answer r r' (h ∙ sym h')
 
 pub one_tag :
     (κs : Lfts 1) (a : _) (r r' : ℕ) (s s' : _) → tag_at.Asked κs a → tag_at.Learnt κs a r s → tag_at.Learnt κs a r' s' → r ≡ r'

@@ -1,5 +1,6 @@
--- What the folder's enums stand for in the definition. Assumes nothing.
-use Rattle.std.specs.Prelude.{◌≡◌, Bool, true, false, ◌||◌, List, ℕ, zero, suc, ◌+◌, ◌≤◌, ◌<◌, length, drop}
+-- What the folder's types stand for in the definition. Assumes nothing.
+use Rattle.std.specs.Prelude.{◌≡◌, Bool, true, false, List, ℕ, zero, suc, ◌+◌, ◌≤◌, ◌<◌, length, drop, Some, None, Ok, Err}
+use Rattle.std.specs.Prelude as std
 use Rattle.std.proofs.Math.Option.{Option, none, some}
 use Rattle.std.specs.Float.{binary32, binary64}
 use Rattle.std.specs.Float.Ieee.{of_bits, to_bits}
@@ -13,21 +14,14 @@ use Rattle.folding.specs.declared.Number.TheVariants as number
 use Rattle.folding.specs.declared.Sign as code-sign
 use Rattle.folding.specs.declared.Sign.TheVariants as sign
 use Rattle.folding.specs.declared.Opens.{Opens}
-use Rattle.folding.specs.declared.Opens.TheVariants.{Leaf, Parts, Neither}
-use Rattle.folding.specs.declared.Whole.{Whole}
-use Rattle.folding.specs.declared.Whole.TheVariants as whole
+use Rattle.folding.specs.declared.Opens.TheVariants.{Leaf, Parts}
 use Rattle.folding.specs.declared.Value.{Value}
 use Rattle.folding.specs.declared.Value.TheVariants.{Int, Float, Long, Double}
-use Rattle.folding.specs.declared.Combined.{Combined}
-use Rattle.folding.specs.declared.Combined.TheVariants.{Of, Mixed}
 use Rattle.folding.specs.declared.Step.{Step}
-use Rattle.folding.specs.declared.Step.TheVariants as step
-use Rattle.folding.specs.declared.Span.{Span}
-use Rattle.folding.specs.declared.Span.TheVariants as span
+use Rattle.folding.specs.declared.ExpressionError.{ExpressionError}
+use Rattle.folding.specs.declared.ExpressionError.TheVariants.{Cut, BadByte}
 use Rattle.folding.specs.declared.Folded.{Folded}
-use Rattle.folding.specs.declared.Folded.TheVariants as fold
 use Rattle.folding.specs.declared.Constant.{Constant}
-use Rattle.folding.specs.declared.Constant.TheVariants as constant
 
 unfoldable pub kind_of : code-number.Number → Number
 kind_of number.Int = int
@@ -41,50 +35,58 @@ sign_of sign.Minus = minus
 sign_of sign.Times = times
 sign_of sign.Over = over
 
-unfoldable pub opens : Opens → Option Opening
-opens (Leaf k) = some (of_leaf (kind_of k))
-opens (Parts s) = some (of_sign (sign_of s))
-opens Neither = none
+unfoldable pub opens : std.Option Opens → Option Opening
+opens (Some (Leaf k)) = some (of_leaf (kind_of k))
+opens (Some (Parts s)) = some (of_sign (sign_of s))
+opens None = none
 
-unfoldable pub as_whole : Result ℕ ℕ → Whole
-as_whole (good n) = whole.Of n
-as_whole (bad code) = whole.ByZero
+unfoldable pub as_whole : Result ℕ ℕ → std.Option ℕ
+as_whole (good n) = Some n
+as_whole (bad code) = None
 
-abbrev pub WholeWithin : ℕ → Whole → Type 0
-WholeWithin m (whole.Of n) = n < m
-WholeWithin m whole.ByZero = Unit {0}
+abbrev pub WholeWithin : ℕ → std.Option ℕ → Type 0
+WholeWithin m (Some n) = n < m
+WholeWithin m None = Unit {0}
 
-unfoldable pub combined_int : Whole → Combined
-combined_int (whole.Of n) = Of (Int n) false
-combined_int whole.ByZero = Of (Int 0) true
+-- what an operation makes of two values, of which either may be none
+unfoldable pub of_both : {A : Type 0} → (A → A → std.Option A) → std.Option A → std.Option A → std.Option A
+of_both f (Some a) (Some b) = f a b
+of_both f (Some a) None = None
+of_both f None b = None
 
-unfoldable pub combined_long : Whole → Combined
-combined_long (whole.Of n) = Of (Long n) false
-combined_long whole.ByZero = Of (Long 0) true
-
--- a value's kind, and the value of a kind and bits
+-- a value's kind and its bits, and the value of a kind and bits
 unfoldable pub number_of : Value → Number
 number_of (Int n) = int
 number_of (Float x) = float
 number_of (Long n) = long
 number_of (Double x) = double
 
+unfoldable pub bits_of : Value → std.Option ℕ
+bits_of (Int n) = n
+bits_of (Float x) = Some (to_bits binary32 x)
+bits_of (Long n) = n
+bits_of (Double x) = Some (to_bits binary64 x)
+
 unfoldable pub of_number : Number → ℕ → Value
-of_number int b = Int b
+of_number int b = Int (Some b)
 of_number float b = Float (of_bits binary32 b)
-of_number long b = Long b
+of_number long b = Long (Some b)
 of_number double b = Double (of_bits binary64 b)
 
 -- a value stands for what an operation or an expression comes to; divided by zero, it keeps only its kind
-abbrev pub Comes : Number → Result ℕ ℕ → Value → Bool → Type 0
-Comes kind (good b) v by_zero = (v ≡ of_number kind b) × (by_zero ≡ false)
-Comes kind (bad code) v by_zero = (number_of v ≡ kind) × (by_zero ≡ true)
+abbrev pub Comes : Number → Result ℕ ℕ → Value → Type 0
+Comes kind (good b) v = v ≡ of_number kind b
+Comes kind (bad code) v = (number_of v ≡ kind) × (bits_of v ≡ None)
 
-abbrev pub Combines : Sign → Value → Value → Combined → Type 0
-Combines s v w (Of x by_zero) =
-    (alike (some (number_of v)) (some (number_of w)) ≡ some (number_of x))
-    × ((a b : ℕ) → v ≡ of_number (number_of x) a → w ≡ of_number (number_of x) b → Comes (number_of x) (computed (number_of x) s a b) x by_zero)
-Combines s v w Mixed = alike (some (number_of v)) (some (number_of w)) ≡ none
+pub record Combined (s : Sign) (v w x : Value) : Type 0 where
+  pub kind : alike (some (number_of v)) (some (number_of w)) ≡ some (number_of x)
+  pub comes : (a b : ℕ) → v ≡ of_number (number_of x) a → w ≡ of_number (number_of x) b → Comes (number_of x) (computed (number_of x) s a b) x
+  pub left_none : bits_of v ≡ None → bits_of x ≡ None
+  pub right_none : bits_of w ≡ None → bits_of x ≡ None
+
+abbrev pub Combines : Sign → Value → Value → std.Option Value → Type 0
+Combines s v w (Some x) = Combined s v w x
+Combines s v w None = alike (some (number_of v)) (some (number_of w)) ≡ none
 
 -- ---- places in the job
 
@@ -115,10 +117,10 @@ pub record Onward (s : List ℕ) (at left next more : ℕ) : Type 0 where
   pub within : next ≤ length s
   pub few : more ≤ next + 1
 
-abbrev pub Steps : List ℕ → ℕ → ℕ → Step → Type 0
-Steps s at left (step.To next more) = Onward s at left next more
-Steps s at left step.Cut = parts (length s) left (drop at s) ≡ none
-Steps s at left (step.Bad next) = (parts (length s) left (drop at s) ≡ some (false, drop next s)) × (at < next) × (next ≤ length s)
+abbrev pub Steps : List ℕ → ℕ → ℕ → std.Result Step ExpressionError → Type 0
+Steps s at left (Ok r) = Onward s at left r.next r.left
+Steps s at left (Err Cut) = parts (length s) left (drop at s) ≡ none
+Steps s at left (Err (BadByte next)) = (parts (length s) left (drop at s) ≡ some (false, drop next s)) × (at < next) × (next ≤ length s)
 
 -- an expression stands at a place, and ends at another
 pub record Ends (s : List ℕ) (at next : ℕ) : Type 0 where
@@ -127,10 +129,10 @@ pub record Ends (s : List ℕ) (at next : ℕ) : Type 0 where
   pub past : at < next
   pub within : next ≤ length s
 
-abbrev pub Spans : List ℕ → ℕ → Span → Type 0
-Spans s at (span.To next) = Ends s at next
-Spans s at span.Cut = read_expression (drop at s) ≡ none
-Spans s at (span.Bad next) = (read_expression (drop at s) ≡ some (none, drop next s)) × (at < next) × (next ≤ length s)
+abbrev pub Spans : List ℕ → ℕ → std.Result ℕ ExpressionError → Type 0
+Spans s at (Ok next) = Ends s at next
+Spans s at (Err Cut) = read_expression (drop at s) ≡ none
+Spans s at (Err (BadByte next)) = (read_expression (drop at s) ≡ some (none, drop next s)) × (at < next) × (next ≤ length s)
 
 -- ---- folding
 
@@ -140,33 +142,23 @@ pub record Reads (s : List ℕ) (at : ℕ) : Type 0 where
   pub rest : List ℕ
   pub read : expression fuel (drop at s) ≡ some (some what, rest)
 
-unfoldable pub joined_as : Combined → ℕ → Bool → Bool → Folded
-joined_as (Of v by_zero) next y z = fold.To v next (y || z || by_zero)
-joined_as Mixed next y z = fold.Refused
+pub record FoldedTo (s : List ℕ) (deep : ℕ) (e : Expression) (rest : List ℕ) (r : Folded) : Type 0 where
+  pub kind : kind_within deep e ≡ some (number_of r.value)
+  pub comes : Comes (number_of r.value) (value (number_of r.value) e) r.value
+  pub behind : drop r.next s ≡ rest
+  pub within : r.next ≤ length s
 
-pub record FoldedTo (s : List ℕ) (deep : ℕ) (e : Expression) (rest : List ℕ) (v : Value) (next : ℕ) (by_zero : Bool) : Type 0 where
-  pub kind : kind_within deep e ≡ some (number_of v)
-  pub comes : Comes (number_of v) (value (number_of v) e) v by_zero
-  pub behind : drop next s ≡ rest
-  pub within : next ≤ length s
+abbrev pub FoldsTo : List ℕ → ℕ → Expression → List ℕ → std.Option Folded → Type 0
+FoldsTo s deep e rest (Some r) = FoldedTo s deep e rest r
+FoldsTo s deep e rest None = kind_within deep e ≡ none
 
-abbrev pub FoldsTo : List ℕ → ℕ → Expression → List ℕ → Folded → Type 0
-FoldsTo s deep e rest (fold.To v next by_zero) = FoldedTo s deep e rest v next by_zero
-FoldsTo s deep e rest fold.Refused = kind_within deep e ≡ none
-
-abbrev pub Folds : List ℕ → ℕ → ℕ → Folded → Type 0
+abbrev pub Folds : List ℕ → ℕ → ℕ → std.Option Folded → Type 0
 Folds s at deep r = (fuel : ℕ) (e : Expression) (rest : List ℕ) → expression fuel (drop at s) ≡ some (some e, rest) → FoldsTo s deep e rest r
 
--- a value's bits, and a constant or a refusal's number
-unfoldable pub bits_of : Value → ℕ
-bits_of (Int n) = n
-bits_of (Float x) = to_bits binary32 x
-bits_of (Long n) = n
-bits_of (Double x) = to_bits binary64 x
-
-unfoldable pub constant_as : Result ℕ (Number × ℕ) → Constant
-constant_as (good r) = constant.Of (tag_of r.0) r.1
-constant_as (bad code) = constant.Refused code
+-- a constant with its tag, or a refusal's number
+unfoldable pub constant_as : Result ℕ (Number × ℕ) → Result ℕ Constant
+constant_as (good r) = good (record { tag = tag_of r.0; bits = r.1 })
+constant_as (bad code) = bad code
 
 -- ---- its kind alone
 

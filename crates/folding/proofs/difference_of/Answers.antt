@@ -1,6 +1,5 @@
 -- `folding::difference_of` meets its contract. Assumes nothing.
 use Rattle.folding.proofs.Integers as integers
-use borrow.Author.Rules.{rules}
 use Rattle.folding.proofs.difference_of.Goals as goal
 
 pub returns-then-b-a : goal.returns-then-b-a

@@ -1,11 +1,11 @@
 -- `folding::end_of` meets its contract. Assumes nothing.
-use Rattle.folding.proofs.Parts.{part_none, part_bad, part_end}
-use Rattle.folding.specs.Folding.{parts}
-use borrow.Author.Rules.{rules}
+use Rattle.folding.proofs.Parts.{stops, part_end}
+use Rattle.folding.specs.Folding.{parts, Spans}
+use Rattle.std.specs.Prelude.{Err}
+use Rattle.std.proofs.Common.{rules}
 use lib.ListN.{length, drop}
-use Prim.Native.Nat.{◌+◌, ◌-◌, ◌<◌, ◌≤◌}
 use native.Mathlib.Omega.{arith}
-use mathlib.Core.Path.{◌≡◌, refl, sym, ap, ◌∙◌}
+use mathlib.Core.Path.{◌≡◌, refl, sym, ap, ◌∙◌, subst}
 use Rattle.folding.proofs.end_of.Goals as goal
 
 pub loop-left-init : goal.loop-left-init
@@ -16,25 +16,19 @@ token_at-requires c = let i = c.loop-left.invariant in (i.1, c.loop-left-test.tr
 
 pub loop-left-smaller : goal.loop-left-smaller
 loop-left-smaller c = let i = c.loop-left.invariant in
-    let m = rw c.in-To.is at c.token_at.ensures in
+    let m = c.in_ok-step.ensures in
     omega (arith, m.past, m.within, i.1)
 
 pub loop-left-preserved : goal.loop-left-preserved
 loop-left-preserved c = let i = c.loop-left.invariant in
-    let m = rw c.in-To.is at c.token_at.ensures in
+    let m = c.in_ok-step.ensures in
     (omega (arith, m.past, i.0), m.within, m.few, omega (arith, m.past, i.0), i.4 ∙ m.same)
 
-pub returns-in-Cut : goal.returns-in-Cut
-returns-in-Cut c = let s = c.args.job.now in
-    let start = c.args.start in
-    part_none s start (sym (c.loop-left.invariant.4 ∙ rw c.in-Cut.is at c.token_at.ensures))
-
-pub returns-in-Bad : goal.returns-in-Bad
-returns-in-Bad c = let s = c.args.job.now in
-    let start = c.args.start in
-    let m = rw c.in-Bad.is at c.token_at.ensures in
+pub returns-in_err-step : goal.returns-in_err-step
+returns-in_err-step c =
     let i = c.loop-left.invariant in
-    (part_bad s start c.in-Bad.next (sym (i.4 ∙ m.0)), omega (arith, m.1, i.0), m.2)
+    let e : c.from_residual.result ≡ Err c.in_err-step.field-0.0 = search rules in
+    subst (λ r. Spans c.args.job.now c.args.start r) (sym e) (stops _ _ _ _ c.in_err-step.field-0.0 i.0 i.4 c.in_err-step.ensures)
 
 pub returns : goal.returns
 unfolding parts

@@ -1,11 +1,8 @@
 -- `folding::end_of` meets its contract. Assumes nothing.
-use Rattle.folding.proofs.Parts.{part_none, part_bad, part_end}
 use Rattle.folding.specs.Folding.{parts}
-use borrow.Author.Rules.{rules}
 use lib.ListN.{length, drop}
 use Prim.Native.Nat.{◌+◌, ◌-◌, ◌<◌, ◌≤◌}
-use native.Mathlib.Omega.{arith}
-use mathlib.Core.Path.{◌≡◌, refl, sym, ap, ◌∙◌}
+use mathlib.Core.Path.{◌≡◌}
 use Rattle.folding.proofs.end_of.Given as goal
 
 abbrev pub invariant-loop-left : goal.invariant-loop-left

@@ -2,7 +2,6 @@
 use native.Mathlib.Omega.{arith}
 use mathlib.Core.Path.{sym, ◌∙◌}
 use Rattle.folding.proofs.Integers as integers
-use borrow.Author.Rules.{rules}
 use Rattle.folding.proofs.magnitude_of.Goals as goal
 
 pub overflow_add-result : goal.overflow_add-result

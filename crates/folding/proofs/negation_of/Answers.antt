@@ -1,6 +1,5 @@
 -- `folding::negation_of` meets its contract. Assumes nothing.
 use Rattle.folding.proofs.Integers as integers
-use borrow.Author.Rules.{rules}
 use Rattle.folding.proofs.negation_of.Goals as goal
 
 pub returns-then-a-eq0 : goal.returns-then-a-eq0

@@ -1,6 +1,5 @@
 -- `folding::quotient_of` meets its contract. Assumes nothing.
 use Rattle.folding.proofs.Integers as integers
-use borrow.Author.Rules.{rules}
 use Rattle.folding.proofs.quotient_of.Goals as goal
 
 pub nonzero_div-q : goal.nonzero_div-q

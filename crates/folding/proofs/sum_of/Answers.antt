@@ -1,6 +1,5 @@
 -- `folding::sum_of` meets its contract. Assumes nothing.
 use Rattle.folding.proofs.Integers as integers
-use borrow.Author.Rules.{rules}
 use Rattle.folding.proofs.sum_of.Goals as goal
 
 pub returns-then-a-last : goal.returns-then-a-last

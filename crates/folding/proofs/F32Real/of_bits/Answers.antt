@@ -1,9 +1,8 @@
--- `folding::float_of_bits` meets its contract. Assumes nothing.
+-- `folding::F32Real::of_bits` meets its contract. Assumes nothing.
 use lib.Ieee.{binary32}
 use mathlib.Core.Path.{sym, ◌∙◌}
 use Rattle.folding.proofs.Floats.{patterns_nan, patterns_number, zero_by_zero}
-use borrow.Author.Rules.{rules}
-use Rattle.folding.proofs.float_of_bits.Goals as goal
+use Rattle.folding.proofs.F32Real.of_bits.Goals as goal
 
 pub float_from_bits-result : goal.float_from_bits-result
 float_from_bits-result c = patterns_number binary32 c.args.n c.if-n-gt2139095040.false

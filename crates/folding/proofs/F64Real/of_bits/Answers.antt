@@ -1,9 +1,8 @@
--- `folding::double_of_bits` meets its contract. Assumes nothing.
+-- `folding::F64Real::of_bits` meets its contract. Assumes nothing.
 use lib.Ieee.{binary64}
 use mathlib.Core.Path.{sym, ◌∙◌}
 use Rattle.folding.proofs.Floats.{patterns_nan, patterns_number, zero_by_zero}
-use borrow.Author.Rules.{rules}
-use Rattle.folding.proofs.double_of_bits.Goals as goal
+use Rattle.folding.proofs.F64Real.of_bits.Goals as goal
 
 pub float_from_bits-result : goal.float_from_bits-result
 float_from_bits-result c = patterns_number binary64 c.args.n c.if-n-gt9218868437227405312.false
