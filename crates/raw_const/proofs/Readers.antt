@@ -1,7 +1,7 @@
 -- How many bytes the definition's readers take: all of them, or nothing is read. Assumes nothing.
-use mathlib.Core.Path.{◌≡◌, refl, sym, ap, ◌∙◌}
+use mathlib.Core.Path.{◌≡◌, refl, ap, ◌∙◌}
 use mathlib.Core.List.{List, [], ◌∷◌, ◌++◌}
-use mathlib.Core.Option.{none, some}
+use mathlib.Core.Option.{Option, none, some}
 use Prim.Native.Nat.{ℕ, zero, suc, ◌+◌, ◌*◌, ◌-◌, ◌<◌, ◌≤◌}
 use native.Mathlib.Numerals.{add-one}
 use native.Mathlib.Decide.{dec_lt}
@@ -10,12 +10,13 @@ use lib.ListN.{length, get_or, drop, length-drop, drop_of_length-le}
 use lib.Seq.{drop-drop, drop-cons}
 use Rattle.definition.specs.Basics.{lookup}
 use Rattle.definition.specs.Bytes.{Parser, return, ◌>>=◌, one, two, many}
-use Rattle.definition.specs.Shapes.{Kind, constant, bootstrap, Field, byte, to, shapes, Entry, with_kids, with_literal, with_byte, read_fields, read_entry}
+use Rattle.definition.specs.Shapes.{Kind, constant, bootstrap, Field, to, shapes, Entry, with_kids, with_literal, with_byte, read_fields, read_entry}
 use Rattle.definition.specs.Jvms.{index, of_tag, cp_info}
-use Rattle.raw_const.specs.Entries.{fields_of, length_of, number_read, ReadAt}
+use Rattle.std.specs.Option.{unwrap_or}
+use Rattle.std.specs.Prelude.{None, Some}
+use Rattle.raw_const.specs.Entries.{shape_fields, length_of, short_read, number_read, ReadAt}
 use Rattle.raw_const.specs.declared.Shape.{Shape}
-use Rattle.raw_const.specs.declared.Shape.TheVariants.{Text, Bits, One, Two, Dynamic, KindOne, Unknown}
-use Rattle.raw_const.specs.declared.Extent.TheVariants.{Entry as Whole, Bad}
+use Rattle.raw_const.specs.declared.Shape.TheVariants.{Text, Bits, One, Two, Dynamic, KindOne}
 
 -- a reader found a value of P and took n bytes
 pub record Found {A : Type 0} (P : A → Type 0) (p : Parser A) (bytes : List ℕ) (n : ℕ) : Type 0 where
@@ -118,79 +119,86 @@ bare tag = record { tag = tag; literal = []; byte = 0; kids = [] }
 
 -- what stands behind a known tag
 shape_takes :
-    (s : Shape) (tag : ℕ) (bytes : List ℕ) → 0 < length_of s (number_read (two bytes)) →
-    Takes (Tagged tag) (of_tag tag (fields_of s)) bytes (length_of s (number_read (two bytes)) - 1)
+    (s : Shape) (tag : ℕ) (bytes : List ℕ) →
+    Takes (Tagged tag) (of_tag tag (some (shape_fields s))) bytes (length_of s (number_read (two bytes)) - 1)
 unfolding of_tag read_entry read_fields with_byte
-shape_takes Text tag bytes known =
+shape_takes Text tag bytes =
     takes_as (omega arith)
     (takes_then (Tagged tag) two _ bytes 2 (number_read (two bytes) + 0) (takes_two bytes)
     (λ size e. rw (ap number_read e) (takes_literal tag size (bare tag) (drop 2 bytes) refl)))
-shape_takes (Bits size) tag bytes known = takes_as (omega arith) (takes_literal tag size (bare tag) bytes refl)
-shape_takes One tag bytes known = takes_last tag constant (bare tag) bytes refl
-shape_takes Two tag bytes known = takes_pair tag constant (bare tag) bytes refl
-shape_takes Dynamic tag bytes known = takes_pair tag bootstrap (bare tag) bytes refl
-shape_takes KindOne tag bytes known =
+shape_takes (Bits size) tag bytes = takes_as (omega arith) (takes_literal tag size (bare tag) bytes refl)
+shape_takes One tag bytes = takes_last tag constant (bare tag) bytes refl
+shape_takes Two tag bytes = takes_pair tag constant (bare tag) bytes refl
+shape_takes Dynamic tag bytes = takes_pair tag bootstrap (bare tag) bytes refl
+shape_takes KindOne tag bytes =
     takes_then (Tagged tag) one _ bytes 1 2 (takes_one bytes) (λ kind _. takes_last tag constant (with_byte kind (bare tag)) (drop 1 bytes) refl)
-shape_takes Unknown tag bytes known = absurd (omega arith)
 
--- the number of two bytes at a place, 0 where they are cut off
-pub no_short : (pool : List ℕ) (at : ℕ) → length pool - at < 2 → 0 ≡ number_read (two (drop at pool))
+-- the number of two bytes at a place, none where they are cut off
+pub no_short : (pool : List ℕ) (at : ℕ) → length pool - at < 2 → None ≡ short_read (two (drop at pool))
 no_short pool at few =
     let cut : length (drop at pool) < 2 = simp length-drop few in
     rw ((takes_two (drop at pool)).cut cut)
 
-pub a_short : (pool : List ℕ) (at : ℕ) → at + 2 ≤ length pool → 256 * get_or pool at 0 + get_or pool (at + 1) 0 ≡ number_read (two (drop at pool))
+pub a_short : (pool : List ℕ) (at : ℕ) → at + 2 ≤ length pool → Some (256 * get_or pool at 0 + get_or pool (at + 1) 0) ≡ short_read (two (drop at pool))
 unfolding two one
 a_short pool at enough =
     let here : at < length pool = omega arith in
     let next : suc at < length pool = omega arith in
     rw (drop-cons pool at 0 here, drop-cons pool (suc at) 0 next, add-one at)
 
--- an entry without fields is of no known tag
-no_fields : (s : Shape) (n : ℕ) → length_of s n ≡ 0 → fields_of s ≡ none
-no_fields Text n e = absurd (omega arith)
-no_fields (Bits size) n e = absurd (omega arith)
-no_fields One n e = absurd (omega arith)
-no_fields Two n e = absurd (omega arith)
-no_fields Dynamic n e = absurd (omega arith)
-no_fields KindOne n e = absurd (omega arith)
-no_fields Unknown n e = refl
+pub number_found : (o : Option (ℕ × List ℕ)) → unwrap_or (short_read o) 0 ≡ number_read o
+number_found none = refl
+number_found (some r) = refl
 
-read_none : (pool : List ℕ) (at : ℕ) → cp_info (drop at pool) ≡ none → ReadAt pool at Bad
+read_none : (pool : List ℕ) (at : ℕ) → cp_info (drop at pool) ≡ none → ReadAt pool at None
 read_none pool at e = record { answer = rw e; rest = rw e }
 
 -- nothing stands behind the pool
-pub read_behind : (pool : List ℕ) (at : ℕ) → length pool ≤ at → ReadAt pool at Bad
+pub read_behind : (pool : List ℕ) (at : ℕ) → length pool ≤ at → ReadAt pool at None
 unfolding cp_info one
 read_behind pool at h = read_none pool at (rw (drop_of_length-le pool h))
+
+-- nor is there an entry with a tag that isn't there
+pub read_unknown : (pool : List ℕ) (at : ℕ) → at < length pool → none ≡ lookup (get_or pool at 0) shapes → ReadAt pool at None
+unfolding cp_info one of_tag
+read_unknown pool at inside known = read_none pool at (rw (drop-cons pool at 0 inside, ← known))
 
 -- the tag at a place has the shape s, and such an entry takes so many bytes, if they are there
 pub record Sized (s : Shape) (pool : List ℕ) (at size : ℕ) : Type 0 where
   pub inside : at < length pool
-  pub known : fields_of s ≡ lookup (get_or pool at 0) shapes
+  pub known : some (shape_fields s) ≡ lookup (get_or pool at 0) shapes
   pub sized : size ≡ length_of s (number_read (two (drop (at + 1) pool)))
 
+any_size : (s : Shape) (n : ℕ) → 0 < length_of s n
+any_size Text n = omega arith
+any_size (Bits size) n = omega arith
+any_size One n = omega arith
+any_size Two n = omega arith
+any_size Dynamic n = omega arith
+any_size KindOne n = omega arith
+
 module _ {s : Shape} {pool : List ℕ} {at size : ℕ} (h : Sized s pool at size) where
-  behind : cp_info (drop at pool) ≡ of_tag (get_or pool at 0) (fields_of s) (drop (at + 1) pool)
+  behind : cp_info (drop at pool) ≡ of_tag (get_or pool at 0) (some (shape_fields s)) (drop (at + 1) pool)
   unfolding cp_info one
   behind = rw (drop-cons pool at 0 h.inside, h.known, add-one at)
 
-  takes : 0 < size → Takes (Tagged (get_or pool at 0)) (of_tag (get_or pool at 0) (fields_of s)) (drop (at + 1) pool) (size - 1)
-  takes any = rw h.sized (shape_takes s (get_or pool at 0) (drop (at + 1) pool) (rw (← h.sized) any))
+  any : 0 < size
+  any = rw h.sized (any_size s (number_read (two (drop (at + 1) pool))))
 
-  pub read_unknown : size ≡ 0 → ReadAt pool at Bad
-  unfolding of_tag
-  read_unknown e = read_none pool at (rw (behind, no_fields s (number_read (two (drop (at + 1) pool))) (sym h.sized ∙ e)))
+  takes : Takes (Tagged (get_or pool at 0)) (of_tag (get_or pool at 0) (some (shape_fields s))) (drop (at + 1) pool) (size - 1)
+  takes = rw h.sized (shape_takes s (get_or pool at 0) (drop (at + 1) pool))
 
-  pub read_cut : 0 < size → length pool - at < size → ReadAt pool at Bad
-  read_cut any few =
+  pub read_cut : length pool - at < size → ReadAt pool at None
+  read_cut few =
+      let more : 0 < size = any in
       let cut : length (drop (at + 1) pool) < size - 1 = simp length-drop (omega arith) in
-      read_none pool at (rw behind ((takes any).cut cut))
+      read_none pool at (rw behind (takes.cut cut))
 
-  pub read_whole : 0 < size → size ≤ length pool - at → ReadAt pool at (Whole (get_or pool at 0) (at + size))
-  read_whole any enough =
+  pub read_whole : size ≤ length pool - at → ReadAt pool at (Some (record { tag = get_or pool at 0; next = at + size }))
+  read_whole enough =
+      let more : 0 < size = any in
       let all : size - 1 ≤ length (drop (at + 1) pool) = simp length-drop (omega arith) in
-      let f = (takes any).found all in
+      let f = takes.found all in
       let next : at + 1 + (size - 1) ≡ at + size = omega arith in
       let read : cp_info (drop at pool) ≡ some (f.value, drop (at + size) pool) = rw (behind, f.read, drop-drop, next) in
       let back : at + size ≡ length pool - length (drop (at + size) pool) = simp length-drop (omega arith) in

@@ -5,7 +5,8 @@ use Prim.Native.Nat.{ℕ, zero, suc, ◌+◌, ◌*◌, ◌-◌, ◌<◌, ◌≤�
 use native.Mathlib.Numerals.{add-one}
 use native.Mathlib.Omega.{arith}
 use lib.ListN.{length, get_or, take, drop, length-drop}
-use lib.Seq.{take-suc, drop-cons, get_or-drop}
+use lib.Seq.{take-suc, take-length, drop-cons, get_or-drop}
+use Rattle.std.proofs.lemmas.List.{length-take-le}
 use Rattle.definition.specs.Basics.{concat}
 use Rattle.definition.specs.Bytes.{be2}
 use Rattle.definition.specs.Shapes.{bootstrap_shape, write_fields}
@@ -35,7 +36,22 @@ shorts_snoc l x = rw (shorts_append l (x ∷ []), append-nil)
 pub shorts_size : (words : List ℕ) (from n : ℕ) → from + n ≤ length words → length (shorts (take n (drop from words))) ≡ 2 * n
 shorts_size words from n room = shorts_length (take n (drop from words)) ∙ ap (λ k. 2 * k) (part_length words from n room)
 
+-- how many stand before one of them
+pub shorts_before : (words : List ℕ) (i : ℕ) → i < length words → length (shorts (take i words)) ≡ 2 * i
+shorts_before words i inside = shorts_length (take i words) ∙ ap (λ k. 2 * k) (length-take-le i words (omega arith))
+
 -- a turn of the loop that writes them
+pub shorts_turn :
+    (words : List ℕ) (i : ℕ) {d d₁ d₂ : List ℕ} {at m r : ℕ} →
+    i < length words →
+    at + 2 * length words ≤ length d →
+    Wrote d at (shorts (take i words)) d₁ m →
+    Wrote d₁ m (be2 (get_or words i 0)) d₂ r →
+    Wrote d at (shorts (take (i + 1) words)) d₂ r
+shorts_turn words i {d} {at = at} inside room before here =
+    let fits : at + length (shorts (take i words)) ≤ length d = omega (arith, shorts_before words i inside) in
+    rw (add-one i, take-suc words i 0 inside, shorts_snoc) (wrote_then before fits here)
+
 pub shorts_more :
     (words : List ℕ) (from i : ℕ) {d d₁ d₂ : List ℕ} {at m r : ℕ} →
     from + i < length words →
@@ -57,6 +73,23 @@ pub row_size : (row : List ℕ) → 0 < length row → 4 + 2 * (length row - 1) 
 unfolding row_bytes bootstrap_shape write_fields be2
 row_size [] some = absurd (omega arith)
 row_size (x ∷ l) some = omega (arith, ap length (append-nil (shorts l)), shorts_length l)
+
+-- its bytes: its first number, how many follow, and those
+pub row_split : (row : List ℕ) → 0 < length row → row_bytes row ≡ be2 (get_or row 0 0) ++ be2 (length row - 1) ++ shorts (drop 1 row)
+row_split [] some = absurd (omega arith)
+row_split (x ∷ l) some =
+    let less : suc (length l) - 1 ≡ length l = omega arith in
+    rw less (row_bytes_lem x l)
+
+-- what stands behind a row's first number
+pub the_rest : (row : List ℕ) → take (length row - 1) (drop 1 row) ≡ drop 1 row
+the_rest row = let n : length row - 1 ≡ length (drop 1 row) = simp length-drop in rw (n, take-length)
+
+pub rest_small :
+    (row : List ℕ) → ((k : ℕ) → k < length row → get_or row k 0 < 65536) → (k : ℕ) → k < length (drop 1 row) → get_or (drop 1 row) k 0 < 65536
+rest_small row small k inside =
+    let more : 1 + k < length row = omega (arith, simp length-drop at inside) in
+    rw get_or-drop (small (1 + k) more)
 
 -- a row in a list of words: how many bytes it takes
 pub row_room :

@@ -2,6 +2,7 @@
 use mathlib.Core.Path.{◌≡◌, refl, sym, ap, ◌∙◌}
 use mathlib.Core.List.{List}
 use Prim.Native.Nat.{ℕ}
+use Rattle.std.specs.Prelude as code
 use lib.ListN.{replicate, length-replicate}
 use Rattle.definition.specs.Basics.{lookup}
 use Rattle.definition.specs.Shapes.{shapes}
@@ -10,7 +11,7 @@ use Rattle.raw_const.specs.declared.Shape.{Shape}
 use Rattle.raw_const.specs.declared.Extent.{Extent}
 use Rattle.raw_const.proofs.Shaped.{shape_for, shape_back}
 
-pub one-shape : (tag : ℕ) (r r' : Shape) → fields_of r ≡ lookup tag shapes → fields_of r' ≡ lookup tag shapes → r ≡ r'
+pub one-shape : (tag : ℕ) (r r' : code.Option Shape) → fields_of r ≡ lookup tag shapes → fields_of r' ≡ lookup tag shapes → r ≡ r'
 one-shape tag r r' h h' = sym (shape_back r) ∙ ap (λ o. shape_for (listed o)) (h ∙ sym h') ∙ shape_back r'
 
 pub one-entry_length : (tag n r r' : ℕ) → EntryTakes tag n r → EntryTakes tag n r' → r ≡ r'
@@ -29,5 +30,5 @@ pub one-write :
     Wrote before at bytes after r → Wrote before at bytes after' r' → (after ≡ after') × (r ≡ r')
 one-write h h' = (h.out ∙ sym h'.out, h.next ∙ sym h'.next)
 
-pub one-extent : {pool : List ℕ} {at : ℕ} {r r' : Extent} → ReadAt pool at r → ReadAt pool at r' → r ≡ r'
+pub one-extent : {pool : List ℕ} {at : ℕ} {r r' : code.Option Extent} → ReadAt pool at r → ReadAt pool at r' → r ≡ r'
 one-extent h h' = h.answer ∙ sym h'.answer

@@ -2,59 +2,66 @@
 use Rattle.std.specs.Prelude.{◌≡◌, true, false, ℕ, suc, ◌+◌, ◌-◌, ◌<◌, eqb, length, take, drop}
 use mathlib.Core.List.{List, [], ◌∷◌, ◌++◌, tail}
 use Rattle.std.proofs.Math.Option.{Option, none, some}
+use Rattle.std.specs.Prelude as code
+use Rattle.std.specs.Prelude.{None, Some}
 use Rattle.std.proofs.Math.Seq.{paste}
 use Rattle.definition.specs.Basics.{lookup}
 use Rattle.definition.specs.Bytes.{be2}
 use Rattle.definition.specs.Shapes.{constant, bootstrap, Field, text, bits, byte, to, to_many, shapes, Entry}
 use Rattle.definition.specs.Run.{entry_bytes, row_bytes}
 use Rattle.definition.specs.Jvms.{cp_info}
+use Rattle.raw_const.specs.declared.Field.{Field as Part}
+use Rattle.raw_const.specs.declared.Field.TheVariants.{Text as TextPart, Bits as BitsPart, Kind as KindPart, Index as IndexPart, Bootstrap as BootstrapPart}
 use Rattle.raw_const.specs.declared.Shape.{Shape}
-use Rattle.raw_const.specs.declared.Shape.TheVariants.{Text, Bits, One, Two, Dynamic, KindOne, Unknown}
+use Rattle.raw_const.specs.declared.Shape.TheVariants.{Text, Bits, One, Two, Dynamic, KindOne}
 use Rattle.raw_const.specs.declared.Extent.{Extent}
-use Rattle.raw_const.specs.declared.Extent.TheVariants.{Entry as Whole, Bad}
 
--- a field's code in the code's table, and the row that a tag has there by its fields: two codes, 0 for what isn't there
-abbrev pub code_of : Field → ℕ
-code_of text = 1
-code_of (bits size) = elim (eqb size 4) [ true ↦ 2 | false ↦ 3 ]
-code_of byte = 4
-code_of (to constant) = 5
-code_of (to bootstrap) = 6
-code_of to_many = 7
+-- a field in the code's table, and the row that a tag has there by its fields: none for a tag that isn't there
+abbrev pub code_of : Field → code.Option Part
+code_of text = Some TextPart
+code_of (bits size) = Some (BitsPart size)
+code_of byte = Some KindPart
+code_of (to constant) = Some IndexPart
+code_of (to bootstrap) = Some BootstrapPart
+code_of to_many = None
 
-abbrev pub code_at : List Field → ℕ
-code_at [] = 0
+abbrev pub code_at : List Field → code.Option Part
+code_at [] = None
 code_at (field ∷ fields) = code_of field
 
-abbrev pub row_of : Option (List Field) → List ℕ
-row_of none = 0 ∷ 0 ∷ []
-row_of (some fields) = code_at fields ∷ code_at (tail fields) ∷ []
+abbrev pub row_of : Option (List Field) → code.Option (Part × code.Option Part)
+row_of none = None
+row_of (some fields) = elim (code_at fields) [ None ↦ None | Some first ↦ Some (first, code_at (tail fields)) ]
 
--- the bytes of the field with a code, by the literal, the kind byte and the reference that are to stand in it
-abbrev pub bytes_found : Option (List ℕ) → List ℕ
-bytes_found none = []
-bytes_found (some bytes) = bytes
-
-abbrev pub field_table : ℕ → List ℕ → ℕ → List (ℕ × List ℕ)
-field_table kind literal index =
-    (1, be2 (length literal) ++ literal) ∷ (2, literal) ∷ (3, literal) ∷ (4, kind ∷ []) ∷ (5, be2 index) ∷ (6, be2 index) ∷ []
-
-abbrev pub field_bytes : ℕ → ℕ → List ℕ → ℕ → List ℕ
-field_bytes code kind literal index = bytes_found (lookup code (field_table kind literal index))
+-- the bytes of a field, by the literal, the kind byte and the reference that are to stand in it
+abbrev pub field_bytes : Part → ℕ → List ℕ → ℕ → List ℕ
+field_bytes TextPart kind literal index = be2 (length literal) ++ literal
+field_bytes (BitsPart size) kind literal index = literal
+field_bytes KindPart kind literal index = kind ∷ []
+field_bytes IndexPart kind literal index = be2 index
+field_bytes BootstrapPart kind literal index = be2 index
 
 -- the reference behind the first field: behind a kind byte it is the first one
-abbrev pub second_index : ℕ → ℕ → ℕ → ℕ
-second_index code first second = elim (eqb code 4) [ true ↦ first | false ↦ second ]
+abbrev pub second_index : Part → ℕ → ℕ → ℕ
+second_index KindPart first second = first
+second_index TextPart first second = second
+second_index (BitsPart size) first second = second
+second_index IndexPart first second = second
+second_index BootstrapPart first second = second
 
--- the fields that a shape stands for, none where there is no such tag
-abbrev pub fields_of : Shape → Option (List Field)
-fields_of Text = some (text ∷ [])
-fields_of (Bits size) = some (bits size ∷ [])
-fields_of One = some (to constant ∷ [])
-fields_of Two = some (to constant ∷ to constant ∷ [])
-fields_of Dynamic = some (to bootstrap ∷ to constant ∷ [])
-fields_of KindOne = some (byte ∷ to constant ∷ [])
-fields_of Unknown = none
+-- the fields that a shape stands for
+abbrev pub shape_fields : Shape → List Field
+shape_fields Text = text ∷ []
+shape_fields (Bits size) = bits size ∷ []
+shape_fields One = to constant ∷ []
+shape_fields Two = to constant ∷ to constant ∷ []
+shape_fields Dynamic = to bootstrap ∷ to constant ∷ []
+shape_fields KindOne = byte ∷ to constant ∷ []
+
+-- those of a tag's shape, none where there is no such tag
+abbrev pub fields_of : code.Option Shape → Option (List Field)
+fields_of None = none
+fields_of (Some shape) = some (shape_fields shape)
 
 -- fields that may not be there
 abbrev pub listed : Option (List Field) → List Field
@@ -105,28 +112,31 @@ length_of One n = 3
 length_of Two n = 5
 length_of Dynamic n = 5
 length_of KindOne n = 4
-length_of Unknown n = 0
 
--- the number that was read, 0 where there was none
+-- the number that was read, and 0 where there was none
+abbrev pub short_read : Option (ℕ × List ℕ) → code.Option ℕ
+short_read none = None
+short_read (some r) = Some r.0
+
 abbrev pub number_read : Option (ℕ × List ℕ) → ℕ
 number_read none = 0
 number_read (some r) = r.0
 
 -- what a reader of the last bytes of `size` found: an entry's tag and the place behind it
-abbrev pub extent_of : ℕ → Option (Entry (List ℕ) ℕ × List ℕ) → Extent
-extent_of size none = Bad
-extent_of size (some r) = Whole r.0.tag (size - length r.1)
+abbrev pub extent_of : ℕ → Option (Entry (List ℕ) ℕ × List ℕ) → code.Option Extent
+extent_of size none = None
+extent_of size (some r) = Some (record { tag = r.0.tag; next = size - length r.1 })
 
 -- a reader's tag and the bytes that it left, and what an extent says of both
 abbrev pub tag_and_rest : Option (Entry (List ℕ) ℕ × List ℕ) → Option (ℕ × List ℕ)
 tag_and_rest none = none
 tag_and_rest (some r) = some (r.0.tag, r.1)
 
-abbrev pub told : List ℕ → Extent → Option (ℕ × List ℕ)
-told pool Bad = none
-told pool (Whole tag next) = some (tag, drop next pool)
+abbrev pub told : List ℕ → code.Option Extent → Option (ℕ × List ℕ)
+told pool None = none
+told pool (Some e) = some (e.tag, drop e.next pool)
 
 -- r is the one extent that JVMS's reader finds at a place of a pool, which leaves what stands behind it
-pub record ReadAt (pool : List ℕ) (at : ℕ) (r : Extent) : Type 0 where
+pub record ReadAt (pool : List ℕ) (at : ℕ) (r : code.Option Extent) : Type 0 where
   pub answer : r ≡ extent_of (length pool) (cp_info (drop at pool))
   pub rest : tag_and_rest (cp_info (drop at pool)) ≡ told pool r

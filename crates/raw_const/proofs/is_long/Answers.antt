@@ -1,7 +1,7 @@
--- `raw_const::is_long` meets its contract: the numbers of eight bytes are the wide ones. Assumes nothing.
-use borrow.Author.Rules.{rules}
+-- `raw_const::is_long` meets its contract: the tags that have this shape. Assumes nothing.
+use mathlib.Core.Path.{◌∙◌}
 use Rattle.raw_const.proofs.Table.{row_wide}
 use Rattle.raw_const.proofs.is_long.Goals as goal
 
 pub returns : goal.returns
-returns c = row_wide c.args.tag c.row_of-row.result c.row_of-row.ensures
+returns c = c.eq.ensures ∙ row_wide c.args.tag c.shape_of.result c.shape_of.ensures

@@ -1,7 +1,7 @@
--- `raw_const::is_text` meets its contract: only a text's row begins with a text. Assumes nothing.
-use borrow.Author.Rules.{rules}
+-- `raw_const::is_text` meets its contract: the tags that have this shape. Assumes nothing.
+use mathlib.Core.Path.{◌∙◌}
 use Rattle.raw_const.proofs.Table.{row_text}
 use Rattle.raw_const.proofs.is_text.Goals as goal
 
 pub returns : goal.returns
-returns c = row_text c.args.tag c.row_of-row.result c.row_of-row.ensures
+returns c = c.eq.ensures ∙ row_text c.args.tag c.shape_of.result c.shape_of.ensures

@@ -1,5 +1,4 @@
 -- `raw_const::row_length` meets its contract: the length is that of every such row's bytes. Assumes nothing.
-use borrow.Author.Rules.{rules}
 use Rattle.raw_const.proofs.Rows.{row_size}
 use Rattle.raw_const.proofs.row_length.Goals as goal
 
