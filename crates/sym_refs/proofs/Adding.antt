@@ -1,5 +1,7 @@
 -- One name more in the regions, or one that is there already. Assumes nothing.
-use mathlib.Core.Bool.{false}
+use mathlib.Core.Bool.{true, false}
+use Rattle.std.specs.Prelude.{Option, Some, None}
+use Rattle.std.specs.Option.{is_some}
 use mathlib.Core.List.{List, [], ◌∷◌}
 use mathlib.Core.Logic.{⊎_elim}
 use mathlib.Core.Option.{some}
@@ -13,7 +15,7 @@ use Rattle.definition.specs.Definitions.{Naming, is_none}
 use Rattle.facts.proofs.Lists.{some_inj, found_inside, equal}
 use Rattle.job.specs.Stored.{Stands}
 use Rattle.store.specs.Store.{Store, size, put}
-use Rattle.store.specs.Chains.{head_of, Sought, linked}
+use Rattle.store.specs.Chains.{head_of, link_of, Sought, linked}
 use Rattle.store.specs.JobIn.{namings_in}
 use Rattle.store.specs.Regions.{COUNTS, NAME-HEADS, NAME-LINKS, NAME-PLACES, NAME-COUNT}
 use Rattle.store.specs.Words.{label_at}
@@ -43,6 +45,15 @@ module _ (s : List ℕ) (at : ℕ) (x : Naming) (stands : NamingAt s at x) (firs
 
 pub naming_name : (s : List ℕ) (at : ℕ) (x : Naming) → NamingAt s at x → Stands short_name s (at + 1)
 naming_name s at x stands = let g = naming_there s at x stands in (x.label, g.mid, g.label)
+
+-- the link of a name that was found isn't 0, that of none is
+pub found_link : (x : Option ℕ) → is_some x ≡ true → link_of x ≡ 0 → ⊥
+found_link None e z = both e refl
+found_link (Some i) e z = absurd (omega arith)
+
+pub missing_link : (x : Option ℕ) → is_some x ≡ false → link_of x ≡ 0
+missing_link None e = refl
+missing_link (Some i) e = absurd (both refl e)
 
 -- the naming that is next is the one that stands there
 pub the_naming : (s : List ℕ) (n at : ℕ) → ((x : Naming) × (get_elem? (namings_in s) n ≡ some x) × NamingAt s at x) → (x : Naming) → get_elem? (namings_in s) n ≡ some x → NamingAt s at x

@@ -69,19 +69,21 @@ module _ (h : ℕ) (s places heads links : List ℕ) (n : ℕ) (all : n ≡ leng
         word = inr (inl refl);
       }
 
-  pub goes_name : (l : List ℕ) → Goals s l → 0 < link → Goes s x (get_or l (link - 1) 0)
+  pub goes_name : (l : List ℕ) → Goals s l → (j : ℕ) → link ≡ j + 1 → Goes s x (get_or l j 0)
   unfolding goal_of
-  goes_name l goals more =
+  goes_name l goals j e =
+      let more : 0 < link = omega arith in
       let low : link - 1 < length (namings_in s) = omega (arith, f.low) in
       let there = inside_found (namings_in s) (link - 1) low in
-      record {
+      let same : j ≡ link - 1 = omega arith in
+      rw same (record {
         leads =
             goals.goals (link - 1) there.0 there.1
             ∙ sym
             (cited_follow h s places heads links n all g link (reference_word s (constants_in s) x) f more (suc (length (namings_in s)))
             ∙ leads_from_lem s (suc (length (namings_in s))) (link - 1) there.0 there.1);
         word = goals.words (link - 1) low;
-      }
+      })
 
 -- ALL REFERENCES
 pub record Linking (s : List ℕ) (t u : Store) (n i : ℕ) : Type 0 where

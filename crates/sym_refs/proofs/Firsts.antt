@@ -87,8 +87,9 @@ module _ (s p : List ℕ) (t : Store) (work : Work s p) (g : AllNames (size p NA
             (first_none (size p NAME-HEADS) s (t NAME-PLACES) (t NAME-HEADS) (t NAME-LINKS) (name_count t) g.1 g.0 i x there.1 below word worded.0 link f
             (omega (arith, m.both, m.entries)) large z)
 
-        pub first_named : (link ≡ 0 → ⊥) → First s (size p NAME-GOALS) i (NAME + link - 1)
-        first_named z =
-            rw same_count
+        pub first_named : (j : ℕ) → link ≡ j + 1 → First s (size p NAME-GOALS) i (NAME + j)
+        first_named j e =
+            let same : NAME + j ≡ NAME + link - 1 = omega arith in
+            rw (same, same_count)
             (first_name (size p NAME-HEADS) s (t NAME-PLACES) (t NAME-HEADS) (t NAME-LINKS) (name_count t) g.1 g.0 i x there.1 below word worded.0 link f
             (omega arith))

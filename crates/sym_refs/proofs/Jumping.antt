@@ -2,12 +2,14 @@
 use mathlib.Core.Bool.{true}
 use mathlib.Core.List.{List}
 use mathlib.Core.Logic.{⊎_elim}
-use mathlib.Core.Path.{◌≡◌, sym, ◌∙◌}
+use mathlib.Core.Path.{◌≡◌, refl, sym, ◌∙◌}
 use Prim.Native.Nat.{ℕ, ◌+◌, ◌-◌, ◌≤◌, ◌<◌}
 use native.Mathlib.Omega.{arith}
 use lib.ListN.{length, get_or, set}
 use lib.Seq.{get_or-set_same, get_or-set_other}
-use borrow.Author.Tests.{lt-ltb, le-ltb}
+use borrow.Author.Tests.{lt-ltb, le-ltb, lt-leb, le-leb}
+use lib.Dec.{leb}
+use mir.Val.{bool_byte}
 use Rattle.definition.specs.Resolving.{Goal}
 use Rattle.store.specs.Words.{NAME, REFUSED, goal_word, IsGoal}
 use Rattle.sym_refs.specs.Leading.{settled, leads_in, Leads, AllLead, Inner, Settled, hopped, on_name, end_of}
@@ -28,6 +30,17 @@ on_none x h = rw (lt-ltb x NAME h, on_name)
 pub on_one : (x : ℕ) → NAME ≤ x → on_name x ≡ 1
 unfolding on_name
 on_one x h = rw (le-ltb x NAME h, on_name)
+
+-- the test as a number
+pub on_name-byte : (x : ℕ) → bool_byte (leb NAME x) ≡ on_name x
+on_name-byte x =
+    ⊎_elim
+    (λ (h : x < NAME). rw (lt-leb NAME x h, on_none x h) refl)
+    (λ (h : NAME ≤ x). rw (le-leb NAME x h, on_one x h) refl)
+    (order x NAME)
+
+pub on_name-small : (x : ℕ) → on_name x ≤ 1
+on_name-small x = ⊎_elim (λ (h : x < NAME). omega (arith, on_none x h)) (λ (h : NAME ≤ x). omega (arith, on_one x h)) (order x NAME)
 
 pub ended_same : (x : ℕ) → x < NAME → end_of x ≡ x
 unfolding end_of
@@ -121,7 +134,7 @@ module _ (n : ℕ) (l₀ l : List ℕ) (i left : ℕ) (g : Turning n l₀ l i le
   turn_next =
       record {
         upto = omega arith;
-        few = omega (arith, g.few, one);
+        few = omega (arith, g.few, on_name-small y);
         inner = λ j. at (λ j x. j < n → x < NAME + n) (λ _. inner_hop n i l g.inner h) (λ j e k. g.inner j k) j;
         words =
             λ entries all j.
@@ -141,9 +154,6 @@ module _ (n : ℕ) (l₀ l : List ℕ) (i left : ℕ) (g : Turning n l₀ l i le
             (λ j d k. g.none (omega arith) j (omega arith))
             j;
       }
-    where
-      one : on_name y ≤ 1
-      one = ⊎_elim (λ (s : y < NAME). omega (arith, on_none y s)) (λ (s : NAME ≤ y). omega (arith, on_one y s)) (order y NAME)
 
   -- the same of words that are known to be these
   pub turn_to : (x z k : ℕ) → x ≡ get_or l i 0 → z ≡ hopped l x → k ≡ on_name z → Turning n l₀ (set l i z) (i + 1) (left + k)

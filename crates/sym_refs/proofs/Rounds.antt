@@ -1,6 +1,6 @@
 -- The loops over names: what each keeps. Assumes nothing.
 use mathlib.Core.List.{List, [], ◌∷◌}
-use mathlib.Core.Logic.{◌⊎◌, inl, inr, ⊎_elim}
+use mathlib.Core.Logic.{⊎_elim}
 use mathlib.Core.Path.{◌≡◌, refl, ap, ◌∙◌}
 use Prim.Native.Nat.{ℕ, ◌+◌, ◌≤◌, ◌<◌}
 use native.Mathlib.Omega.{arith}
@@ -117,40 +117,33 @@ follow-begin s t u n g =
       kept = λ k f. refl;
     }
 
-pub follow-next :
-    (s : List ℕ) (t u v : Store) (n span left r : ℕ) → Following s t u n span → Jumped u v n left → (left ≡ 0 → r ≡ n + 1) → (0 < left → r ≡ span + span) →
-    Following s t v n r × (span < r ⊎ (n < r))
-follow-next s t u v n span left r g j a b =
-    ⊎_elim
-    (λ (e : left ≡ 0). (
+module _ (s : List ℕ) (t u v : Store) (n span left : ℕ) (g : Following s t u n span) (j : Jumped u v n left) where
+  pub follow-next : Following s t v n (span + span)
+  follow-next =
       record {
-        low = omega (arith, a e);
+        low = omega (arith, g.low);
+        inner = j.inner;
+        words = λ entries all. j.words entries (g.words entries all);
+        lead = j.twice (leads_from s) span g.lead;
+        kept = kept_then (NAME-GOALS ∷ []) t u v g.kept j.kept;
+      }
+
+  -- where nothing leads to a name any more, each leads any number of steps
+  pub follow-all : left ≡ 0 → Following s t v n (n + 1)
+  follow-all e =
+      record {
+        low = omega arith;
         inner = j.inner;
         words = λ entries all. j.words entries (g.words entries all);
         lead =
             λ i l.
-            rw (a e)
-            (leads_on
+            leads_on
             (leads_from s)
             (span + span)
             (n + 1)
             i
             (get_or (v NAME-GOALS) i 0)
             (ltb-true (get_or (v NAME-GOALS) i 0) NAME (j.none e i l))
-            (j.twice (leads_from s) span g.lead i l));
+            (j.twice (leads_from s) span g.lead i l);
         kept = kept_then (NAME-GOALS ∷ []) t u v g.kept j.kept;
-      },
-      inr (omega (arith, a e)),
-    ))
-    (λ (e : left ≡ 0 → ⊥).
-    let d : 0 < left = omega arith in (
-      record {
-        low = omega (arith, b d, g.low);
-        inner = j.inner;
-        words = λ entries all. j.words entries (g.words entries all);
-        lead = rw (b d) (j.twice (leads_from s) span g.lead);
-        kept = kept_then (NAME-GOALS ∷ []) t u v g.kept j.kept;
-      },
-      inl (omega (arith, b d, g.low)),
-    ))
-    (equal left 0)
+      }

@@ -6,9 +6,10 @@ ghost use Rattle.std.specs.Prelude.{◌≡◌, ℕ, ◌+◌, ◌<◌, ◌≤◌,
 ghost use Rattle.std.proofs.Math.ListN.{get_elem?};
 ghost use Rattle.definition.specs.Job.{short_name, reference};
 ghost use Rattle.definition.specs.Definitions.{Naming};
+ghost use Rattle.refusal.specs.Numbers.{code_of};
 ghost use Rattle.job.specs.Stored.{Stands, WhatStands, ReferenceStands};
 ghost use Rattle.store.specs.Store.{size, store, On, IsWord};
-ghost use Rattle.store.specs.Chains.{Sought};
+ghost use Rattle.store.specs.Chains.{Sought, link_of};
 ghost use Rattle.store.specs.JobIn.{counts_in, entries_in, constants_in, namings_in};
 ghost use Rattle.store.specs.Regions.{NAME-HEADS, NAME-GOALS, GOALS, Work};
 ghost use Rattle.store.specs.Words.{label_at, reference_word, IsReference};
@@ -17,6 +18,7 @@ ghost use Rattle.sym_refs.specs.Names.{kind_byte, CitedIn, NamingAt, name_count,
 ghost use Rattle.sym_refs.specs.Leading.{flagged, WordFor, Named, NamedBy, AllNames, Decides, hopped, on_name, end_of, Inner, Jumped, Finished, First, Started, NamesFollowed, ReferencesLinked};
 
 use job::RefType;
+use refusal::Refusal;
 use store::{
     BOOTSTRAP_SYM, ENTRY, GOALS, NAME, NAME_COUNT, NAME_GOALS, NAME_HEADS, NAME_LINKS, NAME_PLACES,
     REFUSED, SYM, constants, first_link, load, next_count, push_link, save, size_of,
@@ -51,7 +53,7 @@ fn hash_name(job: &[u8], at: usize, first: u8) -> usize
     requires { Stands short_name job.now at }
     ensures { (result ≡ hash_bytes first (label_at job.now at)) × IsWord result }
 {
-    let n = writer::get_u8(job, at) as usize;
+    let n = job[at] as usize;
     interner::hash_bytes(job, at + 1, n, first as usize)
 }
 
@@ -60,51 +62,52 @@ fn names_same(job: &[u8], naming: usize, at: usize, first: u8) -> bool
     requires { ((x : Naming) × NamingAt job.now naming x) × Stands short_name job.now at }
     ensures { (x : Naming) → NamingAt job.now naming x → Decides result ((kind_byte x.kind ≡ first) × (x.label ≡ label_at job.now at)) }
 {
-    let n = writer::get_u8(job, at);
-    if writer::get_u8(job, naming) != first {
+    let n = job[at];
+    if job[naming] != first {
         return false;
     }
-    if writer::get_u8(job, naming + 1) != n {
+    if job[naming + 1] != n {
         return false;
     }
     interner::same_bytes(job, naming + 2, at + 1, n as usize)
 }
 
-// 1 + the name of this hash and first byte whose length byte stands at a place; 0 if there is none.
-fn find_name(job: &[u8], w: &[u32], p: &[usize], hash: usize, at: usize, first: u8) -> usize
+// The name of this hash and first byte whose length byte stands at a place.
+fn find_name(job: &[u8], w: &[u32], p: &[usize], hash: usize, at: usize, first: u8) -> Option<usize>
     requires { On p.now (length w.now) × Work job.now p.now × NamesIn (size p.now NAME-HEADS) job.now (store p.now w.now) × Stands short_name job.now at × (hash ≡ hash_bytes first (label_at job.now at)) × IsWord hash }
-    ensures { Sought (Named job.now first (label_at job.now at)) (name_count (store p.now w.now)) result }
+    ensures { Sought (Named job.now first (label_at job.now at)) (name_count (store p.now w.now)) (link_of result) }
 {
     let mut link = first_link(w, p, NAME_HEADS, hash);
     while 0 < link {
-        if names_same(job, load(w, p, NAME_PLACES, link - 1), at, first) {
-            return link;
+        let i = link - 1;
+        if names_same(job, load(w, p, NAME_PLACES, i), at, first) {
+            return Some(i);
         }
-        link = load(w, p, NAME_LINKS, link - 1);
+        link = load(w, p, NAME_LINKS, i);
     }
-    0
+    None
 }
 
-// The naming record at a place becomes one name more, 0; 11 if the name is defined for its kind.
-pub fn add_name(job: &[u8], w: &mut [u32], p: &[usize], at: usize) -> usize
+// The naming record at a place becomes one name more, unless the name is defined for its kind.
+pub fn add_name(job: &[u8], w: &mut [u32], p: &[usize], at: usize) -> Result<(), Refusal>
     requires { On p.now (length w.old) × Work job.now p.now × NamesIn (size p.now NAME-HEADS) job.now (store p.now w.old) × ((x : Naming) × (get_elem? (namings_in job.now) (name_count (store p.now w.old)) ≡ some x) × NamingAt job.now at x) }
-    ensures { (x : Naming) → get_elem? (namings_in job.now) (name_count (store p.now w.old)) ≡ some x → Tried (size p.now NAME-HEADS) job.now (store p.now w.old) (store p.now w.new) x result }
+    ensures { (x : Naming) → get_elem? (namings_in job.now) (name_count (store p.now w.old)) ≡ some x → Tried (size p.now NAME-HEADS) job.now (store p.now w.old) (store p.now w.new) x (code_of result) }
 {
-    let first = writer::get_u8(job, at);
+    let first = job[at];
     let hash = hash_name(job, at + 1, first);
-    if find_name(job, w, p, hash, at + 1, first) != 0 {
-        return 11;
+    if find_name(job, w, p, hash, at + 1, first).is_some() {
+        return Err(Refusal::NameTwice);
     }
     let i = next_count(w, p, NAME_COUNT);
     save(w, p, NAME_PLACES, i, at);
     push_link(w, p, NAME_HEADS, hash, i);
-    0
+    Ok(())
 }
 
-// 1 + the name that a symbol's word stands for, 0 if it isn't defined.
-fn find_symbol(job: &[u8], w: &[u32], p: &[usize], symbol: usize) -> usize
+// The name that a symbol's word stands for, if it is defined.
+fn find_symbol(job: &[u8], w: &[u32], p: &[usize], symbol: usize) -> Option<usize>
     requires { On p.now (length w.now) × Work job.now p.now × NamesIn (size p.now NAME-HEADS) job.now (store p.now w.now) × IsReference job.now (entries_in job.now) symbol × (1048576 ≤ symbol) }
-    ensures { Sought (NamedBy job.now (reference_word job.now (constants_in job.now) symbol)) (name_count (store p.now w.now)) result }
+    ensures { Sought (NamedBy job.now (reference_word job.now (constants_in job.now) symbol)) (name_count (store p.now w.now)) (link_of result) }
 {
     if symbol < BOOTSTRAP_SYM {
         let at = symbol - SYM;
@@ -121,16 +124,14 @@ fn first_goal(job: &[u8], w: &[u32], p: &[usize], i: usize) -> usize
     ensures { First job.now (size p.now NAME-GOALS) i result }
 {
     let at = load(w, p, NAME_PLACES, i);
-    let bootstrap = writer::get_u8(job, at) == 0x42;
+    let bootstrap = job[at] == 0x42;
     let target = reference_word(job, p, job::name_at(job, at + 1).end, bootstrap);
     if target < SYM {
         return target;
     }
-    let link = find_symbol(job, w, p, target);
-    if link == 0 {
-        REFUSED + 12
-    } else {
-        NAME + link - 1
+    match find_symbol(job, w, p, target) {
+        Some(i) => NAME + i,
+        None => REFUSED + 12,
     }
 }
 
@@ -140,11 +141,9 @@ fn start_names(job: &[u8], w: &mut [u32], p: &[usize])
     ensures { Started job.now (store p.now w.old) (store p.now w.new) (size p.now NAME-GOALS) }
 {
     let n = size_of(p, NAME_GOALS);
-    let mut i = 0;
-    while i < n {
+    for i in 0..n {
         let goal = first_goal(job, w, p, i);
         save(w, p, NAME_GOALS, i, goal);
-        i += 1;
     }
 }
 
@@ -164,7 +163,7 @@ fn hop(w: &[u32], p: &[usize], goal: usize) -> usize
 fn on_name(goal: usize) -> usize
     ensures { (result ≡ on_name goal) × (result ≤ 1) }
 {
-    if goal < NAME { 0 } else { 1 }
+    usize::from(NAME <= goal)
 }
 
 // Each name leads where the name that it leads to does, so that spans double. How many still lead to a name.
@@ -174,22 +173,12 @@ fn jump_names(w: &mut [u32], p: &[usize]) -> usize
 {
     let n = size_of(p, NAME_GOALS);
     let mut left = 0;
-    let mut i = 0;
-    while i < n {
+    for i in 0..n {
         let goal = hop(w, p, load(w, p, NAME_GOALS, i));
         save(w, p, NAME_GOALS, i, goal);
         left += on_name(goal);
-        i += 1;
     }
     left
-}
-
-// Twice the span, or past n where nothing leads to a name any more.
-fn wider(span: usize, left: usize, n: usize) -> usize
-    requires { (span ≤ n) × (n < 1000000000) }
-    ensures { (left ≡ 0 → result ≡ n + 1) × (0 < left → result ≡ span + span) }
-{
-    if left == 0 { n + 1 } else { span + span }
 }
 
 // A word that still leads to a name is circular: 13.
@@ -206,11 +195,9 @@ fn end_names(w: &mut [u32], p: &[usize])
     ensures { Finished (store p.now w.old) (store p.now w.new) (size p.now NAME-GOALS) }
 {
     let n = size_of(p, NAME_GOALS);
-    let mut i = 0;
-    while i < n {
+    for i in 0..n {
         let goal = ended(load(w, p, NAME_GOALS, i));
         save(w, p, NAME_GOALS, i, goal);
-        i += 1;
     }
 }
 
@@ -223,8 +210,10 @@ pub fn resolve_names(job: &[u8], w: &mut [u32], p: &[usize])
     let n = size_of(p, NAME_GOALS);
     let mut span = 1;
     while span <= n {
-        let left = jump_names(w, p);
-        span = wider(span, left, n);
+        if jump_names(w, p) == 0 {
+            break;
+        }
+        span += span;
     }
     end_names(w, p);
 }
@@ -237,11 +226,9 @@ pub fn goal_of(job: &[u8], w: &[u32], p: &[usize], reference: usize) -> usize
     if reference < SYM {
         return reference;
     }
-    let link = find_symbol(job, w, p, reference);
-    if link == 0 {
-        REFUSED + 12
-    } else {
-        load(w, p, NAME_GOALS, link - 1)
+    match find_symbol(job, w, p, reference) {
+        Some(i) => load(w, p, NAME_GOALS, i),
+        None => REFUSED + 12,
     }
 }
 
@@ -251,10 +238,8 @@ pub fn link_references(job: &[u8], w: &mut [u32], p: &[usize])
     ensures { ReferencesLinked job.now (store p.now w.old) (store p.now w.new) }
 {
     let n = size_of(p, GOALS);
-    let mut i = 0;
-    while i < n {
+    for i in 0..n {
         let goal = goal_of(job, w, p, load(w, p, GOALS, i));
         save(w, p, GOALS, i, goal);
-        i += 1;
     }
 }

@@ -23,12 +23,6 @@ ended-goal-requires c = c.load.ensures.small
 pub save-requires : goal.save-requires
 save-requires c = let e = c.loop-i.invariant.0 in (search rules, omega (arith, c.size_of-n.ensures), c.ended-goal.ensures.1)
 
-pub overflow_add-i : goal.overflow_add-i
-overflow_add-i c = omega arith
-
-pub loop-i-smaller : goal.loop-i-smaller
-loop-i-smaller c = omega arith
-
 pub loop-i-preserved : goal.loop-i-preserved
 loop-i-preserved c = let l = c.loop-i in let a = c.args in (
   c.save.auto.w ∙ l.invariant.0,

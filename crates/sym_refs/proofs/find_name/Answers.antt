@@ -1,5 +1,6 @@
 -- `sym_refs::find_name` meets its contract. The loop walks down the chain of the name's hash. Assumes nothing.
-use Prim.Native.Nat.{◌-◌}
+use Prim.Native.Nat.{◌+◌, ◌-◌}
+use mathlib.Core.Path.{◌≡◌}
 use Rattle.sym_refs.proofs.Lookup.{item_there, told-yes, told-no}
 use native.Mathlib.Omega.{arith}
 use Rattle.store.specs.Words.{label_at}
@@ -20,8 +21,8 @@ loop-link-init c = let a = c.args in let m = room a.job.now a.p.now c.requires.1
     rw c.first_link-link.ensures
     (name_start (size a.p.now NAME-HEADS) a.job.now a.first (label_at a.job.now a.at) a.hash (store a.p.now a.w.now NAME-PLACES) (store a.p.now a.w.now NAME-HEADS) (store a.p.now a.w.now NAME-LINKS) (name_count (store a.p.now a.w.now)) m.heads.two (length-store a.p.now a.w.now NAME-HEADS) c.requires.2 c.requires.4)
 
-pub overflow_sub-link : goal.overflow_sub-link
-overflow_sub-link c = omega arith
+pub overflow_sub-i : goal.overflow_sub-i
+overflow_sub-i c = omega arith
 
 pub load-requires : goal.load-requires
 load-requires c = let a = c.args in let m = room a.job.now a.p.now c.requires.1 in (c.requires.0, omega (arith, m.places, c.loop-link.invariant.below, c.requires.2.few))
@@ -32,12 +33,10 @@ names_same-requires c = let a = c.args in let t = store a.p.now a.w.now in
     ((j.0, j.2), c.requires.3)
 
 pub returns-then-names_same : goal.returns-then-names_same
-returns-then-names_same c = let a = c.args in let t = store a.p.now a.w.now in let l = c.loop-link in
-    sought_hit _ _ l.link l.invariant.below c.loop-link-test.true
-    (told-yes (size a.p.now NAME-HEADS) a.job.now (t NAME-PLACES) (t NAME-HEADS) (t NAME-LINKS) (name_count t) c.requires.2 (l.link - 1) c.load.result (omega (arith, c.loop-link-test.true, l.invariant.below)) c.load.ensures.word a.first (label_at a.job.now a.at) c.names_same.result c.names_same.ensures c.if-names_same.true)
-
-pub overflow_sub-link-in-loop-link : goal.overflow_sub-link-in-loop-link
-overflow_sub-link-in-loop-link c = omega arith
+returns-then-names_same c = let a = c.args in let t = store a.p.now a.w.now in let l = c.loop-link in let again : l.link - 1 + 1 ≡ l.link = omega (arith, c.loop-link-test.true) in
+    rw again
+    (sought_hit _ _ l.link l.invariant.below c.loop-link-test.true
+    (told-yes (size a.p.now NAME-HEADS) a.job.now (t NAME-PLACES) (t NAME-HEADS) (t NAME-LINKS) (name_count t) c.requires.2 (l.link - 1) c.load.result (omega (arith, c.loop-link-test.true, l.invariant.below)) c.load.ensures.word a.first (label_at a.job.now a.at) c.names_same.result c.names_same.ensures c.if-names_same.true))
 
 pub load-link-requires : goal.load-link-requires
 load-link-requires c = let a = c.args in let m = room a.job.now a.p.now c.requires.1 in (c.requires.0, omega (arith, m.links, c.loop-link.invariant.below, c.requires.2.few))

@@ -5,14 +5,14 @@ use Rattle.sym_refs.proofs.Comparing.{name_room}
 use borrow.Author.Rules.{rules}
 use Rattle.sym_refs.proofs.hash_name.Goals as goal
 
-pub get_u8-n-requires : goal.get_u8-n-requires
-get_u8-n-requires c = (name_room _ _ c.requires).0
+pub bounds-job-at : goal.bounds-job-at
+bounds-job-at c = (name_room _ _ c.requires).0
 
 pub overflow_add-at : goal.overflow_add-at
 overflow_add-at c = let a = c.args in omega (arith, name_room a.job.now a.at c.requires)
 
 pub hash_bytes-requires : goal.hash_bytes-requires
-hash_bytes-requires c = let a = c.args in let e = c.get_u8-n.ensures in (omega (arith, name_room a.job.now a.at c.requires), search rules, search rules)
+hash_bytes-requires c = let a = c.args in (omega (arith, name_room a.job.now a.at c.requires), search rules, search rules)
 
 pub returns : goal.returns
-returns c = let a = c.args in rw (label_is a.job.now a.at, ← c.get_u8-n.ensures) c.hash_bytes.ensures
+returns c = let a = c.args in rw (label_is a.job.now a.at) c.hash_bytes.ensures

@@ -30,12 +30,6 @@ save-requires c = let l = c.loop-i in let e = l.invariant.0 in let a = c.args in
 pub overflow_add-left : goal.overflow_add-left
 overflow_add-left c = omega (arith, c.on_name-left.ensures.1, c.loop-i.invariant.1.few)
 
-pub overflow_add-i : goal.overflow_add-i
-overflow_add-i c = omega arith
-
-pub loop-i-smaller : goal.loop-i-smaller
-loop-i-smaller c = omega arith
-
 pub loop-i-preserved : goal.loop-i-preserved
 loop-i-preserved c = let l = c.loop-i in let a = c.args in let p = a.p.now in let t = store p a.w.now in let u = store p l.w in (
   c.save.auto.w ∙ l.invariant.0,

@@ -1,11 +1,8 @@
 -- `sym_refs::on_name` meets its contract. Assumes nothing.
 use native.Mathlib.Omega.{arith}
-use mathlib.Core.Path.{sym}
-use Rattle.sym_refs.proofs.Jumping.{on_none, on_one}
+use mathlib.Core.Path.{◌∙◌}
+use Rattle.sym_refs.proofs.Jumping.{on_name-byte, on_name-small}
 use Rattle.sym_refs.proofs.on_name.Goals as goal
 
-pub returns-then-goal-lt-NAME : goal.returns-then-goal-lt-NAME
-returns-then-goal-lt-NAME c = (sym (on_none _ c.if-goal-lt-NAME.true), omega arith)
-
-pub returns-else-goal-lt-NAME : goal.returns-else-goal-lt-NAME
-returns-else-goal-lt-NAME c = (sym (on_one _ c.if-goal-lt-NAME.false), omega arith)
+pub returns : goal.returns
+returns c = let e = c.from.ensures ∙ on_name-byte c.args.goal in (e, omega (arith, e, on_name-small c.args.goal))

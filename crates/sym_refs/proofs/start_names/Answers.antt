@@ -23,12 +23,6 @@ pub save-requires : goal.save-requires
 save-requires c = let a = c.args in let e = c.loop-i.invariant.0 in let m = room a.job.now a.p.now c.requires.1 in
     (search rules, omega (arith, c.size_of-n.ensures), omega (arith, c.first_goal-goal.ensures.low, m.name_goals, m.names))
 
-pub overflow_add-i : goal.overflow_add-i
-overflow_add-i c = omega arith
-
-pub loop-i-smaller : goal.loop-i-smaller
-loop-i-smaller c = omega arith
-
 pub loop-i-preserved : goal.loop-i-preserved
 loop-i-preserved c = let l = c.loop-i in let a = c.args in (
   c.save.auto.w ∙ l.invariant.0,
