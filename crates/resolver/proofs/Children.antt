@@ -13,6 +13,8 @@ use Rattle.store.specs.Regions.{MARKS, FIRSTS, SIZES, GOALS, CHILDREN, STACK}
 use Rattle.store.specs.Words.{ENTRY, LEAVE, REFUSED, mark_word, goal_word}
 use Rattle.store.proofs.Keeping.{kept_put, kept_then, kept_more}
 use Rattle.resolver.specs.Resolved.{Became}
+use Rattle.std.specs.Prelude.{Ok, Err}
+use Rattle.refusal.specs.declared.Refusal.TheVariants.{Circular}
 use Rattle.resolver.specs.Moves.{Places, ToLeave, Written, Pushed, Enters}
 use Rattle.resolver.proofs.Meanings.{child_raw, child_entry}
 use Rattle.facts.proofs.Lists.{equal, order}
@@ -132,19 +134,19 @@ module _ (t u : Store) (e n first count i : ℕ) (w : Pushing t u n first count 
       }
 
 -- ENTERING, by the entry's mark
-pub enters_done : (t : Store) (e n : ℕ) → 1 < get_or (t MARKS) e 0 → Enters t t e n n
+pub enters_done : (t : Store) (e n : ℕ) → 1 < get_or (t MARKS) e 0 → Enters t t e n (Ok n)
 enters_done t e n h = record { is_done = λ _. (refl, refl); is_underway = λ q. absurd (omega arith); is_fresh = λ q. absurd (omega arith); kept = λ k _. refl }
 
-pub enters_underway : (t : Store) (e n : ℕ) → get_or (t MARKS) e 0 ≡ 1 → Enters t t e n (REFUSED + 13)
+pub enters_underway : (t : Store) (e n : ℕ) → get_or (t MARKS) e 0 ≡ 1 → Enters t t e n (Err Circular)
 enters_underway t e n h = record { is_done = λ q. absurd (omega arith); is_underway = λ _. refl; is_fresh = λ q. absurd (omega arith); kept = λ k _. refl }
 
-pub enters_fresh : (t u : Store) (e n r : ℕ) → get_or (t MARKS) e 0 ≡ 0 → Pushed (put t MARKS e 1) u e n r → Enters t u e n r
+pub enters_fresh : (t u : Store) (e n m : ℕ) → get_or (t MARKS) e 0 ≡ 0 → Pushed (put t MARKS e 1) u e n m → Enters t u e n (Ok m)
 unfolding every
-enters_fresh t u e n r h q =
+enters_fresh t u e n m h q =
     record {
       is_done = λ z. absurd (omega arith);
       is_underway = λ z. absurd (omega arith);
-      is_fresh = λ _. q;
+      is_fresh = λ _. (m, refl, q);
       kept =
           kept_then (MARKS ∷ STACK ∷ []) t (put t MARKS e 1) u
           (kept_put (MARKS ∷ STACK ∷ []) t t MARKS e 1 refl (λ k _. refl))

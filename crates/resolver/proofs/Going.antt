@@ -18,11 +18,15 @@ use Rattle.laws.proofs.Resolving.FaithfulToEntries.{resolve-faithful}
 use Rattle.store.specs.Store.{Store, size, put, IsWord, Kept}
 use Rattle.store.specs.JobIn.{entries_in, linked_in}
 use Rattle.store.specs.Regions.{COUNTS, MARKS, OFFSETS, FIRSTS, SIZES, GOALS, CHILDREN, NODES, STACK, VALUES, NODE-COUNT, VISITS, Work}
-use Rattle.store.specs.Words.{REFUSED, mark_word, goal_word, IsGoal}
+use Rattle.store.specs.Words.{mark_word, goal_word, IsGoal}
 use Rattle.store.specs.Small.{Small}
 use Rattle.store.proofs.Laying.{work-sizes}
 use Rattle.store.proofs.Keeping.{kept_then, kept_put}
 use Rattle.interner.specs.Nodes.{node_at_lem, node_count}
+use Rattle.std.specs.Prelude.{Ok, Err}
+use Rattle.refusal.specs.Numbers.{number}
+use Rattle.refusal.specs.declared.Refusal.{Refusal}
+use Rattle.refusal.proofs.Numbers.{number_tag}
 use Rattle.resolver.specs.Resolved.{resolved_in, Table, AtRest, visits_owed, told, Resolves}
 use Rattle.resolver.specs.Moves.{state_at, stack_of, Running, CountersKept, Steps}
 use Rattle.resolver.proofs.Meanings.{goal_in_lem, goal_ok, item_goal}
@@ -98,7 +102,7 @@ module _ (h : ℕ) (s : List ℕ) (goal : ℕ) (t u : Store) (visits n : ℕ) (z
   pub running_top : 0 < n → Running h s u (suc (n - 1))
   running_top l = let q : suc (n - 1) ≡ n = omega arith in rw q z.running
 
-  module _ (v : Store) (r : ℕ) (l : 0 < n) (steps : Steps h s u v (n - 1) r) where
+  module _ (v : Store) (l : 0 < n) where
     back : suc (n - 1) ≡ n
     back = omega arith
 
@@ -108,30 +112,29 @@ module _ (h : ℕ) (s : List ℕ) (goal : ℕ) (t u : Store) (visits n : ℕ) (z
     whole : work (suc (z.fuel - 1)) (linked_in s) (stack_of (u STACK) (suc (n - 1))) (state_at s u visits) ≡ resolve (linked_in s) (goal_word goal) (resolved_in s t)
     whole = rw (back, more) z.rest
 
-    pub resolving_next : r < REFUSED → Resolving h s goal t v (visits + 1) r
-    resolving_next g =
+    pub resolving_next : (m : ℕ) → Steps h s u v (n - 1) (Ok m) → Resolving h s goal t v (visits + 1) m
+    resolving_next m steps =
         rw (add-one visits)
         (record {
-          running = steps.again g;
+          running = steps.is.again;
           fuel = z.fuel - 1;
-          lasts = omega (arith, z.lasts, steps.falls g);
-          rest = sym (steps.goes g (z.fuel - 1) visits) ∙ whole;
-          bound = omega (arith, z.bound, steps.falls g);
+          lasts = omega (arith, z.lasts, steps.is.falls);
+          rest = sym (steps.is.is (z.fuel - 1) visits) ∙ whole;
+          bound = omega (arith, z.bound, steps.is.falls);
           counters = λ c k. steps.counters c k ∙ z.counters c k;
           kept = kept_then step_regions t u v z.kept steps.kept;
         })
 
     pub resolving_less :
-        r < REFUSED → r + owing (linked_in s) (map mark_word (v MARKS)) < n + owing (linked_in s) (map mark_word (u MARKS))
-    resolving_less g = omega (arith, steps.falls g)
+        (m : ℕ) → Steps h s u v (n - 1) (Ok m) → m + owing (linked_in s) (map mark_word (v MARKS)) < n + owing (linked_in s) (map mark_word (u MARKS))
+    resolving_less m steps = omega (arith, steps.is.falls)
 
-    pub resolving_refused : REFUSED ≤ r → Resolves h s t v goal (r - REFUSED)
-    resolving_refused g =
-        let (past, ends) = steps.ends g in
+    pub resolving_refused : (q : Refusal) → Steps h s u v (n - 1) (Err q) → Resolves h s t v goal (number q)
+    resolving_refused q steps =
         record {
-          is = sym whole ∙ ends (z.fuel - 1) visits ∙ sym (told-bad (r - REFUSED) (resolved_in s v) (omega arith));
-          again = λ q. absurd (omega arith);
-          visits = λ q. absurd (omega arith);
+          is = sym whole ∙ steps.is (z.fuel - 1) visits ∙ sym (told-bad (number q) (resolved_in s v) (omega (arith, number_tag q)));
+          again = λ e. absurd (omega (arith, number_tag q));
+          visits = λ e. absurd (omega (arith, number_tag q));
           counters = λ c k _. steps.counters c k ∙ z.counters c k;
           kept = kept_then step_regions t u v z.kept steps.kept;
         }
@@ -239,9 +242,9 @@ module _ (h : ℕ) (s : List ℕ) (goal : ℕ) (t b : Store) (begun : b ≡ put 
       omega arith
 
   pub end_refused :
-      (u v : Store) (visits n r : ℕ) → Resolving h s goal b u visits n → 0 < n → Steps h s u v (n - 1) r → REFUSED ≤ r → Resolves h s t v goal (r - REFUSED)
-  end_refused u v visits n r z l steps g =
-      resolves_whole h s t v goal goal (r - REFUSED) (subst (λ (x : Store). Resolves h s x v goal (r - REFUSED)) begun (resolving_refused h s goal b u visits n z v r l steps g))
+      (u v : Store) (visits n : ℕ) (q : Refusal) → Resolving h s goal b u visits n → 0 < n → Steps h s u v (n - 1) (Err q) → Resolves h s t v goal (number q)
+  end_refused u v visits n q z l steps =
+      resolves_whole h s t v goal goal (number q) (subst (λ (x : Store). Resolves h s x v goal (number q)) begun (resolving_refused h s goal b u visits n z v l q steps))
 
   pub end-good :
       (p : List ℕ) → Work s p → (u : Store) (visits n : ℕ) → Table s t → AtRest h s t → IsGoal (entries_in s) goal → VISITS < length (u COUNTS) → n ≤ 0 →

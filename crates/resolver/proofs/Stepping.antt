@@ -27,6 +27,10 @@ use Rattle.store.proofs.Keeping.{kept_then, kept_more, kept_put}
 use Rattle.store.proofs.Laying.{work-sizes, work-formed, entries-counted}
 use Rattle.store.proofs.Bounds.{small}
 use Rattle.interner.specs.Nodes.{node_at_lem, node_count, nodes_in}
+use Rattle.std.specs.Prelude.{Result, Ok, Err}
+use Rattle.refusal.specs.Numbers.{number}
+use Rattle.refusal.specs.declared.Refusal.{Refusal}
+use Rattle.refusal.specs.declared.Refusal.TheVariants.{Circular}
 use Rattle.resolver.specs.Resolved.{Table}
 use Rattle.resolver.specs.Moves.{state_at, stack_of, IsItem, Places, ToLeave, Pushed, Enters, NodesHold, Running, CountersKept, Leaves, Steps}
 use Rattle.resolver.proofs.Meanings.{goal_refused, goal_ok, item_goal, item_leave, is_fresh_lem, is_underway_lem, is_done_lem, mark_at, found_underway, done_found, settled-became}
@@ -100,10 +104,6 @@ module _ (h : ℕ) (s : List ℕ) (t : Store) (n : ℕ) (few : Small s) (table :
       ways (inl g) = rw (item_goal (entries_in s) (get_or (t STACK) n 0) few.entries g) (goal_ok (entries_in s) (get_or (t STACK) n 0) few.entries g)
       ways (inr (a, b)) = rw (item_leave (get_or (t STACK) n 0) a (omega (arith, few.entries))) tt
 
-  -- the stack's room is less than a refusal
-  fuel_low : fuel_for (linked_in s) < REFUSED
-  fuel_low = omega (arith, fuel_counted s, few.entries, few.references)
-
   -- A STEP THAT GOES ON
   module _
       (u : Store) (r : ℕ) (pushed : List Item)
@@ -135,31 +135,28 @@ module _ (h : ℕ) (s : List ℕ) (t : Store) (n : ℕ) (few : Small s) (table :
           paid = omega (arith, less, run.paid);
         }
 
-    good_step : Steps h s t u n r
+    good_step : Steps h s t u n (Ok r)
     good_step =
         record {
-          goes =
-              λ _ fuel visits.
-              rw (stack_is, stack) (work-good (linked_in s) fuel item rest (state_at s t visits) (pushed, state_at s u (suc visits)) (is visits));
-          again = λ _. running;
-          falls = λ _. less;
-          ends = λ l. absurd (omega (arith, fuel_low, running.paid));
+          is =
+              record {
+                is =
+                    λ fuel visits.
+                    rw (stack_is, stack) (work-good (linked_in s) fuel item rest (state_at s t visits) (pushed, state_at s u (suc visits)) (is visits));
+                again = running;
+                falls = less;
+              };
           counters = counters;
           kept = kept;
         }
 
   -- A STEP THAT IS REFUSED
   bad_step :
-      (u : Store) (code : ℕ) → 0 < code →
-      ((visits : ℕ) → step (linked_in s) item (state_at s t visits) ≡ bad code) →
-      CountersKept t u → Kept step_regions t u → Steps h s t u n (REFUSED + code)
-  bad_step u code real is counters kept =
-      let q : REFUSED + code - REFUSED ≡ code = omega arith in
+      (u : Store) (q : Refusal) → ((visits : ℕ) → step (linked_in s) item (state_at s t visits) ≡ bad (number q)) →
+      CountersKept t u → Kept step_regions t u → Steps h s t u n (Err q)
+  bad_step u q is counters kept =
       record {
-        goes = λ l. absurd (omega arith);
-        again = λ l. absurd (omega arith);
-        falls = λ l. absurd (omega arith);
-        ends = λ _. (omega arith, λ fuel visits. rw (stack_is, q) (work-bad (linked_in s) fuel item rest (state_at s t visits) code (is visits)));
+        is = λ fuel visits. rw stack_is (work-bad (linked_in s) fuel item rest (state_at s t visits) (number q) (is visits));
         counters = counters;
         kept = kept;
       }
@@ -172,37 +169,30 @@ module _ (h : ℕ) (s : List ℕ) (t : Store) (n : ℕ) (few : Small s) (table :
   unfolding visited
   visit visits e = e
 
-  unchanged : ((visits : ℕ) → step (linked_in s) item (state_at s t visits) ≡ good ([], visited (state_at s t visits))) → Steps h s t t n n
+  unchanged : ((visits : ℕ) → step (linked_in s) item (state_at s t visits) ≡ good ([], visited (state_at s t visits))) → Steps h s t t n (Ok n)
   unfolding rest
   unchanged is = good_step t n [] (λ visits. visit visits (is visits)) refl run.hold (λ i l. run.words i (omega arith)) nothing (λ k _. refl)
 
-  pub step-raw : get_or (t STACK) n 0 < ENTRY → Steps h s t t n n
+  pub step-raw : get_or (t STACK) n 0 < ENTRY → Steps h s t t n (Ok n)
   unfolding item step
   step-raw l =
       let g : IsGoal (entries_in s) (get_or (t STACK) n 0) = inl (omega arith) in
       unchanged (λ visits. rw (item_goal (entries_in s) (get_or (t STACK) n 0) few.entries g, goal_raw (get_or (t STACK) n 0) l))
 
   -- A REFUSAL
-  pub step-refused : REFUSED ≤ get_or (t STACK) n 0 → Steps h s t t n (get_or (t STACK) n 0)
-  unfolding item step
-  step-refused l = ways word
+  pub goal-refused : REFUSED ≤ get_or (t STACK) n 0 → (get_or (t STACK) n 0 ≡ REFUSED + 12) ⊎ (get_or (t STACK) n 0 ≡ REFUSED + 13)
+  goal-refused l = ways word
     where
-      x : ℕ
-      x = get_or (t STACK) n 0
-
-      is : IsGoal (entries_in s) x → (code : ℕ) → x ≡ REFUSED + code → (visits : ℕ) → step (linked_in s) (item_word x) (state_at s t visits) ≡ bad code
-      is g code q visits =
-          let z : x - REFUSED ≡ code = omega arith in
-          rw (item_goal (entries_in s) x few.entries g, goal_refused x l, z)
-
-      met : IsGoal (entries_in s) x → (code : ℕ) → 0 < code → x ≡ REFUSED + code → Steps h s t t n x
-      met g code real q = rw q (bad_step t code real (is g code q) nothing (λ k _. refl))
-
-      ways : IsItem (entries_in s) x → Steps h s t t n x
+      ways : IsItem (entries_in s) (get_or (t STACK) n 0) → (get_or (t STACK) n 0 ≡ REFUSED + 12) ⊎ (get_or (t STACK) n 0 ≡ REFUSED + 13)
       ways (inl (inl a)) = absurd (omega (arith, few.entries))
-      ways (inl (inr (inl q))) = met (inr (inl q)) 12 (omega arith) q
-      ways (inl (inr (inr q))) = met (inr (inr q)) 13 (omega arith) q
+      ways (inl (inr q)) = q
       ways (inr (a, b)) = absurd (omega (arith, few.entries))
+
+  pub step-refused : (q : Refusal) → REFUSED ≤ get_or (t STACK) n 0 → get_or (t STACK) n 0 ≡ REFUSED + number q → Steps h s t t n (Err q)
+  unfolding item step
+  step-refused q l told =
+      let z : get_or (t STACK) n 0 - REFUSED ≡ number q = omega arith in
+      bad_step t q (λ visits. rw (item_goal (entries_in s) (get_or (t STACK) n 0) few.entries (inr (goal-refused l)), goal_refused (get_or (t STACK) n 0) l, z)) nothing (λ k _. refl)
 
   -- AN ENTRY ENTERED
   marks_long : length (t MARKS) ≡ entries_in s
@@ -235,18 +225,17 @@ module _ (h : ℕ) (s : List ℕ) (t : Store) (n : ℕ) (few : Small s) (table :
       unfolding step
       stepping m q visits = rw (at, mark_is m q)
 
-      entry_done : 1 < get_or (t MARKS) e 0 → Steps h s t t n n
+      entry_done : 1 < get_or (t MARKS) e 0 → Steps h s t t n (Ok n)
       unfolding entering
       entry_done l =
           let k = get_or (t MARKS) e 0 - 2 in
           unchanged (stepping (done k) (is_done_lem (get_or (t MARKS) e 0) k (omega arith)))
 
       module _ (u : Store) (r : ℕ) where
-        entry_underway : get_or (t MARKS) e 0 ≡ 1 → r ≡ REFUSED + 13 → Kept (MARKS ∷ STACK ∷ []) t u → Steps h s t u n r
-        unfolding entering every
-        entry_underway q is kept =
-            rw is
-            (bad_step u 13 (omega arith) (stepping underway (is_underway_lem (get_or (t MARKS) e 0) q))
+        entry_underway : get_or (t MARKS) e 0 ≡ 1 → Kept (MARKS ∷ STACK ∷ []) t u → Steps h s t u n (Err Circular)
+        unfolding entering every number
+        entry_underway q kept =
+            (bad_step u Circular (stepping underway (is_underway_lem (get_or (t MARKS) e 0) q))
             (λ c _. ap (λ (l : List ℕ). get_or l c 0) (kept COUNTS refl))
             (kept_more (MARKS ∷ STACK ∷ []) step_regions t u refl kept))
 
@@ -304,7 +293,7 @@ module _ (h : ℕ) (s : List ℕ) (t : Store) (n : ℕ) (few : Small s) (table :
               (words_pushed (t STACK) (u STACK) (λ i. get_or (t GOALS) (get_or (t FIRSTS) e 0 + i) 0) (entries_in s) e n (get_or (t SIZES) e 0) few.entries inside pushed.below pushed.leaving pushed.goals kids.2.words
               (λ i l. run.words i (omega arith)))
 
-          entry_fresh : Steps h s t u n r
+          entry_fresh : Steps h s t u n (Ok r)
           unfolding every
           entry_fresh =
               good_step u r items is stack hold words
@@ -324,7 +313,7 @@ module _ (h : ℕ) (s : List ℕ) (t : Store) (n : ℕ) (few : Small s) (table :
       ways (inr (a, b)) = absurd (omega arith)
 
   pub step-entered :
-      (u : Store) (r : ℕ) → ENTRY ≤ get_or (t STACK) n 0 → get_or (t STACK) n 0 < LEAVE → Enters t u (get_or (t STACK) n 0 - ENTRY) n r → Steps h s t u n r
+      (u : Store) (r : Result ℕ Refusal) → ENTRY ≤ get_or (t STACK) n 0 → get_or (t STACK) n 0 < LEAVE → Enters t u (get_or (t STACK) n 0 - ENTRY) n r → Steps h s t u n r
   unfolding item
   step-entered u r l g enters = ways (order 1 (get_or (t MARKS) e 0))
     where
@@ -344,8 +333,8 @@ module _ (h : ℕ) (s : List ℕ) (t : Store) (n : ℕ) (few : Small s) (table :
       ways (inl m) = let (a, b) = enters.is_done m in rw (a, b) (entry_done e inside at m)
       ways (inr m) =
           ⊎_elim
-          (λ (q : get_or (t MARKS) e 0 ≡ 1). entry_underway e inside at u r q (enters.is_underway q) enters.kept)
-          (λ (q : get_or (t MARKS) e 0 ≡ 1 → ⊥). let z : get_or (t MARKS) e 0 ≡ 0 = omega arith in entry_fresh e inside at u r z (enters.is_fresh z))
+          (λ (q : get_or (t MARKS) e 0 ≡ 1). rw (enters.is_underway q) (entry_underway e inside at u 0 q enters.kept))
+          (λ (q : get_or (t MARKS) e 0 ≡ 1 → ⊥). let z : get_or (t MARKS) e 0 ≡ 0 = omega arith in let (m, is, pushed) = enters.is_fresh z in rw is (entry_fresh e inside at u m z pushed))
           (equal (get_or (t MARKS) e 0) 1)
 
   -- AN ENTRY LEFT
@@ -416,7 +405,7 @@ module _ (h : ℕ) (s : List ℕ) (t : Store) (n : ℕ) (few : Small s) (table :
       left-words : (i : ℕ) → i < n → IsItem (entries_in s) (get_or (u STACK) i 0)
       left-words i b = rw (leaves.kept STACK refl) (run.words i (omega arith))
 
-      pub step_left : Steps h s t u n n
+      pub step_left : Steps h s t u n (Ok n)
       unfolding every
       step_left =
           good_step u n [] left_is left-stack leaves.hold left-words leaves.counters
@@ -424,11 +413,14 @@ module _ (h : ℕ) (s : List ℕ) (t : Store) (n : ℕ) (few : Small s) (table :
 
   -- THE SAME FOR THE WORD x, READ FROM THE TOP
   module _ (x : ℕ) (got : x ≡ get_or (t STACK) n 0) where
-    pub raw_steps : x < ENTRY → Steps h s t t n n
+    pub raw_steps : x < ENTRY → Steps h s t t n (Ok n)
     raw_steps l = step-raw (rw got at l)
 
-    pub refused_steps : REFUSED ≤ x → Steps h s t t n x
-    refused_steps l = rw got (step-refused (rw got at l))
+    pub refused_goal : REFUSED ≤ x → (x ≡ REFUSED + 12) ⊎ (x ≡ REFUSED + 13)
+    refused_goal l = rw got (goal-refused (rw got at l))
+
+    pub refused_steps : REFUSED ≤ x → (q : Refusal) → x ≡ REFUSED + number q → Steps h s t t n (Err q)
+    refused_steps l q told = step-refused q (rw got at l) (rw got at told)
 
     module _ (l : ENTRY ≤ x) (g : x < LEAVE) where
       pub entered_low : x - ENTRY < entries_in s
@@ -441,7 +433,7 @@ module _ (h : ℕ) (s : List ℕ) (t : Store) (n : ℕ) (few : Small s) (table :
       pub enter_word : IsWord (LEAVE + (x - ENTRY))
       enter_word = omega (arith, entered_low, few.entries)
 
-      pub entered_steps : (u : Store) (r : ℕ) → Enters t u (x - ENTRY) n r → Steps h s t u n r
+      pub entered_steps : (u : Store) (r : Result ℕ Refusal) → Enters t u (x - ENTRY) n r → Steps h s t u n r
       entered_steps u r enters = step-entered u r (rw got at l) (rw got at g) (rw got at enters)
 
     module _ (l : LEAVE ≤ x) (g : x < REFUSED) where
@@ -451,7 +443,7 @@ module _ (h : ℕ) (s : List ℕ) (t : Store) (n : ℕ) (few : Small s) (table :
       pub left-ready : ToLeave t (x - LEAVE)
       left-ready = rw got (to_leave (rw got at l) (rw got at g))
 
-      pub left-steps : (u : Store) → Leaves h s t u (x - LEAVE) → Steps h s t u n n
+      pub left-steps : (u : Store) → Leaves h s t u (x - LEAVE) → Steps h s t u n (Ok n)
       left-steps u leaves = step_left (rw got at l) (rw got at g) u (rw got at leaves)
 
 -- the item on top has its place

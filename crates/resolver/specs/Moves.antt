@@ -1,5 +1,8 @@
 -- What the resolver's functions keep and change, one item at a time. Assumes nothing.
-use Rattle.std.specs.Prelude.{List, [], ◌∷◌, map, ◌⊎◌, ◌≡◌, ℕ, zero, suc, ◌+◌, ◌-◌, ◌≤◌, ◌<◌, get_or}
+use Rattle.std.specs.Prelude.{List, [], ◌∷◌, map, ◌⊎◌, ◌≡◌, ℕ, zero, suc, ◌+◌, ◌-◌, ◌≤◌, ◌<◌, get_or, Result, Ok, Err}
+use Rattle.refusal.specs.Numbers.{number}
+use Rattle.refusal.specs.declared.Refusal.{Refusal}
+use Rattle.refusal.specs.declared.Refusal.TheVariants.{Circular}
 use Rattle.definition.specs.Basics.{bad}
 use Rattle.definition.specs.Resolving.{Goal, Resolved, Item, child_of, leaving, work, fuel_for}
 use Rattle.laws.specs.Faithful.{owing}
@@ -58,10 +61,10 @@ pub record Pushed (t u : Store) (e n r : ℕ) : Type 0 where
   pub kept : Kept (STACK ∷ []) t u
 
 -- an entry was entered over n items
-pub record Enters (t u : Store) (e n r : ℕ) : Type 0 where
-  pub is_done : 1 < get_or (t MARKS) e 0 → (r ≡ n) × (u ≡ t)
-  pub is_underway : get_or (t MARKS) e 0 ≡ 1 → r ≡ REFUSED + 13
-  pub is_fresh : get_or (t MARKS) e 0 ≡ 0 → Pushed (put t MARKS e 1) u e n r
+pub record Enters (t u : Store) (e n : ℕ) (r : Result ℕ Refusal) : Type 0 where
+  pub is_done : 1 < get_or (t MARKS) e 0 → (r ≡ Ok n) × (u ≡ t)
+  pub is_underway : get_or (t MARKS) e 0 ≡ 1 → r ≡ Err Circular
+  pub is_fresh : get_or (t MARKS) e 0 ≡ 0 → (m : ℕ) × (r ≡ Ok m) × Pushed (put t MARKS e 1) u e n m
   pub kept : Kept (MARKS ∷ STACK ∷ []) t u
 
 -- what holds of the nodes between two items
@@ -91,16 +94,24 @@ pub record Leaves (h : ℕ) (s : List ℕ) (t u : Store) (e : ℕ) : Type 0 wher
   pub counters : CountersKept t u
   pub kept : Kept (COUNTS ∷ MARKS ∷ NODE-HEADS ∷ NODE-LINKS ∷ CHILDREN ∷ NODES ∷ []) t u
 
--- the item over n others was taken: there are r items then, or r tells a refusal
-pub record Steps (h : ℕ) (s : List ℕ) (t u : Store) (n r : ℕ) : Type 0 where
-  pub goes :
-      r < REFUSED → (fuel visits : ℕ) →
+-- the item over n others was taken, and there are m items then
+pub record Goes (h : ℕ) (s : List ℕ) (t u : Store) (n m : ℕ) : Type 0 where
+  pub is :
+      (fuel visits : ℕ) →
       work (suc fuel) (linked_in s) (stack_of (t STACK) (suc n)) (state_at s t visits)
-      ≡ work fuel (linked_in s) (stack_of (u STACK) r) (state_at s u (suc visits))
-  pub again : r < REFUSED → Running h s u r
-  pub falls : r < REFUSED → r + owing (linked_in s) (map mark_word (u MARKS)) ≤ n + owing (linked_in s) (map mark_word (t MARKS))
-  pub ends :
-      REFUSED ≤ r →
-      (REFUSED < r) × ((fuel visits : ℕ) → work (suc fuel) (linked_in s) (stack_of (t STACK) (suc n)) (state_at s t visits) ≡ bad (r - REFUSED))
+      ≡ work fuel (linked_in s) (stack_of (u STACK) m) (state_at s u (suc visits))
+  pub again : Running h s u m
+  pub falls : m + owing (linked_in s) (map mark_word (u MARKS)) ≤ n + owing (linked_in s) (map mark_word (t MARKS))
+
+-- or it is refused
+abbrev pub Ends : List ℕ → Store → ℕ → Refusal → Type 0
+Ends s t n q = (fuel visits : ℕ) → work (suc fuel) (linked_in s) (stack_of (t STACK) (suc n)) (state_at s t visits) ≡ bad (number q)
+
+abbrev pub GoesOrEnds : ℕ → List ℕ → Store → Store → ℕ → Result ℕ Refusal → Type 0
+GoesOrEnds h s t u n (Ok m) = Goes h s t u n m
+GoesOrEnds h s t u n (Err q) = Ends s t n q
+
+pub record Steps (h : ℕ) (s : List ℕ) (t u : Store) (n : ℕ) (r : Result ℕ Refusal) : Type 0 where
+  pub is : GoesOrEnds h s t u n r
   pub counters : CountersKept t u
   pub kept : Kept (COUNTS ∷ MARKS ∷ NODE-HEADS ∷ NODE-LINKS ∷ CHILDREN ∷ NODES ∷ STACK ∷ []) t u

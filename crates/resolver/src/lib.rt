@@ -1,15 +1,17 @@
 // A stack of items turns the entries reached into nodes: `resolve` of Krakatau's sym_ref_resolver.rs.
 #![tactic(auto)]
 
-ghost use Rattle.std.specs.Prelude.{map, ◌≡◌, ℕ, suc, ◌+◌, ◌<◌, ◌≤◌, length, get_or};
+ghost use Rattle.std.specs.Prelude.{map, ◌≡◌, ℕ, ◌⊎◌, suc, ◌+◌, ◌<◌, ◌≤◌, length, get_or};
 ghost use Rattle.definition.specs.Resolving.{child_of};
 ghost use Rattle.store.specs.Store.{size, store, On, IsWord};
 ghost use Rattle.store.specs.JobIn.{entries_in};
 ghost use Rattle.store.specs.Regions.{MARKS, NODE-HEADS, SIZES, STACK, Work};
-ghost use Rattle.store.specs.Words.{LEAVE, mark_word, goal_word, IsGoal};
+ghost use Rattle.store.specs.Words.{LEAVE, REFUSED, mark_word, goal_word, IsGoal};
+ghost use Rattle.refusal.specs.Numbers.{number, code_of};
 ghost use Rattle.resolver.specs.Resolved.{Table, AtRest, Became, visits_owed, Resolves};
 ghost use Rattle.resolver.specs.Moves.{Places, ToLeave, Written, Pushed, Enters, NodesHold, Running, Leaves, Steps};
 
+use refusal::Refusal;
 use store::{
     CHILDREN, COUNTS, DONE, ENTRY, FIRSTS, GOALS, LEAVE, MARKS, REFUSED, SIZES, STACK, UNDERWAY,
     VISITS, load, save,
@@ -42,11 +44,9 @@ fn write_children(w: &mut [u32], p: &[usize], e: usize)
 {
     let first = load(w, p, FIRSTS, e);
     let end = first + load(w, p, SIZES, e);
-    let mut i = first;
-    while i < end {
+    for i in first..end {
         let child = child_of(w, p, load(w, p, GOALS, i));
         save(w, p, CHILDREN, i, child);
-        i += 1;
     }
 }
 
@@ -57,30 +57,28 @@ fn push_children(w: &mut [u32], p: &[usize], e: usize, n: usize) -> usize
 {
     let first = load(w, p, FIRSTS, e);
     let count = load(w, p, SIZES, e);
-    let mut i = 0;
-    while i < count {
+    for i in 0..count {
         let goal = load(w, p, GOALS, first + i);
         save(w, p, STACK, n + count - i, goal);
-        i += 1;
     }
     save(w, p, STACK, n, LEAVE + e);
     n + count + 1
 }
 
-// Enters an entry over n items; how many there are then, or REFUSED + 13.
-fn enter(w: &mut [u32], p: &[usize], e: usize, n: usize) -> usize
+// Enters an entry over n items; how many there are then, or 13.
+fn enter(w: &mut [u32], p: &[usize], e: usize, n: usize) -> Result<usize, Refusal>
     requires { On p.now (length w.old) × Places p.now (store p.now w.old) e × (get_or (store p.now w.old MARKS) e 0 ≡ 0 → n + get_or (store p.now w.old SIZES) e 0 < size p.now STACK) × IsWord (LEAVE + e) }
     ensures { Enters (store p.now w.old) (store p.now w.new) e n result }
 {
     let mark = load(w, p, MARKS, e);
     if UNDERWAY < mark {
-        return n;
+        return Ok(n);
     }
     if mark == UNDERWAY {
-        return REFUSED + 13;
+        return Err(Refusal::Circular);
     }
     save(w, p, MARKS, e, UNDERWAY);
-    push_children(w, p, e, n)
+    Ok(push_children(w, p, e, n))
 }
 
 // Leaves an entry, which becomes a node.
@@ -93,40 +91,49 @@ fn leave(job: &[u8], w: &mut [u32], p: &[usize], e: usize)
     save(w, p, MARKS, e, DONE + k);
 }
 
-// Takes item n, which is on top; how many there are then, or REFUSED + a number.
-fn step(job: &[u8], w: &mut [u32], p: &[usize], n: usize) -> usize
+// The refusal that a goal's word tells of.
+fn refusal_of(goal: usize) -> Refusal
+    requires { (goal ≡ REFUSED + 12) ⊎ (goal ≡ REFUSED + 13) }
+    ensures { goal ≡ REFUSED + number result }
+{
+    if goal == REFUSED + Refusal::NameUndefined as usize {
+        Refusal::NameUndefined
+    } else {
+        Refusal::Circular
+    }
+}
+
+// Takes item n, which is on top; how many there are then.
+fn step(job: &[u8], w: &mut [u32], p: &[usize], n: usize) -> Result<usize, Refusal>
     requires { On p.now (length w.old) × Work job.now p.now × Table job.now (store p.now w.old) × Running (size p.now NODE-HEADS) job.now (store p.now w.old) (suc n) }
     ensures { Steps (size p.now NODE-HEADS) job.now (store p.now w.old) (store p.now w.new) n result }
 {
     let item = load(w, p, STACK, n);
     if item < ENTRY {
-        return n;
+        return Ok(n);
     }
     if item < LEAVE {
         return enter(w, p, item - ENTRY, n);
     }
     if REFUSED <= item {
-        return item;
+        return Err(refusal_of(item));
     }
     leave(job, w, p, item - LEAVE);
-    n
+    Ok(n)
 }
 
-// Takes items until none is left, 0, or a refusal's number.
-pub fn resolve(job: &[u8], w: &mut [u32], p: &[usize], goal: usize) -> usize
+// Takes items until none is left, or one is refused.
+pub fn resolve(job: &[u8], w: &mut [u32], p: &[usize], goal: usize) -> Result<(), Refusal>
     requires { On p.now (length w.old) × Work job.now p.now × Table job.now (store p.now w.old) × AtRest (size p.now NODE-HEADS) job.now (store p.now w.old) × IsGoal (entries_in job.now) goal × IsWord (visits_owed job.now (store p.now w.old) + 1) }
-    ensures { Resolves (size p.now NODE-HEADS) job.now (store p.now w.old) (store p.now w.new) goal result }
+    ensures { Resolves (size p.now NODE-HEADS) job.now (store p.now w.old) (store p.now w.new) goal (code_of result) }
 {
     let mut visits = load(w, p, COUNTS, VISITS);
     let mut n = 1;
     save(w, p, STACK, 0, goal);
     while 0 < n {
-        n = step(job, w, p, n - 1);
-        if REFUSED <= n {
-            return n - REFUSED;
-        }
+        n = step(job, w, p, n - 1)?;
         visits += 1;
     }
     save(w, p, COUNTS, VISITS, visits);
-    0
+    Ok(())
 }

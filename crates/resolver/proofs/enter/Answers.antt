@@ -13,9 +13,6 @@ shape_of-w-then-mark-gt-UNDERWAY c = refl
 pub returns-then-mark-gt-UNDERWAY : goal.returns-then-mark-gt-UNDERWAY
 returns-then-mark-gt-UNDERWAY c = enters_done _ _ _ (omega (arith, c.if-mark-gt-UNDERWAY.true, c.load-mark.ensures.word))
 
-pub overflow_add-result : goal.overflow_add-result
-overflow_add-result c = omega arith
-
 pub shape_of-w-then-mark-eq-UNDERWAY : goal.shape_of-w-then-mark-eq-UNDERWAY
 shape_of-w-then-mark-eq-UNDERWAY c = refl
 

@@ -33,12 +33,6 @@ overflow_sub-n c = omega (arith, c.loop-i-test.true)
 pub save-requires : goal.save-requires
 save-requires c = ((c.requires.0.0, omega (arith, c.loop-i.invariant.0, c.requires.0.1)), omega (arith, c.requires.2, c.load-count.ensures.word), c.load-goal.ensures.small)
 
-pub overflow_add-i : goal.overflow_add-i
-overflow_add-i c = omega (arith, c.load-count.ensures.small, c.loop-i-test.true)
-
-pub loop-i-smaller : goal.loop-i-smaller
-loop-i-smaller c = omega (arith, c.loop-i-test.true)
-
 pub loop-i-preserved : goal.loop-i-preserved
 loop-i-preserved c = (c.save.auto.w ∙ c.loop-i.invariant.0, rw c.save.ensures (pushing_next _ _ c.args.e _ _ _ _ c.loop-i.invariant.1 c.loop-i-test.true (omega (arith, c.requires.2, c.load-count.ensures.word, length-store c.args.p.now c.loop-i.w STACK)) c.load-goal.result c.load-goal.ensures.word))
 
@@ -58,4 +52,4 @@ pub shape_of-w : goal.shape_of-w
 shape_of-w c = c.save-2.auto.w ∙ c.loop-i.invariant.0
 
 pub returns : goal.returns
-returns c = rw c.save-2.ensures (pushing_end _ _ c.args.e _ _ _ _ c.loop-i.invariant.1 c.loop-i-test.false (omega (arith, c.requires.2, length-store c.args.p.now c.loop-i.w STACK)) c.load-first.ensures.word c.load-count.ensures.word)
+returns c = rw c.save-2.ensures (pushing_end _ _ c.args.e _ _ _ _ c.loop-i.invariant.1 (omega arith) (omega (arith, c.requires.2, length-store c.args.p.now c.loop-i.w STACK)) c.load-first.ensures.word c.load-count.ensures.word)

@@ -27,12 +27,6 @@ child_of-child-requires c = ((c.requires.0.0, omega (arith, c.loop-i.invariant.0
 pub save-requires : goal.save-requires
 save-requires c = ((c.requires.0.0, omega (arith, c.loop-i.invariant.0, c.requires.0.1)), omega (arith, c.requires.1.children, c.load-first.ensures.word, c.load.ensures.word), child_fits _ _ c.args.e _ _ _ c.loop-i.invariant.1 c.load-first.ensures.word (omega (arith, c.load-first.ensures.word, c.load.ensures.word)) c.requires.2 c.loop-i-test.true c.load-in-loop-i.result _ c.load-in-loop-i.ensures.word c.child_of-child.ensures)
 
-pub overflow_add-i : goal.overflow_add-i
-overflow_add-i c = omega (arith, c.requires.1.goals, c.load-first.ensures.small, c.load.ensures.small)
-
-pub loop-i-smaller : goal.loop-i-smaller
-loop-i-smaller c = omega (arith, c.loop-i-test.true)
-
 pub loop-i-preserved : goal.loop-i-preserved
 loop-i-preserved c = (c.save.auto.w ∙ c.loop-i.invariant.0, rw c.save.ensures (writing_next _ _ c.args.e _ _ _ c.loop-i.invariant.1 _ c.loop-i-test.true (omega (arith, c.requires.1.children, c.load-first.ensures.word, c.load.ensures.word, length-store c.args.p.now c.loop-i.w CHILDREN, c.loop-i-test.true)) c.load-in-loop-i.result c.load-in-loop-i.ensures.word c.child_of-child.ensures))
 
@@ -40,4 +34,4 @@ pub shape_of-w : goal.shape_of-w
 shape_of-w c = c.loop-i.invariant.0
 
 pub returns : goal.returns
-returns c = writing_end _ _ c.args.e _ _ _ c.loop-i.invariant.1 c.load-first.ensures.word (omega (arith, c.load-first.ensures.word, c.load.ensures.word)) c.loop-i-test.false
+returns c = writing_end _ _ c.args.e _ _ _ c.loop-i.invariant.1 c.load-first.ensures.word (omega (arith, c.load-first.ensures.word, c.load.ensures.word)) (omega arith)
