@@ -8,6 +8,7 @@ use Prim.Native.Nat.{ℕ, zero, suc, ◌+◌, ◌≤◌, ◌<◌}
 use native.Mathlib.Nat.{le_trans}
 use native.Mathlib.Omega.{arith}
 use lib.ListN.{set, get_elem?}
+use Rattle.std.specs.Prelude.{Some}
 use Rattle.definition.specs.Slots.{highest_slot, Gap, size, gaps_from, Slots, narrow_slot, wide_slot}
 use Rattle.facts.specs.Lists.{Among, Rising}
 use Rattle.laws.specs.Statements.{free_slots}
@@ -16,8 +17,7 @@ use Rattle.laws.proofs.Slots.Gaps.{less, cut-some, apart_start, apart_set, apart
 use Rattle.laws.specs.Gaps.{Apart}
 use Rattle.laws.proofs.Slots.SlotRequest.{Taken, wide_taken, narrow_taken}
 use Rattle.slots.specs.declared.Positions.{Positions}
-use Rattle.slots.specs.declared.Allocated.TheVariants.{Slot}
-use Rattle.slots.specs.Gaps.{GapTable, gaps_at, ends, AtMost, slots_at_lem, answer_of, Answered, Written}
+use Rattle.slots.specs.Gaps.{GapTable, gaps_of, gaps_at, ends, AtMost, slots_of, answer_of, Answered, Written}
 
 -- WHAT THE SLOT FUNCTIONS ASK, from gaps that lie apart
 
@@ -85,22 +85,22 @@ given top count n s s' a t =
     rw (t.slot, t.gaps, cut-some count t.at s.gaps t.gap t.there)
     (taken top count t.at s.gaps t.gap t.there t.enough a)
 
--- what `alloc_wide` and `alloc` gave
+-- what `take_wide` and `take_narrow` gave
 module _
-    (top count n : ℕ) (before after : GapTable) (p p' : Positions)
-    (a : Apart top 1 (gaps_at before count)) where
+    (top n : ℕ) (before after : GapTable) (p p' : Positions)
+    (a : Apart top 1 (gaps_of before)) where
   pub wide_given :
-      Answered (wide_slot (slots_at_lem before count p)) count before after (Slot n p') → Given top n 2 (gaps_at before count) (gaps_at after count)
-  unfolding slots_at_lem answer_of
+      Answered (wide_slot (slots_of before p)) before after (Some (n, p')) → Given top n 2 (gaps_of before) (gaps_of after)
+  unfolding slots_of answer_of
   wide_given w =
-      given top 2 n (slots_at_lem before count p) (slots_at_lem after count p') a
-      (wide_taken (slots_at_lem before count p) n (slots_at_lem after count p') (sym w.answer))
+      given top 2 n (slots_of before p) (slots_of after p') a
+      (wide_taken (slots_of before p) n (slots_of after p') (sym w.answer))
 
   pub narrow_given :
       (ldc : Bool) →
-      Answered (narrow_slot ldc (slots_at_lem before count p)) count before after (Slot n p') →
-      Given top n 1 (gaps_at before count) (gaps_at after count) × (ldc ≡ true → n ≤ 255)
-  unfolding slots_at_lem answer_of
+      Answered (narrow_slot ldc (slots_of before p)) before after (Some (n, p')) →
+      Given top n 1 (gaps_of before) (gaps_of after) × (ldc ≡ true → n ≤ 255)
+  unfolding slots_of answer_of
   narrow_given ldc w =
-      let (t, low) = narrow_taken ldc (slots_at_lem before count p) n (slots_at_lem after count p') (sym w.answer) in
-      (given top 1 n (slots_at_lem before count p) (slots_at_lem after count p') a t, low)
+      let (t, low) = narrow_taken ldc (slots_of before p) n (slots_of after p') (sym w.answer) in
+      (given top 1 n (slots_of before p) (slots_of after p') a t, low)

@@ -1,4 +1,4 @@
--- A search through the gap table, place by place. Assumes nothing.
+-- A search through rows of the gap table, place by place. Assumes nothing.
 use mathlib.Core.Bool.{Bool, true, false}
 use mathlib.Core.List.{[]}
 use mathlib.Core.Path.{◌≡◌, ◌∙◌, ap}
@@ -10,8 +10,8 @@ use lib.ListN.{length, drop, drop_of_length-le}
 use Rattle.definition.specs.Basics.{position}
 use Rattle.definition.specs.Slots.{Gap, size, scan, too_high, plain_ends}
 use Rattle.facts.proofs.Lists.{position_here, position_later}
-use Rattle.slots.specs.Gaps.{GapTable, gap_at, gaps_at}
-use Rattle.slots.proofs.Rows.{gaps_length, gaps_from_lem}
+use Rattle.slots.specs.Gaps.{GapTable, gap_at, gaps_of}
+use Rattle.slots.proofs.Rows.{length-gaps_of, rows_from}
 
 -- the plain search ends at a gap that is too high, and else goes by the gap's slots
 module _ (ldc high : Bool) (g : Gap) (t : high ≡ too_high ldc g) where
@@ -24,24 +24,24 @@ module _ (ldc high : Bool) (g : Gap) (t : high ≡ too_high ldc g) where
   low-ends n b h e f = rw (← t, h, ← e, plain_ends) f
 
 -- what a search's loop keeps: the search from here on ends where the whole search does
-abbrev pub Rest : (Gap → Bool) → GapTable → ℕ → ℕ → ℕ → Type 0
-Rest p rows count at i = scan p i (gaps_at rows count) ≡ scan p at (gaps_at rows count)
+abbrev pub Rest : (Gap → Bool) → GapTable → ℕ → ℕ → Type 0
+Rest p rows at i = scan p i (gaps_of rows) ≡ scan p at (gaps_of rows)
 
-module _ (p : Gap → Bool) (rows : GapTable) (count at i : ℕ) (fits : count ≤ length rows) (r : Rest p rows count at i) where
-  pub passed : i < count → p (gap_at rows i) ≡ false → Rest p rows count at (i + 1)
+module _ (p : Gap → Bool) (rows : GapTable) (at i : ℕ) (r : Rest p rows at i) where
+  pub passed : i < length rows → p (gap_at rows i) ≡ false → Rest p rows at (i + 1)
   unfolding scan
   passed l t =
-      let e = ap (position p) (gaps_from_lem rows count i fits l) ∙ position_later p (gap_at rows i) (drop (suc i) (gaps_at rows count)) t in
+      let e = ap (position p) (rows_from rows i l) ∙ position_later p (gap_at rows i) (drop (suc i) (gaps_of rows)) t in
       rw add-one (omega (arith, e))
 
-  pub found : i < count → p (gap_at rows i) ≡ true → i ≡ scan p at (gaps_at rows count)
+  pub found : i < length rows → p (gap_at rows i) ≡ true → i ≡ scan p at (gaps_of rows)
   unfolding scan
   found l t =
-      let e = ap (position p) (gaps_from_lem rows count i fits l) ∙ position_here p (gap_at rows i) (drop (suc i) (gaps_at rows count)) t in
+      let e = ap (position p) (rows_from rows i l) ∙ position_here p (gap_at rows i) (drop (suc i) (gaps_of rows)) t in
       omega (arith, e)
 
-  pub ended : count ≤ i → i ≡ scan p at (gaps_at rows count)
+  pub ended : length rows ≤ i → i ≡ scan p at (gaps_of rows)
   unfolding scan position
   ended l =
-      let e : drop i (gaps_at rows count) ≡ [] = drop_of_length-le (gaps_at rows count) {i = i} (rw (gaps_length rows count fits) l) in
+      let e : drop i (gaps_of rows) ≡ [] = drop_of_length-le (gaps_of rows) {i = i} (rw (length-gaps_of rows) l) in
       omega (arith, ap (position p) e)

@@ -3,7 +3,7 @@
 
 ghost use Rattle.std.specs.Prelude.{◌≤◌, ◌+◌, ◌*◌, length};
 
-use slots::{Allocated, Gap, Positions};
+use slots::{Gap, Positions};
 use std::io::Result;
 
 // The digit at a place, or 0 where there is none.
@@ -29,21 +29,6 @@ fn slot_at(text: &[u8], at: usize) -> u16
     if n < 65536 { n as u16 } else { 0 }
 }
 
-fn slot_of(answer: Allocated) -> u16 {
-    match answer {
-        Allocated::Slot { slot, positions: _ } => slot,
-        Allocated::None => 0,
-    }
-}
-
-// A request that finds nothing moves nothing.
-fn positions_after(answer: Allocated, before: Positions) -> Positions {
-    match answer {
-        Allocated::Slot { slot: _, positions } => positions,
-        Allocated::None => before,
-    }
-}
-
 // The gap whose first and last slot are written at a place.
 fn gap_at(text: &[u8], at: usize) -> Gap
     requires { at + 6 ≤ length text.now }
@@ -58,15 +43,13 @@ fn gap_at(text: &[u8], at: usize) -> Gap
 fn load(gaps: &mut [Gap], text: &[u8])
     requires { 12 * length gaps.old ≤ length text.now + 1 }
 {
-    let mut i = 0;
-    while i < gaps.len() {
-        gaps[i] = gap_at(text, 12 * i);
-        i += 1;
+    for (i, gap) in gaps.iter_mut().enumerate() {
+        *gap = gap_at(text, 12 * i);
     }
 }
 
 // Requests are written as a letter and the answer, 7 bytes each: n for a narrow slot, l for one that ldc can name, w for two; 0 for
-// no slot. How many answers differ?
+// no slot. How many answers differ? A request that finds nothing moves nothing.
 fn wrong_answers(gaps: &mut [Gap], text: &[u8], n: usize) -> usize
     requires { 7 * n ≤ length text.now + 1 }
     ensures { result ≤ n }
@@ -77,15 +60,14 @@ fn wrong_answers(gaps: &mut [Gap], text: &[u8], n: usize) -> usize
         plain: 0,
     };
     let mut wrong = 0;
-    let mut i = 0;
-    while i < n {
+    for i in 0..n {
         let asked = text[7 * i];
-        let answer = slots::request_slot(gaps, p, asked == b'w', asked == b'l');
-        if slot_of(answer) != slot_at(text, 7 * i + 1) {
+        let found = slots::request_slot(gaps, p, asked == b'w', asked == b'l');
+        let (slot, after) = found.unwrap_or((0, p));
+        if slot != slot_at(text, 7 * i + 1) {
             wrong += 1;
         }
-        p = positions_after(answer, p);
-        i += 1;
+        p = after;
     }
     wrong
 }

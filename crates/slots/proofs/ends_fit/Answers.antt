@@ -1,20 +1,12 @@
-use mathlib.Core.Path.{refl, sym, ◌∙◌}
-use Rattle.slots.proofs.Checks.{check_more, check_fails, check_ends}
+-- `slots::ends_fit` meets its contract: the chain tests each row in turn, as `every` does each gap. Assumes nothing.
+use Rattle.std.proofs.Common.{rules, ◌∙◌}
+use Rattle.std.proofs.lemmas.Iterator.{YieldsList-from_slice}
+use Rattle.std.proofs.lemmas.Iterator.Search.{all_from_yields_List}
+use Rattle.slots.specs.Gaps.{gap_of, end_fits}
+use Rattle.slots.proofs.Checks.{every-rows}
 use Rattle.slots.proofs.ends_fit.Goals as goal
 
--- `slots::ends_fit` meets its contract: the loop keeps `Left`, that the gaps from here on decide. Assumes nothing.
-
-pub loop-i-init : goal.loop-i-init
-loop-i-init c = refl
-
-pub end_fits-requires : goal.end_fits-requires
-end_fits-requires c = tt
-
-pub returns-then-not-end_fits : goal.returns-then-not-end_fits
-returns-then-not-end_fits c = check_fails _ _ c.loop-i.invariant c.loop-i-test.true (sym c.end_fits.ensures ∙ c.if-not-end_fits.true)
-
-pub loop-i-preserved : goal.loop-i-preserved
-loop-i-preserved c = check_more _ _ c.loop-i.invariant c.loop-i-test.true (sym c.end_fits.ensures ∙ c.if-not-end_fits.false)
-
 pub returns : goal.returns
-returns c = check_ends _ _ c.loop-i.invariant c.loop-i-test.false
+returns c =
+    all_from_yields_List (λ row. end_fits (gap_of row)) _ _ _ c.all.ensures.ran (YieldsList-from_slice c.args.gaps.now cc) (λ x b q e. search rules)
+    ∙ every-rows c.args.gaps.now

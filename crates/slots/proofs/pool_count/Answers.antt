@@ -1,26 +1,14 @@
-use native.Mathlib.Omega.{arith}
-use Rattle.slots.proofs.Counting.{count_none, by_last}
-use Rattle.slots.proofs.pool_count.Goals as goal
 -- `slots::pool_count` meets its contract: by the last gap alone, since the gaps' ends rise. Assumes nothing.
-use mathlib.Core.Path.{sym, ◌∙◌}
+use Rattle.slots.proofs.Counting.{last_hit, last_past, last_none}
+use Rattle.slots.proofs.pool_count.Goals as goal
+use Rattle.slots.proofs.pool_count.Goals.{in_default-via-in-Some+else-gap-top, in_default-via-in_default}
 
-pub overflow_add-result : goal.overflow_add-result
-overflow_add-result c = omega arith
+pub returns-in-Some : goal.returns-in-Some
+returns-in-Some c = last_hit _ _ c.requires.0 c.in-Some.gap.now c.in-Some.ensures.value c.if-gap-top.true
 
-pub returns-then-count-eq0 : goal.returns-then-count-eq0
-returns-then-count-eq0 c = count_none _ _ _ c.requires.0 c.requires.1 c.if-count-eq0.true
-
-pub overflow_sub-at : goal.overflow_sub-at
-overflow_sub-at c = omega arith
-
-pub offset_bounds-gaps-at : goal.offset_bounds-gaps-at
-offset_bounds-gaps-at c = omega arith
-
-pub bounds-gaps-at : goal.bounds-gaps-at
-bounds-gaps-at c = omega arith
-
-pub count_by-requires : goal.count_by-requires
-count_by-requires c = c.requires.2
-
-pub returns : goal.returns
-returns c = c.count_by.ensures ∙ sym (by_last _ _ _ c.requires.0 c.requires.1 c.if-count-eq0.false)
+pub returns-in_default : goal.returns-in_default
+returns-in_default c =
+    elim c.in_default.branch [
+      | in_default-via-in-Some+else-gap-top w ↦ last_past _ _ c.requires.0 w.in-Some.gap.now w.in-Some.ensures.value w.if-gap-top.false
+      | in_default-via-in_default w ↦ last_none _ _ c.requires.0 w.in_default.ensures.value
+    ]

@@ -1,7 +1,7 @@
--- `slots::end_fits` meets its contract. Assumes nothing.
+-- `slots::Gap::end_fits` meets its contract. Assumes nothing.
 use borrow.Author.Rules.{rules}
 use Rattle.slots.specs.Gaps.{gap_of, end_fits}
-use Rattle.slots.proofs.end_fits.Goals as goal
+use Rattle.slots.proofs.Gap.end_fits.Goals as goal
 
 pub returns : goal.returns
 unfolding end_fits gap_of
