@@ -2,12 +2,12 @@
 // and cut. A line for each says ok or WRONG.
 #![tactic(auto)]
 
-ghost use Rattle.std.specs.Prelude.{◌≡◌, true, ℕ, ◌+◌, ◌<◌, ◌≤◌, length, get_or};
+ghost use Rattle.std.specs.Prelude.{◌≡◌, true, ◌<◌, ◌↔◌, get_or, IsTrue, EachIndex};
 ghost use Rattle.definition.specs.Basics.{lookup};
 ghost use Rattle.definition.specs.Shapes.{shapes};
 ghost use Rattle.raw_const.specs.Entries.{LiteralFits};
 
-use raw_const::{Extent, Shape};
+use raw_const::{Entry, Extent, Shape};
 use std::io::Result;
 
 fn say(rt: &impl Print, name: &str, ok: bool) -> Result<()> {
@@ -19,189 +19,133 @@ fn say(rt: &impl Print, name: &str, ok: bool) -> Result<()> {
 fn fits(tag: u8, size: usize) -> bool
     ensures { result ≡ true → LiteralFits (lookup tag shapes) size }
 {
-    let fields = raw_const::shape_of(tag);
-    match fields {
-        Shape::Text => size < 65536,
-        Shape::Bits(bytes) => size == bytes as usize,
-        Shape::One => true,
-        Shape::Two => true,
-        Shape::Dynamic => true,
-        Shape::KindOne => true,
-        Shape::Unknown => true,
+    match raw_const::shape_of(tag) {
+        Some(Shape::Text) => size < 65536,
+        Some(Shape::Bits(bytes)) => size == bytes as usize,
+        _ => true,
     }
 }
 
-// Writes an entry whose literal is `text` without its first byte, with a kind byte and references that show whether they are written.
-// Where there is no room, or such an entry can't be, the place is one that no entry ends at.
-fn put(out: &mut [u8], at: usize, tag: u8, text: &[u8]) -> usize {
-    if text.len() == 0 {
-        return 0;
+// Writes an entry whose literal is `text` without its first byte, with a kind byte and references that show whether they are written. Where
+// there is no room, or such an entry can't be, there is no place behind it.
+fn put(out: &mut [u8], at: usize, tag: u8, text: &[u8]) -> Option<usize> {
+    let literal = text.get(1..)?;
+    if out.len() < at || !fits(tag, literal.len()) {
+        return None;
     }
-    if out.len() < at {
-        return 0;
+    if out.len() - at < raw_const::entry_length(tag, literal.len()) {
+        return None;
     }
-    let size = text.len() - 1;
-    if !fits(tag, size) {
-        return 0;
-    }
-    if out.len() - at < raw_const::entry_length(tag, size) {
-        return 0;
-    }
-    raw_const::write_entry(out, at, tag, 6, text, 1, size, 0x1234, 0xabcd)
-}
-
-// The place behind an entry; none ends at 0.
-fn end_of(found: Extent) -> usize {
-    match found {
-        Extent::Entry { tag: _, next } => next,
-        Extent::Bad => 0,
-    }
+    let entry = Entry {
+        tag,
+        literal,
+        kind: 6,
+        first: 0x1234,
+        second: 0xabcd,
+    };
+    Some(raw_const::write_entry(out, at, &entry))
 }
 
 // Is no shorter part of the bytes an entry at the place?
 fn cuts_are_bad(bytes: &[u8], at: usize) -> bool {
-    let mut end = 0;
-    while end < bytes.len() {
-        if end_of(raw_const::read_entry(&bytes[0..end], at)) != 0 {
-            return false;
-        }
-        end += 1;
-    }
-    true
+    (0..bytes.len()).all(|end| raw_const::read_entry(&bytes[..end], at).is_none())
 }
 
 // Are the bytes between two places the entry that is expected, and is it read back, whole and not cut?
 fn is_right(out: &[u8], at: usize, next: usize, expected: &[u8]) -> bool {
-    if next < at {
-        return false;
-    }
-    if out.len() < next {
-        return false;
-    }
-    let written = check::same(&out[at..next], expected);
-    let read = end_of(raw_const::read_entry(out, at)) == next;
-    written && read && cuts_are_bad(&out[0..next], at)
+    let written = out.get(at..next) == Some(expected);
+    let read = raw_const::read_entry(out, at).is_some_and(|found| found.next == next);
+    written && read && cuts_are_bad(&out[..next], at)
 }
 
-// Writes the entry whose tag the expected bytes begin with; returns the place behind it if it is right, else 0.
-fn entry(out: &mut [u8], at: usize, text: &[u8], expected: &[u8]) -> usize {
-    if expected.len() == 0 {
-        return 0;
-    }
-    let next = put(out, at, expected[0], text);
+// Writes the entry whose tag the expected bytes begin with; returns the place behind it if it is right.
+fn entry(out: &mut [u8], at: usize, text: &[u8], expected: &[u8]) -> Option<usize> {
+    let tag = *expected.first()?;
+    let next = put(out, at, tag, text)?;
     if is_right(out, at, next, expected) {
-        next
+        Some(next)
     } else {
-        0
+        None
     }
 }
 
 // From each place the reader finds an entry of the next tag, up to the end.
 fn walk(pool: &[u8], tags: &[u8], end: usize) -> bool {
     let mut at = 0;
-    let mut i = 0;
-    while i < tags.len() {
+    for tag in tags {
         match raw_const::read_entry(pool, at) {
-            Extent::Entry { tag, next } => {
-                if tag != tags[i] {
-                    return false;
-                }
-                at = next;
-            }
-            Extent::Bad => return false,
+            Some(found) if found.tag == *tag => at = found.next,
+            _ => return false,
         }
-        i += 1;
     }
     at == end
 }
 
-fn numbers() -> bool {
+fn numbers() -> Option<bool> {
     let mut pool = [0u8; 40];
-    let at = entry(&mut pool, 0, b".Code", &[1, 0, 4, 67, 111, 100, 101]); // Utf8
-    let at = entry(&mut pool, at, &[0, 1, 2, 3, 4], &[3, 1, 2, 3, 4]); // Integer
-    let at = entry(&mut pool, at, &[0, 63, 128, 0, 0], &[4, 63, 128, 0, 0]); // Float
+    let at = entry(&mut pool, 0, b".Code", &[1, 0, 4, 67, 111, 100, 101])?; // Utf8
+    let at = entry(&mut pool, at, &[0, 1, 2, 3, 4], &[3, 1, 2, 3, 4])?; // Integer
+    let at = entry(&mut pool, at, &[0, 63, 128, 0, 0], &[4, 63, 128, 0, 0])?; // Float
     let long = [0, 255, 254, 253, 252, 4, 3, 2, 1];
-    let at = entry(&mut pool, at, &long, &[5, 255, 254, 253, 252, 4, 3, 2, 1]); // Long
+    let at = entry(&mut pool, at, &long, &[5, 255, 254, 253, 252, 4, 3, 2, 1])?; // Long
     let pi = [0, 64, 9, 33, 251, 84, 68, 45, 24];
-    let at = entry(&mut pool, at, &pi, &[6, 64, 9, 33, 251, 84, 68, 45, 24]); // Double
-    at == 35 && walk(&pool, &[1, 3, 4, 5, 6], at)
+    let at = entry(&mut pool, at, &pi, &[6, 64, 9, 33, 251, 84, 68, 45, 24])?; // Double
+    Some(at == 35 && walk(&pool, &[1, 3, 4, 5, 6], at))
 }
 
-fn references() -> bool {
+fn references() -> Option<bool> {
     let mut pool = [0u8; 40];
-    let at = entry(&mut pool, 0, b".", &[7, 0x12, 0x34]); // Class
-    let at = entry(&mut pool, at, b".", &[8, 0x12, 0x34]); // String
-    let at = entry(&mut pool, at, b".", &[9, 0x12, 0x34, 0xab, 0xcd]); // Fieldref
-    let at = entry(&mut pool, at, b".", &[10, 0x12, 0x34, 0xab, 0xcd]); // Methodref
-    let at = entry(&mut pool, at, b".", &[11, 0x12, 0x34, 0xab, 0xcd]); // InterfaceMethodref
-    let at = entry(&mut pool, at, b".", &[12, 0x12, 0x34, 0xab, 0xcd]); // NameAndType
-    at == 26 && walk(&pool, &[7, 8, 9, 10, 11, 12], at)
+    let at = entry(&mut pool, 0, b".", &[7, 0x12, 0x34])?; // Class
+    let at = entry(&mut pool, at, b".", &[8, 0x12, 0x34])?; // String
+    let at = entry(&mut pool, at, b".", &[9, 0x12, 0x34, 0xab, 0xcd])?; // Fieldref
+    let at = entry(&mut pool, at, b".", &[10, 0x12, 0x34, 0xab, 0xcd])?; // Methodref
+    let at = entry(&mut pool, at, b".", &[11, 0x12, 0x34, 0xab, 0xcd])?; // InterfaceMethodref
+    let at = entry(&mut pool, at, b".", &[12, 0x12, 0x34, 0xab, 0xcd])?; // NameAndType
+    Some(at == 26 && walk(&pool, &[7, 8, 9, 10, 11, 12], at))
 }
 
-fn later_tags() -> bool {
+fn later_tags() -> Option<bool> {
     let mut pool = [0u8; 40];
-    let at = entry(&mut pool, 0, b".", &[15, 6, 0x12, 0x34]); // MethodHandle
-    let at = entry(&mut pool, at, b".", &[16, 0x12, 0x34]); // MethodType
-    let at = entry(&mut pool, at, b".", &[17, 0x12, 0x34, 0xab, 0xcd]); // Dynamic
-    let at = entry(&mut pool, at, b".", &[18, 0x12, 0x34, 0xab, 0xcd]); // InvokeDynamic
-    let at = entry(&mut pool, at, b".", &[19, 0x12, 0x34]); // Module
-    let at = entry(&mut pool, at, b".", &[20, 0x12, 0x34]); // Package
-    at == 23 && walk(&pool, &[15, 16, 17, 18, 19, 20], at)
+    let at = entry(&mut pool, 0, b".", &[15, 6, 0x12, 0x34])?; // MethodHandle
+    let at = entry(&mut pool, at, b".", &[16, 0x12, 0x34])?; // MethodType
+    let at = entry(&mut pool, at, b".", &[17, 0x12, 0x34, 0xab, 0xcd])?; // Dynamic
+    let at = entry(&mut pool, at, b".", &[18, 0x12, 0x34, 0xab, 0xcd])?; // InvokeDynamic
+    let at = entry(&mut pool, at, b".", &[19, 0x12, 0x34])?; // Module
+    let at = entry(&mut pool, at, b".", &[20, 0x12, 0x34])?; // Package
+    Some(at == 23 && walk(&pool, &[15, 16, 17, 18, 19, 20], at))
 }
 
 // A tag that isn't there: nothing is written, nothing is read.
 fn unknown(tag: u8) -> bool {
     let mut out = [tag; 20];
-    if put(&mut out, 3, tag, b".text") != 3 {
-        return false;
-    }
-    if !check::same(&out, &[tag; 20]) {
-        return false;
-    }
-    end_of(raw_const::read_entry(&out, 3)) == 0
+    let next = put(&mut out, 3, tag, b".text");
+    next == Some(3) && out == [tag; 20] && raw_const::read_entry(&out, 3).is_none()
 }
 
 // A text of 300 bytes shows both bytes of its length, 0x012c.
 fn long_text() -> bool {
     let text = [b'x'; 301];
     let mut out = [0u8; 310];
-    if put(&mut out, 4, 1, &text) != 307 {
-        return false;
-    }
-    let head = check::same(&out[3..8], &[0, 1, 1, 0x2c, b'x']);
-    head && check::same(&out[305..310], &[b'x', b'x', 0, 0, 0])
+    let next = put(&mut out, 4, 1, &text);
+    let head = out[3..8] == [0, 1, 1, 0x2c, b'x'];
+    next == Some(307) && head && out[305..310] == [b'x', b'x', 0, 0, 0]
 }
 
-// Are so many words numbers of two bytes?
-fn are_short(words: &[u32], from: usize, count: usize) -> bool
-    requires { from + count ≤ length words.now }
-    ensures { result ≡ true → (k : ℕ) → k < count → get_or words.now (from + k) 0 < 65536 }
+// Are these numbers of two bytes?
+fn are_short(words: &[u32]) -> bool
+    ensures { IsTrue result ↔ EachIndex words.now (λ k. get_or words.now k 0 < 65536) }
 {
-    let mut i = 0;
-    while i < count {
-        if words[from + i] > 65535 {
-            return false;
-        }
-        i += 1;
-    }
-    true
+    words.iter().all(|word| *word < 65536)
 }
 
 // Is a row of the words behind the first one written as expected, and nothing else?
 fn row(words: &[u32], expected: &[u8], end: usize) -> bool {
     let mut out = [0xeeu8; 10];
-    if words.len() < 2 {
-        return false;
-    }
-    let count = words.len() - 1;
-    if count > 3 {
-        return false;
-    }
-    if !are_short(words, 1, count) {
-        return false;
-    }
-    let next = raw_const::write_row(&mut out, 1, words, 1, count);
-    next == end && check::same(&out, expected)
+    let row = match words {
+        [_, row @ ..] if 0 < row.len() && row.len() <= 3 && are_short(row) => row,
+        _ => return false,
+    };
+    raw_const::write_row(&mut out, 1, row) == end && &out[..] == expected
 }
 
 fn rows() -> bool {
@@ -212,9 +156,9 @@ fn rows() -> bool {
 }
 
 fn main(rt: HostRuntime) -> Result<()> {
-    say(&rt, "numbers", numbers())?;
-    say(&rt, "references", references())?;
-    say(&rt, "later tags", later_tags())?;
+    say(&rt, "numbers", numbers() == Some(true))?;
+    say(&rt, "references", references() == Some(true))?;
+    say(&rt, "later tags", later_tags() == Some(true))?;
     say(&rt, "unknown 0", unknown(0))?;
     say(&rt, "unknown 2", unknown(2))?;
     say(&rt, "unknown 13", unknown(13))?;
