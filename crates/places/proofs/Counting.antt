@@ -11,8 +11,8 @@ use lib.Seq.{drop-cons}
 use Rattle.jvms.specs.Pool.{◌>>=◌, u1, u2, slots, constant_pool}
 use Rattle.writer.specs.Numbers.{number2}
 use Rattle.places.specs.Noting.{placed_up_to, SlotsNoted, PoolNoted}
-use Rattle.places.specs.declared.PoolRead.{PoolRead}
-use Rattle.places.specs.declared.PoolRead.TheVariants.{Good, Bad}
+use Rattle.std.specs.Prelude as code
+use Rattle.std.specs.Prelude.{Some, None}
 use Rattle.places.proofs.Finding.{finds_u2}
 use Rattle.places.proofs.Rows.{slots-size}
 
@@ -34,13 +34,13 @@ cut-u2 bytes at few = go (u2 (drop at bytes)) refl
 
 module _ (bytes : List ℕ) (at : ℕ) where
   -- no count, and a count of 0
-  pub no_count : (before : List ℕ) → length bytes < at + 2 → PoolNoted bytes at before before Bad
+  pub no_count : (before : List ℕ) → length bytes < at + 2 → PoolNoted bytes at before before None
   unfolding placed_up_to
   no_count before few = let cut = cut-u2 bytes at few in (rw cut, refl, rw cut)
 
   pub zero-count :
       (before : List ℕ) (count : ℕ) → at + 2 ≤ length bytes → count ≡ number2 bytes at → count ≡ 0 →
-      PoolNoted bytes at before before Bad
+      PoolNoted bytes at before before None
   unfolding constant_pool placed_up_to
   zero-count before count enough is zero =
       let e : number2 bytes at ≡ 0 = omega arith in
@@ -57,13 +57,13 @@ module _ (bytes : List ℕ) (at : ℕ) where
       rw (read_u2 bytes at enough, e)
 
   pub pool_noted :
-      (count : ℕ) (before after : List ℕ) (r : PoolRead) → at + 2 ≤ length bytes → count ≡ number2 bytes at → 0 < count → count < 65536 →
+      (count : ℕ) (before after : List ℕ) (r : code.Option ℕ) → at + 2 ≤ length bytes → count ≡ number2 bytes at → 0 < count → count < 65536 →
       SlotsNoted bytes (at + 2) (count - 1) before after r →
       PoolNoted bytes at before after r
-  pool_noted count before after Bad enough is any low h =
+  pool_noted count before after None enough is any low h =
       let read = read_u2 bytes at enough in
       (counted count enough is any ∙ h.0, h.1, rw (read, ← is) h.2)
-  pool_noted count before after (Good next) enough is any low h =
+  pool_noted count before after (Some next) enough is any low h =
       let (found, read, from, to, noted) = h in
       let size = slots-size (count - 1) false bytes (at + 2) enough found (drop next bytes) read in
       (found, counted count enough is any ∙ read, omega arith, to, omega arith, noted)

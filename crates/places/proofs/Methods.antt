@@ -17,7 +17,7 @@ use Rattle.facts.proofs.Lists.{none≢some, some_inj, found_inside, same_place}
 use Rattle.laws.proofs.Reading.ReadIsSpelled.{wholly-some}
 use Rattle.places.specs.Standing.{MethodAt, MethodsNoted}
 use Rattle.places.specs.Noting.{starts, starts_up_to, MethodPassed, MethodsPut}
-use Rattle.places.specs.declared.PoolRead.TheVariants.{Good, Bad}
+use Rattle.std.specs.Prelude.{Some, None}
 use Rattle.places.proofs.Finding.{then_nothing, then_joined, Finds, finds_return, finds_bind, finds_itself, MethodStands, finds_method}
 use Rattle.places.proofs.Counting.{read_u2}
 
@@ -40,13 +40,13 @@ module _ (s : List ℕ) (p : ℕ) where
       go none e = e
       go (some (m, rest)) e = let (end, low, left, is) = finds_method s p m rest e in absurd (not m end is)
 
-  pub method_short : length s < p + 4 → MethodPassed s p Bad
+  pub method_short : length s < p + 4 → MethodPassed s p None
   method_short few = no_method (λ m e is. omega (arith, is.room))
 
-  pub method_cut : (n : ℕ) → n ≡ number2 s (p + 2) → length s < p + 4 + 2 * n → MethodPassed s p Bad
+  pub method_cut : (n : ℕ) → n ≡ number2 s (p + 2) → length s < p + 4 + 2 * n → MethodPassed s p None
   method_cut n size few = no_method (λ m e is. omega (arith, is.room, is.count))
 
-  pub method_there : (n : ℕ) → n ≡ number2 s (p + 2) → p + 4 + 2 * n ≤ length s → MethodPassed s p (Good (p + 4 + 2 * n))
+  pub method_there : (n : ℕ) → n ≡ number2 s (p + 2) → p + 4 + 2 * n ≤ length s → MethodPassed s p (Some (p + 4 + 2 * n))
   unfolding bootstrap_method
   method_there n is enough =
       let place : p + 2 + 2 ≡ p + 4 = omega arith in
@@ -116,7 +116,7 @@ passed_none bytes before =
     }
 
 module _ {bytes before : List ℕ} {at i : ℕ} {table : List ℕ} (p : Passed bytes before at i table) where
-  pub passed-more : (next : ℕ) → MethodPassed bytes at (Good next) → Passed bytes before next (i + 1) (set table i at)
+  pub passed-more : (next : ℕ) → MethodPassed bytes at (Some next) → Passed bytes before next (i + 1) (set table i at)
   unfolding array starts_up_to
   passed-more next (m, read, inside) =
       let (e, low, left, stands) = finds_method bytes at m (drop next bytes) read in
@@ -152,7 +152,7 @@ module _ {bytes before : List ℕ} {at i : ℕ} {table : List ℕ} (p : Passed b
   passed-size = ap length p.noted ∙ length-sets before 0 (starts p.found 0)
 
   -- no method stands here, though one more is asked for
-  pub passed-bad : MethodPassed bytes at Bad → (n : ℕ) → i < n → MethodsPut bytes n before table false
+  pub passed-bad : MethodPassed bytes at None → (n : ℕ) → i < n → MethodsPut bytes n before table false
   unfolding read_bootstrap_methods array wholly starts_up_to
   passed-bad read n more =
       let k = n - i - 1 in

@@ -13,14 +13,15 @@ use Rattle.definition.specs.Jvms.{cp_info}
 use Rattle.jvms.specs.Pool.{return, and_then, Constant, Utf8, Integer, Float, Long, Double, Class, String, Fieldref, Methodref, InterfaceMethodref, NameAndType, MethodHandle, MethodType, Dynamic, InvokeDynamic, Module, Package, cp_info_lem, takes_two, Slot, usable, unusable, slots}
 use Rattle.jvms.specs.Written.{each_of, constant_bytes, slot_bytes_lem}
 use Rattle.raw_const.specs.Entries.{extent_of, tag_and_rest, ReadAt}
-use Rattle.raw_const.specs.declared.Extent.TheVariants.{Entry as Whole, Bad as NoEntry}
 use Rattle.facts.proofs.Lists.{none≢some, some_inj, same_place}
 use Rattle.laws.specs.AsEntries.{as_entry}
 use Rattle.laws.specs.Statements.{IsBytes}
 use Rattle.laws.proofs.Reading.ReadIsSpelled.{all_bytes}
 use Rattle.laws.proofs.Reading.ConstantsAgree.{over, agree_constant}
 use Rattle.places.specs.Noting.{width, placed, placed_up_to, SlotsNoted}
-use Rattle.places.specs.declared.PoolRead.TheVariants.{Bad}
+use Rattle.std.proofs.lemmas.Option.{same_Some}
+use Rattle.std.specs.Prelude.{None, Some}
+use Rattle.raw_const.specs.declared.Extent.{Extent}
 use Rattle.places.proofs.Finding.{then_nothing, then_joined, finds_constant}
 
 -- an entry is wide exactly if its constant takes two slots
@@ -55,7 +56,7 @@ module _ (bytes : List ℕ) (are : IsBytes bytes) (at : ℕ) where
     pub inside : next ≤ length bytes
     pub wide : is_wide tag ≡ takes_two constant
 
-  pub entry_read : (tag next : ℕ) → ReadAt bytes at (Whole tag next) → Read tag next
+  pub entry_read : (tag next : ℕ) → ReadAt bytes at (Some (record { tag = tag; next = next })) → Read tag next
   entry_read tag next h = go (cp_info_lem (drop at bytes)) refl
     where
       go : (o : Option (Constant × List ℕ)) → cp_info_lem (drop at bytes) ≡ o → Read tag next
@@ -63,13 +64,15 @@ module _ (bytes : List ℕ) (are : IsBytes bytes) (at : ℕ) where
       go (some (c, rest)) e =
           let read = agrees ∙ ap (over as_entry) e in
           let told : ◌≡◌ {A = Option (ℕ × List ℕ)} (some ((as_entry c).tag, rest)) (some (tag, drop next bytes)) = sym (ap tag_and_rest read) ∙ h.rest in
-          let answer : Whole tag next ≡ Whole (as_entry c).tag (length bytes - length rest) = h.answer ∙ ap (extent_of (length bytes)) read in
-          let ends : next ≡ length bytes - length rest = cc in
+          let read-extent : Extent = record { tag = tag; next = next } in
+          let extent : Extent = record { tag = (as_entry c).tag; next = length bytes - length rest } in
+          let answer = same_Some read-extent extent (h.answer ∙ ap (extent_of (length bytes)) read) in
+          let ends : next ≡ length bytes - length rest = ap (λ (x : Extent). x.next) answer in
           let left : rest ≡ drop next bytes = ap (λ r. r.1) (some_inj told) in
-          let same : tag ≡ (as_entry c).tag = cc in
+          let same : tag ≡ (as_entry c).tag = ap (λ (x : Extent). x.tag) answer in
           record { constant = c; read = e ∙ ap (λ l. some (c, l)) left; inside = omega arith; wide = ap is_wide same ∙ same_width c }
 
-  pub entry_bad : ReadAt bytes at NoEntry → cp_info_lem (drop at bytes) ≡ none
+  pub entry_bad : ReadAt bytes at None → cp_info_lem (drop at bytes) ≡ none
   entry_bad h = go (cp_info_lem (drop at bytes)) refl
     where
       go : (o : Option (Constant × List ℕ)) → cp_info_lem (drop at bytes) ≡ o → cp_info_lem (drop at bytes) ≡ none
@@ -206,7 +209,7 @@ module _ {bytes : List ℕ} {start : ℕ} {before : List ℕ} {at slot : ℕ} {t
   passed-size = ap length p.noted ∙ length-placed p.found start 1 before
 
   -- no constant stands here, or one that takes two slots where one is left: the slots aren't read
-  pub passed-bad : cp_info_lem (drop at bytes) ≡ none → (n : ℕ) → slot ≤ n → SlotsNoted bytes start n before table Bad
+  pub passed-bad : cp_info_lem (drop at bytes) ≡ none → (n : ℕ) → slot ≤ n → SlotsNoted bytes start n before table None
   unfolding slots placed_up_to
   passed-bad read n more =
       let k = n - slot in
@@ -215,7 +218,7 @@ module _ {bytes : List ℕ} {start : ℕ} {before : List ℕ} {at slot : ℕ} {t
 
   passed-cut :
       (c : Constant) (rest : List ℕ) → cp_info_lem (drop at bytes) ≡ some (c, rest) → takes_two c ≡ true → (n : ℕ) → n ≡ slot →
-      SlotsNoted bytes start n before (set table slot at) Bad
+      SlotsNoted bytes start n before (set table slot at) None
   unfolding slots placed_up_to
   passed-cut c rest read wide n last =
       let size : n ≡ length p.found + 1 = omega (arith, p.many) in (
@@ -234,13 +237,13 @@ module _ {bytes : List ℕ} {start : ℕ} {before : List ℕ} {at slot : ℕ} {t
   pub passed-turn :
       (are : IsBytes bytes) (tag next count m : ℕ) → Read bytes are at tag next → slot < count → m ≡ width (is_wide tag) →
       Passed bytes start before next (slot + m) (set table slot at)
-      × (count < slot + m → SlotsNoted bytes start (count - 1) before (set table slot at) Bad)
+      × (count < slot + m → SlotsNoted bytes start (count - 1) before (set table slot at) None)
   passed-turn are tag next count m r low size =
       let e : m ≡ width (takes_two r.constant) = size ∙ ap width r.wide in (
         rw e (passed-more r.constant next r.read r.inside),
         λ past. over (takes_two r.constant) refl (rw e at past),
       )
     where
-      over : (w : Bool) → takes_two r.constant ≡ w → count < slot + width w → SlotsNoted bytes start (count - 1) before (set table slot at) Bad
+      over : (w : Bool) → takes_two r.constant ≡ w → count < slot + width w → SlotsNoted bytes start (count - 1) before (set table slot at) None
       over false is past = absurd (omega arith)
       over true is past = passed-cut r.constant (drop next bytes) r.read is (count - 1) (omega arith)

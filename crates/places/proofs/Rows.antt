@@ -13,7 +13,7 @@ use Rattle.writer.specs.Numbers.{number2}
 use Rattle.facts.proofs.Lists.{none≢some, replicate-either}
 use Rattle.places.specs.Standing.{slot_of, ConstantAt, Noted}
 use Rattle.places.specs.Noting.{Blank, placed, PoolNoted}
-use Rattle.places.specs.declared.PoolRead.TheVariants.{Good}
+use Rattle.std.specs.Prelude.{Some}
 use Rattle.places.proofs.Finding.{Finds, finds_fail, finds_return, finds_bind, finds_itself, finds_u2, Stands, finds_constant}
 use Rattle.places.proofs.Passing.{length-placed}
 
@@ -106,7 +106,7 @@ blank_zeros = (length-replicate {0} {A = ℕ} 65536 0, λ n. replicate-either (�
 
 -- a pool that was noted in such a table is what the table notes
 pub pool_table :
-    (bytes : List ℕ) (at : ℕ) (before after : List ℕ) (next : ℕ) → Blank before → (h : PoolNoted bytes at before after (Good next)) →
+    (bytes : List ℕ) (at : ℕ) (before after : List ℕ) (next : ℕ) → Blank before → (h : PoolNoted bytes at before after (Some next)) →
     Noted bytes h.0 after
 unfolding slot_of
 pool_table bytes at before after next blank h =

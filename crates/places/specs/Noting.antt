@@ -4,8 +4,8 @@ use Rattle.std.proofs.Math.Option.{Option, none, some}
 use Rattle.std.proofs.lemmas.List.Edits.{sets}
 use Rattle.jvms.specs.Pool.{◌>>=◌, u2, cp_info_lem, takes_two, Slot, usable, unusable, slots, constant_pool, BootstrapMethod, bootstrap_method, read_bootstrap_methods}
 use Rattle.jvms.specs.Written.{constant_bytes, bootstrap_method_bytes}
-use Rattle.places.specs.declared.PoolRead.{PoolRead}
-use Rattle.places.specs.declared.PoolRead.TheVariants.{Good, Bad}
+use Rattle.std.specs.Prelude as code
+use Rattle.std.specs.Prelude.{None, Some}
 
 -- a table with no place in it
 abbrev pub Blank : List ℕ → Type 0
@@ -34,10 +34,10 @@ placed_up_to (suc n) false bytes at i table = elim (cp_info_lem (drop at bytes))
 placed_up_to (suc n) true bytes at i table = placed_up_to n false bytes at (suc i) table
 
 -- what reading so many slots from a place found, and what it left in the table: their places, from index 1 on
-abbrev pub SlotsNoted : List ℕ → ℕ → ℕ → List ℕ → List ℕ → PoolRead → Type 0
-SlotsNoted bytes at n before after Bad =
+abbrev pub SlotsNoted : List ℕ → ℕ → ℕ → List ℕ → List ℕ → code.Option ℕ → Type 0
+SlotsNoted bytes at n before after None =
     (slots n false (drop at bytes) ≡ none) × (length after ≡ length before) × (after ≡ placed_up_to n false bytes at 1 before)
-SlotsNoted bytes at n before after (Good next) =
+SlotsNoted bytes at n before after (Some next) =
     (found : List Slot) × (slots n false (drop at bytes) ≡ some (found, drop next bytes)) × (at ≤ next) × (next ≤ length bytes)
     × (after ≡ placed found at 1 before)
 
@@ -47,11 +47,11 @@ slots_asked none = 0
 slots_asked (some r) = r.0 - 1
 
 -- the same of a whole pool: its count, of two bytes, then its constants
-abbrev pub PoolNoted : List ℕ → ℕ → List ℕ → List ℕ → PoolRead → Type 0
-PoolNoted bytes at before after Bad =
+abbrev pub PoolNoted : List ℕ → ℕ → List ℕ → List ℕ → code.Option ℕ → Type 0
+PoolNoted bytes at before after None =
     ((u2 >>= constant_pool) (drop at bytes) ≡ none) × (length after ≡ length before)
     × (after ≡ placed_up_to (slots_asked (u2 (drop at bytes))) false bytes (at + 2) 1 before)
-PoolNoted bytes at before after (Good next) =
+PoolNoted bytes at before after (Some next) =
     (found : List Slot) × ((u2 >>= constant_pool) (drop at bytes) ≡ some (found, drop next bytes)) × (at < next) × (next ≤ length bytes)
     × (suc (length found) < 65536) × (after ≡ placed found (at + 2) 1 before)
 
@@ -77,9 +77,9 @@ starts_up_to (suc n) bytes at = elim (bootstrap_method (drop at bytes)) [
 ]
 
 -- whether a bootstrap method stands at a place, and the place behind it
-abbrev pub MethodPassed : List ℕ → ℕ → PoolRead → Type 0
-MethodPassed bytes at Bad = bootstrap_method (drop at bytes) ≡ none
-MethodPassed bytes at (Good next) = (m : BootstrapMethod) × (bootstrap_method (drop at bytes) ≡ some (m, drop next bytes)) × (next ≤ length bytes)
+abbrev pub MethodPassed : List ℕ → ℕ → code.Option ℕ → Type 0
+MethodPassed bytes at None = bootstrap_method (drop at bytes) ≡ none
+MethodPassed bytes at (Some next) = (m : BootstrapMethod) × (bootstrap_method (drop at bytes) ≡ some (m, drop next bytes)) × (next ≤ length bytes)
 
 -- whether bytes are so many bootstrap methods and nothing more, whose places then stand in the table from index 0 on
 abbrev pub MethodsPut : List ℕ → ℕ → List ℕ → List ℕ → Bool → Type 0

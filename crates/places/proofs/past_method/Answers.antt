@@ -1,5 +1,4 @@
 -- `places::past_method` meets its contract: the method is cut off before its arguments or in them, or is there. Assumes nothing.
-use borrow.Author.Rules.{rules}
 use native.Mathlib.Omega.{arith}
 use Rattle.places.proofs.Methods.{method_short, method_cut, method_there}
 use Rattle.places.proofs.past_method.Goals as goal
@@ -9,8 +8,8 @@ returns-then-bytes-at-lt4 c = method_short c.args.bytes.now c.args.at (omega ari
 
 pub returns-then-bytes-at : goal.returns-then-bytes-at
 returns-then-bytes-at c = let args = c.args in
-    method_cut args.bytes.now args.at c.get_u16.result c.get_u16.ensures (omega arith)
+    method_cut args.bytes.now args.at c.get.result c.get.ensures (omega arith)
 
 pub returns : goal.returns
 returns c = let args = c.args in
-    method_there args.bytes.now args.at c.get_u16.result c.get_u16.ensures (omega arith)
+    method_there args.bytes.now args.at c.get.result c.get.ensures (omega arith)

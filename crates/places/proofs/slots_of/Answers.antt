@@ -1,5 +1,4 @@
 -- `places::slots_of` meets its contract: by the test. Assumes nothing.
-use borrow.Author.Rules.{rules}
 use mathlib.Core.Path.{sym, ap, ◌∙◌}
 use Rattle.places.specs.Noting.{width}
 use Rattle.places.proofs.slots_of.Goals as goal
