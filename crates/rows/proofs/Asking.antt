@@ -1,5 +1,6 @@
 -- A bootstrap that has an index: asked again it has the same, it is small, and it stays whatever slots other nodes are given. Assumes nothing.
 use mathlib.Core.Bool.{Bool, true, false}
+use Rattle.std.specs.Prelude.{Option, Some}
 use mathlib.Core.List.{List, map, reverse}
 use mathlib.Core.Logic.{inl, inr, ⊎_elim}
 use mathlib.Core.Option.{some}
@@ -21,6 +22,7 @@ use Rattle.store.specs.Words.{ENTRY, child_slot}
 use Rattle.store.specs.Chains.{head_of, Chains}
 use Rattle.store.specs.Regions.{GIVEN, INDEXES, ROW-HEADS, ROW-LINKS, NODES, INLINE}
 use Rattle.store.proofs.Walking.{last-ext}
+use Rattle.rows.proofs.Reading.{none_some, some_same}
 use Rattle.rows.specs.Rowed.{row_at, hash_row, backwards, Base, entry_of, word_of, item_of, Inlined, RowWords, Rowed, constants_of, row_count, written_count, inline_count, raw_rows, raw_index, raw_node, entry_row, row_in, base_in, RowWordsIn, RowedIn, IsBootstrapIn, index_word_lem, Reached, Nth, RowRoom, KidsIn, is_bootstrap, number_of, HasNumber}
 use Rattle.rows.proofs.Listing.{backwards-same, reverse-backwards}
 use Rattle.rows.proofs.Numbers.{boot_is, number-there, number-boot, number-slot}
@@ -85,26 +87,27 @@ module _ (f : ℕ → ℕ) (n : ℕ) where
   pub reached_begin : Reached f n 0 0
   reached_begin = record { low = omega arith; below = λ j l. absurd (omega arith); above = λ j a l. omega arith }
 
-  module _ (rise : (i j : ℕ) → i < j → j < n → f i < f j) (index c r : ℕ) (h : Reached f n index c) (nth : Nth f n c r) where
-    pub reached_here : r ≡ index → index < 65536 → Reached f n (index + 1) (c + 1)
-    reached_here e small =
+  module _ (rise : (i j : ℕ) → i < j → j < n → f i < f j) (index c : ℕ) (r : Option ℕ) (h : Reached f n index c) (nth : Nth f n c r) where
+    pub reached_here : r ≡ Some index → Reached f n (index + 1) (c + 1)
+    reached_here e =
         let less : c < n =
         ⊎_elim
         (λ (l : c < n). l)
-        (λ (l : n ≤ c). absurd (omega (arith, nth.past l)))
+        (λ (l : n ≤ c). absurd (none_some index (sym (nth.past l) ∙ e)))
         (order c n) in
+        let is : f c ≡ index = some_same (f c) index (sym (nth.there less) ∙ e) in
         record {
           low = omega arith;
           below =
               λ j l.
               ⊎_elim
               (λ (a : j < c). omega (arith, h.below j a))
-              (λ (a : c ≤ j). let z : j ≡ c = omega arith in rw z (omega (arith, nth.there less)))
+              (λ (a : c ≤ j). let z : j ≡ c = omega arith in rw z (omega arith))
               (order j c);
-          above = λ j a l. omega (arith, rise c j (omega arith) l, nth.there less);
+          above = λ j a l. omega (arith, rise c j (omega arith) l);
         }
 
-    pub reached_on : (r ≡ index → ⊥) → Reached f n (index + 1) c
+    pub reached_on : (r ≡ Some index → ⊥) → Reached f n (index + 1) c
     reached_on e =
         record {
           low = h.low;
@@ -112,7 +115,7 @@ module _ (f : ℕ → ℕ) (n : ℕ) where
           above =
               λ j a l.
               ⊎_elim
-              (λ (z : c ≡ j). let y = nth.there (omega arith) in let x = h.above c (omega arith) (omega arith) in rw (← z) (omega arith))
+              (λ (z : c ≡ j). let y : f c ≡ index → ⊥ = λ q. e (nth.there (omega arith) ∙ ap (λ (x : ℕ). Some x) q) in let x = h.above c (omega arith) (omega arith) in rw (← z) (omega arith))
               (λ (z : c ≡ j → ⊥). omega (arith, h.above c (omega arith) (omega arith), rise c j (omega arith) l))
               (equal c j);
         }

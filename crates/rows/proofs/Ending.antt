@@ -1,4 +1,5 @@
 -- How many rows the table has at the end, and which node's row stands at an index. Assumes nothing.
+use Rattle.std.specs.Prelude.{Option, None, Some}
 use mathlib.Core.List.{List}
 use mathlib.Core.Logic.{⊎_elim}
 use mathlib.Core.Option.{some}
@@ -13,7 +14,7 @@ use Rattle.raws.specs.Raws.{held_count}
 use Rattle.store.specs.Store.{Store, size}
 use Rattle.store.specs.Regions.{MARKS, RAW-ENTRIES, ORDER, INLINE}
 use Rattle.rows.specs.Rowed.{row_count, written_count, inline_count, raw_rows, raw_index, raw_node, raw_item, row_in, base_in, RowWordsIn, RowedIn, RawsReadyIn, IsBootstrapIn, index_word_lem, inline_index, Nth, Reached, table_of, InTable, RowNode}
-use Rattle.rows.proofs.Reading.{raw_at, raw_low_lem, raw_rise}
+use Rattle.rows.proofs.Reading.{raw_at, raw_low_lem, raw_rise, none_some, some_same}
 use Rattle.rows.proofs.Holes.{Behind, fill_keeps, fill_length, fill_at}
 use Rattle.facts.proofs.Lists.{equal, order}
 
@@ -21,7 +22,7 @@ module _ (p : List ℕ) (t : Store) where
   -- INLINE ITEMS
 
   module _ (words : RowWordsIn p t) (i : ℕ) (n : ℕ) (all : n ≡ inline_count t) where
-    pub inline_past : n ≤ i → Nth (inline_index p t) (inline_count t) i 65536
+    pub inline_past : n ≤ i → Nth (inline_index p t) (inline_count t) i None
     inline_past h = record { there = λ l. absurd (omega arith); past = λ l. refl }
 
     module _ (less : i < n) (x : ℕ) (is : x ≡ get_or (t INLINE) i 0) where
@@ -35,8 +36,8 @@ module _ (p : List ℕ) (t : Store) where
         pub inline_low_lem : 1 ≤ word
         inline_low_lem = omega (arith, word_is, words.inlined.low i (omega arith))
 
-        pub inline_there : Nth (inline_index p t) (inline_count t) i (word - 1)
-        inline_there = record { there = λ l. ap (λ (y : ℕ). y - 1) word_is; past = λ l. absurd (omega arith) }
+        pub inline_there : Nth (inline_index p t) (inline_count t) i (Some (word - 1))
+        inline_there = record { there = λ l. ap (λ (y : ℕ). Some (y - 1)) word_is; past = λ l. absurd (omega arith) }
 
   -- RAW ITEMS
 
@@ -88,10 +89,10 @@ module _ (p : List ℕ) (t : Store) where
 
     -- what the code counts
     pub counted-raw :
-        (n wrote r : ℕ) → n ≡ raw_rows t → wrote ≡ written_count t → wrote < n → Nth (raw_index t) (raw_rows t) (n - 1) r → r + 1 ≡ length (table_of rows)
-    counted-raw n wrote r all w less nth =
+        (n wrote r : ℕ) → n ≡ raw_rows t → wrote ≡ written_count t → wrote < n → r ≡ raw_index t (n - 1) → r + 1 ≡ length (table_of rows)
+    counted-raw n wrote r all w less is =
         let z : n - 1 ≡ raw_rows t - 1 = omega arith in
-        let y : r ≡ raw_index t (raw_rows t - 1) = nth.there (omega arith) ∙ ap (raw_index t) z in
+        let y : r ≡ raw_index t (raw_rows t - 1) = is ∙ ap (raw_index t) z in
         omega (arith, table_length (omega arith))
 
     pub counted-rows : (n wrote r : ℕ) → n ≡ raw_rows t → wrote ≡ written_count t → n ≤ wrote → r ≡ row_count t → r ≡ length (table_of rows)
@@ -195,29 +196,29 @@ module _ (p : List ℕ) (t : Store) where
 module _
     (p : List ℕ) (t : Store) (ready : RawsReadyIn p t) (index inline raws : ℕ) (inside : InTable p t index)
     (reached : Reached (inline_index p t) (inline_count t) index inline) (passed : Reached (raw_index t) (raw_rows t) index raws)
-    (r : ℕ) (nth : Nth (inline_index p t) (inline_count t) inline r) where
+    (r : Option ℕ) (nth : Nth (inline_index p t) (inline_count t) inline r) where
   index-low : index < 65535
   unfolding InTable
   index-low = let (rows, g, h) = inside in omega (arith, table_few p t ready rows g)
 
-  module _ (is : r ≡ index) where
+  module _ (is : r ≡ Some index) where
     pub node_inside : inline < inline_count t
     node_inside =
         ⊎_elim
         (λ (h : inline < inline_count t). h)
-        (λ (h : inline_count t ≤ inline). absurd (omega (arith, nth.past h, index-low)))
+        (λ (h : inline_count t ≤ inline). absurd (none_some index (sym (nth.past h) ∙ is)))
         (order inline (inline_count t))
 
     pub node_inline : (k : ℕ) → k ≡ get_or (t INLINE) inline 0 → RowWordsIn p t → RowNode p t index k × (k < node_count t)
     node_inline k e words =
         rw e (
-          λ rows g. row_inline p t ready rows g index inline raws reached passed node_inside (sym (nth.there node_inside) ∙ is),
+          λ rows g. row_inline p t ready rows g index inline raws reached passed node_inside (some_same (inline_index p t inline) index (sym (nth.there node_inside) ∙ is)),
           (words.inlined.nodes inline node_inside).made,
         )
 
-  module _ (isn't : r ≡ index → ⊥) where
+  module _ (isn't : r ≡ Some index → ⊥) where
     other : inline < inline_count t → inline_index p t inline ≡ index → ⊥
-    other l e = isn't (nth.there l ∙ e)
+    other l e = isn't (nth.there l ∙ ap (λ (x : ℕ). Some x) e)
 
     pub node_below : raws < raw_rows t
     unfolding InTable

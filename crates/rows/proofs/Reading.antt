@@ -1,18 +1,52 @@
 -- The places that the code reads at are there. Assumes nothing.
+use Rattle.std.specs.Prelude.{Option, None, Some}
+use Rattle.std.specs.Option.{SomeIff, option_eq}
+use mathlib.Core.Bool.{true, false}
 use mathlib.Core.List.{List}
 use mathlib.Core.Logic.{⊎_elim}
 use mathlib.Core.Path.{◌≡◌, refl, sym, ap, subst, ◌∙◌}
 use Prim.Native.Nat.{ℕ, zero, suc, ◌+◌, ◌-◌, ◌≤◌, ◌<◌}
 use native.Mathlib.Omega.{arith}
+use lib.Dec.{eqb}
 use lib.ListN.{get_or}
+use borrow.Author.Tests.{eqb-true, eqb-false}
 use Rattle.interner.specs.Nodes.{node_count}
 use Rattle.raws.specs.Raws.{raw_count, held_count}
 use Rattle.store.specs.Store.{Store, size, store, On}
 use Rattle.store.specs.Regions.{COUNTS, MARKS, GIVEN, INDEXES, FIRSTS, SIZES, CHILDREN, RAW-KEYS, RAW-ENTRIES, ORDER, NODES}
+use Rattle.store.specs.Chains.{link_of}
 use Rattle.store.specs.Words.{ENTRY}
+use Rattle.store.proofs.Walking.{both}
 use Rattle.store.proofs.Stores.{length-store, in_words}
 use Rattle.rows.specs.Rowed.{constants_of, raw_rows, raw_item, raw_index, RowRoom, Kids, KidsAt, KidsIn, RawAt, RawsReady, RawsReadyIn, IsBootstrapIn, Nth}
 use Rattle.facts.proofs.Lists.{order}
+
+-- AN ITEM that is there, or none
+
+pub none_some : (x : ℕ) → None ≡ Some x → ⊥
+none_some x e = let q : 0 ≡ x + 1 = ap link_of e in omega arith
+
+pub some_same : (x y : ℕ) → Some x ≡ Some y → x ≡ y
+some_same x y e = let q : x + 1 ≡ y + 1 = ap link_of e in omega arith
+
+-- what has a link is there
+pub some_link : (r : Option ℕ) → 0 < link_of r → r ≡ Some (link_of r - 1)
+some_link None more = absurd (omega arith)
+some_link (Some x) more = ap (λ (y : ℕ). Some y) (omega arith)
+
+-- one less than a number is there if the number isn't 0
+pub less_link : (r : Option ℕ) (n : ℕ) → SomeIff r (1 ≤ n) (n - 1) → link_of r ≡ n
+less_link None n none = ⊎_elim (λ (h : 0 < n). absurd (none (omega arith))) (λ (h : n ≤ 0). omega arith) (order 0 n)
+less_link (Some x) n (low, is) = omega arith
+
+-- the test whether it is a certain one
+pub eq_some : (r : Option ℕ) (x : ℕ) → option_eq eqb r (Some x) ≡ true → r ≡ Some x
+eq_some None x e = absurd (both e refl)
+eq_some (Some y) x e = ap (λ (z : ℕ). Some z) (eqb-true y x e)
+
+pub ne_some : (r : Option ℕ) (x : ℕ) → option_eq eqb r (Some x) ≡ false → r ≡ Some x → ⊥
+ne_some None x e is = none_some x is
+ne_some (Some y) x e is = eqb-false y x e (some_same y x is)
 
 -- COUNTERS
 
@@ -92,8 +126,11 @@ module _ (p : List ℕ) (t : Store) (ready : RawsReadyIn p t) where
       (order 0 (raw_rows t))
 
   module _ (i n : ℕ) (all : n ≡ raw_rows t) where
-    pub nth_past : n ≤ i → Nth (raw_index t) (raw_rows t) i 65536
+    pub nth_past : n ≤ i → Nth (raw_index t) (raw_rows t) i None
     nth_past h = record { there = λ l. absurd (omega arith); past = λ l. refl }
+
+    pub nth-there : i < n → (x : ℕ) → x ≡ raw_index t i → Nth (raw_index t) (raw_rows t) i (Some x)
+    nth-there less x is = record { there = λ l. ap (λ (y : ℕ). Some y) is; past = λ l. absurd (omega arith) }
 
     module _ (less : i < n) (held : ℕ) (from : held ≡ held_count t) where
       pub raw_there_lem : (held + i < size p ORDER) × (get_or (t ORDER) (held + i) 0 < size p RAW-KEYS)
@@ -112,5 +149,8 @@ module _ (p : List ℕ) (t : Store) (ready : RawsReadyIn p t) where
         pub key_high : ENTRY ≤ key
         key_high = omega (arith, key_is, (raw_at i (omega arith)).low)
 
-        pub nth_there : Nth (raw_index t) (raw_rows t) i (key - ENTRY)
-        nth_there = record { there = λ l. ap (λ (x : ℕ). x - ENTRY) key_is; past = λ l. absurd (omega arith) }
+        pub key-index : key - ENTRY ≡ raw_index t i
+        key-index = ap (λ (x : ℕ). x - ENTRY) key_is
+
+        pub nth_there : Nth (raw_index t) (raw_rows t) i (Some (key - ENTRY))
+        nth_there = nth-there less (key - ENTRY) key-index

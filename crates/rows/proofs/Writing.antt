@@ -1,4 +1,5 @@
 -- Raw rows whose index is next are written, one in each turn. Assumes nothing.
+use Rattle.std.specs.Prelude.{Option, Some}
 use mathlib.Core.List.{List, [], ◌∷◌, ◌++◌}
 use mathlib.Core.Logic.{inl, inr, ⊎_elim}
 use mathlib.Core.Path.{◌≡◌, refl, sym, ap, ◌∙◌}
@@ -15,7 +16,7 @@ use Rattle.store.specs.Store.{Store, put, Kept}
 use Rattle.store.specs.Regions.{COUNTS, INDEXES, ROW-HEADS, ROW-LINKS, INLINE, ROW-COUNT, WRITTEN-COUNT, INLINE-COUNT}
 use Rattle.store.proofs.Keeping.{kept_put, kept_more}
 use Rattle.rows.specs.Rowed.{Base, Inlined, RowWords, Rowed, row_count, written_count, inline_count, raw_rows, raw_index, base_in, RowWordsIn, RowedIn, RawsReadyIn, Nth, with_raws, SameBut, WroteRaws, written}
-use Rattle.rows.proofs.Reading.{raw_low_lem, raw_rise}
+use Rattle.rows.proofs.Reading.{raw_low_lem, raw_rise, none_some, some_same}
 use Rattle.rows.proofs.Staying.{counters, same_set, base_same, words_in, rowed_in}
 
 -- more rows have an index
@@ -142,17 +143,17 @@ module _ (p : List ℕ) (t : Store) where
   pub writing_begin : RowWordsIn p t → (count wrote : ℕ) → count ≡ row_count t → wrote ≡ written_count t → WritingIn p t count wrote
   writing_begin g count wrote c w = rw (c, w) (record { words = g; rows = λ rows r. (rows, r, refl, refl) })
 
-  module _ (ready : RawsReadyIn p t) (count wrote : ℕ) (g : WritingIn p t count wrote) (r : ℕ) (nth : Nth (raw_index t) (raw_rows t) wrote r) where
-    module _ (is : r ≡ count) where
+  module _ (ready : RawsReadyIn p t) (count wrote : ℕ) (g : WritingIn p t count wrote) (r : Option ℕ) (nth : Nth (raw_index t) (raw_rows t) wrote r) where
+    module _ (is : r ≡ Some count) where
       pub writing_less : wrote < raw_rows t
       writing_less =
           ⊎_elim
           (λ (l : wrote < raw_rows t). l)
-          (λ (l : raw_rows t ≤ wrote). absurd (omega (arith, nth.past l, g.words.few)))
+          (λ (l : raw_rows t ≤ wrote). absurd (none_some count (sym (nth.past l) ∙ is)))
           (order wrote (raw_rows t))
 
       index_is : raw_index t wrote ≡ count
-      index_is = sym (nth.there writing_less) ∙ is
+      index_is = some_same (raw_index t wrote) count (sym (nth.there writing_less) ∙ is)
 
       pub writing_low : count < 65535
       writing_low = omega (arith, raw_low_lem p t ready wrote writing_less, index_is)
@@ -175,12 +176,12 @@ module _ (p : List ℕ) (t : Store) where
                 );
           }
 
-    module _ (isn't : r ≡ count → ⊥) (long : length (t COUNTS) ≡ 20) where
+    module _ (isn't : r ≡ Some count → ⊥) (long : length (t COUNTS) ≡ 20) where
       abbrev after : Store
       after = put (put t COUNTS ROW-COUNT count) COUNTS WRITTEN-COUNT wrote
 
       ended : wrote < raw_rows t → raw_index t wrote ≡ count → ⊥
-      ended l e = isn't (nth.there l ∙ e)
+      ended l e = isn't (nth.there l ∙ ap (λ (x : ℕ). Some x) e)
 
       ahead : (i : ℕ) → wrote ≤ i → i < raw_rows t → count < raw_index t i
       ahead i a l =

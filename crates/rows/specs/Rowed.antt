@@ -1,6 +1,6 @@
 -- The rows of the bootstrap table in the regions: rows of nodes, inline rows in hash chains with their indexes, and raw rows by rising
 -- index. Assumes nothing.
-use Rattle.std.specs.Prelude.{Bool, true, false, cond, ◌&&◌, List, [], ◌∷◌, map, ◌⊎◌, ◌≡◌, ℕ, zero, suc, ◌+◌, ◌-◌, ◌≤◌, ◌<◌, eqb, leb, length, get_or}
+use Rattle.std.specs.Prelude.{Option, None, Some, Bool, true, false, cond, ◌&&◌, List, [], ◌∷◌, map, ◌⊎◌, ◌≡◌, ℕ, zero, suc, ◌+◌, ◌-◌, ◌≤◌, ◌<◌, eqb, leb, length, get_or}
 use Rattle.std.proofs.Math.Option.{some}
 use Rattle.std.proofs.Math.ListN.{get_elem?}
 use Rattle.definition.specs.Basics.{Result, good, bad, from}
@@ -271,10 +271,10 @@ pub record Indexed (found : Rows → Result ℕ (ℕ × Rows)) (p : List ℕ) (k
 abbrev pub inline_index : List ℕ → Store → ℕ → ℕ
 inline_index p t i = index_word_lem p t (get_or (t INLINE) i 0) - 1
 
--- number i of n rising indexes; past every index where there is none
-pub record Nth (f : ℕ → ℕ) (n i r : ℕ) : Type 0 where
-  pub there : i < n → r ≡ f i
-  pub past : n ≤ i → r ≡ 65536
+-- number i of n rising indexes, if there are so many
+pub record Nth (f : ℕ → ℕ) (n i : ℕ) (r : Option ℕ) : Type 0 where
+  pub there : i < n → r ≡ Some (f i)
+  pub past : n ≤ i → r ≡ None
 
 -- c of n rising indexes are below one
 pub record Reached (f : ℕ → ℕ) (n index c : ℕ) : Type 0 where

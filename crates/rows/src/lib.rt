@@ -6,20 +6,19 @@ ghost use Rattle.definition.specs.Basics.{same};
 ghost use Rattle.definition.specs.Building.{Rows, write_raw, take_index, row_index};
 ghost use Rattle.interner.specs.Nodes.{node_count};
 ghost use Rattle.store.specs.Store.{size, store, put, On, IsWord, Read};
-ghost use Rattle.store.specs.Chains.{Sought};
+ghost use Rattle.refusal.specs.Numbers.{code_of};
+ghost use Rattle.store.specs.Chains.{Sought, link_of};
 ghost use Rattle.store.specs.Regions.{MARKS, GIVEN, INDEXES, FIRSTS, SIZES, NODES, INLINE};
 ghost use Rattle.store.specs.Words.{ENTRY, child_slot};
 ghost use Rattle.rows.specs.Rowed.{hash_row, constants_of, raw_rows, raw_index, raw_node, row_in, RowRoom, KidsIn, RawsReadyIn, RowWordsIn, RowedIn, IsBootstrapIn, index_word_lem, inline_count, Nth, Reached, WroteRaws, with_inline, with_index, NewRow, Indexed, inline_index, InTable, RowNode, table_of, is_bootstrap, number_of, HasNumber};
 
 use raws::{raw_entry, raw_key};
+use refusal::Refusal;
 use store::{
     CHILDREN, COUNTS, DONE, ENTRY, FIRSTS, GIVEN, HELD_COUNT, INDEXES, INLINE, INLINE_COUNT, MARKS,
     NODES, RAW_COUNT, ROW_COUNT, ROW_HEADS, ROW_LINKS, SIZES, WRITTEN_COUNT, constants, first_link,
     load, mix, next_count, push_link, save,
 };
-
-// Past every index.
-const PAST: usize = 65536;
 
 // How many children a node has.
 fn child_count(w: &[u32], p: &[usize], k: usize) -> usize
@@ -57,26 +56,42 @@ pub fn raw_rows(w: &[u32], p: &[usize]) -> usize
     load(w, p, COUNTS, RAW_COUNT) - load(w, p, COUNTS, HELD_COUNT)
 }
 
-// The index of raw bootstrap i by rising index; past every index where there is none.
-pub fn raw_index(w: &[u32], p: &[usize], i: usize) -> usize
+// The index of raw bootstrap i by rising index.
+fn nth_raw_index(w: &[u32], p: &[usize], i: usize) -> usize
+    requires { On p.now (length w.now) × RowRoom p.now × RawsReadyIn p.now (store p.now w.now) × (i < raw_rows (store p.now w.now)) }
+    ensures { result ≡ raw_index (store p.now w.now) i }
+{
+    raw_key(w, p, load(w, p, COUNTS, HELD_COUNT) + i) - ENTRY
+}
+
+// The same, if there are so many.
+pub fn raw_index(w: &[u32], p: &[usize], i: usize) -> Option<usize>
     requires { On p.now (length w.now) × RowRoom p.now × RawsReadyIn p.now (store p.now w.now) }
     ensures { Nth (raw_index (store p.now w.now)) (raw_rows (store p.now w.now)) i result }
 {
     if raw_rows(w, p) <= i {
-        return PAST;
+        return None;
     }
-    raw_key(w, p, load(w, p, COUNTS, HELD_COUNT) + i) - ENTRY
+    Some(nth_raw_index(w, p, i))
 }
 
-// 1 + the index of bootstrap node k, 0 while it has none.
-pub fn index_of(w: &[u32], p: &[usize], k: usize) -> usize
+// The word of bootstrap node k in INDEXES: 1 + its index, 0 while it has none.
+fn index_word(w: &[u32], p: &[usize], k: usize) -> usize
     requires { On p.now (length w.now) × RowRoom p.now × KidsIn p.now (store p.now w.now) × IsBootstrapIn p.now (store p.now w.now) k }
     ensures { (result ≡ index_word_lem p.now (store p.now w.now) k) × IsWord result }
 {
     load(w, p, INDEXES, load(w, p, NODES, k) - constants(p))
 }
 
-// Makes it x.
+// The index of bootstrap node k, once it has one.
+pub fn index_of(w: &[u32], p: &[usize], k: usize) -> Option<usize>
+    requires { On p.now (length w.now) × RowRoom p.now × KidsIn p.now (store p.now w.now) × IsBootstrapIn p.now (store p.now w.now) k }
+    ensures { (link_of result ≡ index_word_lem p.now (store p.now w.now) k) × IsWord (link_of result) }
+{
+    index_word(w, p, k).checked_sub(1)
+}
+
+// Makes the word x.
 fn set_index(w: &mut [u32], p: &[usize], k: usize, x: usize)
     requires { On p.now (length w.old) × RowRoom p.now × KidsIn p.now (store p.now w.old) × IsBootstrapIn p.now (store p.now w.old) k × IsWord x }
     ensures { store p.now w.new ≡ put (store p.now w.old) INDEXES (get_or (store p.now w.old NODES) k 0 - constants_of p.now) x }
@@ -93,10 +108,8 @@ fn hash_row(w: &[u32], p: &[usize], k: usize) -> usize
     let n = child_count(w, p, k);
     let first = first_child(w, p, k);
     let mut hash = n;
-    let mut i = 0;
-    while i < n {
+    for i in 0..n {
         hash = mix(hash, child_slot(w, p, load(w, p, CHILDREN, first + i)));
-        i += 1;
     }
     hash
 }
@@ -112,30 +125,29 @@ fn same_row(w: &[u32], p: &[usize], k: usize, l: usize) -> bool
     }
     let a = first_child(w, p, k);
     let b = first_child(w, p, l);
-    let mut i = 0;
-    while i < n {
+    for i in 0..n {
         let slot = child_slot(w, p, load(w, p, CHILDREN, a + i));
         if child_slot(w, p, load(w, p, CHILDREN, b + i)) != slot {
             return false;
         }
-        i += 1;
     }
     true
 }
 
-// 1 + the place in INLINE of a row that is the same as node k's, of this hash; 0 if there is none.
-fn find_row(w: &[u32], p: &[usize], k: usize, hash: usize) -> usize
+// The place in INLINE of a row that is the same as node k's, of this hash.
+fn find_row(w: &[u32], p: &[usize], k: usize, hash: usize) -> Option<usize>
     requires { On p.now (length w.now) × RowRoom p.now × KidsIn p.now (store p.now w.now) × RowWordsIn p.now (store p.now w.now) × (k < node_count (store p.now w.now)) × (hash ≡ hash_row (row_in (store p.now w.now) k)) × IsWord hash }
-    ensures { Sought (λ i. row_in (store p.now w.now) (get_or (store p.now w.now INLINE) i 0) ≡ row_in (store p.now w.now) k) (inline_count (store p.now w.now)) result }
+    ensures { Sought (λ i. row_in (store p.now w.now) (get_or (store p.now w.now INLINE) i 0) ≡ row_in (store p.now w.now) k) (inline_count (store p.now w.now)) (link_of result) }
 {
     let mut link = first_link(w, p, ROW_HEADS, hash);
     while 0 < link {
-        if same_row(w, p, k, load(w, p, INLINE, link - 1)) {
-            return link;
+        let i = link - 1;
+        if same_row(w, p, k, load(w, p, INLINE, i)) {
+            return Some(i);
         }
-        link = load(w, p, ROW_LINKS, link - 1);
+        link = load(w, p, ROW_LINKS, i);
     }
-    0
+    None
 }
 
 // Raw rows whose index is next are written.
@@ -145,7 +157,7 @@ fn write_raw(w: &mut [u32], p: &[usize])
 {
     let mut rows = load(w, p, COUNTS, ROW_COUNT);
     let mut written = load(w, p, COUNTS, WRITTEN_COUNT);
-    while raw_index(w, p, written) == rows {
+    while raw_index(w, p, written) == Some(rows) {
         rows += 1;
         written += 1;
     }
@@ -173,33 +185,34 @@ fn take_next(w: &mut [u32], p: &[usize], k: usize, hash: usize, rows: usize)
     save(w, p, COUNTS, ROW_COUNT, rows + 1);
 }
 
-// The row of node k, which no inline one has, takes the next index, 0, or 17.
-fn take_index(w: &mut [u32], p: &[usize], k: usize, hash: usize) -> usize
+// The row of node k, which no inline one has, takes the next index, if one is left.
+fn take_index(w: &mut [u32], p: &[usize], k: usize, hash: usize) -> Result<(), Refusal>
     requires { On p.now (length w.old) × RowRoom p.now × KidsIn p.now (store p.now w.old) × RawsReadyIn p.now (store p.now w.old) × RowWordsIn p.now (store p.now w.old) × IsBootstrapIn p.now (store p.now w.old) k × NewRow (store p.now w.old) k × (hash ≡ hash_row (row_in (store p.now w.old) k)) × IsWord hash }
-    ensures { Indexed (λ rows. take_index (row_in (store p.now w.old) k) rows.inline (write_raw rows.written rows.waiting)) p.now k (store p.now w.old) (store p.now w.new) result }
+    ensures { Indexed (λ rows. take_index (row_in (store p.now w.old) k) rows.inline (write_raw rows.written rows.waiting)) p.now k (store p.now w.old) (store p.now w.new) (code_of result) }
 {
     write_raw(w, p);
     let rows = load(w, p, COUNTS, ROW_COUNT);
     if 65535 <= rows {
-        return 17;
+        return Err(Refusal::NoBootstrapIndex);
     }
     take_next(w, p, k, hash, rows);
-    0
+    Ok(())
 }
 
-// Bootstrap node k, whose children have slots, has an index from then on, 0, or 17: `row_index`.
-pub fn row_index(w: &mut [u32], p: &[usize], k: usize) -> usize
+// Bootstrap node k, whose children have slots, has an index from then on, if one is left: `row_index`.
+pub fn row_index(w: &mut [u32], p: &[usize], k: usize) -> Result<(), Refusal>
     requires { On p.now (length w.old) × RowRoom p.now × KidsIn p.now (store p.now w.old) × RawsReadyIn p.now (store p.now w.old) × RowWordsIn p.now (store p.now w.old) × IsBootstrapIn p.now (store p.now w.old) k }
-    ensures { Indexed (row_index (row_in (store p.now w.old) k)) p.now k (store p.now w.old) (store p.now w.new) result }
+    ensures { Indexed (row_index (row_in (store p.now w.old) k)) p.now k (store p.now w.old) (store p.now w.new) (code_of result) }
 {
     let hash = hash_row(w, p, k);
-    let link = find_row(w, p, k, hash);
-    if link == 0 {
-        return take_index(w, p, k, hash);
+    match find_row(w, p, k, hash) {
+        Some(i) => {
+            let shared = index_word(w, p, load(w, p, INLINE, i));
+            set_index(w, p, k, shared);
+            Ok(())
+        }
+        None => take_index(w, p, k, hash),
     }
-    let shared = index_of(w, p, load(w, p, INLINE, link - 1));
-    set_index(w, p, k, shared);
-    0
 }
 
 // The node that entry e became.
@@ -235,7 +248,7 @@ pub fn child_number(w: &[u32], p: &[usize], child: usize) -> usize
     ensures { result ≡ number_of p.now (store p.now w.now) child }
 {
     if is_bootstrap(w, p, child) {
-        return index_of(w, p, child - ENTRY) - 1;
+        return index_word(w, p, child - ENTRY) - 1;
     }
     child_slot(w, p, child)
 }
@@ -247,20 +260,20 @@ pub fn row_count(w: &[u32], p: &[usize]) -> usize
 {
     let n = raw_rows(w, p);
     if load(w, p, COUNTS, WRITTEN_COUNT) < n {
-        return raw_index(w, p, n - 1) + 1;
+        return nth_raw_index(w, p, n - 1) + 1;
     }
     load(w, p, COUNTS, ROW_COUNT)
 }
 
-// The index of inline row i; past every index where there is none.
-pub fn inline_index(w: &[u32], p: &[usize], i: usize) -> usize
+// The index of inline row i, if there are so many.
+pub fn inline_index(w: &[u32], p: &[usize], i: usize) -> Option<usize>
     requires { On p.now (length w.now) × RowRoom p.now × KidsIn p.now (store p.now w.now) × RowWordsIn p.now (store p.now w.now) }
     ensures { Nth (inline_index p.now (store p.now w.now)) (inline_count (store p.now w.now)) i result }
 {
     if load(w, p, COUNTS, INLINE_COUNT) <= i {
-        return PAST;
+        return None;
     }
-    index_of(w, p, load(w, p, INLINE, i)) - 1
+    index_of(w, p, load(w, p, INLINE, i))
 }
 
 // The node whose row stands at an index, `inline` inline and `raws` raw indexes being below it.
@@ -268,7 +281,7 @@ pub fn row_node(w: &[u32], p: &[usize], index: usize, inline: usize, raws: usize
     requires { On p.now (length w.now) × RowRoom p.now × KidsIn p.now (store p.now w.now) × RawsReadyIn p.now (store p.now w.now) × RowWordsIn p.now (store p.now w.now) × InTable p.now (store p.now w.now) index × Reached (inline_index p.now (store p.now w.now)) (inline_count (store p.now w.now)) index inline × Reached (raw_index (store p.now w.now)) (raw_rows (store p.now w.now)) index raws }
     ensures { RowNode p.now (store p.now w.now) index result × (result < node_count (store p.now w.now)) }
 {
-    if inline_index(w, p, inline) == index {
+    if inline_index(w, p, inline) == Some(index) {
         return load(w, p, INLINE, inline);
     }
     raw_row(w, p, raws)

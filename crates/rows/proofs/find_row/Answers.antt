@@ -1,5 +1,7 @@
 -- `rows::find_row` meets its contract. No row from the link on, along the chain, is the one sought. Assumes nothing.
 use native.Mathlib.Omega.{arith}
+use mathlib.Core.Path.{◌≡◌}
+use Prim.Native.Nat.{◌+◌, ◌-◌}
 use Rattle.store.specs.Regions.{INDEXES, ROW-HEADS}
 use Rattle.store.specs.Store.{store}
 use Rattle.store.proofs.Stores.{length-store}
@@ -12,8 +14,8 @@ first_link-link-requires c = let q = c.requires in (q.0, q.1.heads, q.6)
 pub loop-link-init : goal.loop-link-init
 loop-link-init c = let a = c.args in let q = c.requires in looking_start a.p.now (store a.p.now a.w.now) a.k q.3 a.hash c.first_link-link.result (length-store a.p.now a.w.now ROW-HEADS) q.1.heads.two q.5 c.first_link-link.ensures
 
-pub overflow_sub-link : goal.overflow_sub-link
-overflow_sub-link c = omega arith
+pub overflow_sub-i : goal.overflow_sub-i
+overflow_sub-i c = omega arith
 
 pub load-requires : goal.load-requires
 load-requires c = let a = c.args in let q = c.requires in (q.0, omega (arith, looking_low a.p.now (store a.p.now a.w.now) a.k q.3 c.loop-link.link c.loop-link-test.true c.loop-link.invariant (length-store a.p.now a.w.now INDEXES), q.1.inline))
@@ -22,10 +24,7 @@ pub same_row-requires : goal.same_row-requires
 same_row-requires c = let a = c.args in let q = c.requires in (q.0, q.1, q.2, q.4, looking_node a.p.now (store a.p.now a.w.now) a.k q.3 c.loop-link.link c.loop-link-test.true c.loop-link.invariant c.load.result c.load.ensures.word)
 
 pub returns-then-same_row : goal.returns-then-same_row
-returns-then-same_row c = let a = c.args in let q = c.requires in looking_hit a.p.now (store a.p.now a.w.now) a.k q.3 c.loop-link.link c.loop-link-test.true c.loop-link.invariant c.load.result c.load.ensures.word c.same_row.result c.same_row.ensures c.if-same_row.true
-
-pub overflow_sub-link-in-loop-link : goal.overflow_sub-link-in-loop-link
-overflow_sub-link-in-loop-link c = omega arith
+returns-then-same_row c = let a = c.args in let q = c.requires in let again : c.loop-link.link - 1 + 1 ≡ c.loop-link.link = omega (arith, c.loop-link-test.true) in rw again (looking_hit a.p.now (store a.p.now a.w.now) a.k q.3 c.loop-link.link c.loop-link-test.true c.loop-link.invariant c.load.result c.load.ensures.word c.same_row.result c.same_row.ensures c.if-same_row.true)
 
 pub load-link-requires : goal.load-link-requires
 load-link-requires c = let a = c.args in let q = c.requires in (q.0, omega (arith, looking_low a.p.now (store a.p.now a.w.now) a.k q.3 c.loop-link.link c.loop-link-test.true c.loop-link.invariant (length-store a.p.now a.w.now INDEXES), q.1.links))

@@ -28,12 +28,6 @@ child_slot-requires c = let a = c.args in let q = c.requires in (q.0, kid_small 
 pub mix-hash-requires : goal.mix-hash-requires
 mix-hash-requires c = (c.loop-i.invariant.small, c.child_slot.ensures.1)
 
-pub overflow_add-i : goal.overflow_add-i
-overflow_add-i c = omega arith
-
-pub loop-i-smaller : goal.loop-i-smaller
-loop-i-smaller c = omega arith
-
 pub loop-i-preserved : goal.loop-i-preserved
 loop-i-preserved c = folding_next _ _ _ c.loop-i.hash c.loop-i.i c.loop-i.invariant c.loop-i-test.true c.mix-hash.result c.child_slot.result (rw (← c.first_child-first.ensures.word, ← c.load.ensures.word) c.child_slot.ensures.0) c.mix-hash.ensures.0 c.mix-hash.ensures.1
 

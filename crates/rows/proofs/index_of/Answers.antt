@@ -1,19 +1,11 @@
--- `rows::index_of` meets its contract. By the places of bootstraps. Assumes nothing.
-use Rattle.store.specs.Store.{store}
-use Rattle.rows.proofs.Reading.{node_place_lem, boot_behind, boot_place}
+-- `rows::index_of` meets its contract. Assumes nothing.
+use native.Mathlib.Omega.{arith}
+use mathlib.Core.Path.{◌∙◌}
+use Rattle.rows.proofs.Reading.{less_link}
 use Rattle.rows.proofs.index_of.Goals as goal
 
-pub load-requires : goal.load-requires
-load-requires c = let a = c.args in let q = c.requires in (q.0, node_place_lem a.p.now (store a.p.now a.w.now) q.1 q.2 a.k q.3.made)
-
-pub constants-requires : goal.constants-requires
-constants-requires c = let q = c.requires in (q.0.0, q.1.indexes)
-
-pub overflow_sub-load : goal.overflow_sub-load
-overflow_sub-load c = let a = c.args in let q = c.requires in boot_behind a.p.now a.w.now q.1 a.k q.3 c.load.result c.constants.result c.load.ensures.word c.constants.ensures
-
-pub load-requires-2 : goal.load-requires-2
-load-requires-2 c = let a = c.args in let q = c.requires in (q.0, boot_place a.p.now a.w.now q.1 a.k q.3 c.load.result c.constants.result c.load.ensures.word c.constants.ensures)
+pub index_word-requires : goal.index_word-requires
+index_word-requires c = c.requires
 
 pub returns : goal.returns
-returns c = rw (← c.constants.ensures, ← c.load.ensures.word) (c.load-2.ensures.word, c.load-2.ensures.small)
+returns c = let e = less_link c.checked_sub.result c.index_word.result c.checked_sub.ensures ∙ c.index_word.ensures.0 in (e, omega (arith, e, c.index_word.ensures.0, c.index_word.ensures.1))

@@ -1,8 +1,7 @@
--- `rows::raw_index` meets its contract. The key of a raw bootstrap is ENTRY and more. Assumes nothing.
+-- `rows::raw_index` meets its contract. By the number of raw bootstraps. Assumes nothing.
 use native.Mathlib.Omega.{arith}
-use lib.ListN.{length}
 use Rattle.store.specs.Store.{store}
-use Rattle.rows.proofs.Reading.{counter, nth_past, raw_there_lem, raw_add, key_high, nth_there}
+use Rattle.rows.proofs.Reading.{nth_past, nth-there}
 use Rattle.rows.proofs.raw_index.Goals as goal
 
 pub raw_rows-requires : goal.raw_rows-requires
@@ -11,17 +10,8 @@ raw_rows-requires c = c.requires
 pub returns-then-raw_rows-i : goal.returns-then-raw_rows-i
 returns-then-raw_rows-i c = let a = c.args in let q = c.requires in nth_past a.p.now (store a.p.now a.w.now) q.2 a.i c.raw_rows.result c.raw_rows.ensures c.if-raw_rows-i.true
 
-pub load-requires : goal.load-requires
-load-requires c = let a = c.args in let q = c.requires in (q.0, counter a.p.now q.1 _ (omega arith))
-
-pub overflow_add-load : goal.overflow_add-load
-overflow_add-load c = let a = c.args in let q = c.requires in omega (arith, raw_add a.p.now (store a.p.now a.w.now) q.2 a.i c.raw_rows.result c.raw_rows.ensures c.if-raw_rows-i.false c.load.result c.load.ensures.word (length a.w.now) q.0)
-
-pub raw_key-requires : goal.raw_key-requires
-raw_key-requires c = let a = c.args in let q = c.requires in let h = raw_there_lem a.p.now (store a.p.now a.w.now) q.2 a.i c.raw_rows.result c.raw_rows.ensures c.if-raw_rows-i.false c.load.result c.load.ensures.word in (q.0, h.0, h.1)
-
-pub overflow_sub-result : goal.overflow_sub-result
-overflow_sub-result c = let a = c.args in let q = c.requires in key_high a.p.now (store a.p.now a.w.now) q.2 a.i c.raw_rows.result c.raw_rows.ensures c.if-raw_rows-i.false c.load.result c.load.ensures.word c.raw_key.result c.raw_key.ensures.word
+pub nth_raw_index-requires : goal.nth_raw_index-requires
+nth_raw_index-requires c = let q = c.requires in (q.0, q.1, q.2, omega (arith, c.raw_rows.ensures, c.if-raw_rows-i.false))
 
 pub returns : goal.returns
-returns c = let a = c.args in let q = c.requires in nth_there a.p.now (store a.p.now a.w.now) q.2 a.i c.raw_rows.result c.raw_rows.ensures c.if-raw_rows-i.false c.load.result c.load.ensures.word c.raw_key.result c.raw_key.ensures.word
+returns c = let a = c.args in let q = c.requires in nth-there a.p.now (store a.p.now a.w.now) q.2 a.i c.raw_rows.result c.raw_rows.ensures c.if-raw_rows-i.false c.nth_raw_index.result c.nth_raw_index.ensures

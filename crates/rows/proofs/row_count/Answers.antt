@@ -15,14 +15,14 @@ load-requires c = let a = c.args in let q = c.requires in (q.0, counter a.p.now 
 pub overflow_sub-n : goal.overflow_sub-n
 overflow_sub-n c = omega arith
 
-pub raw_index-requires : goal.raw_index-requires
-raw_index-requires c = c.requires
+pub nth_raw_index-requires : goal.nth_raw_index-requires
+nth_raw_index-requires c = let q = c.requires in (q.0, q.1, q.2, omega (arith, c.raw_rows-n.ensures, c.if-load-n.true))
 
 pub overflow_add-result : goal.overflow_add-result
-overflow_add-result c = let a = c.args in let q = c.requires in omega (arith, c.raw_index.ensures.there (omega (arith, c.raw_rows-n.ensures)), raw_low_lem a.p.now (store a.p.now a.w.now) q.2 (c.raw_rows-n.result - 1) (omega (arith, c.raw_rows-n.ensures)))
+overflow_add-result c = let a = c.args in let q = c.requires in omega (arith, c.nth_raw_index.ensures, raw_low_lem a.p.now (store a.p.now a.w.now) q.2 (c.raw_rows-n.result - 1) (omega (arith, c.raw_rows-n.ensures)))
 
 pub returns-then-load-n : goal.returns-then-load-n
-returns-then-load-n c = let a = c.args in let q = c.requires in λ rows g. counted-raw a.p.now (store a.p.now a.w.now) q.2 rows g c.raw_rows-n.result c.load.result c.raw_index.result c.raw_rows-n.ensures c.load.ensures.word c.if-load-n.true c.raw_index.ensures
+returns-then-load-n c = let a = c.args in let q = c.requires in λ rows g. counted-raw a.p.now (store a.p.now a.w.now) q.2 rows g c.raw_rows-n.result c.load.result c.nth_raw_index.result c.raw_rows-n.ensures c.load.ensures.word c.if-load-n.true c.nth_raw_index.ensures
 
 pub load-requires-2 : goal.load-requires-2
 load-requires-2 c = let a = c.args in let q = c.requires in (q.0, counter a.p.now q.1 _ (omega arith))

@@ -46,12 +46,6 @@ child_slot-requires c = let a = c.args in let q = c.requires in (q.0, kid_small 
 pub returns-then-child_slot-slot : goal.returns-then-child_slot-slot
 returns-then-child_slot-slot c = rows_unlike _ _ _ _ _ _ _ c.child_count-n.ensures.word c.child_count.result c.child_count.ensures.word c.if-child_count-n.false c.loop-i.i c.loop-i-test.true c.child_slot-slot.result c.child_slot.result (rw (← c.first_child-a.ensures.word, ← c.load.ensures.word) c.child_slot-slot.ensures.0) (rw (← c.first_child-b.ensures.word, ← c.load-in-loop-i.ensures.word) c.child_slot.ensures.0) c.if-child_slot-slot.true
 
-pub overflow_add-i : goal.overflow_add-i
-overflow_add-i c = omega arith
-
-pub loop-i-smaller : goal.loop-i-smaller
-loop-i-smaller c = omega arith
-
 pub loop-i-preserved : goal.loop-i-preserved
 loop-i-preserved c = matching_next _ _ _ c.loop-i.i c.loop-i.invariant c.loop-i-test.true c.child_slot-slot.result c.child_slot.result (rw (← c.first_child-a.ensures.word, ← c.load.ensures.word) c.child_slot-slot.ensures.0) (rw (← c.first_child-b.ensures.word, ← c.load-in-loop-i.ensures.word) c.child_slot.ensures.0) c.if-child_slot-slot.false
 

@@ -1,5 +1,4 @@
 -- `rows::same_row` meets its contract. The slots behind are the same. Assumes nothing.
-use Prim.Native.Nat.{◌-◌}
 use lib.ListN.{get_or}
 use Rattle.store.specs.Regions.{GIVEN, FIRSTS, SIZES, CHILDREN, NODES}
 use Rattle.store.specs.Store.{store}
@@ -8,6 +7,3 @@ use Rattle.rows.proofs.same_row.Given as goal
 
 abbrev pub invariant-loop-i : goal.invariant-loop-i
 invariant-loop-i l = Matching (slot_at (store l.p l.w GIVEN) (store l.p l.w CHILDREN) (store l.p l.w FIRSTS) (store l.p l.w SIZES) (get_or (store l.p l.w NODES) l.k 0)) (slot_at (store l.p l.w GIVEN) (store l.p l.w CHILDREN) (store l.p l.w FIRSTS) (store l.p l.w SIZES) (get_or (store l.p l.w NODES) l.l 0)) l.n l.i
-
-abbrev pub decreases-loop-i : goal.decreases-loop-i
-decreases-loop-i l = l.n - l.i
