@@ -14,7 +14,7 @@ use Rattle.std.specs.Prelude.{Result as Outcome}
 use Rattle.refusal.specs.Numbers.{told_of}
 use Rattle.refusal.specs.declared.Refused.{Refused}
 use Rattle.blocks.specs.Answers.{length_of}
-use Rattle.blocks.proofs.Single.{told_inj}
+use Rattle.blocks.proofs.Single.{read_inj}
 
 -- a length answered is that of a file, with which the output begins
 file_written :
@@ -43,4 +43,4 @@ read_back_lem job out file room after n r wrote left answered leaves fits =
     ap (λ f. read_blocks (length room) (take n f)) left
     ∙ ap (read_blocks (length room)) begins
     ∙ blocks_back (length out) (length room) job bytes written fits in
-    (told_inj r (Ok (length job)) (answered ∙ ap length_of read), leaves ∙ ap (λ x. blocks_after x room) read)
+    (read_inj r (Ok (length job)) (answered ∙ ap length_of read), leaves ∙ ap (λ x. blocks_after x room) read)

@@ -19,12 +19,12 @@ use Rattle.blocks.proofs.blocks_write.Reads as blocks-write
 
 -- AN ANSWER IS KNOWN BY ITS NUMBER AND PLACE
 
-pub told_inj : (r r' : Outcome ℕ Refused) → told_of r ≡ told_of r' → r ≡ r'
+pub read_inj : (r r' : Outcome ℕ Refused) → told_of r ≡ told_of r' → r ≡ r'
 unfolding told_of
-told_inj (Ok n) (Ok n') e = ap Ok (good_inj e)
-told_inj (Ok n) (Err r) e = bad≢good (sym e)
-told_inj (Err r) (Ok n) e = bad≢good e
-told_inj (Err r) (Err r') e =
+read_inj (Ok n) (Ok n') e = ap Ok (good_inj e)
+read_inj (Ok n) (Err r) e = bad≢good (sym e)
+read_inj (Err r) (Ok n) e = bad≢good e
+read_inj (Err r) (Err r') e =
     let same = bad_inj e in
     let refusal = number-injective r.refusal r'.refusal (ap (λ q. q.code) same) in
     let place = ap (λ q. q.place) same in
@@ -36,13 +36,13 @@ pub one-read :
     (κs : Lfts 2) (a : _) (r r' : Outcome ℕ Refused) (s s' : _) →
     read-blocks.Learnt κs a r s → read-blocks.Learnt κs a r' s' →
     (r ≡ r') × (s.1.0.now ≡ s'.1.0.now)
-one-read κs a r r' s s' h h' = (told_inj r r' (h.0 ∙ sym h'.0), h.1 ∙ sym h'.1)
+one-read κs a r r' s s' h h' = (read_inj r r' (h.0 ∙ sym h'.0), h.1 ∙ sym h'.1)
 
 pub one_written :
     (κs : Lfts 2) (a : _) (r r' : Outcome ℕ Refused) (s s' : _) →
     write-blocks.Learnt κs a r s → write-blocks.Learnt κs a r' s' →
     (r ≡ r') × (s.1.0.now ≡ s'.1.0.now)
-one_written κs a r r' s s' h h' = (told_inj r r' (h.0 ∙ sym h'.0), h.1 ∙ sym h'.1)
+one_written κs a r r' s s' h h' = (read_inj r r' (h.0 ∙ sym h'.0), h.1 ∙ sym h'.1)
 
 one-telling :
     {result : Result Refusal (List ℕ)} {code code' place place' size size' : ℕ} {before after after' : List ℕ} →

@@ -1,9 +1,11 @@
 -- The two walks over a text, which count its units and write them, and the three ends of reading one. Assumes nothing.
 use mathlib.Core.Bool.{true, false}
 use mathlib.Core.List.{List, [], ◌∷◌, ◌++◌, append-nil}
+use mathlib.Core.Logic.{⊎_elim}
 use mathlib.Core.Option.{Option, none, some}
 use mathlib.Core.Path.{◌≡◌, refl, sym, ap, subst, ◌∙◌}
-use Prim.Native.Nat.{ℕ, zero, suc, ◌+◌, ◌-◌, ◌<◌, ◌≤◌}
+use Prim.Native.Nat.{ℕ, suc, ◌+◌, ◌-◌, ◌<◌, ◌≤◌}
+use native.Mathlib.Nat.{eq-or-lt_of_le}
 use native.Mathlib.Numerals.{add-one}
 use native.Mathlib.Omega.{arith}
 use borrow.Author.Tests.{le-leb, lt-leb}
@@ -13,10 +15,10 @@ use lib.Seq.{take-suc, drop-cons, drop-drop, drop-length, set_at, append_snoc, l
 use Rattle.definition.specs.Basics.{good, bad}
 use Rattle.definition.specs.Run.{overwrite}
 use Rattle.definition.specs.Texts.{unit, units_of, is_text, read_text}
-use Rattle.facts.proofs.Lists.{clash, none≢some, some_inj, true≢false}
+use Rattle.facts.proofs.Lists.{none≢some, some_inj, true≢false}
 use Rattle.facts.proofs.Results.{passes, refuses}
 use Rattle.laws.proofs.Texts.TextsBack.{read_by}
-use Rattle.texts.specs.Forms.{Begins, form_of, count_of, or_none, held}
+use Rattle.texts.specs.Forms.{Begins, count_of, or_none, held}
 use Rattle.laws.proofs.Texts.UnitsRead.{consed, units-end, units-next, units-none}
 
 -- A FORM AT A PLACE OF THE TEXT
@@ -32,24 +34,21 @@ module _ (text : List ℕ) (at : ℕ) where
   pub part_some : at < length text → 0 < length (part text at)
   part_some inside = let l = ap length part_is ∙ length-drop at text in omega arith
 
-  module _ (u size : ℕ) (b : Begins (part text at) u size) where
-    reads : unit (drop at text) ≡ form_of (drop at text) u size
-    reads = subst (λ l. unit l ≡ form_of l u size) part_is b.reads
+  -- no form: the bytes are no text
+  form-none : at < length text → unit (part text at) ≡ none → units_of (drop at text) ≡ none
+  form-none inside e =
+      let l = length-drop at text in
+      units-none (drop at text) (omega arith) (ap unit (sym part_is) ∙ e)
 
+  module _ (u size : ℕ) (b : Begins (part text at) u size) where
     pub form-inside : at ≤ length text → at + size ≤ length text
     form-inside inside = let h = b.inside in let l = ap length part_is ∙ length-drop at text in omega arith
 
-    -- no form: the bytes are no text
-    form-none : at < length text → size ≡ 0 → units_of (drop at text) ≡ none
-    form-none inside e =
-        let l = length-drop at text in
-        units-none (drop at text) (omega arith) (reads ∙ ap (form_of (drop at text) u) e)
-
-  -- its unit, and the units behind it
-  form-next : (u size : ℕ) → Begins (part text at) u size → (size ≡ 0 → ⊥) → units_of (drop at text) ≡ consed u (units_of (drop (at + size) text))
-  form-next u zero b more = absurd (more refl)
-  form-next u (suc n) b more =
-      units-next (drop at text) u (drop (suc n) (drop at text)) (reads u (suc n) b) ∙ ap (λ l. consed u (units_of l)) (drop-drop (suc n) at text)
+    -- its unit, and the units behind it
+    form-next : units_of (drop at text) ≡ consed u (units_of (drop (at + size) text))
+    form-next =
+        units-next (drop at text) u (drop size (drop at text)) (subst (λ l. unit l ≡ some (u, drop size l)) part_is b.reads)
+        ∙ ap (λ l. consed u (units_of l)) (drop-drop size at text)
 
 -- COUNTING
 
@@ -66,16 +65,17 @@ count_start text = go (units_of text)
     go none = refl
     go (some l) = ap some (omega arith)
 
-module _ (text : List ℕ) (at u size n : ℕ) (b : Begins (part text at) u size) where
-  pub count_next : (size ≡ 0 → ⊥) → counted n (units_of (drop at text)) ≡ counted (n + 1) (units_of (drop (at + size) text))
-  count_next more = ap (counted n) (form-next text at u size b more) ∙ go (units_of (drop (at + size) text))
-    where
-      go : (o : Option (List ℕ)) → counted n (consed u o) ≡ counted (n + 1) o
-      go none = refl
-      go (some l) = ap some (omega arith)
+pub count_next :
+    (text : List ℕ) (at u size n : ℕ) → Begins (part text at) u size →
+    counted n (units_of (drop at text)) ≡ counted (n + 1) (units_of (drop (at + size) text))
+count_next text at u size n b = ap (counted n) (form-next text at u size b) ∙ go (units_of (drop (at + size) text))
+  where
+    go : (o : Option (List ℕ)) → counted n (consed u o) ≡ counted (n + 1) o
+    go none = refl
+    go (some l) = ap some (omega arith)
 
-  pub count_none : at < length text → size ≡ 0 → counted n (units_of (drop at text)) ≡ none
-  count_none inside e = ap (counted n) (form-none text at u size b inside e)
+pub count_none : (text : List ℕ) (at n : ℕ) → at < length text → unit (part text at) ≡ none → counted n (units_of (drop at text)) ≡ none
+count_none text at n inside e = ap (counted n) (form-none text at inside e)
 
 pub count_end : (text : List ℕ) (at n : ℕ) → at ≡ length text → counted n (units_of (drop at text)) ≡ some n
 count_end text at n e =
@@ -102,7 +102,7 @@ pub record Turn (text l : List ℕ) (at u size n : ℕ) : Type 0 where
   pub unit-is : u ≡ get_or l n 0
   pub left : units_of (drop (at + size) text) ≡ some (drop (n + 1) l)
 
-module _ (text l : List ℕ) (at u n : ℕ) (inside : at < length text) (left : units_of (drop at text) ≡ some (drop n l)) where
+module _ (text l : List ℕ) (at u n : ℕ) (left : units_of (drop at text) ≡ some (drop n l)) where
   front : (rest : List ℕ) → u ∷ rest ≡ drop n l → (n < length l) × (u ≡ get_or l n 0) × (rest ≡ drop (n + 1) l)
   front rest e =
       let long : suc (length rest) ≡ length l - n = ap length e ∙ length-drop n l in
@@ -111,19 +111,17 @@ module _ (text l : List ℕ) (at u n : ℕ) (inside : at < length text) (left : 
       (within, cc, cc (ap (λ k. drop k l) (add-one n)))
 
   pub turn : (size : ℕ) → Begins (part text at) u size → Turn text l at u size n
-  turn zero b = none≢some (sym (form-none text at u zero b inside refl) ∙ left)
-  turn (suc k) b =
-      let (within, is, rest) = next in
-      record { moves = omega arith; within = within; unit-is = is; left = rest }
+  turn size b = let (within, is, rest) = next in record { moves = b.moves; within = within; unit-is = is; left = rest }
     where
-      go : (o : Option (List ℕ)) → units_of (drop (at + suc k) text) ≡ o → (n < length l) × (u ≡ get_or l n 0) × (units_of (drop (at + suc k) text) ≡ some (drop (n + 1) l))
-      go none q = none≢some (sym (ap (consed u) q) ∙ sym (form-next text at u (suc k) b (λ e. clash (omega arith))) ∙ left)
-      go (some m) q =
-          let f = front m (some_inj (sym (ap (consed u) q) ∙ sym (form-next text at u (suc k) b (λ e. clash (omega arith))) ∙ left)) in
-          (f.0, f.1, q ∙ ap some f.2)
+      was : consed u (units_of (drop (at + size) text)) ≡ some (drop n l)
+      was = sym (form-next text at u size b) ∙ left
 
-      next : (n < length l) × (u ≡ get_or l n 0) × (units_of (drop (at + suc k) text) ≡ some (drop (n + 1) l))
-      next = go (units_of (drop (at + suc k) text)) refl
+      go : (o : Option (List ℕ)) → units_of (drop (at + size) text) ≡ o → (n < length l) × (u ≡ get_or l n 0) × (units_of (drop (at + size) text) ≡ some (drop (n + 1) l))
+      go none q = none≢some (sym (ap (consed u) q) ∙ was)
+      go (some m) q = let f = front m (some_inj (sym (ap (consed u) q) ∙ was)) in (f.0, f.1, q ∙ ap some f.2)
+
+      next : (n < length l) × (u ≡ get_or l n 0) × (units_of (drop (at + size) text) ≡ some (drop (n + 1) l))
+      next = go (units_of (drop (at + size) text)) refl
 
 -- one unit more is written
 pub put-more :
@@ -153,6 +151,16 @@ put_all text l d at n e left =
     let behind : drop at text ≡ [] = ap (λ k. drop k text) e ∙ drop-length text in
     let nothing : [] ≡ drop n l = some_inj (sym units-end ∙ ap units_of (sym behind) ∙ left) in
     ap (λ t. overwrite t d) (sym (append-nil (take n l)) ∙ ap (λ t. take n l ++ t) nothing ∙ take-append-drop n l)
+
+-- where no form begins, a text ends
+pub put_done :
+    (text l d : List ℕ) (at n : ℕ) → at ≤ length text → unit (part text at) ≡ none → units_of (drop at text) ≡ some (drop n l) →
+    overwrite (take n l) d ≡ overwrite l d
+put_done text l d at n inside e left =
+    ⊎_elim
+    (λ (end : at ≡ length text). put_all text l d at n end left)
+    (λ (more : at < length text). none≢some (sym (form-none text at more e) ∙ left))
+    (eq-or-lt_of_le inside)
 
 -- THE ENDS
 

@@ -1,25 +1,20 @@
 -- What the answers mean in document 02: the length written, or a refusal's number and place. Assumes nothing.
-use Rattle.std.specs.Prelude.{◌≡◌, List, ℕ, length}
-use Rattle.std.proofs.Math.Option.{Option, none, some}
+use Rattle.std.specs.Prelude.{◌≡◌, List, ℕ, Ok, Err, length}
+use Rattle.std.specs.Prelude.{Result as Outcome}
 use Rattle.definition.specs.Basics.{Result, good, bad, Refusal}
 use Rattle.definition.specs.Run.{overwrite}
-use Rattle.texts.specs.declared.Counted.{Counted}
-use Rattle.texts.specs.declared.Numbers.{Numbers}
-use Rattle.texts.specs.declared.TextRead.{TextRead}
-use Rattle.texts.specs.declared.TextWritten.{TextWritten}
+use Rattle.refusal.specs.Numbers.{number}
+use Rattle.refusal.specs.declared.Refusal as by_name
 
-unfoldable pub count_answer : Counted → Option ℕ
-count_answer (Counted.Units n) = some n
-count_answer Counted.NotText = none
+-- an answer as the definition has it: the place of a refusal is 0
+unfoldable pub answer : Outcome ℕ by_name.Refusal → Result Refusal ℕ
+answer (Ok n) = good n
+answer (Err r) = bad (record { code = number r; place = 0 })
 
-unfoldable pub read_answer : TextRead → Result Refusal ℕ
-read_answer (TextRead.Read n) = good n
-read_answer TextRead.NotText = bad (record { code = 25; place = 0 })
-read_answer TextRead.NoRoom = bad (record { code = 18; place = 0 })
-
-unfoldable pub written_answer : TextWritten → Result Refusal ℕ
-written_answer (TextWritten.Written n) = good n
-written_answer TextWritten.NoRoom = bad (record { code = 18; place = 0 })
+-- the length that was answered, 0 if there is none
+unfoldable pub size_of : Outcome ℕ by_name.Refusal → ℕ
+size_of (Ok n) = n
+size_of (Err r) = 0
 
 -- the definition's result, with its units or bytes told by their number
 unfoldable pub length_of : Result Refusal (List ℕ) → Result Refusal ℕ
@@ -31,8 +26,8 @@ unfoldable pub out_after : Result Refusal (List ℕ) → List ℕ → List ℕ
 out_after (good new) before = overwrite new before
 out_after (bad r) before = before
 
--- the same as numbers: 0 for success, and 0 for whatever isn't there
-unfoldable pub numbers_of : Result Refusal ℕ → Numbers
+-- the same as numbers, code and size: 0 for success, and 0 for whatever isn't there
+unfoldable pub numbers_of : Result Refusal ℕ → ℕ × ℕ
 numbers_of (good n) = (0, n)
 numbers_of (bad r) = (r.code, 0)
 

@@ -1,16 +1,12 @@
 -- Names for what reading a text goes by. Assumes nothing.
-use Rattle.std.specs.Prelude.{Bool, ◌&&◌, List, [], ◌∷◌, ◌≡◌, ℕ, zero, suc, ◌+◌, ◌/◌, ◌%◌, ◌≤◌, ltb, length, get_or, drop}
+use Rattle.std.specs.Prelude.{Bool, ◌&&◌, List, [], ◌∷◌, ◌≡◌, ℕ, ◌+◌, ◌/◌, ◌%◌, ◌<◌, ◌≤◌, ltb, length, get_or, drop}
 use Rattle.std.proofs.Math.Option.{Option, none, some}
 use Rattle.definition.specs.Texts.{between, unit, units_of}
 
--- what the definition reads at a form of so many bytes; 0: no form begins there
-abbrev pub form_of : List ℕ → ℕ → ℕ → Option (ℕ × List ℕ)
-form_of bytes u zero = none
-form_of bytes u (suc n) = some (u, drop (suc n) bytes)
-
 -- bytes begin with the form of a unit
 pub record Begins (bytes : List ℕ) (u size : ℕ) : Type 0 where
-  pub reads : unit bytes ≡ form_of bytes u size
+  pub reads : unit bytes ≡ some (u, drop size bytes)
+  pub moves : 0 < size
   pub inside : size ≤ length bytes
 
 -- a byte that follows in a form stands at a place

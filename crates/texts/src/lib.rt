@@ -1,113 +1,72 @@
 // Texts as JVMS 4.4.7 has them (document 02, No. 8): the sixteen-bit units of a text, and the text of a row of units.
 #![tactic(auto)]
 
-ghost use Rattle.std.specs.Prelude.{◌≡◌, true, ◌+◌, ◌-◌, ◌<◌, ◌≤◌, length, get_or};
+ghost use Rattle.std.specs.Prelude.{◌≡◌, ℕ, true, false, ◌+◌, ◌-◌, ◌<◌, ◌≤◌, length, get_or, MatchOption};
+ghost use Rattle.std.proofs.Math.Option.{none, some};
 ghost use Rattle.std.proofs.Math.Seq.{paste};
 ghost use Rattle.definition.specs.Run.{overwrite};
-ghost use Rattle.definition.specs.Texts.{units_of, is_text, unit_bytes, text_of, read_text, write_text};
-ghost use Rattle.texts.specs.Answers.{count_answer, read_answer, written_answer, length_of, out_after, numbers_of, Told};
+ghost use Rattle.definition.specs.Texts.{unit, units_of, is_text, unit_bytes, text_of, read_text, write_text};
+ghost use Rattle.refusal.specs.Numbers.{code_of};
+ghost use Rattle.texts.specs.Answers.{answer, size_of, length_of, out_after, Told};
 ghost use Rattle.texts.specs.Forms.{Begins, has_six, count_of, held, in_two, in_three};
 
-// The form that a text begins with: its unit, and how many bytes it takes. No form takes 0 bytes: where none begins, size is 0.
-#[derive(Drop)]
+use refusal::Refusal;
+
+// The form that a text begins with: its unit, and how many bytes it takes.
+#[derive(Clone, Copy, Debug, PartialEq, Eq)]
 struct Form {
     unit: u16,
     size: usize,
 }
 
-// How many units bytes have.
-#[derive(Drop)]
-enum Counted {
-    Units(usize),
-    NotText,
-}
-
-#[derive(Drop)]
-pub enum TextRead {
-    // How many units.
-    Read(usize),
-    NotText,
-    NoRoom,
-}
-
-#[derive(Drop)]
-pub enum TextWritten {
-    // The text's length.
-    Written(usize),
-    NoRoom,
-}
-
-// The bits of a byte without those that mark its place in a form.
-fn bits_at(bytes: &[u8], at: usize, mark: u16) -> u16
-    requires { (at < length bytes.now) × (mark ≤ get_or bytes.now at 0) }
-    ensures { result ≡ get_or bytes.now at 0 - mark }
+// The six bits of a byte that follows in a form, 80 to BF, if one stands at a place.
+fn six_bits(bytes: &[u8], at: usize) -> Option<u16>
+    ensures { MatchOption result (has_six bytes.now at ≡ false)
+        (λ bits. (has_six bytes.now at ≡ true) × (bits ≡ get_or bytes.now at 0 - 0x80)) }
 {
-    writer::get_u8(bytes, at) as u16 - mark
-}
-
-// Whether a byte that follows in a form stands at a place: 80 to BF.
-fn has_six(bytes: &[u8], at: usize) -> bool
-    ensures { result ≡ has_six bytes.now at }
-{
-    if bytes.len() <= at {
-        return false;
+    let &b = bytes.get(at)?;
+    if 0x80 <= b && b < 0xc0 {
+        Some(b as u16 - 0x80)
+    } else {
+        None
     }
-    let b = bytes[at];
-    if b < 0x80 {
-        return false;
-    }
-    b < 0xc0
 }
 
-fn no_form() -> Form
-    ensures { result.size ≡ 0 }
-{
-    Form { unit: 0, size: 0 }
-}
-
-fn two_bytes(bytes: &[u8]) -> Form
+fn two_bytes(bytes: &[u8]) -> Option<Form>
     requires { (0 < length bytes.now) × (0xc0 ≤ get_or bytes.now 0 0) × (get_or bytes.now 0 0 < 0xe0) }
-    ensures { Begins bytes.now result.unit result.size }
+    ensures { MatchOption result (unit bytes.now ≡ none) (λ form. Begins bytes.now form.unit form.size) }
 {
-    if !has_six(bytes, 1) {
-        return no_form();
-    }
-    let unit = 64 * bits_at(bytes, 0, 0xc0) + bits_at(bytes, 1, 0x80);
-    Form { unit, size: 2 }
+    let second = six_bits(bytes, 1)?;
+    let unit = 64 * (bytes[0] as u16 - 0xc0) + second;
+    Some(Form { unit, size: 2 })
 }
 
-fn three_bytes(bytes: &[u8]) -> Form
+fn three_bytes(bytes: &[u8]) -> Option<Form>
     requires { (0 < length bytes.now) × (0xe0 ≤ get_or bytes.now 0 0) × (get_or bytes.now 0 0 < 0xf0) }
-    ensures { Begins bytes.now result.unit result.size }
+    ensures { MatchOption result (unit bytes.now ≡ none) (λ form. Begins bytes.now form.unit form.size) }
 {
-    if !has_six(bytes, 1) {
-        return no_form();
-    }
-    if !has_six(bytes, 2) {
-        return no_form();
-    }
-    let high = 64 * bits_at(bytes, 0, 0xe0) + bits_at(bytes, 1, 0x80);
-    let unit = 64 * high + bits_at(bytes, 2, 0x80);
-    Form { unit, size: 3 }
+    let second = six_bits(bytes, 1)?;
+    let third = six_bits(bytes, 2)?;
+    let unit = 64 * (64 * (bytes[0] as u16 - 0xe0) + second) + third;
+    Some(Form { unit, size: 3 })
 }
 
 // The form that bytes begin with. The first byte tells how long it is; overlong forms and halves of pairs are forms like any other.
-fn first_form(bytes: &[u8]) -> Form
-    requires { 0 < length bytes.now }
-    ensures { Begins bytes.now result.unit result.size }
+fn first_form(bytes: &[u8]) -> Option<Form>
+    ensures { MatchOption result (unit bytes.now ≡ none) (λ form. Begins bytes.now form.unit form.size) }
 {
-    let first = bytes[0];
+    let &first = bytes.first()?;
     if first == 0 {
-        return no_form();
+        return None;
     }
     if first < 0x80 {
-        return Form {
+        return Some(Form {
             unit: first as u16,
             size: 1,
-        };
+        });
     }
     if first < 0xc0 {
-        return no_form();
+        return None;
     }
     if first < 0xe0 {
         return two_bytes(bytes);
@@ -115,23 +74,20 @@ fn first_form(bytes: &[u8]) -> Form
     if first < 0xf0 {
         return three_bytes(bytes);
     }
-    no_form()
+    None
 }
 
-fn count_units(text: &[u8]) -> Counted
-    ensures { count_answer result ≡ count_of (units_of text.now) }
+// How many units bytes have, if they are a text.
+fn count_units(text: &[u8]) -> Option<usize>
+    ensures { MatchOption result (none ≡ count_of (units_of text.now)) (λ n. some n ≡ count_of (units_of text.now)) }
 {
     let mut at = 0;
     let mut n = 0;
-    while at < text.len() {
-        let form = first_form(&text[at..]);
-        if form.size == 0 {
-            return Counted::NotText;
-        }
+    while let Some(form) = first_form(&text[at..]) {
         at += form.size;
         n += 1;
     }
-    Counted::Units(n)
+    if at == text.len() { Some(n) } else { None }
 }
 
 // Writes the units of a text.
@@ -141,8 +97,7 @@ fn put_units(text: &[u8], units: &mut [u16])
 {
     let mut at = 0;
     let mut n = 0;
-    while at < text.len() {
-        let form = first_form(&text[at..]);
+    while let Some(form) = first_form(&text[at..]) {
         units[n] = form.unit;
         at += form.size;
         n += 1;
@@ -153,25 +108,22 @@ fn put_units(text: &[u8], units: &mut [u16])
 pub fn is_text(bytes: &[u8]) -> bool
     ensures { result ≡ is_text bytes.now }
 {
-    match count_units(bytes) {
-        Counted::Units(_) => true,
-        Counted::NotText => false,
-    }
+    count_units(bytes).is_some()
 }
 
 // The units of a text, which are counted before the first is written.
-pub fn read_text(text: &[u8], units: &mut [u16]) -> TextRead
-    ensures result_value { read_answer result ≡ length_of (read_text (length units.old) text.now) }
+pub fn read_text(text: &[u8], units: &mut [u16]) -> Result<usize, Refusal>
+    ensures result_value { answer result ≡ length_of (read_text (length units.old) text.now) }
     ensures units_after { units.new ≡ out_after (read_text (length units.old) text.now) units.old }
 {
-    let Counted::Units(count) = count_units(text) else {
-        return TextRead::NotText;
+    let Some(count) = count_units(text) else {
+        return Err(Refusal::NotText);
     };
     if units.len() < count {
-        return TextRead::NoRoom;
+        return Err(Refusal::OutputTooShort);
     }
     put_units(text, units);
-    TextRead::Read(count)
+    Ok(count)
 }
 
 // How many bytes a unit's form takes: 0001 to 007F one, 0000 and 0080 to 07FF two, the others three.
@@ -191,17 +143,20 @@ fn put_two(text: &mut [u8], at: usize, unit: u16)
     requires { (unit < 0x800) × (at + 2 ≤ length text.old) }
     ensures { text.new ≡ paste text.old at (in_two unit) 2 }
 {
-    writer::put_u8(text, at, (0xc0 + unit / 64) as u8);
-    writer::put_u8(text, at + 1, (0x80 + unit % 64) as u8);
+    let form = [(0xc0 + unit / 64) as u8, (0x80 + unit % 64) as u8];
+    writer::copy(&form, 0, text, at, 2);
 }
 
 fn put_three(text: &mut [u8], at: usize, unit: u16)
     requires { at + 3 ≤ length text.old }
     ensures { text.new ≡ paste text.old at (in_three unit) 3 }
 {
-    writer::put_u8(text, at, (0xe0 + unit / 4096) as u8);
-    writer::put_u8(text, at + 1, (0x80 + unit / 64 % 64) as u8);
-    writer::put_u8(text, at + 2, (0x80 + unit % 64) as u8);
+    let form = [
+        (0xe0 + unit / 4096) as u8,
+        (0x80 + unit / 64 % 64) as u8,
+        (0x80 + unit % 64) as u8,
+    ];
+    writer::copy(&form, 0, text, at, 3);
 }
 
 // Writes a unit's form, and returns the place behind it.
@@ -212,7 +167,7 @@ fn put_form(text: &mut [u8], at: usize, unit: u16) -> usize
 {
     let size = form_size(unit);
     if size == 1 {
-        writer::put_u8(text, at, unit as u8);
+        writer::copy(&[unit as u8], 0, text, at, 1);
         return at + 1;
     }
     if size == 2 {
@@ -224,20 +179,18 @@ fn put_form(text: &mut [u8], at: usize, unit: u16) -> usize
 }
 
 // What writing units into so much room comes to. What is counted never passes the room, so that no sum is too large for a usize.
-fn measure(units: &[u16], room: usize) -> TextWritten
-    ensures { written_answer result ≡ length_of (write_text room units.now) }
+fn measure(units: &[u16], room: usize) -> Result<usize, Refusal>
+    ensures { answer result ≡ length_of (write_text room units.now) }
 {
     let mut size = 0;
-    let mut i = 0;
-    while i < units.len() {
-        let more = form_size(units[i]);
+    for &unit in units {
+        let more = form_size(unit);
         if room - size < more {
-            return TextWritten::NoRoom;
+            return Err(Refusal::OutputTooShort);
         }
         size += more;
-        i += 1;
     }
-    TextWritten::Written(size)
+    Ok(size)
 }
 
 fn put_text(units: &[u16], text: &mut [u8])
@@ -245,45 +198,35 @@ fn put_text(units: &[u16], text: &mut [u8])
     ensures { text.new ≡ overwrite (text_of units.now) text.old }
 {
     let mut at = 0;
-    let mut i = 0;
-    while i < units.len() {
-        at = put_form(text, at, units[i]);
-        i += 1;
+    for &unit in units {
+        at = put_form(text, at, unit);
     }
 }
 
 // Any row of units as a text, which is measured before its first byte is written.
-pub fn write_text(units: &[u16], text: &mut [u8]) -> TextWritten
-    ensures result_value { written_answer result ≡ length_of (write_text (length text.old) units.now) }
+pub fn write_text(units: &[u16], text: &mut [u8]) -> Result<usize, Refusal>
+    ensures result_value { answer result ≡ length_of (write_text (length text.old) units.now) }
     ensures text_after { text.new ≡ out_after (write_text (length text.old) units.now) text.old }
 {
-    let TextWritten::Written(size) = measure(units, text.len()) else {
-        return TextWritten::NoRoom;
-    };
+    let size = measure(units, text.len())?;
     put_text(units, text);
-    TextWritten::Written(size)
+    Ok(size)
 }
 
-// An answer as document 02 numbers it, and the length, with 0 for whatever isn't there. The place is 0 always.
-#[derive(Drop)]
-struct Numbers(u32, usize);
-
-fn read_numbers(answer: TextRead) -> Numbers
-    ensures { result ≡ numbers_of (read_answer answer) }
+// An answer as document 02 numbers it, with its length left in its place, 0 if there is none. The place of a refusal is 0 always.
+fn tell(answer: Result<usize, Refusal>, size: &mut usize) -> u32
+    ensures code { result ≡ code_of answer }
+    ensures size { size.new ≡ size_of answer }
 {
     match answer {
-        TextRead::Read(n) => Numbers(0, n),
-        TextRead::NotText => Numbers(25, 0),
-        TextRead::NoRoom => Numbers(18, 0),
-    }
-}
-
-fn written_numbers(answer: TextWritten) -> Numbers
-    ensures { result ≡ numbers_of (written_answer answer) }
-{
-    match answer {
-        TextWritten::Written(n) => Numbers(0, n),
-        TextWritten::NoRoom => Numbers(18, 0),
+        Ok(n) => {
+            *size = n;
+            0
+        }
+        Err(refusal) => {
+            *size = 0;
+            refusal.into()
+        }
     }
 }
 
@@ -293,9 +236,7 @@ pub extern "C" fn texts_read(text: &[u8], units: &mut [u16], size: &mut usize) -
     ensures { Told (read_text (length units.old) text.now)
         result size.new units.old units.new }
 {
-    let n = read_numbers(read_text(text, units));
-    *size = n.1;
-    n.0
+    tell(read_text(text, units), size)
 }
 
 // write_text for Rust and C, in the same way: the size is the text's length.
@@ -304,7 +245,5 @@ pub extern "C" fn texts_write(units: &[u16], text: &mut [u8], size: &mut usize) 
     ensures { Told (write_text (length text.old) units.now)
         result size.new text.old text.new }
 {
-    let n = written_numbers(write_text(units, text));
-    *size = n.1;
-    n.0
+    tell(write_text(units, text), size)
 }

@@ -4,14 +4,6 @@
 
 use std::io::{BufWriter, Result, Write};
 
-fn wide8(x: u8) -> u64 {
-    x as u64
-}
-
-fn wide16(x: u16) -> u64 {
-    x as u64
-}
-
 fn told(output: &mut impl Write, what: &str, code: u32, size: usize) -> Result<()> {
     write!(output, "{what}: {code} {size},")
 }
@@ -20,11 +12,8 @@ fn read_into(output: &mut impl Write, what: &str, text: &[u8], units: &mut [u16]
     let mut size = 0;
     let code = texts::texts_read(text, units, &mut size);
     told(output, what, code, size)?;
-    let mut i = 0;
-    while i < units.len() {
-        let n = wide16(units[i]);
-        write!(output, " {n}")?;
-        i += 1;
+    for unit in units.iter() {
+        write!(output, " {unit}")?;
     }
     writeln!(output, "")
 }
@@ -43,11 +32,8 @@ fn write_into(output: &mut impl Write, what: &str, units: &[u16], text: &mut [u8
     let mut size = 0;
     let code = texts::texts_write(units, text, &mut size);
     told(output, what, code, size)?;
-    let mut i = 0;
-    while i < text.len() {
-        let n = wide8(text[i]);
-        write!(output, " {n}")?;
-        i += 1;
+    for byte in text.iter() {
+        write!(output, " {byte}")?;
     }
     writeln!(output, "")
 }

@@ -1,16 +1,20 @@
 -- `texts::is_text` meets its contract. By what was counted. Assumes nothing.
-use mathlib.Core.Path.{sym, ap, ◌∙◌}
-use borrow.Author.Rules.{rules}
-use Rattle.texts.specs.Answers.{count_answer}
+use mathlib.Core.List.{List}
+use mathlib.Core.Option.{none, some}
+use mathlib.Core.Path.{◌≡◌, sym, ◌∙◌}
+use Prim.Native.Nat.{ℕ}
+use Rattle.std.specs.Prelude.{Option, None, Some, MatchOption}
+use Rattle.std.specs.Option.{is_some}
+use Rattle.definition.specs.Texts.{units_of, is_text}
+use Rattle.texts.specs.Forms.{count_of}
 use Rattle.texts.proofs.Reading.{is_text_lem, not-text}
 use Rattle.texts.proofs.is_text.Goals as goal
 
-pub returns-in-Units : goal.returns-in-Units
-unfolding count_answer
-returns-in-Units c = let counted = c.count_units in
-    sym (is_text_lem 0 c.args.bytes.now c.in-Units.field-0 (sym (ap count_answer c.in-Units.is) ∙ counted.ensures))
+is_some-counted :
+    (text : List ℕ) (o : Option ℕ) → MatchOption o (none ≡ count_of (units_of text)) (λ n. some n ≡ count_of (units_of text)) →
+    is_some o ≡ is_text text
+is_some-counted text None e = sym (not-text 0 text e)
+is_some-counted text (Some n) e = sym (is_text_lem 0 text n e)
 
-pub returns-in-NotText : goal.returns-in-NotText
-unfolding count_answer
-returns-in-NotText c = let counted = c.count_units in
-    sym (not-text 0 c.args.bytes.now (sym (ap count_answer c.in-NotText.is) ∙ counted.ensures))
+pub returns : goal.returns
+returns c = c.is_some.ensures ∙ is_some-counted c.args.bytes.now c.count_units.result c.count_units.ensures

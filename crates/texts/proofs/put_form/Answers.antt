@@ -2,11 +2,10 @@
 use mathlib.Core.List.{[], ◌∷◌}
 use mathlib.Core.Path.{◌≡◌, sym, ◌∙◌}
 use native.Mathlib.Omega.{arith}
-use borrow.Author.Rules.{rules}
 use lib.ListN.{length}
 use Rattle.definition.specs.Texts.{unit_bytes}
 use Rattle.texts.specs.Forms.{in_two, in_three}
-use Rattle.texts.proofs.Writing.{of_one, of_two, of_three, put_one, form-put}
+use Rattle.texts.proofs.Writing.{of_one, of_two, of_three, form-put}
 use Rattle.texts.proofs.put_form.Goals as goal
 
 pub overflow_cast-unit : goal.overflow_cast-unit
@@ -15,8 +14,8 @@ overflow_cast-unit c = omega (arith, of_one c.args.unit (sym c.form_size-size.en
 pub returns-then-size-eq1 : goal.returns-then-size-eq1
 returns-then-size-eq1 c = let told = let args = c.args in
     let size : length (unit_bytes args.unit) ≡ 1 = sym c.form_size-size.ensures ∙ c.if-size-eq1.true in
-    form-put args.text.now args.at c.put_u8.new.d (unit_bytes args.unit) (args.unit ∷ []) 1
-    (c.put_u8.ensures ∙ put_one args.text.now args.at args.unit (omega arith)) (of_one args.unit size).1 size in record { value = told.0; text_after = told.1 }
+    form-put args.text.now args.at c.copy.new.dst (unit_bytes args.unit) (args.unit ∷ []) 1
+    (c.copy.ensures) (of_one args.unit size).1 size in record { value = told.0; text_after = told.1 }
 
 pub put_two-requires : goal.put_two-requires
 put_two-requires c = let args = c.args in
