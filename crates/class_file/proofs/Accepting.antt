@@ -5,7 +5,8 @@ use mathlib.Core.Option.{some}
 use mathlib.Core.Path.{◌≡◌, refl, sym, ap, subst, ◌∙◌}
 use Prim.Native.Nat.{ℕ, zero, suc, ◌+◌, ◌-◌, ◌<◌, ◌≤◌}
 use native.Mathlib.Omega.{arith}
-use lib.ListN.{length, drop, length-drop, length-append, drop_of_length-le}
+use lib.ListN.{length, take, drop, length-drop, length-append, drop_of_length-le}
+use lib.Seq.{take-append_seam}
 use Rattle.definition.specs.Basics.{good}
 use Rattle.jvms.specs.Pool.{array, wholly, read_pool_lem, BootstrapMethod, read_bootstrap_methods}
 use Rattle.jvms.specs.Written.{bytes2, bytes4, Is1, Is2, All}
@@ -16,10 +17,9 @@ use Rattle.laws.proofs.Reading.ReadIsSpelled.{all_bytes, item_u2, four_bytes, ta
 use Rattle.laws.proofs.Reading.SpelledIsRead.{pool_back}
 use Rattle.places.specs.Standing.{slot_of}
 use Rattle.places.proofs.Counting.{read_u2}
-use Rattle.class_file.specs.declared.ClassRead.TheVariants.{Parts as Places}
 use Rattle.class_file.specs.ClassFile.{is_name_lem, class_bytes, read_class}
 use Rattle.class_file.specs.Promises.{Fits}
-use Rattle.class_file.specs.Answers.{parts_of, attributes_of, OneAttribute, Right, places_of, parts_at, Framed}
+use Rattle.class_file.specs.Answers.{parts_from, attributes_of, OneAttribute, Right, parts_at, Framed}
 use Rattle.class_file.proofs.Sound.{sound_proper}
 use Rattle.class_file.proofs.Proper.{named_none, named_some}
 use Rattle.class_file.proofs.Naming.{bytes-behind}
@@ -93,7 +93,7 @@ module _ (file : List ℕ) (are : IsBytes file) where
         (name count from : ℕ) → Is2 name → Is2 count → from ≤ length file →
         drop (end + 12) file ≡ attributes_of name count (drop from file) →
         Right pool.bytes name count (drop from file) →
-        parts_at file end name count from ≡ places_of file (read_class file)
+        good (parts_at file end name count from) ≡ read_class file
     accepts name count from fn fc low attributes right =
         let room = framed.members.0 in
         let first = framed.head.0 in
@@ -103,7 +103,7 @@ module _ (file : List ℕ) (are : IsBytes file) where
         let this = number2 file (end + 2) in
         let super = number2 file (end + 4) in
         let b = drop from file in
-        let p = parts_of minor major pool.bytes flags this super name count b in
+        let p = parts_from minor major pool.bytes flags this super name count b in
         let d₄ = pool.there ∙ ap (λ m. pool.bytes ++ m) (members_spelled (attributes_of name count b) attributes) in
         let d₃ = (spells2 6 8 refl first).1 ∙ ap (λ m. bytes2 major ++ m) d₄ in
         let d₂ = (spells2 4 6 refl (omega arith)).1 ∙ ap (λ m. bytes2 minor ++ m) d₃ in
@@ -122,12 +122,13 @@ module _ (file : List ℕ) (are : IsBytes file) where
           bootstraps_fits = bytes-behind file are from;
         } in
         let read : read_class file ≡ good p = (exact file p (all_bytes file are)).1 (fits, sound_proper p right, is) in
-        let size = sym pool.size in
-        let last : from ≡ length file - length b = omega (arith, length-drop from file) in
-        (λ i. Places minor major (size i) flags this super name count (last i)) ∙ sym (ap (places_of file) read)
+        let long : end - 8 ≡ length pool.bytes = omega (arith, pool.size) in
+        let front : take (end - 8) (drop 8 file) ≡ pool.bytes =
+        (λ i. take (long i) (pool.there i)) ∙ take-append_seam pool.bytes (drop end file) in
+        (λ i. good (parts_from minor major (front i) flags this super name count b)) ∙ sym read
 
     -- no attribute
-    pub accepts_none : number2 file (end + 12) ≡ 0 → length file ≡ end + 14 → parts_at file end 0 0 (end + 14) ≡ places_of file (read_class file)
+    pub accepts_none : number2 file (end + 12) ≡ 0 → length file ≡ end + 14 → good (parts_at file end 0 0 (end + 14)) ≡ read_class file
     unfolding read_bootstrap_methods array wholly
     accepts_none nothing long =
         let all : length file ≤ end + 14 = omega arith in
@@ -154,7 +155,7 @@ module _ (file : List ℕ) (are : IsBytes file) where
     pub accepts_one :
         number2 file (end + 12) ≡ 1 → OneAttribute file (end + 14) → is_name_lem (slot_of framed.slots (number2 file (end + 14))) ≡ true →
         (methods : List BootstrapMethod) → read_bootstrap_methods (number2 file (end + 14 + 6)) (drop (end + 14 + 8) file) ≡ some methods →
-        parts_at file end (number2 file (end + 14)) (number2 file (end + 14 + 6)) (end + 14 + 8) ≡ places_of file (read_class file)
+        good (parts_at file end (number2 file (end + 14)) (number2 file (end + 14 + 6)) (end + 14 + 8)) ≡ read_class file
     accepts_one one (inside, long) held methods read =
         let name = number2 file (end + 14) in
         let count = number2 file (end + 14 + 6) in

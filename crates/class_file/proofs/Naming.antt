@@ -1,6 +1,8 @@
 -- Whether a slot holds the attribute's name, by the bytes at the place of its constant. Assumes nothing.
-use mathlib.Core.Bool.{Bool, true, false}
-use mathlib.Core.List.{List, ◌++◌}
+use mathlib.Core.Bool.{Bool, true, false, ◌&&◌}
+use lib.Pointwise.{pointwise}
+use lib.Dec.{eqb}
+use mathlib.Core.List.{List, [], ◌∷◌, ◌++◌}
 use mathlib.Core.Logic.{◌⊎◌, inl, inr}
 use mathlib.Core.Option.{Option, none, some}
 use mathlib.Core.Path.{◌≡◌, refl, sym, ap, ◌∙◌}
@@ -114,3 +116,11 @@ module _ (bytes : List ℕ) (slots : List Slot) (table : List ℕ) (noted : Note
   name_there are h =
       let (c, is, found) = at_place noted n h in
       ap is_name_lem is ∙ name_at bytes are (get_or table n 0) c found.0 found.1
+
+-- the test of two lists by their items is the definition's
+pub items_same : (xs ys : List ℕ) → pointwise eqb xs ys ≡ same xs ys
+unfolding same
+items_same [] [] = refl
+items_same [] (y ∷ ys) = refl
+items_same (x ∷ xs) [] = refl
+items_same (x ∷ xs) (y ∷ ys) = ap (λ b. eqb x y && b) (items_same xs ys)

@@ -13,7 +13,7 @@ use Rattle.facts.proofs.Lists.{tests_agree}
 use Rattle.writer.proofs.Laws.{be4-halves}
 use Rattle.raw_const.specs.Entries.{Wrote}
 use Rattle.class_file.specs.ClassFile.{attribute-bytes, attributes-bytes, class_bytes}
-use Rattle.class_file.specs.Answers.{parts_of, head_bytes, members_bytes, attributes_of, frame_size}
+use Rattle.class_file.specs.Answers.{parts_from, head_bytes, members_bytes, attributes_of, frame_size}
 
 -- a number's bytes, as the writer has them
 pub short_bytes : (x : ℕ) → Is2 x → be2 x ≡ bytes2 x
@@ -65,7 +65,7 @@ regrouped a b c pool d e f g h i l = simp append_assoc
 pub file_pieces :
     (minor major : ℕ) (pool : List ℕ) (flags this super name count : ℕ) (b : List ℕ) →
     head_bytes minor major ++ pool ++ members_bytes flags this super ++ attributes_of name count b
-    ≡ class_bytes (parts_of minor major pool flags this super name count b)
+    ≡ class_bytes (parts_from minor major pool flags this super name count b)
 unfolding class_bytes attribute-bytes
 file_pieces minor major pool flags this super name count b =
     regrouped (bytes4 0xcafebabe) (bytes2 minor) (bytes2 major) pool (bytes2 flags) (bytes2 this) (bytes2 super) (bytes2 0) (bytes2 0) (bytes2 0) (attributes_of name count b)
@@ -82,7 +82,7 @@ behind flags this super l = bytes2 flags ++ (bytes2 this ++ (bytes2 super ++ (by
 
 pub file_items :
     (minor major : ℕ) (pool : List ℕ) (flags this super name count : ℕ) (b : List ℕ) →
-    class_bytes (parts_of minor major pool flags this super name count b)
+    class_bytes (parts_from minor major pool flags this super name count b)
     ≡ bytes4 0xcafebabe ++ (bytes2 minor ++ (bytes2 major ++ (pool ++ behind flags this super (attributes_of name count b))))
 unfolding class_bytes attribute-bytes
 file_items minor major pool flags this super name count b =
@@ -90,7 +90,7 @@ file_items minor major pool flags this super name count b =
 
 pub length-file :
     (minor major : ℕ) (pool : List ℕ) (flags this super name count : ℕ) (b : List ℕ) →
-    length (class_bytes (parts_of minor major pool flags this super name count b)) ≡ 20 + length pool + length (attributes_of name count b)
+    length (class_bytes (parts_from minor major pool flags this super name count b)) ≡ 20 + length pool + length (attributes_of name count b)
 unfolding bytes2 bytes4
 length-file minor major pool flags this super name count b =
     omega (

@@ -14,10 +14,9 @@ use Rattle.facts.proofs.Lists.{none≢some, some_inj, true≢false}
 use Rattle.laws.specs.Statements.{IsBytes}
 use Rattle.laws.proofs.Reading.ReadIsSpelled.{all_bytes}
 use Rattle.places.specs.Standing.{slot_of}
-use Rattle.class_file.specs.declared.ClassRead.TheVariants.{Refused}
 use Rattle.class_file.specs.ClassFile.{Parts, is_name_lem, proper, class_bytes, class_file, accepted, read_class}
 use Rattle.class_file.specs.Promises.{Fits}
-use Rattle.class_file.specs.Answers.{Head, NoMembers, OneAttribute, places_of, Framed}
+use Rattle.class_file.specs.Answers.{Head, NoMembers, OneAttribute, Framed}
 use Rattle.class_file.proofs.Local.{pool_before}
 use Rattle.class_file.proofs.Sound.{Sound, proper-sound}
 use Rattle.class_file.proofs.Proper.{named_some}
@@ -66,20 +65,18 @@ ends file p e f s l = go p.name refl
         more named (record { one = n₀; name_is = n₁; long_is = n₂; count_is = n₃; inside = in₃; rest_is = d₃ })
 
 module _ (file : List ℕ) (are : IsBytes file) where
-  refuses : ((p : Parts) → Fits p → Sound p → file ≡ class_bytes p → ⊥) → Refused 27 ≡ places_of file (read_class file)
+  refuses : ((p : Parts) → Fits p → Sound p → file ≡ class_bytes p → ⊥) → bad 27 ≡ read_class file
   unfolding read_class
   refuses h =
       sym
-      (ap
-      (places_of file)
       (only-27 (wholly (class_file file)) (λ p e.
       let (f, ok, is) = parts-forth file p (all_bytes file are) e in
-      h p f (proper-sound p ok) is)))
+      h p f (proper-sound p ok) is))
 
-  pub no_head : (Head file → ⊥) → Refused 27 ≡ places_of file (read_class file)
+  pub no_head : (Head file → ⊥) → bad 27 ≡ read_class file
   no_head h = refuses (λ p f s is. h (laid file p f is).head)
 
-  pub no_pool_there : (u2 >>= constant_pool) (drop 8 file) ≡ none → Refused 27 ≡ places_of file (read_class file)
+  pub no_pool_there : (u2 >>= constant_pool) (drop 8 file) ≡ none → bad 27 ≡ read_class file
   no_pool_there h =
       refuses (λ p f s is.
       let l = laid file p f is in
@@ -96,7 +93,7 @@ module _ (file : List ℕ) (are : IsBytes file) where
         let same : e ≡ end = omega (arith, length-drop end file, length-drop e file, ap length (ap (λ r. r.1) pair), l.inside) in
         (subst (λ k. Laid file p k) same l, sym (ap (λ r. r.0) pair))
 
-    pub has_members : (NoMembers file end → ⊥) → Refused 27 ≡ places_of file (read_class file)
+    pub has_members : (NoMembers file end → ⊥) → bad 27 ≡ read_class file
     has_members h =
         refuses (λ p f s is.
         let (l, same) = meets p f s is in
@@ -116,14 +113,14 @@ module _ (file : List ℕ) (are : IsBytes file) where
         let (l, same) = meets framed.slots end framed.pool_read (omega (arith, framed.members.0)) p f s is in
         (ends file p end f s l, same)
 
-    pub many-attributes : (number2 file (end + 12) ≡ 1 → ⊥) → (number2 file (end + 12) ≡ 0 → ⊥) → Refused 27 ≡ places_of file (read_class file)
+    pub many-attributes : (number2 file (end + 12) ≡ 1 → ⊥) → (number2 file (end + 12) ≡ 0 → ⊥) → bad 27 ≡ read_class file
     many-attributes not-one not-zero = refuses (λ p f s is. way p (known p f s is).0)
       where
         way : (p : Parts) → Ends file p end → ⊥
         way p (bare n long) = not-zero n
         way p (more there a) = not-one a.one
 
-    pub left_over : number2 file (end + 12) ≡ 0 → (length file ≡ end + 14 → ⊥) → Refused 27 ≡ places_of file (read_class file)
+    pub left_over : number2 file (end + 12) ≡ 0 → (length file ≡ end + 14 → ⊥) → bad 27 ≡ read_class file
     left_over nothing h = refuses (λ p f s is. way p (known p f s is).0)
       where
         way : (p : Parts) → Ends file p end → ⊥
@@ -132,26 +129,26 @@ module _ (file : List ℕ) (are : IsBytes file) where
 
     -- with one attribute
     module _ (one : number2 file (end + 12) ≡ 1) where
-      with_one : ((p : Parts) (s : Sound p) → s.slots ≡ framed.slots → 0 < p.name → Attribute file p end → ⊥) → Refused 27 ≡ places_of file (read_class file)
+      with_one : ((p : Parts) (s : Sound p) → s.slots ≡ framed.slots → 0 < p.name → Attribute file p end → ⊥) → bad 27 ≡ read_class file
       with_one h = refuses (λ p f s is. way p s (known p f s is).1 (known p f s is).0)
         where
           way : (p : Parts) (s : Sound p) → s.slots ≡ framed.slots → Ends file p end → ⊥
           way p s same (bare n long) = omega arith
           way p s same (more there a) = h p s same there a
 
-      pub no_attribute : (OneAttribute file (end + 14) → ⊥) → Refused 27 ≡ places_of file (read_class file)
+      pub no_attribute : (OneAttribute file (end + 14) → ⊥) → bad 27 ≡ read_class file
       no_attribute h =
           with_one (λ p s same there a.
           h (a.inside, omega (arith, a.inside, a.long_is, length-drop (end + 14 + 8) file, ap length a.rest_is)))
 
-      pub other_name : is_name_lem (slot_of framed.slots (number2 file (end + 14))) ≡ false → Refused 27 ≡ places_of file (read_class file)
+      pub other_name : is_name_lem (slot_of framed.slots (number2 file (end + 14))) ≡ false → bad 27 ≡ read_class file
       other_name h =
           with_one (λ p s same there a.
           let held = named_some s.slots p.name p.count there ∙ s.name_held in
           true≢false (sym held ∙ (λ i. is_name_lem (slot_of (same i) (sym a.name_is i))) ∙ h))
 
       pub other_methods :
-          read_bootstrap_methods (number2 file (end + 14 + 6)) (drop (end + 14 + 8) file) ≡ none → Refused 27 ≡ places_of file (read_class file)
+          read_bootstrap_methods (number2 file (end + 14 + 6)) (drop (end + 14 + 8) file) ≡ none → bad 27 ≡ read_class file
       other_methods h =
           with_one (λ p s same there a.
           none≢some (sym h ∙ (λ i. read_bootstrap_methods (a.count_is i) (a.rest_is i)) ∙ s.methods_read))

@@ -1,5 +1,5 @@
 -- What the code's answers are by the definition, and the pieces that it writes. Assumes nothing.
-use Rattle.std.specs.Prelude.{Bool, true, false, List, ◌++◌, ◌≡◌, ℕ, zero, suc, ◌+◌, ◌-◌, ◌≤◌, length, drop}
+use Rattle.std.specs.Prelude.{Bool, true, false, List, ◌++◌, ◌≡◌, ℕ, zero, suc, ◌+◌, ◌-◌, ◌≤◌, length, take, drop}
 use Rattle.std.proofs.Math.Option.{some}
 use Rattle.definition.specs.Basics.{Result, good, bad}
 use Rattle.definition.specs.Run.{overwrite}
@@ -8,13 +8,14 @@ use Rattle.jvms.specs.Written.{bytes2, bytes4}
 use Rattle.writer.specs.Numbers.{number2, number4}
 use Rattle.places.specs.Standing.{Noted}
 use Rattle.class_file.specs.ClassFile.{Parts, named, attributes-bytes}
-use Rattle.class_file.specs.declared.Written.{Written}
-use Rattle.class_file.specs.declared.Written.TheVariants.{File, Refused as NotWritten}
-use Rattle.class_file.specs.declared.ClassRead.{ClassRead}
-use Rattle.class_file.specs.declared.ClassRead.TheVariants.{Parts as Places, Refused as NotRead}
+use Rattle.std.specs.Prelude as code
+use Rattle.std.specs.Prelude.{None, Some, Ok, Err}
+use Rattle.refusal.specs.Numbers.{number}
+use Rattle.refusal.specs.declared.Refusal.{Refusal}
+use Rattle.class_file.specs.declared.Parts.{Parts as Given}
 
-abbrev pub parts_of : ℕ → ℕ → List ℕ → ℕ → ℕ → ℕ → ℕ → ℕ → List ℕ → Parts
-parts_of minor major pool flags this super name count bootstraps =
+abbrev pub parts_from : ℕ → ℕ → List ℕ → ℕ → ℕ → ℕ → ℕ → ℕ → List ℕ → Parts
+parts_from minor major pool flags this super name count bootstraps =
     record {
       minor_version = minor;
       major_version = major;
@@ -26,6 +27,10 @@ parts_of minor major pool flags this super name count bootstraps =
       count = count;
       bootstraps = bootstraps;
     }
+
+-- the code's parts
+abbrev pub parts_of : Given → Parts
+parts_of p = parts_from p.minor p.major p.pool.now p.access_flags p.this_class p.super_class p.name p.count p.bootstraps.now
 
 -- what stands before the pool, between it and the attributes, and from attributes_count on
 abbrev pub head_bytes : ℕ → ℕ → List ℕ
@@ -67,25 +72,28 @@ pub record Right (pool : List ℕ) (name count : ℕ) (bootstraps : List ℕ) : 
   pub methods_read : read_bootstrap_methods count bootstraps ≡ some methods
   pub short : length bootstraps ≤ 4294967293
 
--- the answer and the later contents of the output, by the definition's result
-abbrev pub answer_of : Result ℕ (List ℕ) → Written
-answer_of (good file) = File (length file)
-answer_of (bad code) = NotWritten code
+-- the length of a file, or why there is none, and the later contents of the output, by the definition's result
+abbrev pub length_of : Result ℕ (List ℕ) → Result ℕ ℕ
+length_of (good file) = good (length file)
+length_of (bad code) = bad code
 
 abbrev pub out_after : Result ℕ (List ℕ) → List ℕ → List ℕ
 out_after (good file) before = overwrite file before
 out_after (bad code) before = before
 
--- parts as places in their file
-abbrev pub places_of : List ℕ → Result ℕ Parts → ClassRead
-places_of file (good p) =
-    Places p.minor_version p.major_version (8 + length p.pool) p.access_flags p.this_class p.super_class p.name p.count (length file - length p.bootstraps)
-places_of file (bad code) = NotRead code
+-- the parts that were read, as the definition's result; where none were found the file is refused by 27
+abbrev pub parts_read : code.Result Given Refusal → Result ℕ Parts
+parts_read (Ok p) = good (parts_of p)
+parts_read (Err r) = bad (number r)
 
--- what stands in a file whose pool ends at a place
-abbrev pub parts_at : List ℕ → ℕ → ℕ → ℕ → ℕ → ClassRead
-parts_at file end name count bootstraps =
-    Places (number2 file 4) (number2 file 6) end (number2 file end) (number2 file (end + 2)) (number2 file (end + 4)) name count bootstraps
+abbrev pub parts_found : code.Option Given → Result ℕ Parts
+parts_found None = bad 27
+parts_found (Some p) = good (parts_of p)
+
+-- what stands in a file whose pool ends at a place, and whose bootstrap methods begin at another
+abbrev pub parts_at : List ℕ → ℕ → ℕ → ℕ → ℕ → Parts
+parts_at file end name count from =
+    parts_from (number2 file 4) (number2 file 6) (take (end - 8) (drop 8 file)) (number2 file end) (number2 file (end + 2)) (number2 file (end + 4)) name count (drop from file)
 
 -- a file is of the frame up to its attributes: its pool was read, ends at a place, and is noted in a table
 pub record Framed (file : List ℕ) (end : ℕ) (table : List ℕ) : Type 0 where

@@ -1,49 +1,40 @@
 -- `class_file::is_proper` meets its contract: the pool is read to its end, its name slot is right, and the bootstrap methods are read. Assumes nothing.
-use borrow.Author.Rules.{rules}
 use native.Mathlib.Omega.{arith}
-use mathlib.Core.Path.{sym, ◌∙◌}
+use mathlib.Core.Bool.{not}
+use mathlib.Core.Path.{sym, ap, ◌∙◌}
+use mathlib.Core.List.{List}
+use Prim.Native.Nat.{ℕ}
 use lib.ListN.{replicate}
-use borrow.Author.Tests.{not-true, not-false}
+use borrow.Author.Tests.{not-false}
 use Rattle.facts.proofs.Lists.{true≢false}
-use Rattle.places.proofs.Rows.{blank_zeros, pool_table}
-use Rattle.class_file.proofs.Proper.{pool_bad, pool_good, no_pool_lem, pool_end, held, all_read, methods_tell}
+use Rattle.places.proofs.Rows.{blank_zeros}
+use Rattle.class_file.proofs.Proper.{whole_found, whole_needed, held_by, methods_tell}
 use Rattle.class_file.proofs.is_proper.Goals as goal
+use Rattle.class_file.proofs.is_proper.Goals.{then-ne-via-then-ne, then-ne-via-else-ne+then-parts-gt-MOST_BOOTSTRAPS}
 
-pub returns-in_default : goal.returns-in_default
-returns-in_default c = let args = c.args in
-    no_pool_lem args.pool.now args.name args.count args.bootstraps.now
-    (pool_bad args.pool.now 0 (replicate 65536 0) c.note_pool.new.places c.note_pool.ensures c.in_default.is)
+pub returns-then-ne : goal.returns-then-ne
+returns-then-ne c =
+    let p = c.args.parts.now in
+    let needed = whole_needed p.pool.now (replicate 65536 0) c.note_pool.new.places blank_zeros c.note_pool.result p.name p.count p.bootstraps.now c.note_pool.ensures in
+    elim c.then-ne.branch [
+      | then-ne-via-then-ne w ↦ (λ e. true≢false (sym e), λ right. true≢false (sym w.if-ne.true ∙ c.ne.ensures ∙ ap not (needed right)))
+      | then-ne-via-else-ne+then-parts-gt-MOST_BOOTSTRAPS w ↦ (λ e. true≢false (sym e), λ right. absurd (omega (arith, right.short)))
+    ]
 
-pub returns-then-next-pool : goal.returns-then-next-pool
-returns-then-next-pool c = let args = c.args in
-    let pool = args.pool.now in
-    let next = c.in-Good.next in
-    let after = c.note_pool.new.places in
-    let told = pool_good pool 0 (replicate 65536 0) after c.note_pool.ensures next c.in-Good.is in
-    λ right. c.if-next-pool.true (pool_end pool args.name args.count args.bootstraps.now told.0 next told.1 told.3 right)
+pub returns-then-is_named : goal.returns-then-is_named
+returns-then-is_named c =
+    let p = c.args.parts.now in
+    let before : List ℕ = replicate 65536 0 in
+    let read = not-false _ (sym c.ne.ensures ∙ c.if-ne.false) in
+    let whole = whole_found p.pool.now before c.note_pool.new.places blank_zeros c.note_pool.result c.note_pool.ensures read in
+    let held = sym (c.is_named.ensures whole.slots whole.noted) ∙ c.if-is_named.true in
+    methods_tell p.pool.now p.name p.count p.bootstraps.now whole.slots c.note_pool.new.places c.note_methods.new.places c.note_methods.result whole.read held (omega arith) c.note_methods.ensures
 
-pub returns-then-not-is_named : goal.returns-then-not-is_named
-returns-then-not-is_named c = let args = c.args in
-    let pool = args.pool.now in
-    let next = c.in-Good.next in
-    let after = c.note_pool.new.places in
-    let told = pool_good pool 0 (replicate 65536 0) after c.note_pool.ensures next c.in-Good.is in
-    let table = pool_table pool 0 (replicate 65536 0) after next blank_zeros told in
-    let wrong = not-true c.is_named.result c.if-not-is_named.true-raw in
-    let is = c.is_named.ensures told.0 table in
-    λ right. true≢false (sym (is ∙ held pool args.name args.count args.bootstraps.now told.0 next told.1 right) ∙ wrong)
-
-pub returns-then-bootstraps-gt-MOST_BOOTSTRAPS : goal.returns-then-bootstraps-gt-MOST_BOOTSTRAPS
-returns-then-bootstraps-gt-MOST_BOOTSTRAPS c = λ right. omega (arith, right.short)
-
-pub returns : goal.returns
-returns c = let args = c.args in
-    let pool = args.pool.now in
-    let next = c.in-Good.next in
-    let after = c.note_pool.new.places in
-    let told = pool_good pool 0 (replicate 65536 0) after c.note_pool.ensures next c.in-Good.is in
-    let table = pool_table pool 0 (replicate 65536 0) after next blank_zeros told in
-    let right = not-false c.is_named.result c.if-not-is_named.false-raw in
-    let is = c.is_named.ensures told.0 table in
-    let read = all_read pool args.name args.count args.bootstraps.now told.0 next told.1 c.if-next-pool.false in
-    methods_tell pool args.name args.count args.bootstraps.now told.0 after c.note_methods.new.places c.note_methods.result read (sym is ∙ right) (omega arith) c.note_methods.ensures
+pub returns-else-is_named : goal.returns-else-is_named
+returns-else-is_named c =
+    let p = c.args.parts.now in
+    let before : List ℕ = replicate 65536 0 in
+    let read = not-false _ (sym c.ne.ensures ∙ c.if-ne.false) in
+    let whole = whole_found p.pool.now before c.note_pool.new.places blank_zeros c.note_pool.result c.note_pool.ensures read in
+    let is = c.is_named.ensures whole.slots whole.noted in
+    (λ e. true≢false (sym e ∙ c.if-is_named.false), λ right. is ∙ held_by p.pool.now p.name p.count p.bootstraps.now whole.slots whole.read right)

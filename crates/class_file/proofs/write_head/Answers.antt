@@ -1,5 +1,4 @@
 -- `class_file::write_head` meets its contract: the magic number and the versions, one behind the other. Assumes nothing.
-use borrow.Author.Rules.{rules}
 use native.Mathlib.Omega.{arith}
 use Rattle.jvms.specs.Written.{bytes2, bytes4}
 use Rattle.raw_const.proofs.Writes.{wrote_then}

@@ -1,5 +1,4 @@
 -- `class_file::write_members` meets its contract: six numbers, one behind the other. Assumes nothing.
-use borrow.Author.Rules.{rules}
 use native.Mathlib.Omega.{arith}
 use Prim.Native.Nat.{◌+◌, ◌≤◌}
 use lib.ListN.{length}

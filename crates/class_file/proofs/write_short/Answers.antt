@@ -5,4 +5,4 @@ use Rattle.class_file.proofs.write_short.Goals as goal
 
 pub returns : goal.returns
 returns c = let args = c.args in
-    wrote_short args.out.now args.at args.x (search rules) c.put_u16.ensures
+    wrote_short args.out.now args.at args.x (search rules) c.put.ensures

@@ -5,4 +5,4 @@ use Rattle.class_file.proofs.write_word.Goals as goal
 
 pub returns : goal.returns
 returns c = let args = c.args in
-    wrote_word args.out.now args.at args.x (search rules) c.put_u32.ensures
+    wrote_word args.out.now args.at args.x (search rules) c.put.ensures
