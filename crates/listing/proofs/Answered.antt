@@ -9,12 +9,13 @@ use native.Mathlib.Omega.{arith}
 use lib.ListN.{length, drop, drop_of_length-le}
 use lib.Seq.{take-length, drop-cons}
 use borrow.Author.Tests.{le-leb, lt-leb}
-use Rattle.definition.specs.Basics.{bad}
+use Rattle.definition.specs.Basics.{good, bad}
 use Rattle.facts.proofs.Lists.{order}
 use Rattle.jvms.specs.Pool.{◌>>=◌, u2, Slot, constant_pool, BootstrapMethod, wholly, read_pool_lem, read_bootstrap_methods}
 use Rattle.places.specs.Standing.{Noted, MethodsNoted}
 use Rattle.places.specs.Noting.{Blank, PoolNoted, MethodsPut}
-use Rattle.places.specs.declared.PoolRead.TheVariants.{Good}
+use Rattle.std.specs.Prelude.{Ok, Err}
+use Rattle.std.specs.Prelude.{Some}
 use Rattle.places.proofs.Rows.{pool_table}
 use Rattle.places.proofs.Methods.{methods_table}
 use Rattle.printing.specs.Printed.{Printed}
@@ -22,7 +23,8 @@ use Rattle.printing.proofs.Printing.{capped-in, capped-past}
 use Rattle.listing.specs.Listing.{lines, fitting, listed, listing}
 use Rattle.listing.specs.Views.{or_none, finished, Views}
 use Rattle.listing.specs.Lists.{Answers, Lists}
-use Rattle.listing.specs.declared.Listed.TheVariants.{Text, Refused}
+use Rattle.refusal.specs.declared.Refusal.TheVariants.{NotPool, OutputTooShort}
+use Rattle.refusal.specs.Numbers.{number, answer_of}
 
 -- ---- a text's end tells whether it fits
 
@@ -60,8 +62,8 @@ module _ {pool places : List ℕ} {count : ℕ} {methods table : List ℕ} (v : 
 
   pub too_long :
       {d e : List ℕ} {end : ℕ} → Printed d (length before) 0 (lines (finished pool count methods)) e end → length before < end →
-      Lists pool count methods before before (Refused 18)
-  unfolding Lists Answers fitting
+      Lists pool count methods before before (Err OutputTooShort)
+  unfolding Lists Answers fitting answer_of number
   too_long p h =
       let text = lines (finished pool count methods) in
       rw (read, lt-leb (length text) (length before) (longer p h), fitting) (refl, refl)
@@ -69,13 +71,13 @@ module _ {pool places : List ℕ} {count : ℕ} {methods table : List ℕ} (v : 
   pub all_written :
       {d e after : List ℕ} {end r : ℕ} → Printed d (length before) 0 (lines (finished pool count methods)) e end → end ≤ length before →
       Printed before (length before) 0 (lines (finished pool count methods)) after r →
-      Lists pool count methods before after (Text end)
-  unfolding Lists Answers fitting
+      Lists pool count methods before after (Ok end)
+  unfolding Lists Answers fitting answer_of number
   all_written p h q =
       let text = lines (finished pool count methods) in
       let ends = whole p h in
       let fits : length text ≤ length before = omega arith in
-      rw (read, le-leb (length text) (length before) fits, fitting) (ap Text ends, in_front q fits)
+      rw (read, le-leb (length text) (length before) fits, fitting) (ap good ends, in_front q fits)
 
 -- ---- bytes that aren't a pool, or not so many bootstrap methods
 
@@ -89,8 +91,8 @@ unread room (some slots) methods (inr e) = rw (e, listed) refl
 
 pub refused :
     (pool : List ℕ) (count : ℕ) (methods before : List ℕ) → (read_pool_lem pool ≡ none) ⊎ (read_bootstrap_methods count methods ≡ none) →
-    Lists pool count methods before before (Refused 21)
-unfolding Lists Answers listing
+    Lists pool count methods before before (Err NotPool)
+unfolding Lists Answers listing answer_of number
 refused pool count methods before h = rw (unread (length before) (read_pool_lem pool) (read_bootstrap_methods count methods) h, Answers) (refl, refl)
 
 pub no_pool_lem : (pool : List ℕ) → (u2 >>= constant_pool) pool ≡ none → read_pool_lem pool ≡ none
@@ -114,7 +116,7 @@ read_as o l e = sym (ap or_none e)
 
 pub views :
     (pool : List ℕ) (count : ℕ) (methods blank places zeros table : List ℕ) (next : ℕ) → Blank blank →
-    PoolNoted pool 0 blank places (Good next) → length pool ≤ next → length zeros ≡ 65536 → count < 65536 →
+    PoolNoted pool 0 blank places (Some next) → length pool ≤ next → length zeros ≡ 65536 → count < 65536 →
     MethodsPut methods count zeros table true → Views pool places count methods table
 unfolding finished
 views pool count methods blank places zeros table next clear p all size few m =

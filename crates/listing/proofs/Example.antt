@@ -1,5 +1,5 @@
 -- Pools put together by hand and their listings, and refusals. Assumes nothing.
-use mathlib.Core.List.{List, [], ◌∷◌, ◌++◌}
+use mathlib.Core.List.{List, [], ◌∷◌}
 use mathlib.Core.Path.{◌≡◌, refl}
 use Prim.Native.Nat.{ℕ}
 use Rattle.definition.specs.Basics.{concat, lookup, good, bad}

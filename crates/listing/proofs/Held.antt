@@ -11,7 +11,9 @@ use Rattle.definition.specs.Ascii.{hex_digit}
 use Rattle.definition.specs.Shapes.{constant, bootstrap, Field, text, bits, byte, to, to_many, shapes}
 use Rattle.raw_const.specs.Entries.{fields_of}
 use Rattle.raw_const.specs.declared.Shape.{Shape}
-use Rattle.raw_const.specs.declared.Shape.TheVariants.{Text, Bits, One, Two, Dynamic as Method, KindOne, Unknown}
+use Rattle.std.specs.Prelude as code
+use Rattle.std.specs.Prelude.{None, Some}
+use Rattle.raw_const.specs.declared.Shape.TheVariants.{Text, Bits, One, Two, Dynamic as Method, KindOne}
 use Rattle.jvms.specs.Pool.{Constant, Utf8, Integer, Float, Long, Double, Class, String, Fieldref, Methodref, InterfaceMethodref, NameAndType, MethodHandle, MethodType, Dynamic, InvokeDynamic, Module, Package}
 use Rattle.writer.specs.Numbers.{number2, number4, number8}
 use Rattle.printing.specs.Numbers.{quoted, signed, hex_of, float, double}
@@ -23,35 +25,35 @@ use Rattle.listing.specs.Views.{or_none, betweens, between, finished, Views}
 use Rattle.listing.specs.Opening.{held_at, numbers, number_at, Sized, two_at_lem, dynamic_at, handle_at}
 
 -- the shape that fields are of
-abbrev shape_of : Option (List Field) → Shape
-shape_of none = Unknown
-shape_of (some []) = Unknown
-shape_of (some (text ∷ l)) = Text
-shape_of (some (bits size ∷ l)) = Bits size
-shape_of (some (byte ∷ l)) = KindOne
-shape_of (some (to constant ∷ [])) = One
-shape_of (some (to constant ∷ second ∷ l)) = Two
-shape_of (some (to bootstrap ∷ l)) = Method
-shape_of (some (to_many ∷ l)) = Unknown
+abbrev shape_of : Option (List Field) → code.Option Shape
+shape_of none = None
+shape_of (some []) = None
+shape_of (some (text ∷ l)) = Some Text
+shape_of (some (bits size ∷ l)) = Some (Bits size)
+shape_of (some (byte ∷ l)) = Some KindOne
+shape_of (some (to constant ∷ [])) = Some One
+shape_of (some (to constant ∷ second ∷ l)) = Some Two
+shape_of (some (to bootstrap ∷ l)) = Some Method
+shape_of (some (to_many ∷ l)) = None
 
-shape_of_fields : (s : Shape) → shape_of (fields_of s) ≡ s
-shape_of_fields Text = refl
-shape_of_fields (Bits size) = refl
-shape_of_fields One = refl
-shape_of_fields Two = refl
-shape_of_fields Method = refl
-shape_of_fields KindOne = refl
-shape_of_fields Unknown = refl
+shape_of_fields : (s : code.Option Shape) → shape_of (fields_of s) ≡ s
+shape_of_fields (Some Text) = refl
+shape_of_fields (Some (Bits size)) = refl
+shape_of_fields (Some One) = refl
+shape_of_fields (Some Two) = refl
+shape_of_fields (Some Method) = refl
+shape_of_fields (Some KindOne) = refl
+shape_of_fields None = refl
 
 -- the text of what stands at a place, by the shape of its tag, and that its bytes are there
-abbrev pub Shown : Opening → List ℕ → ℕ → List ℕ → Shape → Type 0
-Shown show s p t Text = (t ≡ quoted (take (number2 s (p + 1)) (drop (p + 3) s))) × (p + 3 + number2 s (p + 1) ≤ length s)
-Shown show s p t (Bits size) = (t ≡ number_at s p) × Sized s p
-Shown show s p t One = (t ≡ show (slot (number2 s (p + 1)))) × (p + 3 ≤ length s)
-Shown show s p t Two = (t ≡ two_at_lem show s p) × (p + 5 ≤ length s)
-Shown show s p t Method = (t ≡ dynamic_at show s p) × (p + 5 ≤ length s)
-Shown show s p t KindOne = (t ≡ handle_at show s p) × (p + 4 ≤ length s)
-Shown show s p t Unknown = ⊥
+abbrev pub Shown : Opening → List ℕ → ℕ → List ℕ → code.Option Shape → Type 0
+Shown show s p t (Some Text) = (t ≡ quoted (take (number2 s (p + 1)) (drop (p + 3) s))) × (p + 3 + number2 s (p + 1) ≤ length s)
+Shown show s p t (Some (Bits size)) = (t ≡ number_at s p) × Sized s p
+Shown show s p t (Some One) = (t ≡ show (slot (number2 s (p + 1)))) × (p + 3 ≤ length s)
+Shown show s p t (Some Two) = (t ≡ two_at_lem show s p) × (p + 5 ≤ length s)
+Shown show s p t (Some Method) = (t ≡ dynamic_at show s p) × (p + 5 ≤ length s)
+Shown show s p t (Some KindOne) = (t ≡ handle_at show s p) × (p + 4 ≤ length s)
+Shown show s p t None = ⊥
 
 -- a number's text, by its tag
 pub number_is : (s : List ℕ) (p k : ℕ) → get_or s p 0 ≡ k → (t : List ℕ) → t ≡ or_none (lookup k (numbers s (p + 1))) → t ≡ number_at s p
@@ -111,7 +113,7 @@ module _ (show : Opening) (s : List ℕ) (p : ℕ) where
 -- the same of the constant at a slot, for the shape that its tag was found to have
 pub shown_at_lem :
     {pool places methods table : List ℕ} {count : ℕ} (v : Views pool places count methods table) (show : Opening) (n : ℕ)
-    → 0 < get_or places n 0 → {found s : Shape} → fields_of found ≡ lookup (get_or pool (get_or places n 0) 0) shapes → found ≡ s
+    → 0 < get_or places n 0 → {found s : code.Option Shape} → fields_of found ≡ lookup (get_or pool (get_or places n 0) 0) shapes → found ≡ s
     → Shown show pool (get_or places n 0) (held_at show (slot_of (finished pool count methods).slots n)) s
 unfolding held_at
 shown_at_lem {pool} {places} v show n any {found} {s} is told =

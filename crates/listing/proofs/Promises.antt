@@ -15,13 +15,23 @@ use Rattle.facts.proofs.Results.{bad≢good, good_inj, bad_inj}
 use Rattle.jvms.specs.Pool.{Slot, BootstrapMethod, read_pool_lem, read_bootstrap_methods}
 use Rattle.listing.specs.Listing.{Finished, lines, fitting, listed, listing}
 use Rattle.listing.specs.Lists.{Answers, Lists}
-use Rattle.listing.specs.declared.Listed.{Listed}
-use Rattle.listing.specs.declared.Listed.TheVariants.{Text, Refused}
+use Rattle.std.specs.Prelude.{Result as Outcome, Ok, Err}
+use Rattle.refusal.specs.Numbers.{number, answer_of}
+use Rattle.refusal.specs.declared.Refusal.{Refusal}
+use Rattle.refusal.specs.declared.Refusal.TheVariants.{NotPool}
+use Rattle.refusal.proofs.Numbers.{number-injective}
 use Rattle.listing.specs.Promises.{line_ends, entries, LineForEach, PrefixOnly, Untouched, Unread, ReadAlike}
 use Rattle.listing.proofs.Answered.{unread}
 use Rattle.listing.proofs.OneLine.{line-for_each}
 
 -- ---- what an answer tells
+
+answer_inj : (r r' : Outcome ℕ Refusal) → answer_of r ≡ answer_of r' → r ≡ r'
+unfolding answer_of
+answer_inj (Ok n) (Ok n') e = ap Ok (good_inj e)
+answer_inj (Ok n) (Err r) e = bad≢good (sym e)
+answer_inj (Err r) (Ok n) e = bad≢good e
+answer_inj (Err r) (Err r') e = ap Err (number-injective r r' (bad_inj e))
 
 record Listing (res : Result ℕ (List ℕ)) (before after : List ℕ) (n : ℕ) : Type 0 where
   text : List ℕ
@@ -29,15 +39,15 @@ record Listing (res : Result ℕ (List ℕ)) (before after : List ℕ) (n : ℕ)
   size : n ≡ length text
   out : after ≡ text ++ drop (length text) before
 
-text_answer : (res : Result ℕ (List ℕ)) (before after : List ℕ) (n : ℕ) → Answers res before after (Text n) → Listing res before after n
-unfolding Answers
-text_answer (bad code) before after n (e, _) = let z : ◌≡◌ {A = ℕ} 0 1 = cc in absurd (omega arith)
-text_answer (good text) before after n (e, out) = record { text = text; is = refl; size = cc; out = out }
+text_answer : (res : Result ℕ (List ℕ)) (before after : List ℕ) (n : ℕ) → Answers res before after (Ok n) → Listing res before after n
+unfolding Answers answer_of
+text_answer (bad code) before after n (e, _) = bad≢good (sym e)
+text_answer (good text) before after n (e, out) = record { text = text; is = refl; size = good_inj e; out = out }
 
-refused_answer : (res : Result ℕ (List ℕ)) (before after : List ℕ) (code : ℕ) → Answers res before after (Refused code) → (res ≡ bad code) × (after ≡ before)
-unfolding Answers
-refused_answer (bad code') before after code (e, same) = (ap bad cc, same)
-refused_answer (good text) before after code (e, _) = let z : ◌≡◌ {A = ℕ} 0 1 = cc in absurd (omega arith)
+refused_answer : (res : Result ℕ (List ℕ)) (before after : List ℕ) (r : Refusal) → Answers res before after (Err r) → (res ≡ bad (number r)) × (after ≡ before)
+unfolding Answers answer_of
+refused_answer (bad code) before after r (e, same) = (ap bad (sym (bad_inj e)), same)
+refused_answer (good text) before after r (e, _) = bad≢good e
 
 -- ---- what a listing tells of what was read
 
@@ -99,19 +109,19 @@ prefix_only pool count methods before after n h =
 
 pub untouched : Untouched
 unfolding Lists listing
-untouched pool count methods before after code h =
-    let (is, same) = refused_answer (listing (length before) pool count methods) before after code h in
-    (ways (listed-bad (length before) (read_pool_lem pool) (read_bootstrap_methods count methods) code is), same)
+untouched pool count methods before after r h =
+    let (is, same) = refused_answer (listing (length before) pool count methods) before after r h in
+    (ways (listed-bad (length before) (read_pool_lem pool) (read_bootstrap_methods count methods) (number r) is), same)
   where
-    ways : {A : Type 0} → ((code ≡ 21) × A) ⊎ (code ≡ 18) → (code ≡ 21) ⊎ (code ≡ 18)
+    ways : {A : Type 0} → ((number r ≡ 21) × A) ⊎ (number r ≡ 18) → (number r ≡ 21) ⊎ (number r ≡ 18)
     ways (inl p) = inl p.0
     ways (inr e) = inr e
 
 pub unread_only : Unread
-unfolding Lists Answers listing
+unfolding Lists Answers listing number answer_of
 unread_only pool count methods before after r h = (
   λ e.
-      let (is, same) = refused_answer res before after 21 (subst (Answers res before after) e h) in
+      let (is, same) = refused_answer res before after NotPool (subst (Answers res before after) e h) in
       ways (listed-bad (length before) (read_pool_lem pool) (read_bootstrap_methods count methods) 21 is),
   λ w. told (subst (λ res. Answers res before after r) (unread (length before) (read_pool_lem pool) (read_bootstrap_methods count methods) w) h),
 )
@@ -123,18 +133,18 @@ unread_only pool count methods before after r h = (
     ways (inl p) = p.1
     ways (inr e) = absurd (omega arith)
 
-    told : Answers (bad 21) before after r → r ≡ Refused 21
-    told a = a.0
+    told : Answers (bad 21) before after r → r ≡ Err NotPool
+    told a = answer_inj r (Err NotPool) a.0
 
 alike :
-    (res : Result ℕ (List ℕ)) (before before' after after' : List ℕ) (r r' : Listed) → Answers res before after r → Answers res before' after' r' →
-    (r ≡ r') × ((n : ℕ) → r ≡ Text n → take n after ≡ take n after')
-unfolding Answers
-alike (bad code) before before' after after' r r' (e, _) (e', _) = (e ∙ sym e', λ n t. let z : ◌≡◌ {A = ℕ} 0 1 = cc in absurd (omega arith))
+    (res : Result ℕ (List ℕ)) (before before' after after' : List ℕ) (r r' : Outcome ℕ Refusal) → Answers res before after r → Answers res before' after' r' →
+    (r ≡ r') × ((n : ℕ) → r ≡ Ok n → take n after ≡ take n after')
+unfolding Answers answer_of
+alike (bad code) before before' after after' r r' (e, _) (e', _) = (answer_inj r r' (e ∙ sym e'), λ n t. bad≢good (sym e ∙ ap answer_of t))
 alike (good text) before before' after after' r r' (e, out) (e', out') = (
-  e ∙ sym e',
+  answer_inj r r' (e ∙ sym e'),
   λ n t.
-      let size : n ≡ length text = cc in
+      let size : n ≡ length text = good_inj (sym (ap answer_of t) ∙ e) in
       rw (size, out, out') (take-append_seam text (drop (length text) before) ∙ sym (take-append_seam text (drop (length text) before'))),
 )
 

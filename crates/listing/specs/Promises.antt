@@ -5,8 +5,10 @@ use Rattle.std.proofs.Math.Option.{none, some}
 use Rattle.definition.specs.Basics.{only}
 use Rattle.jvms.specs.Pool.{Slot, usable, unusable, read_pool_lem, read_bootstrap_methods}
 use Rattle.listing.specs.Lists.{Lists}
-use Rattle.listing.specs.declared.Listed.{Listed}
-use Rattle.listing.specs.declared.Listed.TheVariants.{Text, Refused}
+use Rattle.std.specs.Prelude.{Result as Outcome, Ok, Err}
+use Rattle.refusal.specs.Numbers.{number}
+use Rattle.refusal.specs.declared.Refusal.{Refusal}
+use Rattle.refusal.specs.declared.Refusal.TheVariants.{NotPool}
 
 -- the lines of a text, by their ends, and the slots where a constant begins
 abbrev pub line_ends : List ℕ → ℕ
@@ -22,31 +24,31 @@ entries slots = length (only is_entry slots)
 -- a text has as many lines as the pool has entries
 abbrev pub LineForEach : Type 0
 LineForEach =
-    (pool : List ℕ) (count : ℕ) (methods before after : List ℕ) (n : ℕ) → Lists pool count methods before after (Text n) →
+    (pool : List ℕ) (count : ℕ) (methods before after : List ℕ) (n : ℕ) → Lists pool count methods before after (Ok n) →
     (slots : List Slot) × (read_pool_lem pool ≡ some slots) × (line_ends (take n after) ≡ entries slots)
 
 -- a text is a prefix of the output, and nothing changed behind it
 abbrev pub PrefixOnly : Type 0
 PrefixOnly =
-    (pool : List ℕ) (count : ℕ) (methods before after : List ℕ) (n : ℕ) → Lists pool count methods before after (Text n) →
+    (pool : List ℕ) (count : ℕ) (methods before after : List ℕ) (n : ℕ) → Lists pool count methods before after (Ok n) →
     (n ≤ length before) × (length after ≡ length before) × (drop n after ≡ drop n before)
 
 -- a refusal is 21 or 18, and writes nothing
 abbrev pub Untouched : Type 0
 Untouched =
-    (pool : List ℕ) (count : ℕ) (methods before after : List ℕ) (code : ℕ) → Lists pool count methods before after (Refused code) →
-    ((code ≡ 21) ⊎ (code ≡ 18)) × (after ≡ before)
+    (pool : List ℕ) (count : ℕ) (methods before after : List ℕ) (r : Refusal) → Lists pool count methods before after (Err r) →
+    ((number r ≡ 21) ⊎ (number r ≡ 18)) × (after ≡ before)
 
 -- 21 is for bytes that aren't a pool, or bootstrap methods that aren't as many as their count says, and for nothing else
 abbrev pub Unread : Type 0
 Unread =
-    (pool : List ℕ) (count : ℕ) (methods before after : List ℕ) (r : Listed) → Lists pool count methods before after r →
-    (r ≡ Refused 21) ↔ ((read_pool_lem pool ≡ none) ⊎ (read_bootstrap_methods count methods ≡ none))
+    (pool : List ℕ) (count : ℕ) (methods before after : List ℕ) (r : Outcome ℕ Refusal) → Lists pool count methods before after r →
+    (r ≡ Err NotPool) ↔ ((read_pool_lem pool ≡ none) ⊎ (read_bootstrap_methods count methods ≡ none))
 
 -- what reads the same is listed the same
 abbrev pub ReadAlike : Type 0
 ReadAlike =
-    (pool pool' : List ℕ) (count count' : ℕ) (methods methods' before before' after after' : List ℕ) (r r' : Listed) →
+    (pool pool' : List ℕ) (count count' : ℕ) (methods methods' before before' after after' : List ℕ) (r r' : Outcome ℕ Refusal) →
     read_pool_lem pool ≡ read_pool_lem pool' → read_bootstrap_methods count methods ≡ read_bootstrap_methods count' methods' →
     length before ≡ length before' → Lists pool count methods before after r → Lists pool' count' methods' before' after' r' →
-    (r ≡ r') × ((n : ℕ) → r ≡ Text n → take n after ≡ take n after')
+    (r ≡ r') × ((n : ℕ) → r ≡ Ok n → take n after ≡ take n after')

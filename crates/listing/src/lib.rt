@@ -11,16 +11,9 @@ ghost use Rattle.listing.specs.Views.{Views, finished};
 ghost use Rattle.listing.specs.Lists.{line_of, Lists};
 
 use opening::put_held;
-use places::PoolRead;
+use refusal::Refusal;
 use words::put_kind;
-
-#[derive(Drop)]
-pub enum Listed {
-    // So many bytes of text.
-    Text(usize),
-    // By document 02's number.
-    Refused(u32),
-}
+use writer::BigEndian;
 
 // The line of a slot; there is none where no constant begins. A constant stands eight levels above the numbers that aren't opened.
 fn put_line(
@@ -65,12 +58,9 @@ fn put_lines(
     requires can_put { CanPut out.old room 0 }
     ensures { Printed out.old room 0 (lines (finished pool.now count methods.now)) out.new result }
 {
-    let slots = writer::get_u16(pool, 0);
     let mut at = 0;
-    let mut slot = 1;
-    while slot < slots {
+    for slot in 1..u16::get(pool, 0) {
         at = put_line(pool, places, count, methods, table, out, room, at, slot);
-        slot += 1;
     }
     at
 }
@@ -83,34 +73,34 @@ fn list_read(
     methods: &[u8],
     table: &[usize; 65536],
     out: &mut [u8],
-) -> Listed
+) -> Result<usize, Refusal>
     requires { Views pool.now places.now count methods.now table.now }
     ensures { Lists pool.now count methods.now out.old out.new result }
 {
     let room = out.len();
     let end = put_lines(pool, places, count, methods, table, &mut out[..0], room);
     if room < end {
-        return Listed::Refused(18);
+        return Err(Refusal::OutputTooShort);
     }
     put_lines(pool, places, count, methods, table, out, room);
-    Listed::Text(end)
+    Ok(end)
 }
 
-// Lists a pool with so many bootstrap methods.
-pub fn list(pool: &[u8], count: u16, methods: &[u8], out: &mut [u8]) -> Listed
+// Lists a pool with so many bootstrap methods: how many bytes of text.
+pub fn list(pool: &[u8], count: u16, methods: &[u8], out: &mut [u8]) -> Result<usize, Refusal>
     ensures { Lists pool.now count methods.now out.old out.new result }
 {
     let mut places = [0usize; 65536];
     let mut table = [0usize; 65536];
-    let PoolRead::Good { next } = places::note_pool(pool, 0, &mut places) else {
-        return Listed::Refused(21);
+    let Some(next) = places::note_pool(pool, 0, &mut places) else {
+        return Err(Refusal::NotPool);
     };
     if next < pool.len() {
-        return Listed::Refused(21);
+        return Err(Refusal::NotPool);
     }
     if places::note_methods(methods, count, &mut table) {
         list_read(pool, &places, count, methods, &table, out)
     } else {
-        Listed::Refused(21)
+        Err(Refusal::NotPool)
     }
 }

@@ -12,6 +12,7 @@ ghost use Rattle.listing.specs.Opening.{held_at, Sized, number_at, two_at_lem, d
 
 use super::words::{put_between, put_bracketed, put_comma, put_kind, put_reference_kind};
 use raw_const::Shape;
+use writer::BigEndian;
 
 // A constant by its slot, with so many levels left.
 #[cycle(put_arguments_put_dynamic_put_handle_put_held_put_method_put_slot_put_two)]
@@ -72,19 +73,23 @@ pub(crate) fn put_held(
 {
     let p = places[n as usize];
     match raw_const::shape_of(pool[p]) {
-        Shape::Text => {
-            let size = writer::get_u16(pool, p + 1);
+        Some(Shape::Text) => {
+            let size = u16::get(pool, p + 1);
             printing::put_quoted(out, room, at, pool, p + 3, size as usize)
         }
-        Shape::Bits(_) => put_number(pool, out, room, at, p),
-        Shape::One => {
-            let i = writer::get_u16(pool, p + 1);
+        Some(Shape::Bits(_)) => put_number(pool, out, room, at, p),
+        Some(Shape::One) => {
+            let i = u16::get(pool, p + 1);
             put_slot(pool, places, count, methods, table, out, room, at, left, i)
         }
-        Shape::Two => put_two(pool, places, count, methods, table, out, room, at, left, p),
-        Shape::Dynamic => put_dynamic(pool, places, count, methods, table, out, room, at, left, p),
-        Shape::KindOne => put_handle(pool, places, count, methods, table, out, room, at, left, p),
-        Shape::Unknown => at,
+        Some(Shape::Two) => put_two(pool, places, count, methods, table, out, room, at, left, p),
+        Some(Shape::Dynamic) => put_dynamic(
+            pool, places, count, methods, table, out, room, at, left, p,
+        ),
+        Some(Shape::KindOne) => put_handle(
+            pool, places, count, methods, table, out, room, at, left, p,
+        ),
+        None => at,
     }
 }
 
@@ -95,10 +100,10 @@ fn put_number(pool: &[u8], out: &mut [u8], room: usize, at: usize, place: usize)
     ensures { Printed out.old room at (number_at pool.now place) out.new result }
 {
     match pool[place] {
-        3 => printing::put_int(out, room, at, writer::get_u32(pool, place + 1)),
-        4 => printing::put_float(out, room, at, writer::get_u32(pool, place + 1)),
-        5 => printing::put_long(out, room, at, writer::get_u64(pool, place + 1)),
-        _ => printing::put_double(out, room, at, writer::get_u64(pool, place + 1)),
+        3 => printing::put_int(out, room, at, u32::get(pool, place + 1)),
+        4 => printing::put_float(out, room, at, u32::get(pool, place + 1)),
+        5 => printing::put_long(out, room, at, u64::get(pool, place + 1)),
+        _ => printing::put_double(out, room, at, u64::get(pool, place + 1)),
     }
 }
 
@@ -121,10 +126,10 @@ fn put_two(
     requires p_in_bounds { p + 5 ≤ length pool.now }
     ensures { Printed out.old room at (two_at_lem (opened (finished pool.now count methods.now) left) pool.now p) out.new result }
 {
-    let i = writer::get_u16(pool, p + 1);
+    let i = u16::get(pool, p + 1);
     let end = put_slot(pool, places, count, methods, table, out, room, at, left, i);
     let to = put_between(out, room, end, pool[p]);
-    let j = writer::get_u16(pool, p + 3);
+    let j = u16::get(pool, p + 3);
     put_slot(pool, places, count, methods, table, out, room, to, left, j)
 }
 
@@ -147,10 +152,10 @@ fn put_dynamic(
     requires p_in_bounds { p + 5 ≤ length pool.now }
     ensures { Printed out.old room at (dynamic_at (opened (finished pool.now count methods.now) left) pool.now p) out.new result }
 {
-    let i = writer::get_u16(pool, p + 3);
+    let i = u16::get(pool, p + 3);
     let end = put_slot(pool, places, count, methods, table, out, room, at, left, i);
     let to = put_between(out, room, end, pool[p]);
-    let j = writer::get_u16(pool, p + 1);
+    let j = u16::get(pool, p + 1);
     put_method(pool, places, count, methods, table, out, room, to, left, j)
 }
 
@@ -175,7 +180,7 @@ fn put_handle(
 {
     let space = put_reference_kind(out, room, at, pool[p + 1]);
     let to = printing::put(out, room, space, b' ');
-    let i = writer::get_u16(pool, p + 2);
+    let i = u16::get(pool, p + 2);
     put_slot(pool, places, count, methods, table, out, room, to, left, i)
 }
 
@@ -208,7 +213,7 @@ fn put_method(
     }
     let left = levels - 1;
     let p = table[n as usize];
-    let i = writer::get_u16(methods, p);
+    let i = u16::get(methods, p);
     let end = put_slot(pool, places, count, methods, table, out, room, at, left, i);
     let to = printing::put_word(out, room, end, b" (");
     let end = put_arguments(pool, places, count, methods, table, out, room, to, left, p);
@@ -234,14 +239,15 @@ fn put_arguments(
     requires p_in_bounds { p + 4 + 2 * number2 methods.now (p + 2) ≤ length methods.now }
     ensures { Printed out.old room start (arguments_at (opened (finished pool.now count methods.now) left) methods.now p) out.new result }
 {
-    let size = writer::get_u16(methods, p + 2) as usize;
+    let size = u16::get(methods, p + 2) as usize;
     let mut at = start;
-    let mut k = 0;
-    while k < size && at <= room {
+    for k in 0..size {
+        if room < at {
+            return at;
+        }
         at = put_comma_before(out, room, at, k);
-        let i = writer::get_u16(methods, p + 4 + 2 * k);
+        let i = u16::get(methods, p + 4 + 2 * k);
         at = put_slot(pool, places, count, methods, table, out, room, at, left, i);
-        k += 1;
     }
     at
 }

@@ -4,57 +4,51 @@
 // 4,194,304, which all together fit a stack of 8 MB; what doesn't fit is 18, and the stream goes on.
 #![tactic(auto)]
 
-use frames::{CUT, FRAME_CUT, GO_ON, NO_MORE, READ_FAILED};
-use listing::Listed;
-use std::io::{Result, Stderr, Stdin, Stdout, Write};
+use frames::{End, Line, ReadError, WriteError};
+use refusal::Refusal;
+use std::io::{self, Stderr, Stdin, Stdout, Write};
+use writer::BigEndian;
 
-// The refusal where room is short.
-const NO_ROOM: u32 = 18;
-
-fn print_listed(output: &mut Stdout, listed: Listed, text: &mut [u8]) -> Result<bool> {
+// Writes a listing's text, or why there is none, and behind it an empty line.
+fn print_listed(
+    output: &mut Stdout,
+    listed: Result<usize, Refusal>,
+    text: &mut [u8],
+) -> Result<(), WriteError> {
     match listed {
-        Listed::Text(n) => frames::write_part(output, text, n),
-        Listed::Refused(code) => {
-            let end = frames::put_refusal(text, code);
-            frames::end_line(output, text, end)
+        Ok(n) => frames::write_part(output, text, n)?,
+        Err(refusal) => {
+            let mut line = Line::new(text);
+            line.put_refusal(refusal.into());
+            line.end(output)?;
         }
     }
+    output.write_all(b"\n")?;
+    Ok(())
 }
 
-// Lists a pool and its methods, which stand at the beginning of what is lent; what is longer was skipped.
+// The first n bytes; what was longer than its room was skipped, and there is no n.
+fn part(bytes: &[u8], n: Option<usize>) -> Result<&[u8], Refusal> {
+    let Some(n) = n else {
+        return Err(Refusal::OutputTooShort);
+    };
+    bytes.get(..n).ok_or(Refusal::OutputTooShort)
+}
+
+// Lists a pool and its methods, which stand at the beginning of what is lent.
 fn list_read(
     pool: &[u8],
-    n: usize,
+    n: Option<usize>,
     count: u16,
     methods: &[u8],
-    size: usize,
+    size: Option<usize>,
     text: &mut [u8],
-) -> Listed {
-    if pool.len() < n {
-        return Listed::Refused(NO_ROOM);
-    }
-    if methods.len() < size {
-        return Listed::Refused(NO_ROOM);
-    }
-    listing::list(&pool[..n], count, &methods[..size], text)
+) -> Result<usize, Refusal> {
+    listing::list(part(pool, n)?, count, part(methods, size)?, text)
 }
 
-// Answers a frame; whether its lines were written.
-fn list_part(
-    output: &mut Stdout,
-    pool: &[u8],
-    n: usize,
-    count: u16,
-    methods: &[u8],
-    size: usize,
-    text: &mut [u8],
-) -> Result<bool> {
-    let listed = list_read(pool, n, count, methods, size, text);
-    if !print_listed(output, listed, text)? {
-        return Ok(false);
-    }
-    output.write_all(b"\n")?;
-    Ok(true)
+fn inside(error: ReadError) -> End {
+    End::from(error.inside())
 }
 
 // One pool, if there is one.
@@ -64,33 +58,15 @@ fn next_pool(
     pool: &mut [u8; 1048576],
     methods: &mut [u8; 131072],
     text: &mut [u8; 4194304],
-) -> Result<u8> {
+) -> Result<(), End> {
     let n = frames::next_or_skipped(input, pool)?;
-    if n == NO_MORE || n == CUT {
-        return Ok(frames::without(n));
-    }
     let mut head = [0u8; 2];
-    if !frames::read_part(input, &mut head, 2)? {
-        return Ok(FRAME_CUT);
-    }
-    let size = frames::next_or_skipped(input, methods)?;
-    if size == NO_MORE || size == CUT {
-        return Ok(FRAME_CUT);
-    }
-    let count = writer::get_u16(&head, 0);
-    let written = list_part(output, pool, n, count, methods, size, text);
-    Ok(frames::after(written.unwrap_or(false)))
-}
-
-// The next pool; a read that fails ends the stream.
-fn go_on(
-    input: &mut Stdin,
-    output: &mut Stdout,
-    pool: &mut [u8; 1048576],
-    methods: &mut [u8; 131072],
-    text: &mut [u8; 4194304],
-) -> u8 {
-    next_pool(input, output, pool, methods, text).unwrap_or(READ_FAILED)
+    frames::read_part(input, &mut head, 2).map_err(inside)?;
+    let size = frames::next_or_skipped(input, methods).map_err(inside)?;
+    let count = u16::get(&head, 0);
+    let listed = list_read(pool, n, count, methods, size, text);
+    print_listed(output, listed, text)?;
+    Ok(())
 }
 
 // Pools in turn; how the stream ends is told.
@@ -101,17 +77,21 @@ fn run_stream(
     pool: &mut [u8; 1048576],
     methods: &mut [u8; 131072],
     text: &mut [u8; 4194304],
-) -> Result<()> {
+) -> io::Result<()> {
     let mut pools: u64 = 0;
-    let mut how = go_on(input, output, pool, methods, text);
-    while pools < u64::MAX && how == GO_ON {
+    let end = loop {
+        if let Err(end) = next_pool(input, output, pool, methods, text) {
+            break end;
+        }
+        if pools == u64::MAX {
+            break End::WriteFailed;
+        }
         pools += 1;
-        how = go_on(input, output, pool, methods, text);
-    }
-    frames::tell(errors, b"poollist", how, pools)
+    };
+    frames::tell(errors, b"poollist", end, pools)
 }
 
-fn main(rt: HostRuntime) -> Result<()> {
+fn main(rt: HostRuntime) -> io::Result<()> {
     let mut pool = [0u8; 1048576];
     let mut methods = [0u8; 131072];
     let mut text = [0u8; 4194304];

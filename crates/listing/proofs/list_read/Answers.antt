@@ -6,7 +6,8 @@ use Rattle.printing.specs.Printed.{Printed}
 use Rattle.listing.specs.Listing.{lines}
 use Rattle.listing.specs.Views.{finished}
 use Rattle.listing.specs.Lists.{Lists}
-use Rattle.listing.specs.declared.Listed.TheVariants.{Refused}
+use Rattle.std.specs.Prelude.{Err}
+use Rattle.refusal.specs.declared.Refusal.TheVariants.{OutputTooShort}
 use Rattle.listing.proofs.Answered.{none_lent, too_long, all_written}
 use Rattle.listing.proofs.list_read.Goals as goal
 
@@ -27,7 +28,7 @@ pub returns-then-room-end : goal.returns-then-room-end
 returns-then-room-end c = let a = c.args in
     let p = c.put_lines-end in
     let same = none_lent p.new.out a.out.now p.ensures.same in
-    subst (λ l. Lists a.pool.now a.count a.methods.now a.out.now l (Refused 18)) (sym same) (too_long c.requires a.out.now p.ensures c.if-room-end.true)
+    subst (λ l. Lists a.pool.now a.count a.methods.now a.out.now l (Err OutputTooShort)) (sym same) (too_long c.requires a.out.now p.ensures c.if-room-end.true)
 
 pub put_lines-requires : goal.put_lines-requires
 put_lines-requires c = let p = c.put_lines-end in

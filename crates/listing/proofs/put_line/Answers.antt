@@ -3,7 +3,6 @@ use mathlib.Core.Path.{refl}
 use native.Mathlib.Omega.{arith}
 use lib.ListN.{get_or}
 use Rattle.printing.proofs.Printing.{then, ready, reworded, nothing}
-use borrow.Author.Rules.{rules}
 use Rattle.listing.specs.Views.{finished}
 use Rattle.listing.proofs.Lines.{no_line, inside, the_line}
 use Rattle.listing.proofs.put_line.Goals as goal

@@ -1,14 +1,13 @@
 -- `listing::put_lines` meets its contract. The loop keeps: the lines from its slot on are left. Assumes nothing.
-use Prim.Native.Nat.{◌-◌, ◌<◌, ◌≤◌}
 use native.Mathlib.Omega.{arith}
-use Rattle.printing.proofs.Printing.{Left, all_left, less_left, left_as, none_left}
+use Rattle.printing.proofs.Printing.{all_left, less_left, left_as, none_left}
 use Rattle.listing.specs.Listing.{lines}
 use Rattle.listing.specs.Views.{finished}
-use Rattle.listing.proofs.Lines.{lines_left, line-next, lines_end, lines-all, counted}
+use Rattle.listing.proofs.Lines.{line-next, lines_end, lines-all, counted}
 use Rattle.listing.proofs.put_lines.Goals as goal
 
-pub get_u16-slots-requires : goal.get_u16-slots-requires
-get_u16-slots-requires c = let a = c.args in
+pub get-slot-end-requires : goal.get-slot-end-requires
+get-slot-end-requires c = let a = c.args in
     let v = c.requires.views in
     (counted a.pool.now (finished a.pool.now a.count a.methods.now).slots v.pool_read).0
 
@@ -17,16 +16,10 @@ loop-slot-init c = let a = c.args in
     let v = c.requires.views in
     let f = finished a.pool.now a.count a.methods.now in
     let many = (counted a.pool.now f.slots v.pool_read).1 in
-    (omega arith, omega (arith, c.get_u16-slots.ensures), left_as (lines-all f) (all_left a.out.now a.room 0 (lines f) c.requires.can_put))
+    left_as (lines-all f) (all_left a.out.now a.room 0 (lines f) c.requires.can_put)
 
 pub put_line-at-requires : goal.put_line-at-requires
-put_line-at-requires c = record { views = c.requires.views; can_put = c.loop-slot.invariant.2.can }
-
-pub overflow_add-slot : goal.overflow_add-slot
-overflow_add-slot c = omega arith
-
-pub loop-slot-smaller : goal.loop-slot-smaller
-loop-slot-smaller c = omega arith
+put_line-at-requires c = record { views = c.requires.views; can_put = c.loop-slot.invariant.can }
 
 pub loop-slot-preserved : goal.loop-slot-preserved
 loop-slot-preserved c = let a = c.args in
@@ -34,11 +27,11 @@ loop-slot-preserved c = let a = c.args in
     let l = c.loop-slot in
     let f = finished a.pool.now a.count a.methods.now in
     let many = (counted a.pool.now f.slots v.pool_read).1 in
-    let next = line-next f l.slot (omega arith) (omega (arith, c.get_u16-slots.ensures)) in
-    (omega arith, omega arith, less_left (left_as next l.invariant.2) c.put_line-at.ensures)
+    let next = line-next f l.slot (omega arith) (omega (arith, c.get-slot-end.ensures)) in
+    less_left (left_as next l.invariant) c.put_line-at.ensures
 
 pub shape_of-out : goal.shape_of-out
-shape_of-out c = c.loop-slot.invariant.2.same
+shape_of-out c = c.loop-slot.invariant.same
 
 pub returns : goal.returns
 returns c = let a = c.args in
@@ -46,4 +39,4 @@ returns c = let a = c.args in
     let l = c.loop-slot in
     let f = finished a.pool.now a.count a.methods.now in
     let many = (counted a.pool.now f.slots v.pool_read).1 in
-    none_left (left_as (lines_end f l.slot (omega (arith, c.get_u16-slots.ensures))) l.invariant.2)
+    none_left (left_as (lines_end f l.slot (omega (arith, c.get-slot-end.ensures))) l.invariant)

@@ -2,10 +2,11 @@
 -- nothing.
 use mathlib.Core.List.{◌++◌}
 use mathlib.Core.Path.{refl, sym, ap, ◌∙◌}
-use Prim.Native.Nat.{◌+◌, ◌-◌, ◌*◌, ◌<◌}
+use Prim.Native.Nat.{◌+◌, ◌-◌}
 use native.Mathlib.Nat.{pos_of_ne-zero}
 use native.Mathlib.Omega.{arith}
 use lib.ListN.{take, drop, get_or}
+use Rattle.std.specs.Prelude.{Some}
 use Rattle.definition.specs.Ascii.{ascii}
 use Rattle.printing.specs.Numbers.{quoted}
 use Rattle.printing.proofs.Printing.{all_left, less_left, left_as, none_left, then, ready, reworded, past}
@@ -21,29 +22,29 @@ pub put_arguments-loop-k-init : goal.put_arguments-loop-k-init
 put_arguments-loop-k-init t c = let a = c.args in
     let show = opened (finished a.pool.now a.count a.methods.now) a.left in
     let whole = arguments_at show a.methods.now a.p in
-    (omega arith, left_as (all_remaining show a.methods.now a.p c.get_u16-size.result c.get_u16-size.ensures) (all_left a.out.now a.room a.start whole c.requires.can_put))
+    left_as (all_remaining show a.methods.now a.p c.get-size.result c.get-size.ensures) (all_left a.out.now a.room a.start whole c.requires.can_put)
 
 pub put_arguments-put_slot-at-requires : goal.put_arguments-put_slot-at-requires
-put_arguments-put_slot-at-requires t c = (omega (arith, c.decreases), (c.requires.views, ready c.loop-k.invariant.1.can c.put_comma_before-at.ensures))
+put_arguments-put_slot-at-requires t c = (omega (arith, c.decreases), (c.requires.views, ready c.loop-k.invariant.can c.put_comma_before-at.ensures))
 
 pub put_arguments-loop-k-preserved : goal.put_arguments-loop-k-preserved
 put_arguments-loop-k-preserved t c = let a = c.args in
     let show = opened (finished a.pool.now a.count a.methods.now) a.left in
     let l = c.loop-k in
-    let size = c.get_u16-size.result in
+    let size = c.get-size.result in
     let next = next-remaining show a.methods.now (a.p + 4) size l.k (omega arith) in
-    let here = ap (λ i. comma l.k ++ (show (slot i) ++ Remaining show a.methods.now (a.p + 4) size (l.k + 1))) (sym c.get_u16-i.ensures) in
-    (omega arith, less_left (less_left (left_as (next ∙ here) l.invariant.1) c.put_comma_before-at.ensures) c.put_slot-at.ensures)
+    let here = ap (λ i. comma l.k ++ (show (slot i) ++ Remaining show a.methods.now (a.p + 4) size (l.k + 1))) (sym c.get-i.ensures) in
+    less_left (less_left (left_as (next ∙ here) l.invariant) c.put_comma_before-at.ensures) c.put_slot-at.ensures
 
-pub put_arguments-returns-else-at-room : goal.put_arguments-returns-else-at-room
-put_arguments-returns-else-at-room t c = let l = c.loop-k in
-    l.invariant.1.so l.out l.at (past l.out c.args.room l.at _ l.invariant.1.can c.if-at-room.false)
+pub put_arguments-returns-then-room-at : goal.put_arguments-returns-then-room-at
+put_arguments-returns-then-room-at t c = let l = c.loop-k in
+    l.invariant.so l.out l.at (past l.out c.args.room l.at _ l.invariant.can c.if-room-at.true)
 
-pub put_arguments-returns-after-loop-k : goal.put_arguments-returns-after-loop-k
-put_arguments-returns-after-loop-k t c = let a = c.args in
+pub put_arguments-returns : goal.put_arguments-returns
+put_arguments-returns t c = let a = c.args in
     let show = opened (finished a.pool.now a.count a.methods.now) a.left in
     let l = c.loop-k in
-    none_left (left_as (none-remaining show a.methods.now (a.p + 4) c.get_u16-size.result l.k c.loop-k-test.false) l.invariant.1)
+    none_left (left_as (none-remaining show a.methods.now (a.p + 4) c.get-size.result l.k c.loop-k-test.false) l.invariant)
 
 pub put_dynamic-put_between-to-requires : goal.put_dynamic-put_between-to-requires
 put_dynamic-put_between-to-requires t c = ready c.requires.can_put c.put_slot-end.ensures
@@ -56,7 +57,7 @@ put_dynamic-returns t c = let a = c.args in
     let show = opened (finished a.pool.now a.count a.methods.now) a.left in
     let can = c.requires.can_put in
     let both = then can (then can c.put_slot-end.ensures c.put_between-to.ensures) c.put_method.ensures in
-    reworded (dynamic_is show a.pool.now a.p _ _ _ refl c.get_u16-j.ensures c.get_u16-i.ensures) both
+    reworded (dynamic_is show a.pool.now a.p _ _ _ refl c.get-j.ensures c.get-i.ensures) both
 
 pub put_two-put_between-to-requires : goal.put_two-put_between-to-requires
 put_two-put_between-to-requires t c = ready c.requires.can_put c.put_slot-end.ensures
@@ -69,7 +70,7 @@ put_two-returns t c = let a = c.args in
     let show = opened (finished a.pool.now a.count a.methods.now) a.left in
     let can = c.requires.can_put in
     let both = then can (then can c.put_slot-end.ensures c.put_between-to.ensures) c.put_slot.ensures in
-    reworded (two_is show a.pool.now a.p _ _ _ refl c.get_u16-i.ensures c.get_u16-j.ensures) both
+    reworded (two_is show a.pool.now a.p _ _ _ refl c.get-i.ensures c.get-j.ensures) both
 
 pub put_handle-put-to-requires : goal.put_handle-put-to-requires
 put_handle-put-to-requires t c = ready c.requires.can_put c.put_reference_kind-space.ensures
@@ -82,7 +83,7 @@ put_handle-returns t c = let a = c.args in
     let show = opened (finished a.pool.now a.count a.methods.now) a.left in
     let can = c.requires.can_put in
     let kind = c.put_reference_kind-space.ensures in
-    reworded (handle_is show a.pool.now a.p _ _ refl c.get_u16-i.ensures) (then can kind (then (ready can kind) c.put-to.ensures c.put_slot.ensures))
+    reworded (handle_is show a.pool.now a.p _ _ refl c.get-i.ensures) (then can kind (then (ready can kind) c.put-to.ensures c.put_slot.ensures))
 
 pub put_held-bounds-pool-p : goal.put_held-bounds-pool-p
 put_held-bounds-pool-p t c = slot-inside c.requires.views c.args.n c.requires.nonzero
@@ -90,103 +91,103 @@ put_held-bounds-pool-p t c = slot-inside c.requires.views c.args.n c.requires.no
 pub put_held-overflow_add-p : goal.put_held-overflow_add-p
 put_held-overflow_add-p t c = let a = c.args in
     let show = opened (finished a.pool.now a.count a.methods.now) a.left in
-    let shown = shown_at_lem c.requires.views show a.n c.requires.nonzero c.shape_of.ensures c.in-Text.is in
+    let shown = shown_at_lem c.requires.views show a.n c.requires.nonzero c.shape_of.ensures (c.in-Some-Text.is ∙ ap Some c.in-Some-Text.field-0-is) in
     omega (arith, shown.1)
 
-pub put_held-get_u16-size-requires : goal.put_held-get_u16-size-requires
-put_held-get_u16-size-requires t c = let a = c.args in
+pub put_held-get-size-requires : goal.put_held-get-size-requires
+put_held-get-size-requires t c = let a = c.args in
     let show = opened (finished a.pool.now a.count a.methods.now) a.left in
-    let shown = shown_at_lem c.requires.views show a.n c.requires.nonzero c.shape_of.ensures c.in-Text.is in
+    let shown = shown_at_lem c.requires.views show a.n c.requires.nonzero c.shape_of.ensures (c.in-Some-Text.is ∙ ap Some c.in-Some-Text.field-0-is) in
     omega (arith, shown.1)
 
-pub put_held-overflow_add-p-in-Text : goal.put_held-overflow_add-p-in-Text
-put_held-overflow_add-p-in-Text t c = let a = c.args in
+pub put_held-overflow_add-p-in-Some-Text : goal.put_held-overflow_add-p-in-Some-Text
+put_held-overflow_add-p-in-Some-Text t c = let a = c.args in
     let show = opened (finished a.pool.now a.count a.methods.now) a.left in
-    let shown = shown_at_lem c.requires.views show a.n c.requires.nonzero c.shape_of.ensures c.in-Text.is in
+    let shown = shown_at_lem c.requires.views show a.n c.requires.nonzero c.shape_of.ensures (c.in-Some-Text.is ∙ ap Some c.in-Some-Text.field-0-is) in
     omega (arith, shown.1)
 
-pub put_held-overflow_add-p-in-One : goal.put_held-overflow_add-p-in-One
-put_held-overflow_add-p-in-One t c = let a = c.args in
+pub put_held-overflow_add-p-in-Some-One : goal.put_held-overflow_add-p-in-Some-One
+put_held-overflow_add-p-in-Some-One t c = let a = c.args in
     let show = opened (finished a.pool.now a.count a.methods.now) a.left in
-    let shown = shown_at_lem c.requires.views show a.n c.requires.nonzero c.shape_of.ensures c.in-One.is in
+    let shown = shown_at_lem c.requires.views show a.n c.requires.nonzero c.shape_of.ensures (c.in-Some-One.is ∙ ap Some c.in-Some-One.field-0-is) in
     omega (arith, shown.1)
 
-pub put_held-get_u16-i-requires : goal.put_held-get_u16-i-requires
-put_held-get_u16-i-requires t c = let a = c.args in
+pub put_held-get-i-requires : goal.put_held-get-i-requires
+put_held-get-i-requires t c = let a = c.args in
     let show = opened (finished a.pool.now a.count a.methods.now) a.left in
-    let shown = shown_at_lem c.requires.views show a.n c.requires.nonzero c.shape_of.ensures c.in-One.is in
+    let shown = shown_at_lem c.requires.views show a.n c.requires.nonzero c.shape_of.ensures (c.in-Some-One.is ∙ ap Some c.in-Some-One.field-0-is) in
     omega (arith, shown.1)
 
 pub put_held-put_quoted-requires : goal.put_held-put_quoted-requires
 put_held-put_quoted-requires t c = let a = c.args in
     let show = opened (finished a.pool.now a.count a.methods.now) a.left in
-    let shown = shown_at_lem c.requires.views show a.n c.requires.nonzero c.shape_of.ensures c.in-Text.is in
-    (c.requires.can_put, omega (arith, shown.1, c.get_u16-size.ensures))
+    let shown = shown_at_lem c.requires.views show a.n c.requires.nonzero c.shape_of.ensures (c.in-Some-Text.is ∙ ap Some c.in-Some-Text.field-0-is) in
+    (c.requires.can_put, omega (arith, shown.1, c.get-size.ensures))
 
 pub put_held-put_number-requires-clause-sized : goal.put_held-put_number-requires-clause-sized
 put_held-put_number-requires-clause-sized t c = let a = c.args in
     let show = opened (finished a.pool.now a.count a.methods.now) a.left in
-    let shown = shown_at_lem c.requires.views show a.n c.requires.nonzero c.shape_of.ensures c.in-Bits.is in
+    let shown = shown_at_lem c.requires.views show a.n c.requires.nonzero c.shape_of.ensures (c.in-Some-Bits.is ∙ ap Some c.in-Some-Bits.field-0-is) in
     shown.1
 
 pub put_held-put_two-requires : goal.put_held-put_two-requires
 put_held-put_two-requires t c = let a = c.args in
     let show = opened (finished a.pool.now a.count a.methods.now) a.left in
-    let shown = shown_at_lem c.requires.views show a.n c.requires.nonzero c.shape_of.ensures c.in-Two.is in
+    let shown = shown_at_lem c.requires.views show a.n c.requires.nonzero c.shape_of.ensures (c.in-Some-Two.is ∙ ap Some c.in-Some-Two.field-0-is) in
     (omega (arith, c.decreases), (c.requires.views, (c.requires.can_put, shown.1)))
 
 pub put_held-put_dynamic-requires : goal.put_held-put_dynamic-requires
 put_held-put_dynamic-requires t c = let a = c.args in
     let show = opened (finished a.pool.now a.count a.methods.now) a.left in
-    let shown = shown_at_lem c.requires.views show a.n c.requires.nonzero c.shape_of.ensures c.in-Dynamic.is in
+    let shown = shown_at_lem c.requires.views show a.n c.requires.nonzero c.shape_of.ensures (c.in-Some-Dynamic.is ∙ ap Some c.in-Some-Dynamic.field-0-is) in
     (omega (arith, c.decreases), (c.requires.views, (c.requires.can_put, shown.1)))
 
 pub put_held-put_handle-requires : goal.put_held-put_handle-requires
 put_held-put_handle-requires t c = let a = c.args in
     let show = opened (finished a.pool.now a.count a.methods.now) a.left in
-    let shown = shown_at_lem c.requires.views show a.n c.requires.nonzero c.shape_of.ensures c.in-KindOne.is in
+    let shown = shown_at_lem c.requires.views show a.n c.requires.nonzero c.shape_of.ensures (c.in-Some-KindOne.is ∙ ap Some c.in-Some-KindOne.field-0-is) in
     (omega (arith, c.decreases), (c.requires.views, (c.requires.can_put, shown.1)))
 
-pub put_held-returns-in-Text : goal.put_held-returns-in-Text
-put_held-returns-in-Text t c = let a = c.args in
+pub put_held-returns-in-Some-Text : goal.put_held-returns-in-Some-Text
+put_held-returns-in-Some-Text t c = let a = c.args in
     let show = opened (finished a.pool.now a.count a.methods.now) a.left in
-    let shown = shown_at_lem c.requires.views show a.n c.requires.nonzero c.shape_of.ensures c.in-Text.is in
-    reworded (ap (λ n. quoted (take n (drop (get_or a.places.now a.n 0 + 3) a.pool.now))) c.get_u16-size.ensures ∙ sym shown.0) c.put_quoted.ensures
+    let shown = shown_at_lem c.requires.views show a.n c.requires.nonzero c.shape_of.ensures (c.in-Some-Text.is ∙ ap Some c.in-Some-Text.field-0-is) in
+    reworded (ap (λ n. quoted (take n (drop (get_or a.places.now a.n 0 + 3) a.pool.now))) c.get-size.ensures ∙ sym shown.0) c.put_quoted.ensures
 
-pub put_held-returns-in-Bits : goal.put_held-returns-in-Bits
-put_held-returns-in-Bits t c = let a = c.args in
+pub put_held-returns-in-Some-Bits : goal.put_held-returns-in-Some-Bits
+put_held-returns-in-Some-Bits t c = let a = c.args in
     let show = opened (finished a.pool.now a.count a.methods.now) a.left in
-    let shown = shown_at_lem c.requires.views show a.n c.requires.nonzero c.shape_of.ensures c.in-Bits.is in
+    let shown = shown_at_lem c.requires.views show a.n c.requires.nonzero c.shape_of.ensures (c.in-Some-Bits.is ∙ ap Some c.in-Some-Bits.field-0-is) in
     reworded (sym shown.0) c.put_number.ensures
 
-pub put_held-returns-in-One : goal.put_held-returns-in-One
-put_held-returns-in-One t c = let a = c.args in
+pub put_held-returns-in-Some-One : goal.put_held-returns-in-Some-One
+put_held-returns-in-Some-One t c = let a = c.args in
     let show = opened (finished a.pool.now a.count a.methods.now) a.left in
-    let shown = shown_at_lem c.requires.views show a.n c.requires.nonzero c.shape_of.ensures c.in-One.is in
-    reworded (ap (λ n. show (slot n)) c.get_u16-i.ensures ∙ sym shown.0) c.put_slot.ensures
+    let shown = shown_at_lem c.requires.views show a.n c.requires.nonzero c.shape_of.ensures (c.in-Some-One.is ∙ ap Some c.in-Some-One.field-0-is) in
+    reworded (ap (λ n. show (slot n)) c.get-i.ensures ∙ sym shown.0) c.put_slot.ensures
 
-pub put_held-returns-in-Two : goal.put_held-returns-in-Two
-put_held-returns-in-Two t c = let a = c.args in
+pub put_held-returns-in-Some-Two : goal.put_held-returns-in-Some-Two
+put_held-returns-in-Some-Two t c = let a = c.args in
     let show = opened (finished a.pool.now a.count a.methods.now) a.left in
-    let shown = shown_at_lem c.requires.views show a.n c.requires.nonzero c.shape_of.ensures c.in-Two.is in
+    let shown = shown_at_lem c.requires.views show a.n c.requires.nonzero c.shape_of.ensures (c.in-Some-Two.is ∙ ap Some c.in-Some-Two.field-0-is) in
     reworded (sym shown.0) c.put_two.ensures
 
-pub put_held-returns-in-Dynamic : goal.put_held-returns-in-Dynamic
-put_held-returns-in-Dynamic t c = let a = c.args in
+pub put_held-returns-in-Some-Dynamic : goal.put_held-returns-in-Some-Dynamic
+put_held-returns-in-Some-Dynamic t c = let a = c.args in
     let show = opened (finished a.pool.now a.count a.methods.now) a.left in
-    let shown = shown_at_lem c.requires.views show a.n c.requires.nonzero c.shape_of.ensures c.in-Dynamic.is in
+    let shown = shown_at_lem c.requires.views show a.n c.requires.nonzero c.shape_of.ensures (c.in-Some-Dynamic.is ∙ ap Some c.in-Some-Dynamic.field-0-is) in
     reworded (sym shown.0) c.put_dynamic.ensures
 
-pub put_held-returns-in-KindOne : goal.put_held-returns-in-KindOne
-put_held-returns-in-KindOne t c = let a = c.args in
+pub put_held-returns-in-Some-KindOne : goal.put_held-returns-in-Some-KindOne
+put_held-returns-in-Some-KindOne t c = let a = c.args in
     let show = opened (finished a.pool.now a.count a.methods.now) a.left in
-    let shown = shown_at_lem c.requires.views show a.n c.requires.nonzero c.shape_of.ensures c.in-KindOne.is in
+    let shown = shown_at_lem c.requires.views show a.n c.requires.nonzero c.shape_of.ensures (c.in-Some-KindOne.is ∙ ap Some c.in-Some-KindOne.field-0-is) in
     reworded (sym shown.0) c.put_handle.ensures
 
-pub put_held-returns-in-Unknown : goal.put_held-returns-in-Unknown
-put_held-returns-in-Unknown t c = let a = c.args in
+pub put_held-returns-in-None : goal.put_held-returns-in-None
+put_held-returns-in-None t c = let a = c.args in
     let show = opened (finished a.pool.now a.count a.methods.now) a.left in
-    let shown = shown_at_lem c.requires.views show a.n c.requires.nonzero c.shape_of.ensures c.in-Unknown.is in
+    let shown = shown_at_lem c.requires.views show a.n c.requires.nonzero c.shape_of.ensures c.in-None.is in
     absurd shown
 
 pub put_method-returns-then-room-at : goal.put_method-returns-then-room-at
@@ -208,8 +209,8 @@ put_slot-returns-then-levels-eq0 t c = let a = c.args in
 pub put_method-returns-then-count-n : goal.put_method-returns-then-count-n
 put_method-returns-then-count-n t c = reworded (bare_method c.requires.views c.args.levels c.args.n c.if-levels-eq0.false c.if-count-n.true) c.put_decimal.ensures
 
-pub put_method-get_u16-i-requires : goal.put_method-get_u16-i-requires
-put_method-get_u16-i-requires t c = let room = (open_at c.requires.views c.args.levels c.args.n c.if-levels-eq0.false c.if-count-n.false).1 in
+pub put_method-get-i-requires : goal.put_method-get-i-requires
+put_method-get-i-requires t c = let room = (open_at c.requires.views c.args.levels c.args.n c.if-levels-eq0.false c.if-count-n.false).1 in
     omega arith
 
 pub put_method-put_word-to-requires : goal.put_method-put_word-to-requires
@@ -226,7 +227,7 @@ unfolding ascii
 put_method-returns t c = let a = c.args in
     let show = opened (finished a.pool.now a.count a.methods.now) (a.levels - 1) in
     let can = c.requires.can_put in
-    let handle = ap (λ i. show (slot i) ++ ascii " (" ++ arguments_at show a.methods.now (get_or a.table.now a.n 0) ++ ascii ")") c.get_u16-i.ensures in
+    let handle = ap (λ i. show (slot i) ++ ascii " (" ++ arguments_at show a.methods.now (get_or a.table.now a.n 0) ++ ascii ")") c.get-i.ensures in
     let args = then can (then can (then can c.put_slot-end.ensures c.put_word-to.ensures) c.put_arguments-end.ensures) c.put.ensures in
     reworded (handle ∙ (open_at c.requires.views c.args.levels c.args.n c.if-levels-eq0.false c.if-count-n.false).0) args
 

@@ -1,6 +1,6 @@
 -- Levels fall from a slot or a method to what its constant holds or its arguments; at one level the measure falls from `put_held` to what opens
 -- its references, and from there to `put_slot`. Assumes nothing.
-use Rattle.std.proofs.Common.{◌≤◌, ◌-◌, ◌+◌, ◌*◌}
+use Rattle.std.proofs.Common.{◌+◌, ◌*◌}
 use Rattle.printing.proofs.Printing.{Left}
 use Rattle.listing.specs.Listing.{opened}
 use Rattle.listing.specs.Views.{finished}
@@ -32,8 +32,4 @@ decreases-put_two l = 3 * l.left + 1
 abbrev pub invariant-put_arguments-loop-k : goal.invariant-put_arguments-loop-k
 invariant-put_arguments-loop-k l =
     let show = opened (finished l.pool l.count l.methods) l.left in
-    (l.k ≤ l.size)
-    × Left l.initial.out l.room l.start (arguments_at show l.methods l.p) l.out l.at (Remaining show l.methods (l.p + 4) l.size l.k)
-
-abbrev pub decreases-put_arguments-loop-k : goal.decreases-put_arguments-loop-k
-decreases-put_arguments-loop-k l = l.size - l.k
+    Left l.initial.out l.room l.start (arguments_at show l.methods l.p) l.out l.at (Remaining show l.methods (l.p + 4) l.size l.k)

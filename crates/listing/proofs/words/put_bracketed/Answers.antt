@@ -1,6 +1,5 @@
 -- `listing::words::put_bracketed` meets its contract. Assumes nothing.
 use Rattle.printing.proofs.Printing.{then, ready}
-use borrow.Author.Rules.{rules}
 use Rattle.listing.specs.Listing.{bracketed}
 use Rattle.listing.proofs.words.put_bracketed.Goals as goal
 

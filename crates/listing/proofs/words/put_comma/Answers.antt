@@ -1,5 +1,4 @@
 -- `listing::words::put_comma` meets its contract. Assumes nothing.
-use mathlib.Core.Path.{refl}
 use Rattle.definition.specs.Ascii.{ascii}
 use Rattle.listing.proofs.words.put_comma.Goals as goal
 

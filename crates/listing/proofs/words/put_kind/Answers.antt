@@ -1,5 +1,5 @@
 -- `listing::words::put_kind` meets its contract: each word is the table's. Assumes nothing.
-use mathlib.Core.Path.{refl, sym, ap}
+use mathlib.Core.Path.{sym, ap}
 use Rattle.definition.specs.Basics.{lookup}
 use Rattle.definition.specs.Ascii.{ascii}
 use Rattle.listing.specs.Listing.{or_decimal, kinds}
