@@ -7,6 +7,7 @@ pub mod Valued
 pub mod Cited
 pub mod Runs
 pub mod Adding
+pub mod Stepped
 pub mod Steps
 pub mod Placed
 pub mod Valuing

@@ -21,10 +21,13 @@ use Rattle.store.specs.Store.{Store, size}
 use Rattle.store.specs.JobIn.{namings_in, constants_in, entries_in}
 use Rattle.store.specs.Regions.{COUNTS, NAME-HEADS, OFFSETS, RAW-KEYS, VALUES, CONSTANT-COUNT, BOOTSTRAP-COUNT, Work}
 use Rattle.store.specs.Entries.{WordsAt}
+use Rattle.std.specs.Prelude.{Ok, Err}
+use Rattle.refusal.specs.declared.Refusal.{Refusal}
+use Rattle.refusal.specs.Numbers.{code_of}
 use Rattle.sym_refs.specs.Names.{kind_byte, NamingAt, name_count, NamesIn, Tried}
 use Rattle.raws.specs.Raws.{outcome, raw_count, SomeRaws, TriedConstant, TriedBootstrap}
 use Rattle.definitions.specs.Kids.{counted, CanEnter, Enters}
-use Rattle.definitions.specs.Defining.{SomePlace, answered, Stepped}
+use Rattle.definitions.specs.Defining.{SomePlace, Tested, Answer, answered, Stepped}
 use Rattle.definitions.proofs.Rooms.{room}
 use Rattle.definitions.proofs.Steps.{now, now_name, now_raw, now_version, now_texts, now_highest, now_entry, setting_step, this_name, naming_at, name_step, cited_low, constant_stands, constant_room, constant_step, bootstrap_low, bootstrap_room, bootstrap_step, can_enter, constant_few, constant_entered, bootstrap_few, bootstrap_entered}
 
@@ -104,12 +107,12 @@ module _ (p : List ℕ) (top : ℕ) (s : List ℕ) (t : Store) (at : ℕ) (place
       unfolding SomePlace
       name_found = let n = now_name p top s t at place.0 place.1 kind (byte_is_lem (get_or s at 0) kind byte) in (kind, n.0, n.1, n.2, n.3.found)
 
-      module _ (u : Store) (code : ℕ) (tried : (x : Naming) → get_elem? (namings_in s) (name_count t) ≡ some x → Tried (size p NAME-HEADS) s t u x code) where
-        pub name_code : code < 100
-        name_code = let n = name_needs.1 in tried_low (size p NAME-HEADS) s t u n.0 code (tried n.0 n.1)
+      module _ (u : Store) (code : Tested) (tried : (x : Naming) → get_elem? (namings_in s) (name_count t) ≡ some x → Tried (size p NAME-HEADS) s t u x (code_of code)) where
+        pub name_code : code_of code < 100
+        name_code = let n = name_needs.1 in tried_low (size p NAME-HEADS) s t u n.0 (code_of code) (tried n.0 n.1)
 
         pub name_done :
-            (behind res : ℕ) → ((k : Kind) (l : List ℕ) (r : Reference) (next : ℕ) → Found any_definition s at (named k l r) next → behind ≡ next) →
+            (behind : ℕ) (res : Answer) → ((k : Kind) (l : List ℕ) (r : Reference) (next : ℕ) → Found any_definition s at (named k l r) next → behind ≡ next) →
             res ≡ answered code behind → Stepped p top s t u res
         unfolding SomePlace
         name_done behind res after is =
@@ -117,6 +120,13 @@ module _ (p : List ℕ) (top : ℕ) (s : List ℕ) (t : Store) (at : ℕ) (place
             let x = this_name p top s t at place.0 place.1 kind n.0 n.1 n.2 n.3 in
             name_step p top s t at place.0 place.1 kind n.0 n.1 n.2 n.3 (room s p work) u code res (tried _ x)
             (is ∙ ap (answered code) (after kind n.0 n.1 n.2 n.3.found))
+
+        pub name-refused : (e : Refusal) → code ≡ Err e → Stepped p top s t u (Err e)
+        unfolding SomePlace answered
+        name-refused e is =
+            let n = now_name p top s t at place.0 place.1 kind (byte_is_lem (get_or s at 0) kind byte) in
+            let x = this_name p top s t at place.0 place.1 kind n.0 n.1 n.2 n.3 in
+            name_step p top s t at place.0 place.1 kind n.0 n.1 n.2 n.3 (room s p work) u code (Err e) (tried _ x) (rw is)
 
     -- a raw definition
     number-low : (a : ℕ) → number s a < 65536
@@ -139,14 +149,14 @@ module _ (p : List ℕ) (top : ℕ) (s : List ℕ) (t : Store) (at : ℕ) (place
             constant_room p top s t at place.0 place.1 (room s p work) work bytes _ _ n,
           )
 
-      module _ (tag : ℕ) (u : Store) (code : ℕ) (done : TriedConstant p top (is_wide tag) (number s (at + 1)) (number s (at + 3)) t u code) where
-        pub raw_code : code < 100
+      module _ (tag : ℕ) (u : Store) (code : Tested) (done : TriedConstant p top (is_wide tag) (number s (at + 1)) (number s (at + 3)) t u (code_of code)) where
+        pub raw_code : code_of code < 100
         unfolding SomePlace
         raw_code =
-            outcome-low code _ (place_constant top (is_wide tag) (number s (at + 1)) (number s (at + 3)) place.0.held) (place_low top (is_wide tag) _ _ place.0.held)
+            outcome-low (code_of code) _ (place_constant top (is_wide tag) (number s (at + 1)) (number s (at + 3)) place.0.held) (place_low top (is_wide tag) _ _ place.0.held)
             (done.code (constants_in s) place.0.held place.0.indexes place.1.0.raws)
 
-        pub raw_done_lem : (res : ℕ) → WhatEntry s (get_or (t OFFSETS) (number s (at + 3)) 0) (λ x. tag ≡ x.tag) → res ≡ answered code (at + 5) → Stepped p top s t u res
+        pub raw_done_lem : (res : Answer) → WhatEntry s (get_or (t OFFSETS) (number s (at + 3)) 0) (λ x. tag ≡ x.tag) → res ≡ answered code (at + 5) → Stepped p top s t u res
         unfolding SomePlace
         raw_done_lem res says is =
             constant_step p top s t at place.0 place.1 (room s p work) work bytes _ _ (now_raw p top s t at place.0 place.1 constant byte) tag u code res says done is
@@ -160,28 +170,28 @@ module _ (p : List ℕ) (top : ℕ) (s : List ℕ) (t : Store) (at : ℕ) (place
             bootstrap_room p top s t at place.0 place.1 (room s p work) work bytes _ _ n,
           )
 
-      module _ (u : Store) (code : ℕ) (done : TriedBootstrap p (number s (at + 1)) (constants_in s + number s (at + 3)) t u code) where
-        pub index-code : code < 100
+      module _ (u : Store) (code : Tested) (done : TriedBootstrap p (number s (at + 1)) (constants_in s + number s (at + 3)) t u (code_of code)) where
+        pub index-code : code_of code < 100
         unfolding SomePlace
         index-code =
-            outcome-low code _ (place_bootstrap (number s (at + 1)) (constants_in s + number s (at + 3) - constants_in s) place.0.indexes) (index-low _ _ place.0.indexes)
+            outcome-low (code_of code) _ (place_bootstrap (number s (at + 1)) (constants_in s + number s (at + 3) - constants_in s) place.0.indexes) (index-low _ _ place.0.indexes)
             (done.code (constants_in s) top place.0.held place.0.indexes place.1.0.raws (omega arith))
 
-        pub index-done : (res : ℕ) → res ≡ answered code (at + 5) → Stepped p top s t u res
+        pub index-done : (res : Answer) → res ≡ answered code (at + 5) → Stepped p top s t u res
         unfolding SomePlace
         index-done res is =
             bootstrap_step p top s t at place.0 place.1 (room s p work) work bytes _ _ (now_raw p top s t at place.0 place.1 bootstrap byte) u code res done is
 
     -- a setting
-    pub version_done : get_or s at 0 ≡ 0x47 → Stepped p top s t t (at + 3)
+    pub version_done : get_or s at 0 ≡ 0x47 → Stepped p top s t t (Ok (at + 3))
     unfolding SomePlace
     version_done byte = setting_step p top s t at place.0 place.1 (room s p work) _ _ (now_version p top s t at place.0 place.1 byte)
 
-    pub texts_done : get_or s at 0 ≡ 0x48 → Stepped p top s t t (at + 1)
+    pub texts_done : get_or s at 0 ≡ 0x48 → Stepped p top s t t (Ok (at + 1))
     unfolding SomePlace
     texts_done byte = setting_step p top s t at place.0 place.1 (room s p work) _ _ (now_texts p top s t at place.0 place.1 byte)
 
-    pub highest_done : get_or s at 0 ≡ 0x49 → Stepped p top s t t (at + 3)
+    pub highest_done : get_or s at 0 ≡ 0x49 → Stepped p top s t t (Ok (at + 3))
     unfolding SomePlace
     highest_done byte = setting_step p top s t at place.0 place.1 (room s p work) _ _ (now_highest p top s t at place.0 place.1 byte)
 
@@ -202,7 +212,7 @@ module _ (p : List ℕ) (top : ℕ) (s : List ℕ) (t : Store) (at : ℕ) (place
         pub constant_done :
             (u : Store) (res : ℕ) →
             ((x : Entry (List ℕ) Reference) (next : ℕ) → CanEnter s t at (0 + get_or (t COUNTS) CONSTANT-COUNT 0) x next → Enters s (counted t CONSTANT-COUNT) u at (0 + get_or (t COUNTS) CONSTANT-COUNT 0) res x next) →
-            WordsAt s (t VALUES) at → Stepped p top s t u res
+            WordsAt s (t VALUES) at → Stepped p top s t u (Ok res)
         unfolding SomePlace
         constant_done u res enters words =
             let n = now_entry p top s t at place.0 place.1 n1 n2 n3 n4 n7 n8 n9 in
@@ -226,7 +236,7 @@ module _ (p : List ℕ) (top : ℕ) (s : List ℕ) (t : Store) (at : ℕ) (place
         pub bootstrap_done :
             (u : Store) (res : ℕ) →
             ((x : Entry (List ℕ) Reference) (next : ℕ) → CanEnter s t at (constants_in s + get_or (t COUNTS) BOOTSTRAP-COUNT 0) x next → Enters s (counted t BOOTSTRAP-COUNT) u at (constants_in s + get_or (t COUNTS) BOOTSTRAP-COUNT 0) res x next) →
-            Stepped p top s t u res
+            Stepped p top s t u (Ok res)
         unfolding SomePlace
         bootstrap_done u res enters =
             let n = now_entry p top s t at place.0 place.1 n1 n2 n3 n4 n7 n8 n9 in

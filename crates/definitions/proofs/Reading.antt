@@ -1,8 +1,8 @@
 -- Places in an entry as the code computes them. Assumes nothing.
 use mathlib.Core.Bool.{Bool, true, false}
 use mathlib.Core.List.{List}
-use mathlib.Core.Path.{◌≡◌, refl, ap, ◌∙◌}
-use Prim.Native.Nat.{ℕ, zero, suc, ◌+◌, ◌≤◌}
+use mathlib.Core.Path.{◌≡◌, ap, ◌∙◌}
+use Prim.Native.Nat.{ℕ, ◌+◌, ◌≤◌}
 use native.Mathlib.Nat.{add-zero}
 use lib.ListN.{length}
 use borrow.Author.Tests.{ne_eqb}
@@ -12,11 +12,9 @@ use Rattle.job.specs.Stored.{Found, Stands, WhatStands, ReferenceStands, WhatRef
 use Rattle.job.proofs.Laws.{number}
 use Rattle.job.proofs.Endings.{literal_end, literal_there, naming_there}
 use Rattle.store.specs.Regions.{Work}
-use Rattle.store.specs.Words.{REFUSED}
 use Rattle.store.proofs.Laying.{work-formed}
 use Rattle.store.proofs.Bounds.{formed_short}
 use Rattle.definitions.specs.Kids.{gap_after}
-use Rattle.definitions.specs.Defining.{answered}
 
 pub first_yes : (tag at : ℕ) → tag ≡ 15 → at + 2 ≡ first_place tag at
 unfolding first_place
@@ -54,16 +52,6 @@ module _ (s : List ℕ) (at tag : ℕ) (is : WhatEntry s at (λ e. tag ≡ e.tag
   pub narrow_end : (tag ≡ 1 → ⊥) → is_wide tag ≡ false → Behind s at (at + 5)
   unfolding literal_end
   narrow_end other narrow = ended _ (rw (ne_eqb tag 1 other, literal_end, narrow))
-
--- the answer of a record
-pub answer-yes : (code next : ℕ) → code ≡ 0 → next ≡ answered code next
-unfolding answered
-answer-yes code next e = rw e
-
-pub answer-no : (code next : ℕ) → (code ≡ 0 → ⊥) → REFUSED + code ≡ answered code next
-unfolding answered
-answer-no zero next n = absurd (n refl)
-answer-no (suc code) next n = refl
 
 -- a place of a well-formed job
 pub place_short : (s p : List ℕ) → Work s p → length s ≤ 1048576

@@ -3,7 +3,7 @@ use mathlib.Core.Bool.{Bool, true, false}
 use mathlib.Core.List.{List, [], ◌∷◌, ◌++◌}
 use mathlib.Core.Option.{some}
 use mathlib.Core.Path.{◌≡◌, refl, sym, ap, subst, ◌∙◌}
-use Prim.Native.Nat.{ℕ, zero, suc, ◌+◌, ◌-◌, ◌≤◌, ◌<◌}
+use Prim.Native.Nat.{ℕ, suc, ◌+◌, ◌-◌, ◌≤◌, ◌<◌}
 use native.Mathlib.Numerals.{add-one}
 use native.Mathlib.Omega.{arith}
 use lib.ListN.{length, get_or, get_elem?, set, take, drop, length-set}
@@ -26,14 +26,17 @@ use Rattle.job.proofs.Endings.{opens-name, opens-raw, opens-version, opens-texts
 use Rattle.store.specs.Store.{Store, size, Kept}
 use Rattle.store.specs.JobIn.{job_in, definitions_in, namings_in, constants_in, entries_in}
 use Rattle.store.specs.Regions.{COUNTS, NAME-HEADS, RAW-HEADS, NAME-LINKS, RAW-LINKS, RECORDS, OFFSETS, FIRSTS, SIZES, GOALS, NAME-PLACES, RAW-KEYS, RAW-ENTRIES, VALUES, PLACE, CONSTANT-COUNT, BOOTSTRAP-COUNT, REFERENCE-COUNT, NAME-COUNT, RAW-COUNT, HELD-COUNT, raws_of, Work}
-use Rattle.store.specs.Words.{REFUSED}
 use Rattle.store.specs.Entries.{WordsAt}
 use Rattle.store.proofs.Keeping.{kept_put, kept_then, kept_more}
 use Rattle.store.proofs.Laying.{work-formed}
 use Rattle.sym_refs.specs.Names.{NamingAt, name_count, NamesIn, Tried}
+use Rattle.std.specs.Prelude.{Ok, Err}
+use Rattle.refusal.specs.Numbers as refusals
+use Rattle.refusal.specs.Numbers.{code_of}
 use Rattle.raws.specs.Raws.{outcome, raw_count, held_count, RawsIn, SameCounters, TriedConstant, TriedBootstrap}
 use Rattle.definitions.specs.Kids.{counted, CanEnter, Enters}
-use Rattle.definitions.specs.Defining.{done_in, EntriesIn, Counters, records_in, defined_from, defined_in, Defining, place_count, defined_regions, InPlace, answered, Stepped}
+use Rattle.definitions.specs.Defining.{done_in, EntriesIn, Counters, records_in, defined_from, defined_in, Defining, place_count, defined_regions, InPlace, Tested, Answer, answered, Stepped}
+use Rattle.definitions.proofs.Stepped.{number_above, answered-through, outcome-refused, stepped-through, stepped-refused}
 use Rattle.definitions.proofs.Rooms.{Room}
 use Rattle.definitions.proofs.Prefixes.{take_next, drop-next, no_entry}
 use Rattle.definitions.proofs.Entering.{entries-skip, entries-more, entered_low}
@@ -180,34 +183,24 @@ module _ (p : List ℕ) (top : ℕ) (s : List ℕ) (t : Store) (at : ℕ) (d : D
           references = refl;
         }
 
-    pub setting_step : Stepped p top s t t next
+    pub setting_step : Stepped p top s t t (Ok next)
     unfolding no_entry no_name_lem
     setting_step =
         let same = setting_leaves rule d in
-        record {
-          through =
-              λ _. (
-                with_setting rule d,
-                record {
-                  few = here.1;
-                  rest = passes top s K (setting rule) n.turn d here.0.rest (with_setting rule d) (one_setting_lem top s d rule);
-                  laid = here.0.laid;
-                  turn = n.later;
-                  entries = entries-still s K (setting rule) n.turn refl t t still here.0.entries;
-                  values = values_skip s K t t at here.0.values (setting rule) n.turn refl next (omega (arith, n.found.past)) refl refl;
-                  counters = counters_still s K (setting rule) n.turn refl t t still here.0.counters;
-                  names = here.0.names;
-                  named = here.0.named ∙ sym (names_same s K (setting rule) n.turn refl);
-                  naming = same.2 ∙ here.0.naming;
-                  raws = rw (same.0, same.1) here.0.raws;
-                  room = omega (arith, here.0.room, raws_next s K (setting rule) n.turn);
-                },
-              );
-          refused = λ h. absurd (omega (arith, n.found.within, room.bytes));
-          place = refl;
-          counters = λ j l. refl;
-          kept = λ k _. refl;
-        }
+        stepped-through p top s t t refl (λ j l. refl) (λ k _. refl) next (with_setting rule d) (record {
+          few = here.1;
+          rest = passes top s K (setting rule) n.turn d here.0.rest (with_setting rule d) (one_setting_lem top s d rule);
+          laid = here.0.laid;
+          turn = n.later;
+          entries = entries-still s K (setting rule) n.turn refl t t still here.0.entries;
+          values = values_skip s K t t at here.0.values (setting rule) n.turn refl next (omega (arith, n.found.past)) refl refl;
+          counters = counters_still s K (setting rule) n.turn refl t t still here.0.counters;
+          names = here.0.names;
+          named = here.0.named ∙ sym (names_same s K (setting rule) n.turn refl);
+          naming = same.2 ∙ here.0.naming;
+          raws = rw (same.0, same.1) here.0.raws;
+          room = omega (arith, here.0.room, raws_next s K (setting rule) n.turn);
+        })
 
   -- NAMES
 
@@ -221,7 +214,7 @@ module _ (p : List ℕ) (top : ℕ) (s : List ℕ) (t : Store) (at : ℕ) (d : D
     pub naming_at : Work s p → IsBytes s → NamingAt s at TheName
     naming_at work bytes = (next, n.found, name_cited s (work-formed s p work) bytes K kind l r n.turn)
 
-    module _ (room : Room s p) (u : Store) (code res : ℕ) (tried : Tried (size p NAME-HEADS) s t u TheName code) (is : res ≡ answered code next) where
+    module _ (room : Room s p) (u : Store) (code : Tested) (res : Answer) (tried : Tried (size p NAME-HEADS) s t u TheName (code_of code)) (is : res ≡ answered code next) where
       name_kept : Kept defined_regions t u
       unfolding every
       name_kept = kept_more (COUNTS ∷ NAME-HEADS ∷ NAME-LINKS ∷ NAME-PLACES ∷ []) defined_regions t u refl tried.kept
@@ -251,22 +244,16 @@ module _ (p : List ℕ) (top : ℕ) (s : List ℕ) (t : Store) (at : ℕ) (d : D
           }
 
       fresh_name : is_none (name_target kind l (take (name_count t) (namings_in s))) ≡ true → Stepped p top s t u res
-      unfolding answered no_entry
+      unfolding no_entry
       fresh_name new =
           let g = tried.fresh new in
-          let whole : res ≡ next = is ∙ rw g.0 in
-          record {
-            through = λ _. (more, rw whole (through g));
-            refused = λ h. absurd (omega (arith, n.found.within, room.bytes));
-            place = tried.counters PLACE (λ q. omega arith);
-            counters = λ j l. tried.counters j (λ q. omega arith);
-            kept = name_kept;
-          }
+          subst (Stepped p top s t u) (sym (is ∙ answered-through code next g.0))
+          (stepped-through p top s t u (tried.counters PLACE (λ q. omega arith)) (λ j l. tried.counters j (λ q. omega arith)) name_kept next more (through g))
         where
           more : Defined
           more = record { held = d.held; indexes = d.indexes; names = d.names ++ TheName ∷ []; version = d.version }
 
-          through : (code ≡ 0) × NamesIn (size p NAME-HEADS) s u × (name_count u ≡ name_count t + 1) → Defining p top s u (suc K) next more
+          through : (code_of code ≡ 0) × NamesIn (size p NAME-HEADS) s u × (name_count u ≡ name_count t + 1) → Defining p top s u (suc K) next more
           through g =
               record {
                 few = here.1;
@@ -284,16 +271,15 @@ module _ (p : List ℕ) (top : ℕ) (s : List ℕ) (t : Store) (at : ℕ) (d : D
               }
 
       old_name : is_none (name_target kind l (take (name_count t) (namings_in s))) ≡ false → Stepped p top s t u res
-      unfolding answered
-      old_name old =
-          let whole : res ≡ REFUSED + 11 = is ∙ rw (tried.old old) in
-          record {
-            through = λ h. absurd (omega arith);
-            refused = λ _. (omega arith, rw whole (refuses top s K (named kind l r) n.turn d here.0.rest 11 (one-old top s d kind l r (rw here.0.naming old))));
-            place = tried.counters PLACE (λ q. omega arith);
-            counters = λ j l. tried.counters j (λ q. omega arith);
-            kept = name_kept;
-          }
+      unfolding code_of answered
+      old_name old = ways code (tried.old old) is
+        where
+          ways : (c : Tested) → code_of c ≡ 11 → res ≡ answered c next → Stepped p top s t u res
+          ways (Ok x) z q = absurd (omega arith)
+          ways (Err e) z q =
+              subst (Stepped p top s t u) (sym q)
+              (stepped-refused p top s t u (tried.counters PLACE (λ q. omega arith)) (λ j l. tried.counters j (λ q. omega arith)) name_kept e
+              (rw z (refuses top s K (named kind l r) n.turn d here.0.rest 11 (one-old top s d kind l r (rw here.0.naming old)))))
 
       pub name_step : Stepped p top s t u res
       name_step = ways (is_none (name_target kind l (take (name_count t) (namings_in s)))) refl
@@ -358,30 +344,21 @@ module _ (p : List ℕ) (top : ℕ) (s : List ℕ) (t : Store) (at : ℕ) (d : D
 
     -- the step, by the code
     raw_step :
-        (room : Room s p) (kind : Kind) (n e : ℕ) (now : Now (placed kind n e) (at + 5)) (held : List (ℕ × Held)) (indexes : List (ℕ × ℕ)) (code res : ℕ) →
+        (room : Room s p) (kind : Kind) (n e : ℕ) (now : Now (placed kind n e) (at + 5)) (held : List (ℕ × Held)) (indexes : List (ℕ × ℕ)) (code : Tested) (res : Answer) →
         res ≡ answered code (at + 5) →
-        define_one top (constants_of (records_in s)) (numbered_definition (literals (job_in s)) (placed kind n e)) d ≡ outcome code (record { held = held; indexes = indexes; names = d.names; version = d.version }) →
-        (code ≡ 0 → RawsIn p (constants_in s) top held indexes u) →
+        define_one top (constants_of (records_in s)) (numbered_definition (literals (job_in s)) (placed kind n e)) d ≡ outcome (code_of code) (record { held = held; indexes = indexes; names = d.names; version = d.version }) →
+        (code_of code ≡ 0 → RawsIn p (constants_in s) top held indexes u) →
         raw_count u ≤ raw_count t + raws_of (counts_of (placed kind n e ∷ []) 0) →
         Stepped p top s t u res
-    unfolding answered outcome
-    raw_step room kind n e now held indexes zero res is one again count =
-        record {
-          through = λ _. (record { held = held; indexes = indexes; names = d.names; version = d.version }, rw is (raw_defined kind n e now held indexes (passes top s K (placed kind n e) now.turn d here.0.rest (record { held = held; indexes = indexes; names = d.names; version = d.version }) one) (again refl) count));
-          refused = λ h. absurd (omega (arith, now.found.within, room.bytes));
-          place = counters PLACE (λ q. omega arith) (λ q. omega arith);
-          counters = λ j l. counters j (λ q. omega arith) (λ q. omega arith);
-          kept = raw_kept;
-        }
-    raw_step room kind n e now held indexes (suc code) res is one again count =
-        let code_is : res - REFUSED ≡ suc code = omega arith in
-        record {
-          through = λ h. absurd (omega arith);
-          refused = λ _. (omega arith, rw code_is (refuses top s K (placed kind n e) now.turn d here.0.rest (suc code) one));
-          place = counters PLACE (λ q. omega arith) (λ q. omega arith);
-          counters = λ j l. counters j (λ q. omega arith) (λ q. omega arith);
-          kept = raw_kept;
-        }
+    unfolding answered outcome code_of
+    raw_step room kind n e now held indexes (Ok x) res is one again count =
+        subst (Stepped p top s t u) (sym is)
+        (stepped-through p top s t u (counters PLACE (λ q. omega arith) (λ q. omega arith)) (λ j l. counters j (λ q. omega arith) (λ q. omega arith)) raw_kept (at + 5)
+        (record { held = held; indexes = indexes; names = d.names; version = d.version }) (raw_defined kind n e now held indexes (passes top s K (placed kind n e) now.turn d here.0.rest (record { held = held; indexes = indexes; names = d.names; version = d.version }) one) (again refl) count))
+    raw_step room kind n e now held indexes (Err code) res is one again count =
+        subst (Stepped p top s t u) (sym is)
+        (stepped-refused p top s t u (counters PLACE (λ q. omega arith) (λ q. omega arith)) (λ j l. counters j (λ q. omega arith) (λ q. omega arith)) raw_kept code
+        (refuses top s K (placed kind n e) now.turn d here.0.rest (refusals.number code) (one ∙ outcome-refused (refusals.number code) _ (number_above code))))
 
   -- a raw constant
   module _ (room : Room s p) (work : Work s p) (bytes : IsBytes s) (n e : ℕ) (now : Now (placed constant n e) (at + 5)) where
@@ -406,14 +383,14 @@ module _ (p : List ℕ) (top : ℕ) (s : List ℕ) (t : Store) (at : ℕ) (d : D
     constant_room = omega (arith, here.0.room, raws_next s K (placed constant n e) now.turn, raws_room s K (placed constant n e) now.turn, room.raw_keys)
 
     pub constant_step :
-        (tag : ℕ) (u : Store) (code res : ℕ) → WhatEntry s (get_or (t OFFSETS) e 0) (λ x. tag ≡ x.tag) → TriedConstant p top (is_wide tag) n e t u code → res ≡ answered code (at + 5) →
+        (tag : ℕ) (u : Store) (code : Tested) (res : Answer) → WhatEntry s (get_or (t OFFSETS) e 0) (λ x. tag ≡ x.tag) → TriedConstant p top (is_wide tag) n e t u (code_of code) → res ≡ answered code (at + 5) →
         Stepped p top s t u res
     unfolding counts_of only is_placing same_kind_lem
     constant_step tag u code res says done is =
         let g = the_constant in
         let same = says g.0 g.1 g.2 in
         raw_step u done.kept done.counters room constant n e now (hold (is_wide tag) n e d.held) d.indexes code res is
-        (one-constant top s d n e code (is_wide tag) (ap is_wide (g.3 ∙ sym same)) (done.code (constants_in s) d.held d.indexes here.0.raws))
+        (one-constant top s d n e (code_of code) (is_wide tag) (ap is_wide (g.3 ∙ sym same)) (done.code (constants_in s) d.held d.indexes here.0.raws))
         (done.again (constants_in s) d.held d.indexes here.0.raws)
         done.count
 
@@ -426,13 +403,13 @@ module _ (p : List ℕ) (top : ℕ) (s : List ℕ) (t : Store) (at : ℕ) (d : D
     unfolding counts_of only is_placing same_kind_lem
     bootstrap_room = omega (arith, here.0.room, raws_next s K (placed bootstrap n e) now.turn, raws_room s K (placed bootstrap n e) now.turn, room.raw_keys)
 
-    pub bootstrap_step : (u : Store) (code res : ℕ) → TriedBootstrap p n (constants_in s + e) t u code → res ≡ answered code (at + 5) → Stepped p top s t u res
+    pub bootstrap_step : (u : Store) (code : Tested) (res : Answer) → TriedBootstrap p n (constants_in s + e) t u (code_of code) → res ≡ answered code (at + 5) → Stepped p top s t u res
     unfolding counts_of only is_placing same_kind_lem
     bootstrap_step u code res done is =
         let back : constants_in s + e - constants_in s ≡ e = omega arith in
         let code_is = rw back at (done.code (constants_in s) top d.held d.indexes here.0.raws (omega arith)) in
         let again = rw back at (done.again (constants_in s) top d.held d.indexes here.0.raws (omega arith)) in
-        raw_step u done.kept done.counters room bootstrap n e now d.held (insert n e d.indexes) code res is (one-bootstrap top s d n e code code_is) again done.count
+        raw_step u done.kept done.counters room bootstrap n e now d.held (insert n e d.indexes) code res is (one-bootstrap top s d n e (code_of code) code_is) again done.count
 
   -- ENTRIES
 
@@ -498,42 +475,33 @@ module _ (p : List ℕ) (top : ℕ) (s : List ℕ) (t : Store) (at : ℕ) (d : D
               held = same-counter HELD-COUNT (λ q. omega arith) (λ q. omega arith);
             }
 
-        entry_step : Stepped p top s t u res
+        entry_step : Stepped p top s t u (Ok res)
         unfolding no_name_lem
         entry_step =
-            record {
-              through =
-                  λ _. (
-                    d,
-                    rw enters.end (record {
-                      few = here.1;
-                      rest = passes top s K (define x) now.turn d here.0.rest d (one_entry top s d x);
-                      laid = here.0.laid;
-                      turn = now.later;
-                      entries = entry_entries;
-                      values =
-                          values_more s K t u at here.0.values x now.turn (few_constants s (suc K)) next now.found e new (omega (arith, long OFFSETS, room.offsets)) enters.offsets (enters.kept VALUES refl)
-                          words;
-                      counters = counters;
-                      names = names_still (size p NAME-HEADS) s t u entry_names here.0.names;
-                      named = entry_names.count ∙ here.0.named ∙ sym (names_same s K (define x) now.turn refl);
-                      naming = here.0.naming ∙ ap (λ m. take m (namings_in s)) (sym entry_names.count);
-                      raws = raws_still p (constants_in s) top d.held d.indexes t u entry_raws here.0.raws;
-                      room = omega (arith, entry_raws.count, here.0.room, raws_next s K (define x) now.turn);
-                    }),
-                  );
-              refused = λ h. absurd (omega (arith, enters.end, now.found.within, room.bytes));
-              place = same-counter PLACE (λ q. omega arith) (λ q. omega arith);
-              counters = λ j l. same-counter j (λ q. omega arith) (λ q. omega arith);
-              kept = entry_kept;
-            }
+            stepped-through p top s t u (same-counter PLACE (λ q. omega arith) (λ q. omega arith)) (λ j l. same-counter j (λ q. omega arith) (λ q. omega arith)) entry_kept res d
+            (rw enters.end (record {
+              few = here.1;
+              rest = passes top s K (define x) now.turn d here.0.rest d (one_entry top s d x);
+              laid = here.0.laid;
+              turn = now.later;
+              entries = entry_entries;
+              values =
+                  values_more s K t u at here.0.values x now.turn (few_constants s (suc K)) next now.found e new (omega (arith, long OFFSETS, room.offsets)) enters.offsets (enters.kept VALUES refl)
+                  words;
+              counters = counters;
+              names = names_still (size p NAME-HEADS) s t u entry_names here.0.names;
+              named = entry_names.count ∙ here.0.named ∙ sym (names_same s K (define x) now.turn refl);
+              naming = here.0.naming ∙ ap (λ m. take m (namings_in s)) (sym entry_names.count);
+              raws = raws_still p (constants_in s) top d.held d.indexes t u entry_raws here.0.raws;
+              room = omega (arith, entry_raws.count, here.0.room, raws_next s K (define x) now.turn);
+            }))
 
     -- a constant
     module _ (kind : kind_of x.tag ≡ constant) where
       pub constant_few : 0 + get_or (t COUNTS) CONSTANT-COUNT 0 < entries_in s
       constant_few = omega (arith, here.0.counters.constants, (counts_constant s K x now.turn kind).0, few_constants s (suc K), few_bootstraps s K)
 
-      pub constant_entered : (u : Store) (res : ℕ) → Enters s (counted t CONSTANT-COUNT) u at (0 + get_or (t COUNTS) CONSTANT-COUNT 0) res x next → WordsAt s (t VALUES) at → Stepped p top s t u res
+      pub constant_entered : (u : Store) (res : ℕ) → Enters s (counted t CONSTANT-COUNT) u at (0 + get_or (t COUNTS) CONSTANT-COUNT 0) res x next → WordsAt s (t VALUES) at → Stepped p top s t u (Ok res)
       unfolding place_of count_in kids_in
       constant_entered u res enters words = entry_step CONSTANT-COUNT (0 + get_or (t COUNTS) CONSTANT-COUNT 0) (omega arith) (omega arith) constant_few (rw kind (omega (arith, here.0.counters.constants))) u res enters words counters
         where
@@ -560,7 +528,7 @@ module _ (p : List ℕ) (top : ℕ) (s : List ℕ) (t : Store) (at : ℕ) (d : D
       pub bootstrap_few : constants_in s + get_or (t COUNTS) BOOTSTRAP-COUNT 0 < entries_in s
       bootstrap_few = omega (arith, here.0.counters.bootstraps, (counts_bootstrap s K x now.turn kind).1, few_bootstraps s (suc K))
 
-      pub bootstrap_entered : (u : Store) (res : ℕ) → Enters s (counted t BOOTSTRAP-COUNT) u at (constants_in s + get_or (t COUNTS) BOOTSTRAP-COUNT 0) res x next → WordsAt s (t VALUES) at → Stepped p top s t u res
+      pub bootstrap_entered : (u : Store) (res : ℕ) → Enters s (counted t BOOTSTRAP-COUNT) u at (constants_in s + get_or (t COUNTS) BOOTSTRAP-COUNT 0) res x next → WordsAt s (t VALUES) at → Stepped p top s t u (Ok res)
       unfolding place_of count_in kids_in
       bootstrap_entered u res enters words = entry_step BOOTSTRAP-COUNT (constants_in s + get_or (t COUNTS) BOOTSTRAP-COUNT 0) (omega arith) (omega arith) bootstrap_few (rw kind (omega (arith, here.0.counters.bootstraps))) u res enters words counters
         where

@@ -20,7 +20,8 @@ use Rattle.store.specs.Words.{number_bytes}
 use Rattle.store.specs.Entries.{WordsAt}
 use Rattle.store.proofs.Keeping.{kept_put, kept_then, kept_more}
 use Rattle.definitions.specs.Kids.{Valued, counted, CanEnter, Enters}
-use Rattle.definitions.specs.Defining.{Defining, place_count, defined_regions, SomePlace, Stepped}
+use Rattle.std.specs.Prelude.{Ok}
+use Rattle.definitions.specs.Defining.{Defining, place_count, defined_regions, SomePlace, Answer, Stepped}
 use Rattle.definitions.proofs.Valued.{values_as}
 use Rattle.definitions.proofs.Placed.{constant_needs, constant_done}
 use Rattle.definitions.proofs.Steps.{SameEntries, SameNames, SameRaws, names_still, raws_still, entries-as, counters_as}
@@ -113,12 +114,12 @@ module _ (p : List ℕ) (top : ℕ) (s : List ℕ) (t u : Store) (at : ℕ) (val
   unfolding SomePlace
   value-place (d, (g, more)) = (d, (subst (λ m. Defining p top s u m at d) (sym place_same) (all_valued (place_count t) d g), omega (arith, place_same)))
 
-  pub value-step : (v : Store) (r : ℕ) → Stepped p top s u v r → Stepped p top s t v r
+  pub value-step : (v : Store) (r : Answer) → Stepped p top s u v r → Stepped p top s t v r
   unfolding every
   value-step v r step =
       record {
-        through = λ h. rw place_same at (step.through h);
-        refused = λ h. rw place_same at (step.refused h);
+        through = λ n e. rw place_same at (step.through n e);
+        refused = λ f e. rw place_same at (step.refused f e);
         place = step.place ∙ place_same;
         counters = λ c l. step.counters c l ∙ same-counter c;
         kept = kept_then defined_regions t u v (kept_more (VALUES ∷ []) defined_regions t u refl valued.kept) step.kept;
@@ -141,7 +142,7 @@ module _ (p : List ℕ) (top : ℕ) (s : List ℕ) (t : Store) (at : ℕ) (place
   pub worked-done :
       (u : Store) (res : ℕ) →
       ((x : Entry (List ℕ) Reference) (next : ℕ) → CanEnter s t at (0 + get_or (t COUNTS) CONSTANT-COUNT 0) x next → Enters s (counted t CONSTANT-COUNT) u at (0 + get_or (t COUNTS) CONSTANT-COUNT 0) res x next) →
-      WordsAt s (t VALUES) at → Stepped p top s t u res
+      WordsAt s (t VALUES) at → Stepped p top s t u (Ok res)
   worked-done =
       constant_done p top s t at place work bytes long (no 0x41 (λ e. omega arith)) (no 0x42 (λ e. omega arith)) (no 0x43 (λ e. omega arith)) (no 0x44 (λ e. omega arith))
       (no 0x47 (λ e. omega arith)) (no 0x48 (λ e. omega arith)) (no 0x49 (λ e. omega arith)) (no 0x40 (λ e. omega arith))

@@ -18,13 +18,16 @@ use Rattle.job.specs.Forms.{references_in, counts_of}
 use Rattle.store.specs.Store.{Store, size, put, Kept}
 use Rattle.store.specs.JobIn.{job_in, definitions_in, counts_in, namings_of, namings_in, table_in, constants_in}
 use Rattle.store.specs.Regions.{COUNTS, NAME-HEADS, RAW-HEADS, NAME-LINKS, NAME-PLACES, PLACE, AT, CONSTANT-COUNT, BOOTSTRAP-COUNT, REFERENCE-COUNT, NAME-COUNT, RAW-COUNT, HELD-COUNT, raws_of, Work}
-use Rattle.store.specs.Words.{REFUSED}
 use Rattle.store.proofs.Keeping.{kept_put, kept_then}
 use Rattle.store.proofs.Laying.{work-formed}
 use Rattle.store.proofs.Bounds.{formed_laid}
 use Rattle.sym_refs.specs.Names.{Names, name_count}
+use Rattle.std.specs.Prelude.{Ok, Err}
+use Rattle.refusal.specs.declared.Refusal.{Refusal}
+use Rattle.refusal.specs.Numbers.{number}
+use Rattle.definitions.proofs.Stepped.{number_above}
 use Rattle.raws.proofs.Starting.{raws_begin}
-use Rattle.definitions.specs.Defining.{done_in, entered_at, records_in, defined_in, Defining, place_count, defined_regions, SomePlace, Stepped, DefinedAll, Defines, Zeros}
+use Rattle.definitions.specs.Defining.{done_in, entered_at, records_in, defined_in, Defining, place_count, defined_regions, SomePlace, Answer, Stepped, DefinedAll, Defines, Zeros}
 use Rattle.definitions.proofs.Rooms.{room}
 use Rattle.definitions.proofs.Prefixes.{take_all, drop_all, no_constants}
 use Rattle.definitions.proofs.Entering.{entered_low, entered_high, entered_all}
@@ -144,14 +147,14 @@ module _ (p : List ℕ) (top : ℕ) (s : List ℕ) (t : Store) (k at : ℕ) (d :
   all_place more =
       (d, (subst (λ m. Defining p top s (put t COUNTS PLACE k) m at d) (sym placed) (all_stored p top s t k at d g PLACE k (omega arith)), omega (arith, placed)))
 
-  module _ (u : Store) (r : ℕ) (step : Stepped p top s (put t COUNTS PLACE k) u r) where
-    pub all_next : r < REFUSED → (d' : Defined) × Defining p top s u (k + 1) r d'
-    all_next h =
-        let n = step.through h in
-        (n.0, rw (add-one k) (subst (λ m. Defining p top s u (suc m) r n.0) placed n.1))
+  module _ (u : Store) (r : Answer) (step : Stepped p top s (put t COUNTS PLACE k) u r) where
+    pub all_next : (next : ℕ) → r ≡ Ok next → (d' : Defined) × Defining p top s u (k + 1) next d'
+    all_next next e =
+        let n = step.through next e in
+        (n.0, rw (add-one k) (subst (λ m. Defining p top s u (suc m) next n.0) placed n.1))
 
-    pub all_refused : REFUSED ≤ r → (0 < r - REFUSED) × (defined_in top s ≡ bad (record { code = r - REFUSED; place = place_count u }))
-    all_refused h = let n = step.refused h in (omega (arith, n.0), rw step.place n.1)
+    pub all_refused : (e : Refusal) → r ≡ Err e → (0 < number e) × (defined_in top s ≡ bad (record { code = number e; place = place_count u }))
+    all_refused e is = (number_above e, rw step.place (step.refused e is))
 
 -- BEHIND
 
@@ -222,11 +225,11 @@ module _ (p : List ℕ) (top : ℕ) (s : List ℕ) (t : Store) (work : Work s p)
 
 -- what is written between
 pub all_kept :
-    (p : List ℕ) (top : ℕ) (s : List ℕ) (t₀ t u : Store) (k r : ℕ) → Kept defined_regions t₀ t → Stepped p top s (put t COUNTS PLACE k) u r →
+    (p : List ℕ) (top : ℕ) (s : List ℕ) (t₀ t u : Store) (k : ℕ) (r : Answer) → Kept defined_regions t₀ t → Stepped p top s (put t COUNTS PLACE k) u r →
     Kept defined_regions t₀ u
 all_kept p top s t₀ t u k r kept step =
     kept_then defined_regions t₀ (put t COUNTS PLACE k) u (kept_put defined_regions t₀ t COUNTS PLACE k refl kept) step.kept
 
 pub all_counters :
-    (p : List ℕ) (top : ℕ) (s : List ℕ) (t₀ t u : Store) (k r : ℕ) → SameBehind t₀ t → Stepped p top s (put t COUNTS PLACE k) u r → SameBehind t₀ u
+    (p : List ℕ) (top : ℕ) (s : List ℕ) (t₀ t u : Store) (k : ℕ) (r : Answer) → SameBehind t₀ t → Stepped p top s (put t COUNTS PLACE k) u r → SameBehind t₀ u
 all_counters p top s t₀ t u k r same step c l = step.counters c l ∙ get_or-set_other (t COUNTS) PLACE c k 0 (λ q. omega arith) ∙ same c l

@@ -1,5 +1,7 @@
 -- What stands in the regions after the first definitions, and what is left of the definition's run. Assumes nothing.
-use Rattle.std.specs.Prelude.{true, false, List, [], ◌∷◌, ◌≡◌, ℕ, zero, suc, ◌+◌, ◌-◌, ◌<◌, ◌≤◌, ltb, length, get_or, take, drop}
+use Rattle.std.specs.Prelude.{true, false, List, [], ◌∷◌, ◌≡◌, ℕ, suc, ◌+◌, ◌-◌, ◌<◌, ◌≤◌, ltb, length, get_or, take, drop}
+use Rattle.std.specs.Prelude as std
+use Rattle.std.specs.Prelude.{Ok, Err}
 use Rattle.std.proofs.Math.Option.{Option, some}
 use Rattle.std.proofs.Math.ListN.{get_elem?}
 use Rattle.definition.specs.Basics.{Result, good, bad, Refusal}
@@ -9,13 +11,15 @@ use Rattle.definition.specs.Form.{kind_of}
 use Rattle.definition.specs.Numbering.{constants_of, bootstraps_of, numbered}
 use Rattle.definition.specs.Definitions.{Defined, define_all, nothing_defined}
 use Rattle.definition.specs.Resolving.{place_of}
+use Rattle.refusal.specs.declared.Refusal as refusal
+use Rattle.refusal.specs.Numbers.{number}
 use Rattle.laws.specs.Counted.{count_in}
 use Rattle.job.specs.Forms.{references_in, counts_of}
 use Rattle.job.specs.Stored.{InTurn, any_definition, is_worked, Laid}
 use Rattle.store.specs.Store.{Store, size, Kept}
 use Rattle.store.specs.JobIn.{job_in, definitions_in, counts_in, namings_of, namings_in, table_in, constants_in, entries_in}
 use Rattle.store.specs.Regions.{COUNTS, NAME-HEADS, RAW-HEADS, NAME-LINKS, RAW-LINKS, RECORDS, OFFSETS, FIRSTS, SIZES, GOALS, NAME-PLACES, RAW-KEYS, RAW-ENTRIES, VALUES, PLACE, AT, CONSTANT-COUNT, BOOTSTRAP-COUNT, REFERENCE-COUNT, HELD-COUNT, raws_of}
-use Rattle.store.specs.Words.{REFUSED, reference_word, IsReference}
+use Rattle.store.specs.Words.{reference_word, IsReference}
 use Rattle.store.specs.Entries.{EntryAt, Apart, WordsAt, Entered}
 use Rattle.sym_refs.specs.Names.{name_count, NamesIn}
 use Rattle.raws.specs.Raws.{raw_count, RawsIn}
@@ -124,15 +128,22 @@ InPlace p top s t at d = Defining p top s t (place_count t) at d × (place_count
 unfoldable pub SomePlace : List ℕ → ℕ → List ℕ → Store → ℕ → Type 0
 SomePlace p top s t at = (d : Defined) × InPlace p top s t at d
 
--- the place behind a record, or REFUSED + a refusal's number
-unfoldable pub answered : ℕ → ℕ → ℕ
-answered zero next = next
-answered (suc code) next = REFUSED + suc code
+-- what a record's test answers, and what its step does: the place behind it, or why it is refused
+abbrev pub Tested : Type 0
+Tested = std.Result (Unit {0}) refusal.Refusal
 
--- the definition in turn is through, or refused: t before, u after
-pub record Stepped (p : List ℕ) (top : ℕ) (s : List ℕ) (t u : Store) (r : ℕ) : Type 0 where
-  pub through : r < REFUSED → (d : Defined) × Defining p top s u (suc (place_count t)) r d
-  pub refused : REFUSED ≤ r → (REFUSED < r) × (defined_in top s ≡ bad (record { code = r - REFUSED; place = place_count t }))
+abbrev pub Answer : Type 0
+Answer = std.Result ℕ refusal.Refusal
+
+-- the place behind a record that passed its test, or the refusal
+unfoldable pub answered : Tested → ℕ → Answer
+answered (Ok _) next = Ok next
+answered (Err e) next = Err e
+
+-- the definition in turn is through, and r the place behind it, or it is refused: t before, u after
+pub record Stepped (p : List ℕ) (top : ℕ) (s : List ℕ) (t u : Store) (r : Answer) : Type 0 where
+  pub through : (next : ℕ) → r ≡ Ok next → (d : Defined) × Defining p top s u (suc (place_count t)) next d
+  pub refused : (e : refusal.Refusal) → r ≡ Err e → defined_in top s ≡ bad (record { code = number e; place = place_count t })
   pub place : place_count u ≡ place_count t
   pub counters : (c : ℕ) → HELD-COUNT < c → get_or (u COUNTS) c 0 ≡ get_or (t COUNTS) c 0
   pub kept : Kept defined_regions t u

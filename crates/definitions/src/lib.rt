@@ -1,10 +1,11 @@
 // The definitions in turn, then record 50: Krakatau's mod.rs, `Pool`.
 #![tactic(auto)]
 
-ghost use Rattle.std.specs.Prelude.{true, cond, List, ◌≡◌, ℕ, ◌+◌, ◌*◌, ◌<◌, ◌≤◌, length, get_or};
+ghost use Rattle.std.specs.Prelude.{Ok, true, List, ◌≡◌, ℕ, ◌+◌, ◌*◌, ◌<◌, ◌≤◌, length, get_or};
 ghost use Rattle.definition.specs.Shapes.{Kind, Entry};
 ghost use Rattle.definition.specs.Job.{Reference, define, named};
 ghost use Rattle.definition.specs.Definitions.{Defined};
+ghost use Rattle.refusal.specs.Numbers.{code_of};
 ghost use Rattle.job.specs.Stored.{Found, ReferenceStands, WhatReference, EntryStands, any_definition, is_worked, first_place};
 ghost use Rattle.store.specs.Store.{size, store, put, On, IsWord};
 ghost use Rattle.store.specs.JobIn.{WellFormed, definitions_in, counts_in};
@@ -14,16 +15,16 @@ ghost use Rattle.raws.specs.Raws.{raw_count};
 ghost use Rattle.resolver.specs.Resolved.{Table, AtRest, visits_owed};
 ghost use Rattle.definitions.specs.Begun.{Begun};
 ghost use Rattle.definitions.specs.Kids.{entry_put, Valued, gap_after, HasKids, ReadsAll, CanEnter, Enters, counted};
-ghost use Rattle.definitions.specs.Defining.{SomePlace, answered, Stepped, DefinedAll, Defines, Zeros};
+ghost use Rattle.definitions.specs.Defining.{SomePlace, Stepped, DefinedAll, Defines, Zeros};
 ghost use Rattle.definitions.specs.Ending.{raw_goal, raw_at_lem, raw_goals, ResolvesAll, IsRaw, CanResolve, Fresh, Ended};
 
 use job::JobCounts;
 use raws::{place_bootstrap, place_constant, raw_entry, sort_raws};
+use refusal::Refusal;
 use resolver::resolve;
 use store::{
     AT, BOOTSTRAP_COUNT, CONSTANT_COUNT, COUNTS, ENTRY, FIRSTS, GOALS, HALF, OFFSETS, PLACE,
-    RAW_COUNT, RECORDS, REFERENCE_COUNT, REFUSED, SIZES, VALUES, constants, load, next_count, save,
-    start,
+    RAW_COUNT, RECORDS, REFERENCE_COUNT, SIZES, VALUES, constants, load, next_count, save, start,
 };
 use sym_refs::{add_name, link_references, reference_word, resolve_names};
 
@@ -71,13 +72,6 @@ fn place_behind(job: &[u8], at: usize, counted: bool) -> usize
     if counted { behind + 2 } else { behind }
 }
 
-// The first word of a number's bits.
-fn first_word(wide: bool, high: u32, low: u32) -> u32
-    ensures { result ≡ cond wide high low }
-{
-    if wide { high } else { low }
-}
-
 // The value of the constant at a place, which was worked out, is kept as words.
 fn put_value(job: &[u8], w: &mut [u32], p: &[usize], at: usize)
     requires { On p.now (length w.old) × Work job.now p.now × EntryStands job.now at × (is_worked job.now at ≡ true) }
@@ -86,7 +80,11 @@ fn put_value(job: &[u8], w: &mut [u32], p: &[usize], at: usize)
     let value = job::worked_at(job, at);
     let high = value.high;
     let low = value.low;
-    let first = first_word(raw_const::is_long(job::tag_at(job, at)), high, low);
+    let first = if raw_const::is_long(job::tag_at(job, at)) {
+        high
+    } else {
+        low
+    };
     save(w, p, VALUES, at / 3, first as usize);
     save(w, p, VALUES, at / 3 + 1, low as usize);
 }
@@ -126,12 +124,10 @@ fn read_references(
     let dynamic = raw_const::is_dynamic(tag);
     let bootstrap = tag == 0x40;
     let mut from = first_place(tag, at);
-    let mut i = 0;
-    while i < n {
+    for i in 0..n {
         let word = reference_word(job, p, from, dynamic & (i == 0));
         save(w, p, GOALS, first + i, word);
         from = place_behind(job, from, bootstrap & (i == 0));
-        i += 1;
     }
     from
 }
@@ -159,14 +155,6 @@ fn add_counted(job: &[u8], w: &mut [u32], p: &[usize], at: usize, c: usize, base
     add_entry(job, w, p, at, base + i)
 }
 
-// The place behind a record, or REFUSED + a refusal's number.
-fn answer(code: usize, next: usize) -> usize
-    requires { code < 100 }
-    ensures { result ≡ answered code next }
-{
-    if code == 0 { next } else { REFUSED + code }
-}
-
 // The place behind a name's record.
 fn after_naming(job: &[u8], at: usize) -> usize
     requires { (kind : Kind) × (l : List ℕ) × (r : Reference) × (next : ℕ) × Found any_definition job.now at (named kind l r) next }
@@ -175,120 +163,120 @@ fn after_naming(job: &[u8], at: usize) -> usize
     job::after_reference(job, job::name_at(job, at + 1).end)
 }
 
-// A name, 11: `named`.
-fn add_sym_def(job: &[u8], w: &mut [u32], p: &[usize], at: usize) -> usize
+// A name: `named`. The place behind it.
+fn add_sym_def(job: &[u8], w: &mut [u32], p: &[usize], at: usize) -> Result<usize, Refusal>
     requires { On p.now (length w.old) × Work job.now p.now × ((top : ℕ) × SomePlace p.now top job.now (store p.now w.old) at) × ((kind : Kind) × (get_or job.now at 0 ≡ kind_byte kind)) }
     ensures { (top : ℕ) → SomePlace p.now top job.now (store p.now w.old) at → Stepped p.now top job.now (store p.now w.old) (store p.now w.new) result }
 {
-    let code = add_name(job, w, p, at);
-    answer(code, after_naming(job, at))
+    add_name(job, w, p, at)?;
+    Ok(after_naming(job, at))
 }
 
-// A raw constant, 6 to 8: `placed constant`.
-fn add_raw_def(job: &[u8], w: &mut [u32], p: &[usize], at: usize, top: usize) -> usize
+// A raw constant: `placed constant`.
+fn add_raw_def(
+    job: &[u8],
+    w: &mut [u32],
+    p: &[usize],
+    at: usize,
+    top: usize,
+) -> Result<usize, Refusal>
     requires { On p.now (length w.old) × Work job.now p.now × SomePlace p.now top job.now (store p.now w.old) at × (get_or job.now at 0 ≡ 0x43) }
     ensures { Stepped p.now top job.now (store p.now w.old) (store p.now w.new) result }
 {
     let n = writer::get_u16(job, at + 1) as usize;
     let e = writer::get_u16(job, at + 3) as usize;
     let tag = job::tag_at(job, load(w, p, OFFSETS, e));
-    let code = place_constant(w, p, top, raw_const::is_long(tag), n, e);
-    answer(code, at + 5)
+    place_constant(w, p, top, raw_const::is_long(tag), n, e)?;
+    Ok(at + 5)
 }
 
-// A raw bootstrap, 9 and 10: `placed bootstrap`.
-fn add_bs_raw_def(job: &[u8], w: &mut [u32], p: &[usize], at: usize) -> usize
+// A raw bootstrap: `placed bootstrap`.
+fn add_bs_raw_def(job: &[u8], w: &mut [u32], p: &[usize], at: usize) -> Result<usize, Refusal>
     requires { On p.now (length w.old) × Work job.now p.now × ((top : ℕ) × SomePlace p.now top job.now (store p.now w.old) at) × (get_or job.now at 0 ≡ 0x44) }
     ensures { (top : ℕ) → SomePlace p.now top job.now (store p.now w.old) at → Stepped p.now top job.now (store p.now w.old) (store p.now w.new) result }
 {
     let index = writer::get_u16(job, at + 1) as usize;
     let e = writer::get_u16(job, at + 3) as usize;
-    let code = place_bootstrap(w, p, index, constants(p) + e);
-    answer(code, at + 5)
+    place_bootstrap(w, p, index, constants(p) + e)?;
+    Ok(at + 5)
 }
 
 // A constant worked out, its value first: `define`.
 fn add_worked(job: &[u8], w: &mut [u32], p: &[usize], at: usize) -> usize
     requires { On p.now (length w.old) × Work job.now p.now × ((top : ℕ) × SomePlace p.now top job.now (store p.now w.old) at) × (get_or job.now at 0 ≡ 0x46) }
-    ensures { (top : ℕ) → SomePlace p.now top job.now (store p.now w.old) at → Stepped p.now top job.now (store p.now w.old) (store p.now w.new) result }
+    ensures { (top : ℕ) → SomePlace p.now top job.now (store p.now w.old) at → Stepped p.now top job.now (store p.now w.old) (store p.now w.new) (Ok result) }
 {
     put_value(job, w, p, at);
     add_counted(job, w, p, at, CONSTANT_COUNT, 0)
 }
 
-// The definition at a place; the place behind it, or REFUSED + a number: `define_one`. The form pass has read what settings say.
-fn define_one(job: &[u8], w: &mut [u32], p: &[usize], at: usize, top: usize) -> usize
+// The definition at a place; the place behind it: `define_one`. The form pass has read what settings say.
+fn define_one(
+    job: &[u8],
+    w: &mut [u32],
+    p: &[usize],
+    at: usize,
+    top: usize,
+) -> Result<usize, Refusal>
     requires { On p.now (length w.old) × Work job.now p.now × SomePlace p.now top job.now (store p.now w.old) at }
     ensures { Stepped p.now top job.now (store p.now w.old) (store p.now w.new) result }
 {
-    match writer::get_u8(job, at) {
-        0x40 => add_counted(job, w, p, at, BOOTSTRAP_COUNT, constants(p)),
-        0x41 => add_sym_def(job, w, p, at),
-        0x42 => add_sym_def(job, w, p, at),
+    match job[at] {
+        0x40 => Ok(add_counted(job, w, p, at, BOOTSTRAP_COUNT, constants(p))),
+        0x41 | 0x42 => add_sym_def(job, w, p, at),
         0x43 => add_raw_def(job, w, p, at, top),
         0x44 => add_bs_raw_def(job, w, p, at),
-        0x46 => add_worked(job, w, p, at),
-        0x47 => at + 3,
-        0x48 => at + 1,
-        0x49 => at + 3,
-        _ => add_counted(job, w, p, at, CONSTANT_COUNT, 0),
+        0x46 => Ok(add_worked(job, w, p, at)),
+        0x47 | 0x49 => Ok(at + 3),
+        0x48 => Ok(at + 1),
+        _ => Ok(add_counted(job, w, p, at, CONSTANT_COUNT, 0)),
     }
 }
 
-// The n definitions in turn, 0, or a refusal's number: `define_all`. Then record 50 is in turn, and AT is behind it.
-fn define_all(job: &[u8], w: &mut [u32], p: &[usize], n: usize, top: usize) -> usize
+// The n definitions in turn: `define_all`. Then record 50 is in turn, and AT is behind it.
+fn define_all(job: &[u8], w: &mut [u32], p: &[usize], n: usize, top: usize) -> Result<(), Refusal>
     requires { On p.now (length w.old) × Work job.now p.now × Zeros p.now (store p.now w.old) × (n ≡ length (definitions_in job.now)) × (top < 65535) }
-    ensures { Defines p.now top job.now (store p.now w.old) (store p.now w.new) result }
+    ensures { Defines p.now top job.now (store p.now w.old) (store p.now w.new) (code_of result) }
 {
     let mut at = 0;
-    let mut place = 0;
-    while place < n {
+    for place in 0..n {
         save(w, p, COUNTS, PLACE, place);
-        at = define_one(job, w, p, at, top);
-        if REFUSED <= at {
-            return at - REFUSED;
-        }
-        place += 1;
+        at = define_one(job, w, p, at, top)?;
     }
     save(w, p, COUNTS, PLACE, n);
     save(w, p, COUNTS, AT, at + 1);
-    0
+    Ok(())
 }
 
 // Resolves place i of the order of raw definitions, unless it is a second half.
-fn resolve_raw(job: &[u8], w: &mut [u32], p: &[usize], i: usize) -> usize
+fn resolve_raw(job: &[u8], w: &mut [u32], p: &[usize], i: usize) -> Result<(), Refusal>
     requires { On p.now (length w.old) × Work job.now p.now × Table job.now (store p.now w.old) × AtRest (size p.now NODE-HEADS) job.now (store p.now w.old) × (i < size p.now ORDER) × (get_or (store p.now w.old ORDER) i 0 < size p.now RAW-ENTRIES) × IsRaw job.now (raw_at_lem (store p.now w.old RAW-ENTRIES) (store p.now w.old ORDER) i) × IsWord (visits_owed job.now (store p.now w.old) + 1) }
-    ensures { ResolvesAll (size p.now NODE-HEADS) job.now (raw_goal (raw_at_lem (store p.now w.old RAW-ENTRIES) (store p.now w.old ORDER) i)) 1 (store p.now w.old) (store p.now w.new) result }
+    ensures { ResolvesAll (size p.now NODE-HEADS) job.now (raw_goal (raw_at_lem (store p.now w.old RAW-ENTRIES) (store p.now w.old ORDER) i)) 1 (store p.now w.old) (store p.now w.new) (code_of result) }
 {
     let e = raw_entry(w, p, i);
     if e == HALF {
-        return 0;
+        return Ok(());
     }
     resolve(job, w, p, ENTRY + e)
 }
 
-// Resolves all raw definitions in their order, 0, or a refusal's number: `resolve_all`.
-fn resolve_raws(job: &[u8], w: &mut [u32], p: &[usize]) -> usize
+// Resolves all raw definitions in their order: `resolve_all`.
+fn resolve_raws(job: &[u8], w: &mut [u32], p: &[usize]) -> Result<(), Refusal>
     requires { On p.now (length w.old) × Work job.now p.now × Table job.now (store p.now w.old) × AtRest (size p.now NODE-HEADS) job.now (store p.now w.old) × CanResolve p.now job.now (store p.now w.old) (raw_count (store p.now w.old)) }
-    ensures { ResolvesAll (size p.now NODE-HEADS) job.now (raw_goals (store p.now w.old RAW-ENTRIES) (store p.now w.old ORDER) 0 (raw_count (store p.now w.old))) (raw_count (store p.now w.old)) (store p.now w.old) (store p.now w.new) result }
+    ensures { ResolvesAll (size p.now NODE-HEADS) job.now (raw_goals (store p.now w.old RAW-ENTRIES) (store p.now w.old ORDER) 0 (raw_count (store p.now w.old))) (raw_count (store p.now w.old)) (store p.now w.old) (store p.now w.new) (code_of result) }
 {
     let n = load(w, p, COUNTS, RAW_COUNT);
-    let mut i = 0;
-    while i < n {
-        let code = resolve_raw(job, w, p, i);
-        if code != 0 {
-            return code;
-        }
-        i += 1;
+    for i in 0..n {
+        resolve_raw(job, w, p, i)?;
     }
-    0
+    Ok(())
 }
 
 // Record 50: names and references are linked, raw constants resolved by rising slot, then raw bootstraps by rising index:
 // `end_definitions`, but for gaps and stack.
-fn end_definitions(job: &[u8], w: &mut [u32], p: &[usize]) -> usize
+fn end_definitions(job: &[u8], w: &mut [u32], p: &[usize]) -> Result<(), Refusal>
     requires { On p.now (length w.old) × Work job.now p.now × ((top : ℕ) × (d : Defined) × DefinedAll p.now top job.now (store p.now w.old) d) × Fresh p.now (store p.now w.old) }
-    ensures { (top : ℕ) (d : Defined) → DefinedAll p.now top job.now (store p.now w.old) d → Ended p.now top job.now (store p.now w.old) (store p.now w.new) d result }
+    ensures { (top : ℕ) (d : Defined) → DefinedAll p.now top job.now (store p.now w.old) d → Ended p.now top job.now (store p.now w.old) (store p.now w.new) d (code_of result) }
 {
     resolve_names(job, w, p);
     link_references(job, w, p);
@@ -296,17 +284,20 @@ fn end_definitions(job: &[u8], w: &mut [u32], p: &[usize]) -> usize
     resolve_raws(job, w, p)
 }
 
-// A job up to record 50, in words that may hold anything: regions laid out, definitions in turn, record 50. 0, or a refusal's number, met
-// at the record that PLACE tells.
-pub fn begin(job: &[u8], w: &mut [u32], p: &mut [usize], c: JobCounts, top: usize) -> usize
+// A job up to record 50, in words that may hold anything: regions laid out, definitions in turn, record 50. A refusal is met at the
+// record that PLACE tells.
+pub fn begin(
+    job: &[u8],
+    w: &mut [u32],
+    p: &mut [usize],
+    c: JobCounts,
+    top: usize,
+) -> Result<(), Refusal>
     requires { WellFormed job.now × (c ≡ counts_in job.now) × (length p.old ≡ 33) × (6 * length job.now + 1024 ≤ length w.old) × (top < 65535) }
-    ensures { Begun p.new (length w.new) top job.now (store p.new w.new) result }
+    ensures { Begun p.new (length w.new) top job.now (store p.new w.new) (code_of result) }
 {
     let n = c.definitions;
     start(w, p, c, job.len());
-    let code = define_all(job, w, p, n, top);
-    if code != 0 {
-        return code;
-    }
+    define_all(job, w, p, n, top)?;
     end_definitions(job, w, p)
 }

@@ -3,6 +3,7 @@ use Rattle.definitions.proofs.Ends.{end-names, still_names, still_words, still_r
 use Rattle.definitions.proofs.Rooms.{room}
 use Rattle.store.proofs.Stores.{length-store}
 use Rattle.store.specs.Store.{store}
+use Rattle.refusal.specs.Numbers.{code_of}
 use borrow.Author.Rules.{rules}
 use Rattle.definitions.proofs.end_definitions.Goals as goal
 
@@ -19,4 +20,4 @@ pub resolve_raws-requires : goal.resolve_raws-requires
 resolve_raws-requires c = let a = c.args in let h = c.requires in let t = store a.p.now a.w.now in let f = c.resolve_names.ensures in let l = c.link_references.ensures in let o = c.sort_raws.ensures in (search rules, h.1, end-table a.p.now h.2.0 a.job.now t h.2.1 h.2.2 _ f _ l _ o, end-rests a.p.now h.2.0 a.job.now t h.2.1 h.2.2 _ f _ l _ o h.1 (λ i. (c.type_inv.job i).fits) h.3 (length-store a.p.now a.w.now) (length-store a.p.now c.sort_raws.new.w), end-can a.p.now h.2.0 a.job.now t h.2.1 h.2.2 _ f _ l _ o h.1 (λ i. (c.type_inv.job i).fits) h.3 (length-store a.p.now a.w.now) (length-store a.p.now c.sort_raws.new.w))
 
 pub returns : goal.returns
-returns c = let a = c.args in let h = c.requires in let t = store a.p.now a.w.now in let f = c.resolve_names.ensures in let l = c.link_references.ensures in let o = c.sort_raws.ensures in λ top d all. end-done a.p.now top a.job.now t d all _ f _ l _ o h.1 (λ i. (c.type_inv.job i).fits) h.3 (length-store a.p.now a.w.now) (length-store a.p.now c.sort_raws.new.w) _ c.resolve_raws.result c.resolve_raws.ensures
+returns c = let a = c.args in let h = c.requires in let t = store a.p.now a.w.now in let f = c.resolve_names.ensures in let l = c.link_references.ensures in let o = c.sort_raws.ensures in λ top d all. end-done a.p.now top a.job.now t d all _ f _ l _ o h.1 (λ i. (c.type_inv.job i).fits) h.3 (length-store a.p.now a.w.now) (length-store a.p.now c.sort_raws.new.w) _ (code_of c.resolve_raws.result) c.resolve_raws.ensures

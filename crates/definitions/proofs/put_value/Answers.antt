@@ -1,6 +1,8 @@
 -- `definitions::put_value` meets its contract. Assumes nothing.
 use mathlib.Core.Bool.{cond}
-use mathlib.Core.Path.{ap, ◌∙◌}
+use mathlib.Core.Path.{◌≡◌, sym, ◌∙◌}
+use Rattle.definition.specs.Shapes.{is_wide}
+use Rattle.definitions.proofs.put_value.Goals.{then-is_long, else-is_long}
 use native.Mathlib.Omega.{arith}
 use borrow.Author.Rules.{rules}
 use Rattle.store.specs.Store.{store}
@@ -19,9 +21,6 @@ tag_at-requires c = c.requires.2
 pub is_long-requires : goal.is_long-requires
 is_long-requires c = tt
 
-pub first_word-first-requires : goal.first_word-first-requires
-first_word-first-requires c = tt
-
 pub overflow_cast-first : goal.overflow_cast-first
 overflow_cast-first c = omega arith
 
@@ -35,4 +34,10 @@ pub save-requires-2 : goal.save-requires-2
 save-requires-2 c = (search rules, words_stand c.args.job.now c.args.at c.requires.2 c.requires.3 c.args.p.now c.requires.1 1 (omega arith), omega arith)
 
 pub returns : goal.returns
-returns c = let a = c.args in let value = c.worked_at-value in let tag = c.tag_at in let first = c.first_word-first in rw (c.save-2.ensures, c.save.ensures) (value-put a.job.now (store a.p.now a.w.now) a.at tag.result value.result.high value.result.low first.result tag.ensures value.ensures (first.ensures ∙ ap (λ wide. cond wide value.result.high value.result.low) c.is_long.ensures) (omega (arith, words_stand c.args.job.now c.args.at c.requires.2 c.requires.3 c.args.p.now c.requires.1 1 (omega arith), length-store a.p.now a.w.now VALUES)))
+returns c = let a = c.args in let value = c.worked_at-value.result in let tag = c.tag_at in
+    let lead : c.if-is_long.first ≡ cond (is_wide tag.result) value.high value.low =
+    elim c.if-is_long.branch [
+      | then-is_long w ↦ rw (sym c.is_long.ensures ∙ w.if-is_long.true) w.first-is
+      | else-is_long w ↦ rw (sym c.is_long.ensures ∙ w.if-is_long.false) w.first-is
+    ] in
+    rw (c.save-2.ensures, c.save.ensures) (value-put a.job.now (store a.p.now a.w.now) a.at tag.result value.high value.low c.if-is_long.first tag.ensures c.worked_at-value.ensures lead (omega (arith, words_stand c.args.job.now c.args.at c.requires.2 c.requires.3 c.args.p.now c.requires.1 1 (omega arith), length-store a.p.now a.w.now VALUES)))

@@ -33,12 +33,6 @@ save-requires c = let a = c.args in let h = c.requires.2 in (search rules, omega
 pub place_behind-from-requires : goal.place_behind-from-requires
 place_behind-from-requires c = let a = c.args in let h = c.requires.2 in (kid_stands a.job.now (store a.p.now a.w.now) (store a.p.now c.loop-i.w) a.at a.n a.first c.loop-i.i c.loop-i.from c.tag_at-tag.result c.tag_at-tag.ensures h.0 h.1 h.2 (c.loop-i.invariant.3 h.0 h.1 h.2) c.loop-i-test.true, place_short a.job.now a.p.now c.requires.1)
 
-pub overflow_add-i : goal.overflow_add-i
-overflow_add-i c = omega arith
-
-pub loop-i-smaller : goal.loop-i-smaller
-loop-i-smaller c = omega arith
-
 pub loop-i-preserved : goal.loop-i-preserved
 loop-i-preserved c = let a = c.args in let l = c.loop-i in (omega (arith, l.invariant.0, c.save.auto), omega arith, rw c.save.ensures (kept_put (GOALS ∷ []) _ _ GOALS _ _ refl l.invariant.2), λ x next h. rw c.save.ensures (kid_read a.job.now (store a.p.now a.w.now) (store a.p.now l.w) a.at a.n a.first l.i l.from c.tag_at-tag.result c.tag_at-tag.ensures x next h (l.invariant.3 x next h) c.loop-i-test.true c.reference_word-word.result c.place_behind-from.result (omega (arith, length-store a.p.now l.w GOALS, c.requires.4, c.loop-i-test.true)) (rw c.is_dynamic-dynamic.ensures at c.reference_word-word.ensures) c.place_behind-from.ensures))
 
