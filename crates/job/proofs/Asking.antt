@@ -3,6 +3,8 @@ use mathlib.Core.Bool.{Bool, true, false}
 use mathlib.Core.List.{List, []}
 use mathlib.Core.Option.{none, some}
 use mathlib.Core.Path.{◌≡◌, refl, sym}
+use Rattle.std.specs.Prelude as std
+use Rattle.std.specs.Prelude.{Some, None}
 use Prim.Native.Nat.{ℕ, zero, suc, ◌+◌, ◌-◌, ◌≤◌, ◌<◌}
 use native.Mathlib.Nat.{add-zero}
 use native.Mathlib.Omega.{arith}
@@ -10,17 +12,14 @@ use lib.Dec.{ltb}
 use lib.ListN.{length, get_or, drop, drop_of_length-le}
 use lib.Seq.{drop-cons}
 use borrow.Author.Tests.{ltb-true, ltb-false}
-use Rattle.definition.specs.Basics.{bad, at_record, unless, lookup, only}
+use Rattle.definition.specs.Basics.{Result, Refusal, good, bad, at_record, unless, lookup, only}
 use Rattle.definition.specs.Bytes.{two}
 use Rattle.definition.specs.Shapes.{constant}
 use Rattle.definition.specs.Job.{slot, request, reference, asks, read_request, class_form, name_form, read_build}
 use Rattle.definition.specs.Form.{Counts, cites, cites_request, whole, form_request, nothing_behind, form_build}
 use Rattle.definition.specs.Numbering.{entries, constants_of, bootstraps_of}
 use Rattle.job.specs.declared.JobCounts.{JobCounts}
-use Rattle.job.specs.declared.Formed.{Formed}
-use Rattle.job.specs.declared.Formed.TheVariants as formed
 use Rattle.job.specs.declared.Skipped.{Skipped}
-use Rattle.job.specs.declared.Skipped.TheVariants.{To, Cut}
 use Rattle.job.specs.Forms.{Read, Skips, references_in, version_from, highest_from, more, Bounded, tables_in, Moved, formed_build}
 use Rattle.job.proofs.Laws.{one_at, one-cut, mapped}
 use Rattle.facts.proofs.Tables.{NoKey, lookup-none}
@@ -29,7 +28,7 @@ use Rattle.facts.proofs.Tables.{NoKey, lookup-none}
 
 module _ (n : Counts) (s : List ℕ) (at : ℕ) where
   pub request_to :
-      (first : ℕ) (ldc : Bool) (r : Skipped) → lookup first asks ≡ some ldc → Skips (reference constant) (cites n) (λ _. 1) s at r →
+      (first : ℕ) (ldc : Bool) (r : std.Option Skipped) → lookup first asks ≡ some ldc → Skips (reference constant) (cites n) (λ _. 1) s at r →
       Skips (read_request (lookup first asks)) (λ q. cites n q.what) (λ _. 1) s at r
   unfolding read_request
   request_to first ldc r e v =
@@ -104,7 +103,7 @@ name_bad (suc (suc zero)) l h = absurd (omega arith)
 name_bad (suc (suc (suc b))) l h = refl
 
 -- the class slot behind its form byte
-module _ (s : List ℕ) (at requests : ℕ) (r : Skipped) where
+module _ (s : List ℕ) (at requests : ℕ) (r : std.Option Skipped) where
   pub class_slot : Skips two (λ _. true) (λ _. 0) s at r → Skips (class_form 0) (cites_request requests) (λ _. 0) s at r
   unfolding class_form cites_request
   class_slot v = mapped two slot (λ _. true) (λ _. 0) (cites_request requests) (λ _. 0) s at r (λ m. refl) (λ m. refl) v
@@ -139,10 +138,10 @@ module _ (s : List ℕ) (at requests : ℕ) where
       ways false e = rw (one-cut s at (ltb-false at (length s) e))
 
   pub build-to :
-      (r : Skipped) → at + 2 ≤ length s → get_or s at 0 ≤ 2 → Skips (class_form (get_or s (at + 1) 0)) (cites_request requests) (λ _. 0) s (at + 2) r →
+      (r : std.Option Skipped) → at + 2 ≤ length s → get_or s at 0 ≤ 2 → Skips (class_form (get_or s (at + 1) 0)) (cites_request requests) (λ _. 0) s (at + 2) r →
       Skips read_build (λ b. cites_request requests b.class) (λ _. 0) s at r
   unfolding read_build
-  build-to (To next cited references) h b v =
+  build-to (Some r) h b v =
       let h₁ : at < length s = omega arith in
       let h₂ : at + 1 < length s = omega arith in
       let e : at + 1 + 1 ≡ at + 2 = omega arith in
@@ -154,7 +153,7 @@ module _ (s : List ℕ) (at requests : ℕ) where
         cites = v.cites;
         count = v.count;
       }
-  build-to Cut h b v =
+  build-to None h b v =
       let h₁ : at < length s = omega arith in
       let h₂ : at + 1 < length s = omega arith in
       let e : at + 1 + 1 ≡ at + 2 = omega arith in
@@ -171,24 +170,24 @@ unfolding nothing_behind
 something_left s next h = rw (drop-cons s next 0 h)
 
 module _ (c : JobCounts) (place : ℕ) (s : List ℕ) (at : ℕ) where
-  abbrev pub Built : Formed
+  abbrev pub Built : Result Refusal JobCounts
   Built = formed_build c (form_build c.requests place (drop at s))
 
-  pub built_cut : read_build (drop at s) ≡ none → Built ≡ formed.Refused 3 place
+  pub built_cut : read_build (drop at s) ≡ none → Built ≡ bad (record { code = 3; place = place })
   unfolding formed_build form_build whole at_record
   built_cut h = rw h
 
   module _
       (next : ℕ) (cited : Bool) (references : ℕ)
       (v : Read read_build (λ b. cites_request c.requests b.class) (λ _. 0) s at next cited references) where
-    pub built_missing : cited ≡ false → Built ≡ formed.Refused 4 place
+    pub built_missing : cited ≡ false → Built ≡ bad (record { code = 4; place = place })
     unfolding formed_build form_build whole at_record unless
     built_missing missing = rw (v.read, ← v.cites, missing)
 
-    pub built_behind : cited ≡ true → next < length s → Built ≡ formed.Refused 3 (suc place)
+    pub built_behind : cited ≡ true → next < length s → Built ≡ bad (record { code = 3; place = (suc place) })
     unfolding formed_build form_build whole at_record unless
     built_behind there more = rw (v.read, ← v.cites, there, something_left s next more)
 
-    pub built : cited ≡ true → length s ≤ next → Built ≡ formed.Counts c
+    pub built : cited ≡ true → length s ≤ next → Built ≡ good c
     unfolding formed_build form_build whole at_record unless
     built there end = rw (v.read, ← v.cites, there, nothing_left s next end)

@@ -1,4 +1,5 @@
 -- What a definition's first byte tells, and so where an entry's references or its literal stand and where it ends. Assumes nothing.
+use Rattle.std.specs.Prelude.{Some, None}
 use mathlib.Core.Bool.{Bool, true, false, ◌||◌}
 use mathlib.Core.List.{List, [], ◌∷◌}
 use mathlib.Core.Option.{Option, none, some}
@@ -17,7 +18,7 @@ use borrow.Author.Tests.{eq-eqb}
 use Rattle.facts.proofs.Lists.{clash, true≢false, none≢some}
 use Rattle.facts.proofs.Each.{Each, each_at}
 use Rattle.facts.proofs.Tables.{lookup-at}
-use Rattle.raw_const.specs.declared.Shape.TheVariants.{Text, Bits, One, Two, Dynamic, KindOne, Unknown}
+use Rattle.raw_const.specs.declared.Shape.TheVariants.{Text, Bits, One, Two, Dynamic, KindOne}
 use Rattle.job.specs.declared.Opening.{Opening}
 use Rattle.job.specs.declared.Opening.TheVariants.{Constant, Bootstrap, NamedConstant, NamedBootstrap, RawConstant, RawBootstrap, Version, Texts, Highest, Expression}
 use Rattle.job.specs.Forms.{entry_body, body_of}
@@ -44,13 +45,13 @@ bits_of tag = elim (is_wide tag) [ true ↦ 8 | false ↦ 4 ]
 
 -- what is asked of a first byte tells what it opens
 abbrev Fit : ℕ → Opening → Type 0
-Fit tag (Constant Text) = (kind_of tag ≡ constant) × (eqb tag 1 ≡ true)
-Fit tag (Constant (Bits n)) = (kind_of tag ≡ constant) × (eqb tag 1 ≡ false) × (bits_of tag ≡ n)
-Fit tag (Constant One) = (kind_of tag ≡ constant) × (eqb tag 15 ≡ false)
-Fit tag (Constant Two) = (kind_of tag ≡ constant) × (eqb tag 15 ≡ false)
-Fit tag (Constant Dynamic) = (kind_of tag ≡ constant) × (eqb tag 15 ≡ false)
-Fit tag (Constant KindOne) = (kind_of tag ≡ constant) × (eqb tag 15 ≡ true)
-Fit tag (Constant Unknown) = ⊥
+Fit tag (Constant (Some Text)) = (kind_of tag ≡ constant) × (eqb tag 1 ≡ true)
+Fit tag (Constant (Some (Bits n))) = (kind_of tag ≡ constant) × (eqb tag 1 ≡ false) × (bits_of tag ≡ n)
+Fit tag (Constant (Some One)) = (kind_of tag ≡ constant) × (eqb tag 15 ≡ false)
+Fit tag (Constant (Some Two)) = (kind_of tag ≡ constant) × (eqb tag 15 ≡ false)
+Fit tag (Constant (Some Dynamic)) = (kind_of tag ≡ constant) × (eqb tag 15 ≡ false)
+Fit tag (Constant (Some KindOne)) = (kind_of tag ≡ constant) × (eqb tag 15 ≡ true)
+Fit tag (Constant None) = ⊥
 Fit tag Bootstrap = (kind_of tag ≡ bootstrap) × (eqb tag 15 ≡ false)
 Fit tag NamedConstant = tag ≡ 0x41
 Fit tag NamedBootstrap = tag ≡ 0x42
@@ -67,39 +68,39 @@ Known r = (o : Opening) × (body_of o ≡ some r.1) × Fit r.0 o × (kind_in (so
 all_known : Each Known bodies
 unfolding bodies shapes body_of entry_body bootstrap_shape kind_of is_wide bits_of kind_in first_kind_lem kind_if
 all_known = (
-  (Constant Text, refl, (refl, refl), refl),
+  (Constant (Some Text), refl, (refl, refl), refl),
   (
-    (Constant (Bits 4), refl, (refl, refl, refl), refl),
+    (Constant (Some (Bits 4)), refl, (refl, refl, refl), refl),
     (
-      (Constant (Bits 4), refl, (refl, refl, refl), refl),
+      (Constant (Some (Bits 4)), refl, (refl, refl, refl), refl),
       (
-        (Constant (Bits 8), refl, (refl, refl, refl), refl),
+        (Constant (Some (Bits 8)), refl, (refl, refl, refl), refl),
         (
-          (Constant (Bits 8), refl, (refl, refl, refl), refl),
+          (Constant (Some (Bits 8)), refl, (refl, refl, refl), refl),
           (
-            (Constant One, refl, (refl, refl), refl),
+            (Constant (Some One), refl, (refl, refl), refl),
             (
-              (Constant One, refl, (refl, refl), refl),
+              (Constant (Some One), refl, (refl, refl), refl),
               (
-                (Constant Two, refl, (refl, refl), refl),
+                (Constant (Some Two), refl, (refl, refl), refl),
                 (
-                  (Constant Two, refl, (refl, refl), refl),
+                  (Constant (Some Two), refl, (refl, refl), refl),
                   (
-                    (Constant Two, refl, (refl, refl), refl),
+                    (Constant (Some Two), refl, (refl, refl), refl),
                     (
-                      (Constant Two, refl, (refl, refl), refl),
+                      (Constant (Some Two), refl, (refl, refl), refl),
                       (
-                        (Constant KindOne, refl, (refl, refl), refl),
+                        (Constant (Some KindOne), refl, (refl, refl), refl),
                         (
-                          (Constant One, refl, (refl, refl), refl),
+                          (Constant (Some One), refl, (refl, refl), refl),
                           (
-                            (Constant Dynamic, refl, (refl, refl), refl),
+                            (Constant (Some Dynamic), refl, (refl, refl), refl),
                             (
-                              (Constant Dynamic, refl, (refl, refl), refl),
+                              (Constant (Some Dynamic), refl, (refl, refl), refl),
                               (
-                                (Constant One, refl, (refl, refl), refl),
+                                (Constant (Some One), refl, (refl, refl), refl),
                                 (
-                                  (Constant One, refl, (refl, refl), refl),
+                                  (Constant (Some One), refl, (refl, refl), refl),
                                   (
                                     (Bootstrap, refl, (refl, refl), refl),
                                     (
@@ -289,15 +290,15 @@ module _ (s : List ℕ) (at : ℕ) where
         turn kind first between k g e r = rw e (refers_turn kind first between k g r)
 
         ways : (o : Opening) → body_of o ≡ lookup x.tag bodies → Fit x.tag o → EntryIs s at o x next → KidsTurn s x.tag 0 (first_place x.tag at) x.kids next
-        ways (Constant Text) b fit h = none-there h.no_kids_lem
-        ways (Constant (Bits n)) b fit h = none-there h.no_kids_lem
-        ways (Constant One) b fit h = turn constant (at + 1) 0 (ap kind_in (sym b)) (ap (λ k. bytes_between k 0) fit.0) (rw (fit.1, first_place)) h.refers
-        ways (Constant Two) b fit h = turn constant (at + 1) 0 (ap kind_in (sym b)) (ap (λ k. bytes_between k 0) fit.0) (rw (fit.1, first_place)) h.refers
-        ways (Constant Dynamic) b fit h = turn bootstrap (at + 1) 0 (ap kind_in (sym b)) (ap (λ k. bytes_between k 0) fit.0) (rw (fit.1, first_place)) h.refers
-        ways (Constant KindOne) b fit h =
+        ways (Constant (Some Text)) b fit h = none-there h.no_kids_lem
+        ways (Constant (Some (Bits n))) b fit h = none-there h.no_kids_lem
+        ways (Constant (Some One)) b fit h = turn constant (at + 1) 0 (ap kind_in (sym b)) (ap (λ k. bytes_between k 0) fit.0) (rw (fit.1, first_place)) h.refers
+        ways (Constant (Some Two)) b fit h = turn constant (at + 1) 0 (ap kind_in (sym b)) (ap (λ k. bytes_between k 0) fit.0) (rw (fit.1, first_place)) h.refers
+        ways (Constant (Some Dynamic)) b fit h = turn bootstrap (at + 1) 0 (ap kind_in (sym b)) (ap (λ k. bytes_between k 0) fit.0) (rw (fit.1, first_place)) h.refers
+        ways (Constant (Some KindOne)) b fit h =
             let e : at + 2 ≡ at + 1 + 1 = omega arith in
             turn constant (at + 1 + 1) 0 (ap kind_in (sym b)) (ap (λ k. bytes_between k 0) fit.0) (rw (fit.1, first_place) e) h.1.refers
-        ways (Constant Unknown) b fit h = absurd h
+        ways (Constant None) b fit h = absurd h
         ways Bootstrap b fit h = turn constant (at + 1) 2 (ap kind_in (sym b)) (ap (λ k. bytes_between k 0) fit.0) (rw (fit.1, first_place)) h.refers
         ways NamedConstant b fit h = absurd h
         ways NamedBootstrap b fit h = absurd h
@@ -324,13 +325,13 @@ module _ (s : List ℕ) (at : ℕ) where
         size false n e = omega arith
 
         ways : (o : Opening) → Fit x.tag o → EntryIs s at o x next → literal_end s at x.tag ≡ next
-        ways (Constant Text) fit h = rw (fit.1, literal_end) (omega (arith, h.end))
-        ways (Constant (Bits n)) fit h = rw (fit.1, literal_end) (size (is_wide x.tag) n fit.2 ∙ h.end)
-        ways (Constant One) fit h = some-there 0 h.count
-        ways (Constant Two) fit h = some-there 1 h.count
-        ways (Constant Dynamic) fit h = some-there 1 h.count
-        ways (Constant KindOne) fit h = some-there 0 h.1.count
-        ways (Constant Unknown) fit h = absurd h
+        ways (Constant (Some Text)) fit h = rw (fit.1, literal_end) (omega (arith, h.end))
+        ways (Constant (Some (Bits n))) fit h = rw (fit.1, literal_end) (size (is_wide x.tag) n fit.2 ∙ h.end)
+        ways (Constant (Some One)) fit h = some-there 0 h.count
+        ways (Constant (Some Two)) fit h = some-there 1 h.count
+        ways (Constant (Some Dynamic)) fit h = some-there 1 h.count
+        ways (Constant (Some KindOne)) fit h = some-there 0 h.1.count
+        ways (Constant None) fit h = absurd h
         ways Bootstrap fit h = some-there (number s h.refers.behind) h.count
         ways NamedConstant fit h = absurd h
         ways NamedBootstrap fit h = absurd h

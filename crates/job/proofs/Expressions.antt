@@ -22,7 +22,7 @@ use Rattle.laws.proofs.Form.WorkedOut.{size_of}
 use Rattle.raw_const.specs.Entries.{fields_of}
 use Rattle.job.specs.declared.Opening.{Opening}
 use Rattle.job.specs.declared.Opening.TheVariants.{Constant, Bootstrap, NamedConstant, NamedBootstrap, RawConstant, RawBootstrap, Version, Texts, Highest, Expression}
-use Rattle.folding.specs.declared.Constant.TheVariants as constants
+use Rattle.folding.specs.declared.Constant as constants
 use Rattle.folding.specs.Folding.{constant_as}
 use Rattle.job.specs.Forms.{entry_body, body_of, is_plain, is_setting}
 use Rattle.job.specs.Stored.{formed_definition}
@@ -93,19 +93,19 @@ module _ (x : ℕ) (l : List ℕ) where
   comes_worked e = rw (e, comes_out)
 
   module _ (first : eqb x 0x46 ≡ true) where
-    pub out_good : (tag b : ℕ) → constants.Of tag b ≡ constant_as (constant_in (read_expression l)) → comes_out x l ≡ good tt
+    pub out_good : (k : constants.Constant) → good k ≡ constant_as (constant_in (read_expression l)) → comes_out x l ≡ good tt
     unfolding constant_as
-    out_good tag b e = comes_worked first ∙ ways (constant_in (read_expression l)) e
+    out_good k e = comes_worked first ∙ ways (constant_in (read_expression l)) e
       where
-        ways : (r : Result ℕ (Number × ℕ)) → constants.Of tag b ≡ constant_as r → ◌≡◌ {A = Result ℕ (Unit {0})} (r >>= λ _. good tt) (good tt)
+        ways : (r : Result ℕ (Number × ℕ)) → good k ≡ constant_as r → ◌≡◌ {A = Result ℕ (Unit {0})} (r >>= λ _. good tt) (good tt)
         ways (good n) e = refl
         ways (bad code) e = clash (cc)
 
-    pub out_bad : (code : ℕ) → constants.Refused code ≡ constant_as (constant_in (read_expression l)) → comes_out x l ≡ bad code
+    pub out_bad : (code : ℕ) → bad code ≡ constant_as (constant_in (read_expression l)) → comes_out x l ≡ bad code
     unfolding constant_as
     out_bad code e = comes_worked first ∙ ways (constant_in (read_expression l)) e
       where
-        ways : (r : Result ℕ (Number × ℕ)) → constants.Refused code ≡ constant_as r → ◌≡◌ {A = Result ℕ (Unit {0})} (r >>= λ _. good tt) (bad code)
+        ways : (r : Result ℕ (Number × ℕ)) → bad code ≡ constant_as r → ◌≡◌ {A = Result ℕ (Unit {0})} (r >>= λ _. good tt) (bad code)
         ways (good n) e = clash (cc)
         ways (bad other) e = let same : other ≡ code = cc in rw same
 

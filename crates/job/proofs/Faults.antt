@@ -1,11 +1,8 @@
 -- The tests that a definition goes through, one by one, come to what is wrong with it. Assumes nothing.
-use mathlib.Core.Bool.{Bool, true, false, ◌&&◌}
+use mathlib.Core.Bool.{Bool, true, false}
 use mathlib.Core.List.{List, [], ◌∷◌}
-use mathlib.Core.Path.{◌≡◌, refl, sym, ap, ◌∙◌}
-use Prim.Native.Nat.{ℕ, zero, suc, ◌+◌}
-use native.Mathlib.Numerals.{add-one}
-use native.Mathlib.Omega.{arith}
-use lib.Dec.{eqb}
+use mathlib.Core.Path.{◌≡◌, refl, sym, ◌∙◌}
+use Prim.Native.Nat.{ℕ}
 use borrow.Author.Tests.{eq-eqb, ne_eqb}
 use types.Run.{OneOf, miss}
 use denote.Enum.Declared.{tag_of}
@@ -15,28 +12,7 @@ use Rattle.job.specs.declared.JobCounts.{JobCounts}
 use Rattle.job.specs.declared.Opening.{Opening}
 use Rattle.job.specs.declared.Opening.TheVariants.{Constant, Bootstrap, NamedConstant, NamedBootstrap, RawConstant, RawBootstrap, Version, Texts, Highest, Expression}
 use Rattle.job.specs.contracts.Opening.{the_type}
-use Rattle.job.specs.Forms.{is_plain, is_setting, number_opened, broken_with, room_for, highest_fault, setting_fault, counted_as}
-
--- ---- a text that isn't one
-
-module _ (earlier place : ℕ) (broken : Bool) where
-  pub broken_now : (eqb earlier 0 && broken) ≡ true → place + 1 ≡ broken_with place broken earlier
-  unfolding broken_with
-  broken_now h = ways earlier broken h
-    where
-      ways : (earlier : ℕ) (t : Bool) → (eqb earlier 0 && t) ≡ true → place + 1 ≡ broken_with place t earlier
-      ways zero true h = add-one place
-      ways zero false h = true≢false (sym h)
-      ways (suc earlier) t h = true≢false (sym h ∙ ap (λ b. b && t) (ne_eqb (suc earlier) 0 (λ e. absurd (omega arith))))
-
-  pub broken_before : (eqb earlier 0 && broken) ≡ false → earlier ≡ broken_with place broken earlier
-  unfolding broken_with
-  broken_before h = ways earlier broken h
-    where
-      ways : (earlier : ℕ) (t : Bool) → (eqb earlier 0 && t) ≡ false → earlier ≡ broken_with place t earlier
-      ways zero true h = true≢false h
-      ways zero false h = refl
-      ways (suc earlier) t h = refl
+use Rattle.job.specs.Forms.{is_plain, is_setting, number_opened, room_for, highest_fault, setting_fault, counted_as}
 
 -- ---- what opens neither a table's entry, nor a number; what is plain
 

@@ -3,6 +3,8 @@ use mathlib.Core.Bool.{Bool, true, false}
 use mathlib.Core.List.{List, [], ◌∷◌}
 use mathlib.Core.Option.{none, some}
 use mathlib.Core.Path.{◌≡◌, refl, ◌∙◌}
+use Rattle.std.specs.Prelude as std
+use Rattle.std.specs.Prelude.{Some, None}
 use Prim.Native.Nat.{ℕ, zero, suc, ◌+◌, ◌*◌, ◌-◌, ◌≤◌, ◌<◌}
 use native.Mathlib.Numerals.{add-one}
 use native.Mathlib.Omega.{arith}
@@ -15,8 +17,7 @@ use Rattle.definition.specs.Shapes.{Kind}
 use Rattle.definition.specs.Job.{raw, entry, name, short_name, reference_form, reference}
 use Rattle.definition.specs.Form.{Counts, count_of, cites}
 use Rattle.job.specs.declared.Skipped.{Skipped}
-use Rattle.job.specs.declared.Skipped.TheVariants.{To, Cut}
-use Rattle.job.specs.Forms.{Read, Skips}
+use Rattle.job.specs.Forms.{Read, Skips, bare}
 
 -- as many bytes as are there
 pub many-reads : (n : ℕ) (l : List ℕ) → n ≤ length l → many n one l ≡ some (take n l, drop n l)
@@ -48,7 +49,7 @@ module _ (s : List ℕ) (at : ℕ) where
 
   -- ---- bytes
 
-  pub skips_bytes : (n : ℕ) → at ≤ length s → n ≤ length s - at → Skips (many n one) (λ _. true) (λ _. 0) s at (To (at + n) true 0)
+  pub skips_bytes : (n : ℕ) → at ≤ length s → n ≤ length s - at → Skips (many n one) (λ _. true) (λ _. 0) s at (Some (bare (at + n)))
   skips_bytes n low h =
       record {
         value = take n (drop at s);
@@ -59,7 +60,7 @@ module _ (s : List ℕ) (at : ℕ) where
         count = refl;
       }
 
-  pub cuts_bytes : (n : ℕ) → length s - at < n → Skips (many n one) (λ _. true) (λ _. 0) s at Cut
+  pub cuts_bytes : (n : ℕ) → length s - at < n → Skips (many n one) (λ _. true) (λ _. 0) s at None
   cuts_bytes n h = many-cut n (drop at s) (simp length-drop (omega arith))
 
 pub two_at : (s : List ℕ) (at : ℕ) → at + 2 ≤ length s → two (drop at s) ≡ some (number s at, drop (at + 2) s)
@@ -83,8 +84,8 @@ two-cut s at h = ways (ltb at (length s)) refl
 
 module _ {A : Type 0} (ok : A → Bool) (kids : A → ℕ) (s : List ℕ) (at : ℕ) where
   -- a byte, and what it leads to
-  pub then_one : (f : ℕ → Parser A) (r : Skipped) → at < length s → Skips (f (get_or s at 0)) ok kids s (at + 1) r → Skips (one >>= f) ok kids s at r
-  then_one f (To next cited references) h v =
+  pub then_one : (f : ℕ → Parser A) (r : std.Option Skipped) → at < length s → Skips (f (get_or s at 0)) ok kids s (at + 1) r → Skips (one >>= f) ok kids s at r
+  then_one f (Some r) h v =
       record {
         value = v.value;
         read = rw (one_at s at h) v.read;
@@ -93,14 +94,14 @@ module _ {A : Type 0} (ok : A → Bool) (kids : A → ℕ) (s : List ℕ) (at : 
         cites = v.cites;
         count = v.count;
       }
-  then_one f Cut h v = rw (one_at s at h) v
+  then_one f None h v = rw (one_at s at h) v
 
-  pub none-one : (f : ℕ → Parser A) → length s ≤ at → Skips (one >>= f) ok kids s at Cut
+  pub none-one : (f : ℕ → Parser A) → length s ≤ at → Skips (one >>= f) ok kids s at None
   none-one f h = rw (one-cut s at h)
 
   -- two bytes, and what their number leads to
-  pub then_two : (f : ℕ → Parser A) (r : Skipped) → at + 2 ≤ length s → Skips (f (number s at)) ok kids s (at + 2) r → Skips (two >>= f) ok kids s at r
-  then_two f (To next cited references) h v =
+  pub then_two : (f : ℕ → Parser A) (r : std.Option Skipped) → at + 2 ≤ length s → Skips (f (number s at)) ok kids s (at + 2) r → Skips (two >>= f) ok kids s at r
+  then_two f (Some r) h v =
       record {
         value = v.value;
         read = rw (two_at s at h) v.read;
@@ -109,17 +110,17 @@ module _ {A : Type 0} (ok : A → Bool) (kids : A → ℕ) (s : List ℕ) (at : 
         cites = v.cites;
         count = v.count;
       }
-  then_two f Cut h v = rw (two_at s at h) v
+  then_two f None h v = rw (two_at s at h) v
 
 -- ---- what was read, made into something else
 
 pub mapped :
-    {A B : Type 0} (p : Parser A) (g : A → B) (ok : A → Bool) (kids : A → ℕ) (ok' : B → Bool) (kids' : B → ℕ) (s : List ℕ) (at : ℕ) (r : Skipped) →
+    {A B : Type 0} (p : Parser A) (g : A → B) (ok : A → Bool) (kids : A → ℕ) (ok' : B → Bool) (kids' : B → ℕ) (s : List ℕ) (at : ℕ) (r : std.Option Skipped) →
     ((a : A) → ok a ≡ ok' (g a)) →
     ((a : A) → kids a ≡ kids' (g a)) →
     Skips p ok kids s at r →
     Skips (p >>= λ a. return (g a)) ok' kids' s at r
-mapped p g ok kids ok' kids' s at (To next cited references) same_ok same-kids v =
+mapped p g ok kids ok' kids' s at (Some r) same_ok same-kids v =
     record {
       value = g v.value;
       read = rw v.read;
@@ -128,16 +129,16 @@ mapped p g ok kids ok' kids' s at (To next cited references) same_ok same-kids v
       cites = v.cites ∙ same_ok v.value;
       count = v.count ∙ same-kids v.value;
     }
-mapped p g ok kids ok' kids' s at Cut same_ok same-kids v = rw v
+mapped p g ok kids ok' kids' s at None same_ok same-kids v = rw v
 
 -- ---- a number of two bytes, and references
 
 module _ (s : List ℕ) (at : ℕ) where
-  pub skips_two : (ok : ℕ → Bool) → at + 2 ≤ length s → Skips two ok (λ _. 0) s at (To (at + 2) (ok (number s at)) 0)
+  pub skips_two : (ok : ℕ → Bool) → at + 2 ≤ length s → Skips two ok (λ _. 0) s at (Some (record { next = at + 2; cited = ok (number s at); references = 0 }))
   skips_two ok h = record { value = number s at; read = two_at s at h; past = omega arith; within = h; cites = refl; count = refl }
 
   -- the forms, 0, 1 and 2, and none other
-  module _ (kind : Kind) (n : Counts) (r : Skipped) where
+  module _ (kind : Kind) (n : Counts) (r : std.Option Skipped) where
     abbrev pub SkipsForm : ℕ → Type 0
     SkipsForm form = Skips (reference_form kind form) (cites n) (λ _. 0) s at r
 

@@ -1,5 +1,5 @@
 -- The two loops of the form pass: what is left to do from a place on comes to the whole. Assumes nothing.
-use mathlib.Core.Bool.{Bool, true, false, ◌&&◌, ◌||◌, not}
+use mathlib.Core.Bool.{Bool, true, false, ◌&&◌, not}
 use mathlib.Core.List.{List, [], ◌∷◌}
 use mathlib.Core.Option.{Option, none, some}
 use mathlib.Core.Path.{◌≡◌, refl, sym, ap, ◌∙◌}
@@ -10,7 +10,7 @@ use native.Mathlib.Omega.{arith}
 use lib.Dec.{eqb}
 use lib.ListN.{length, get_or, drop, drop_of_length-le}
 use lib.Seq.{drop-cons}
-use borrow.Author.Tests.{eq-eqb, ne_eqb, eqb-false}
+use borrow.Author.Tests.{eq-eqb, ne_eqb}
 use Rattle.facts.proofs.Lists.{true≢false}
 use Rattle.definition.specs.Basics.{Result, good, bad, ◌>>=◌, Refusal, at_record, unless, only}
 use Rattle.definition.specs.Settings.{version, texts, highest}
@@ -21,9 +21,9 @@ use Rattle.definition.specs.Form.{Counts, nothing_yet, kind_of, one_more_lem, on
 use Rattle.definition.specs.Numbering.{entries, constants_of, bootstraps_of}
 use Rattle.definition.specs.Definitions.{same_kind_lem}
 use Rattle.job.specs.declared.JobCounts.{JobCounts}
-use Rattle.job.specs.declared.Formed.{Formed}
-use Rattle.job.specs.declared.Formed.TheVariants as formed
-use Rattle.job.specs.Forms.{is_version, is_holding, is_broken, as_broken, broken_with, broken_at, references_in, version_from, highest_from, counts_of, more, texts_hold, tables_in, Moved, tallied, place_of, formed_requests, formed_build}
+use Rattle.std.specs.Prelude as std
+use Rattle.std.specs.Prelude.{Some, None}
+use Rattle.job.specs.Forms.{is_version, is_holding, is_broken, as_broken, broken_with, broken_at, references_in, version_from, highest_from, counts_of, more, texts_hold, tables_in, Moved, Holding, DefinitionsLeft, tallied, place_of, formed_requests, formed_build}
 use Rattle.job.specs.Stored.{Found, any_definition}
 use Rattle.job.proofs.Expressions.{formed_stands}
 use Rattle.job.proofs.Laws.{one_at}
@@ -32,22 +32,6 @@ use Rattle.job.proofs.Blind.{definition_blind}
 use Rattle.job.proofs.Counting.{more-none, more-cons, in_table, one-constant, one-bootstrap}
 
 -- ---- the definitions
-
--- what was counted, with this for the first text that isn't one
-abbrev pub Holding : JobCounts → Option ℕ → Counts
-Holding c b =
-    record {
-      constants = c.constants;
-      bootstraps = c.bootstraps;
-      records = c.definitions;
-      versions = c.versions;
-      texts = c.texts;
-      broken = b;
-    }
-
--- what is left of them at a place, after what was counted
-abbrev pub DefinitionsLeft : List ℕ → ℕ → JobCounts → Option ℕ → Result Refusal (JobCounts × Counts × List ℕ)
-DefinitionsLeft s at c b = tallied c (form_definitions (length s - c.definitions) (Holding c b) c.definitions (drop at s))
 
 pub no_definitions : (fuel : ℕ) (n : Counts) (place : ℕ) → form_definitions fuel n place [] ≡ bad (record { code = 3; place = place })
 unfolding form_definitions
@@ -70,19 +54,19 @@ broken_behind place (placed kind at number) b = b
 broken_behind place (setting s) b = b
 
 -- what is no text leaves it
-unbroken : (place b : ℕ) → as_broken b ≡ as_broken (broken_with place false b)
+unbroken : (place : ℕ) (b : std.Option ℕ) → as_broken b ≡ as_broken (broken_with place false b)
 unfolding broken_with
-unbroken place zero = refl
-unbroken place (suc b) = refl
+unbroken place None = refl
+unbroken place (Some b) = refl
 
-broken_counted : (place : ℕ) (d : Definition (List ℕ)) (b : ℕ) → broken_behind place d (as_broken b) ≡ as_broken (broken_with place (is_broken d) b)
+broken_counted : (place : ℕ) (d : Definition (List ℕ)) (b : std.Option ℕ) → broken_behind place d (as_broken b) ≡ as_broken (broken_with place (is_broken d) b)
 unfolding broken_behind first_broken as_broken broken_with is_broken
-broken_counted place (define e) zero = ways (eqb e.tag 1 && not (is_text e.literal))
+broken_counted place (define e) None = ways (eqb e.tag 1 && not (is_text e.literal))
   where
-    ways : (t : Bool) → elim t [ true ↦ some place | false ↦ none ] ≡ as_broken (elim t [ true ↦ suc place | false ↦ 0 ])
+    ways : (t : Bool) → elim t [ true ↦ some place | false ↦ none ] ≡ as_broken (elim t [ true ↦ Some place | false ↦ None ])
     ways true = refl
     ways false = refl
-broken_counted place (define e) (suc earlier) = refl
+broken_counted place (define e) (Some earlier) = refl
 broken_counted place (named kind s r) b = unbroken place b
 broken_counted place (placed kind at number) b = unbroken place b
 broken_counted place (setting s) b = unbroken place b
@@ -112,11 +96,6 @@ counted-left s next c v b = rw (← add-one c.definitions)
 
 -- ---- 25
 
-broken_first : (place : ℕ) → (place ≡ 0 → ⊥) → as_broken place ≡ some (place - 1)
-unfolding as_broken
-broken_first zero n = absurd (n refl)
-broken_first (suc place) n = let e : suc place - 1 ≡ place = omega arith in rw e
-
 held : (place : ℕ) (t : Bool) → t ≡ true → at_record place (unless t 25) ≡ good (tt {0})
 unfolding unless at_record
 held place true h = refl
@@ -129,23 +108,11 @@ module _ (c : JobCounts) where
   texts_free h none = refl
   texts_free h (some place) = held place (eqb c.texts 0) (eq-eqb c.texts 0 h)
 
-  texts_good : (broken : ℕ) → texts_hold c.texts broken ≡ true → texts_held (Holding c (as_broken broken)) ≡ good (tt {0})
+  -- a text that isn't one is told as the definition tells it
+  texts_told : (broken : std.Option ℕ) → texts_held (Holding c (as_broken broken)) ≡ texts_hold c.texts broken
   unfolding texts_hold texts_held as_broken
-  texts_good zero h = refl
-  texts_good (suc place) h = held place (eqb c.texts 0) (rw (ne_eqb (suc place) 0 (λ e. absurd (omega arith))) at h)
-
-  texts_bad :
-      (broken : ℕ) → texts_hold c.texts broken ≡ false →
-      (broken ≡ 0 → ⊥) × (texts_held (Holding c (as_broken broken)) ≡ bad (record { code = 25; place = broken - 1 }))
-  unfolding texts_hold texts_held unless at_record
-  texts_bad broken h = ways (eqb broken 0) (eqb c.texts 0) refl refl h
-    where
-      ways :
-          (b t : Bool) → eqb broken 0 ≡ b → eqb c.texts 0 ≡ t → (b || t) ≡ false →
-          (broken ≡ 0 → ⊥) × (texts_held (Holding c (as_broken broken)) ≡ bad (record { code = 25; place = broken - 1 }))
-      ways true t e f h = true≢false h
-      ways false true e f h = true≢false h
-      ways false false e f h = let n = eqb-false broken 0 e in (n, rw (broken_first broken n, f))
+  texts_told None = refl
+  texts_told (Some place) = refl
 
 module _ (s : List ℕ) (at : ℕ) (c : JobCounts) (b : Option ℕ) where
   pub definitions_none : length s ≤ at → DefinitionsLeft s at c b ≡ bad (record { code = 3; place = c.definitions })
@@ -207,28 +174,24 @@ module _ (s : List ℕ) (at : ℕ) (c : JobCounts) (low : at < length s) (small 
     pub moved_text : get_or s at 0 ≡ 1 → at + 3 ≤ next
     moved_text = text_within s at next m.value moved_found
 
-    module _ (earlier : ℕ) (here : Bool) (broken : ℕ) (tests : here ≡ broken_at s at next) (told : broken ≡ broken_with c.definitions here earlier) where
+    module _ (earlier : std.Option ℕ) (here : Bool) (broken : std.Option ℕ) (tests : here ≡ broken_at s at next) (told : broken ≡ broken_with c.definitions here earlier) where
       broken_is : broken_behind c.definitions m.value (as_broken earlier) ≡ as_broken broken
       broken_is =
           broken_counted c.definitions m.value earlier
           ∙ ap as_broken (sym (told ∙ ap (λ t. broken_with c.definitions t earlier) (tests ∙ broken_there s at next m.value moved_found)))
 
-      pub definitions_held : texts_hold d.texts broken ≡ true → DefinitionsLeft s at c (as_broken earlier) ≡ DefinitionsLeft s next d (as_broken broken)
+      pub definitions_held : texts_hold d.texts broken ≡ good (tt {0}) → DefinitionsLeft s at c (as_broken earlier) ≡ DefinitionsLeft s next d (as_broken broken)
       definitions_held holds =
-          definitions_next s at c (as_broken earlier) low small e next d m (rw broken_is (texts_good d broken holds))
+          definitions_next s at c (as_broken earlier) low small e next d m (rw broken_is (texts_told d broken ∙ holds))
           ∙ ap (DefinitionsLeft s next d) broken_is
 
       -- a record 48 and a text that isn't one
-      pub definitions_broken :
-          texts_hold d.texts broken ≡ false → (1 ≤ broken) × (DefinitionsLeft s at c (as_broken earlier) ≡ bad (record { code = 25; place = broken - 1 }))
+      pub definitions_broken : (refusal : Refusal) → texts_hold d.texts broken ≡ bad refusal → DefinitionsLeft s at c (as_broken earlier) ≡ bad refusal
       unfolding form_definitions at_record tallied
-      definitions_broken holds =
-          let g = texts_bad d broken holds in
-          let b = rw m.count at g.1 in (
-            omega (arith, g.0),
-            definitions_here s at c (as_broken earlier) low small
-                ∙ rw (ne_eqb (get_or s at 0) 0x50 e, form_definitions, read_here s at c (as_broken earlier) low small, m.read, tables_counted m.value c (as_broken earlier), broken_is, b),
-          )
+      definitions_broken refusal holds =
+          let b = rw m.count at (texts_told d broken ∙ holds) in
+          definitions_here s at c (as_broken earlier) low small
+          ∙ rw (ne_eqb (get_or s at 0) 0x50 e, form_definitions, read_here s at c (as_broken earlier) low small, m.read, tables_counted m.value c (as_broken earlier), broken_is, b)
 
 pub definitions_start : (s : List ℕ) → DefinitionsLeft s 0 (counts_of [] 0) none ≡ tallied (counts_of [] 0) (form_definitions (length s) nothing_yet 0 s)
 unfolding counts_of constants_of bootstraps_of entries only
@@ -237,7 +200,7 @@ definitions_start s = let e : length s - 0 ≡ length s = omega arith in rw e
 -- ---- the requests
 
 -- what is left of them at a place, after what was counted
-abbrev pub RequestsLeft : List ℕ → ℕ → JobCounts → Formed
+abbrev pub RequestsLeft : List ℕ → ℕ → JobCounts → Result Refusal JobCounts
 RequestsLeft s at c = formed_requests c (form_requests (length s - c.requests) (tables_in c) c.requests (place_of c) (drop at s))
 
 pub no_requests : (fuel : ℕ) (n : Counts) (requests place : ℕ) → form_requests fuel n requests place [] ≡ bad (record { code = 3; place = place })
@@ -272,7 +235,7 @@ unfolding more constants_of bootstraps_of entries only
 requested-left s next c = simp (add-zero, add-one, add-suc)
 
 module _ (s : List ℕ) (at : ℕ) (c : JobCounts) where
-  pub requests_none : length s ≤ at → RequestsLeft s at c ≡ formed.Refused 3 (place_of c)
+  pub requests_none : length s ≤ at → RequestsLeft s at c ≡ bad (record { code = 3; place = (place_of c) })
   unfolding formed_requests
   requests_none h = rw (drop_of_length-le s h, no_requests (length s - c.requests) (tables_in c) c.requests (place_of c))
 
@@ -290,7 +253,7 @@ module _ (s : List ℕ) (at : ℕ) (c : JobCounts) where
 
     pub requests_bad :
         (code : ℕ) → (get_or s at 0 ≡ 0x60 → ⊥) → form_request (tables_in c) (get_or s at 0) (drop (at + 1) s) ≡ bad code →
-        RequestsLeft s at c ≡ formed.Refused code (place_of c)
+        RequestsLeft s at c ≡ bad (record { code = code; place = (place_of c) })
     unfolding form_requests formed_requests at_record
     requests_bad code e h = requests_here ∙ rw (ne_eqb (get_or s at 0) 0x60 e, form_requests, h)
 

@@ -1,4 +1,5 @@
 -- A setting's number, and whether a text is one, are read behind the first byte as the definition reads them. Assumes nothing.
+use Rattle.std.specs.Prelude.{Some}
 use mathlib.Core.Bool.{Bool, true, false}
 use mathlib.Core.List.{List}
 use mathlib.Core.Path.{◌≡◌, refl, sym, ap, ◌∙◌}
@@ -85,18 +86,18 @@ module _ (s : List ℕ) (at next : ℕ) where
   unbroken (setting rule) f h = refl
 
   -- 1 opens a text
-  opens-text : get_or s at 0 ≡ 1 → body_of (Constant Text) ≡ lookup (get_or s at 0) bodies
+  opens-text : get_or s at 0 ≡ 1 → body_of (Constant (Some Text)) ≡ lookup (get_or s at 0) bodies
   unfolding body_of entry_body lookup bodies shapes
   opens-text h = rw h refl
 
   -- whose length and bytes stand ahead of the next record
   text_ends : (e : Entry (List ℕ) Reference) → Found any_definition s at (define e) next → get_or s at 0 ≡ 1 → at + 3 ≤ next
   text_ends e g h =
-      let l = entry_there s at e next g (Constant Text) (opens-text h) in
+      let l = entry_there s at e next g (Constant (Some Text)) (opens-text h) in
       omega (arith, l.end)
 
   pub text_within : (d : Definition (List ℕ)) → Found any_definition s at d next → get_or s at 0 ≡ 1 → at + 3 ≤ next
-  text_within d f h = let r = definition_there s at d next (Constant Text) f (opens-text h) in text_ends r.0 (rw r.1 at f) h
+  text_within d f h = let r = definition_there s at d next (Constant (Some Text)) f (opens-text h) in text_ends r.0 (rw r.1 at f) h
 
   text_there :
       (d : Definition (List ℕ)) (e : Entry (List ℕ) Reference) → d ≡ define e → Found any_definition s at d next → eqb (get_or s at 0) 1 ≡ true →
@@ -106,7 +107,7 @@ module _ (s : List ℕ) (at next : ℕ) where
       let g = rw same at f in
       let first = eqb-true (get_or s at 0) 1 h in
       let tag = tag-there s at e next g (rw first) in
-      let l = entry_there s at e next g (Constant Text) (opens-text first) in
+      let l = entry_there s at e next g (Constant (Some Text)) (opens-text first) in
       let place : at + 1 + 2 ≡ at + 3 = omega arith in
       let size : next - (at + 3) ≡ number s (at + 1) = omega (arith, l.end) in
       rw (same, tag, h, size, ← place, l.literal)
@@ -117,6 +118,6 @@ module _ (s : List ℕ) (at next : ℕ) where
     where
       ways : (b : Bool) → eqb (get_or s at 0) 1 ≡ b → broken_at s at next ≡ is_broken d
       ways true h =
-          let r = definition_there s at d next (Constant Text) f (opens-text (eqb-true (get_or s at 0) 1 h)) in
+          let r = definition_there s at d next (Constant (Some Text)) f (opens-text (eqb-true (get_or s at 0) 1 h)) in
           text_there d r.0 r.1 f h
       ways false h = rw h (sym (unbroken d f h))

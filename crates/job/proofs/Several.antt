@@ -3,6 +3,7 @@ use mathlib.Core.Bool.{Bool, true, ◌&&◌}
 use mathlib.Core.List.{List, [], ◌∷◌, ◌++◌, append-nil}
 use mathlib.Core.Option.{Option, none, some}
 use mathlib.Core.Path.{◌≡◌, refl, sym, ◌∙◌}
+use Rattle.std.specs.Prelude.{Some}
 use Prim.Native.Nat.{ℕ, suc, ◌+◌, ◌-◌, ◌≤◌, ◌<◌}
 use native.Mathlib.Omega.{arith}
 use lib.ListN.{length, drop, length-append}
@@ -12,7 +13,6 @@ use Rattle.definition.specs.Bytes.{and_then, many}
 use Rattle.definition.specs.Shapes.{constant}
 use Rattle.definition.specs.Job.{Reference, reference}
 use Rattle.definition.specs.Form.{Counts, cites}
-use Rattle.job.specs.declared.Skipped.TheVariants.{To}
 use Rattle.job.specs.Forms.{Read, Skips}
 use Rattle.facts.proofs.Lists.{every-snoc}
 
@@ -65,7 +65,7 @@ module _ (c : Counts) (s : List ℕ) (at n : ℕ) where
         let e : n - i ≡ suc (n - (i + 1)) = omega arith in
         before.rest ∙ rw (e, cut)
 
-    pub all_passed : i ≡ n → at + i ≤ next → next ≤ length s → Skips (many n (reference constant)) (every (cites c)) length s at (To next cited n)
+    pub all_passed : i ≡ n → at + i ≤ next → next ≤ length s → Skips (many n (reference constant)) (every (cites c)) length s at (Some (record { next = next; cited = cited; references = n }))
     unfolding many
     all_passed h past within =
         let e : n - i ≡ 0 = omega arith in

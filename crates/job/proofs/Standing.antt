@@ -1,4 +1,6 @@
 -- What stands at a place of a job, part by part: names, references, entries. Assumes nothing.
+use Rattle.std.specs.Prelude as std
+use Rattle.std.specs.Prelude.{Some, None}
 use mathlib.Core.Bool.{Bool, true, false}
 use mathlib.Core.List.{List, [], ◌∷◌}
 use mathlib.Core.Option.{Option, none, some}
@@ -20,7 +22,7 @@ use Rattle.definition.specs.Job.{Reference, raw, entry, name, Definition, define
 use Rattle.job.specs.declared.Stretch.{Stretch}
 use Rattle.raw_const.specs.Entries.{fields_of}
 use Rattle.raw_const.specs.declared.Shape.{Shape}
-use Rattle.raw_const.specs.declared.Shape.TheVariants.{Text, Bits, One, Two, Dynamic, KindOne, Unknown}
+use Rattle.raw_const.specs.declared.Shape.TheVariants.{Text, Bits, One, Two, Dynamic, KindOne}
 use Rattle.job.specs.declared.Opening.{Opening}
 use Rattle.job.specs.declared.Opening.TheVariants.{Constant, Bootstrap, NamedConstant, NamedBootstrap, RawConstant, RawBootstrap, Version, Texts, Highest, Expression}
 use Rattle.job.specs.Forms.{entry_body, body_of}
@@ -156,14 +158,14 @@ module _ (s : List ℕ) (p : ℕ) where
     pub refers : Refers s kind first 0 e.kids next
 
   -- a constant's
-  abbrev pub FieldsAre : Shape → Entry (List ℕ) Reference → ℕ → Type 0
-  FieldsAre Text e next = LiteralIs (p + 2) (number s p) e next
-  FieldsAre (Bits n) e next = LiteralIs p n e next
-  FieldsAre One e next = KidsAre constant p 1 0 e next
-  FieldsAre Two e next = KidsAre constant p 2 0 e next
-  FieldsAre KindOne e next = (p < length s) × KidsAre constant (p + 1) 1 (get_or s p 0) e next
-  FieldsAre Dynamic e next = KidsAre bootstrap p 2 0 e next
-  FieldsAre Unknown e next = ⊥
+  abbrev pub FieldsAre : std.Option Shape → Entry (List ℕ) Reference → ℕ → Type 0
+  FieldsAre (Some Text) e next = LiteralIs (p + 2) (number s p) e next
+  FieldsAre (Some (Bits n)) e next = LiteralIs p n e next
+  FieldsAre (Some One) e next = KidsAre constant p 1 0 e next
+  FieldsAre (Some Two) e next = KidsAre constant p 2 0 e next
+  FieldsAre (Some KindOne) e next = (p < length s) × KidsAre constant (p + 1) 1 (get_or s p 0) e next
+  FieldsAre (Some Dynamic) e next = KidsAre bootstrap p 2 0 e next
+  FieldsAre None e next = ⊥
 
   -- a bootstrap's: the count stands behind the first reference
   pub record BootstrapIs (e : Entry (List ℕ) Reference) (next : ℕ) : Type 0 where
@@ -180,20 +182,20 @@ module _ (s : List ℕ) (p : ℕ) where
     abbrev of : List ℕ → ℕ → List Reference → Entry (List ℕ) Reference
     of literal b kids = record { tag = tag; literal = literal; byte = b; kids = kids }
 
-    text_is : ReadAs (text ∷ []) → FieldsAre Text e next
+    text_is : ReadAs (text ∷ []) → FieldsAre (Some Text) e next
     unfolding read_entry read_fields with_literal
     text_is h =
         let t = two_then s p (λ size. many size one >>= λ l. return (of l 0 [])) e (drop next s) low h in
         let r = bytes-then s (p + 2) (number s p) (λ l. return (of l 0 [])) e (drop next s) t.0 t.1 in
         let z = ends s (p + 2 + number s p) next (of (take (number s p) (drop (p + 2) s)) 0 []) e r.0 high r.1 in
-        subst (λ x. FieldsAre Text x next) z.0 (record { literal = refl; no_byte_lem = refl; no_kids_lem = refl; end = z.1; room = t.0 })
+        subst (λ x. FieldsAre (Some Text) x next) z.0 (record { literal = refl; no_byte_lem = refl; no_kids_lem = refl; end = z.1; room = t.0 })
 
-    bits_is : (n : ℕ) → ReadAs (bits n ∷ []) → FieldsAre (Bits n) e next
+    bits_is : (n : ℕ) → ReadAs (bits n ∷ []) → FieldsAre (Some (Bits n)) e next
     unfolding read_entry read_fields with_literal
     bits_is n h =
         let r = bytes-then s p n (λ l. return (of l 0 [])) e (drop next s) low h in
         let z = ends s (p + n) next (of (take n (drop p s)) 0 []) e r.0 high r.1 in
-        subst (λ x. FieldsAre (Bits n) x next) z.0 (record { literal = refl; no_byte_lem = refl; no_kids_lem = refl; end = z.1; room = low })
+        subst (λ x. FieldsAre (Some (Bits n)) x next) z.0 (record { literal = refl; no_byte_lem = refl; no_kids_lem = refl; end = z.1; room = low })
 
     one-is : (kind : Kind) → ReadAs (to kind ∷ []) → KidsAre kind p 1 0 e next
     unfolding read_entry read_fields with_kids
@@ -212,13 +214,13 @@ module _ (s : List ℕ) (p : ℕ) where
         subst (λ x. KidsAre kind p 2 0 x next) z.0
         (record { no_literal = refl; kind_byte = refl; count = refl; refers = subst (Refers s kind p 0 (a ∷ b ∷ [])) z.1 (two-refer s kind p a b mid end f g) })
 
-    handle_is : ReadAs (byte ∷ to constant ∷ []) → FieldsAre KindOne e next
+    handle_is : ReadAs (byte ∷ to constant ∷ []) → FieldsAre (Some KindOne) e next
     unfolding read_entry read_fields with_kids with_byte
     handle_is h =
         let b = byte_then s p (λ k. reference constant >>= λ a. return (of [] k (a ∷ []))) e (drop next s) h in
         finds_then s (p + 1) (reference constant) (takes_reference constant) _ (omega arith) e (drop next s) b.1 λ a end f h₁.
         let z = ends s end next (of [] (get_or s p 0) (a ∷ [])) e f.within high h₁ in
-        subst (λ x. FieldsAre KindOne x next) z.0
+        subst (λ x. FieldsAre (Some KindOne) x next) z.0
         (b.0, record { no_literal = refl; kind_byte = refl; count = refl; refers = subst (Refers s constant (p + 1) 0 (a ∷ [])) z.1 (one-refers s constant (p + 1) a end f) })
 
     bootstrap_is : ReadAs bootstrap_shape → BootstrapIs e next
@@ -313,15 +315,15 @@ module _ (s : List ℕ) (at : ℕ) where
           some_then (read_entry reference (get_or s at 0) fields (drop (at + 1) s)) _ (define e, drop next s) h λ x rest h₁ h₂.
           h₁ ∙ is_entry_lem x e rest (drop next s) h₂
 
-      constant_is : (shape : Shape) → EntryRead (entry_body (fields_of shape)) → FieldsAre s (at + 1) shape e next
+      constant_is : (shape : std.Option Shape) → EntryRead (entry_body (fields_of shape)) → FieldsAre s (at + 1) shape e next
       unfolding entry_body read_body
-      constant_is Text h = text_is s (at + 1) (get_or s at 0) e next low high (read_as (text ∷ []) h)
-      constant_is (Bits n) h = bits_is s (at + 1) (get_or s at 0) e next low high n (read_as (bits n ∷ []) h)
-      constant_is One h = one-is s (at + 1) (get_or s at 0) e next low high constant (read_as (to constant ∷ []) h)
-      constant_is Two h = two_is s (at + 1) (get_or s at 0) e next low high constant (read_as (to constant ∷ to constant ∷ []) h)
-      constant_is Dynamic h = two_is s (at + 1) (get_or s at 0) e next low high bootstrap (read_as (to bootstrap ∷ to constant ∷ []) h)
-      constant_is KindOne h = handle_is s (at + 1) (get_or s at 0) e next low high (read_as (byte ∷ to constant ∷ []) h)
-      constant_is Unknown h = none≢some h
+      constant_is (Some Text) h = text_is s (at + 1) (get_or s at 0) e next low high (read_as (text ∷ []) h)
+      constant_is (Some (Bits n)) h = bits_is s (at + 1) (get_or s at 0) e next low high n (read_as (bits n ∷ []) h)
+      constant_is (Some One) h = one-is s (at + 1) (get_or s at 0) e next low high constant (read_as (to constant ∷ []) h)
+      constant_is (Some Two) h = two_is s (at + 1) (get_or s at 0) e next low high constant (read_as (to constant ∷ to constant ∷ []) h)
+      constant_is (Some Dynamic) h = two_is s (at + 1) (get_or s at 0) e next low high bootstrap (read_as (to bootstrap ∷ to constant ∷ []) h)
+      constant_is (Some KindOne) h = handle_is s (at + 1) (get_or s at 0) e next low high (read_as (byte ∷ to constant ∷ []) h)
+      constant_is None h = none≢some h
 
       expression-is : eqb (get_or s at 0) 0x46 ≡ true → EntryRead (some of_expression) → WorkedIs s (at + 1) e next
       expression-is first h =

@@ -1,4 +1,6 @@
 -- One record of the form pass: what was skipped by its first byte is what the definition reads, and counts as the byte says. Assumes nothing.
+use Rattle.std.specs.Prelude as std
+use Rattle.std.specs.Prelude.{Some, None}
 use mathlib.Core.Bool.{Bool, true, false}
 use mathlib.Core.List.{List, [], ◌∷◌}
 use mathlib.Core.Option.{Option, none, some}
@@ -16,9 +18,9 @@ use Rattle.definition.specs.Expression.{read_expression}
 use Rattle.definition.specs.Value.{folded}
 use Rattle.definition.specs.Bytes.{return, and_then, two}
 use Rattle.definition.specs.Settings.{Setting, version, texts, highest, is_slot}
-use Rattle.definition.specs.Shapes.{Kind, constant, bootstrap, Field, byte, bootstrap_shape, Entry, read_entry}
+use Rattle.definition.specs.Shapes.{Kind, constant, bootstrap, Field, bootstrap_shape, Entry, read_entry}
 use Rattle.definition.specs.Job.{Reference, Definition, define, named, placed, setting, of_entry, of_name, of_raw, of_expression, of_number, of_nothing, worked_out, short_name, reference, read_body, read_definition}
-use Rattle.definition.specs.Form.{Counts, count_of, kind_of, whole, may_stand, has_room, cites, cites_earlier, comes_out, form_definition}
+use Rattle.definition.specs.Form.{Counts, count_of, kind_of, whole, may_stand, has_room, cites_earlier, comes_out, form_definition}
 use Rattle.definition.specs.Definitions.{same_kind_lem}
 use Rattle.definition.specs.Numbering.{entries, constants_of, bootstraps_of}
 use Rattle.job.specs.declared.JobCounts.{JobCounts}
@@ -138,7 +140,7 @@ worked-read first l rest d h =
     (λ x l₁ read h₁. (x, read ∙ ap (λ k. some (x, k)) (ap (λ r. r.1) (some_inj h₁)), value-is h₁))
 
 module _ (first : ℕ) (l rest : List ℕ) (d : Definition (List ℕ)) where
-  fits-constant : (shape : Shape) (fields : Option (List Field)) → constant ≡ kind_of first → read_body first (entry_body fields) l ≡ some (d, rest) → Fits (Constant shape) d
+  fits-constant : (shape : std.Option Shape) (fields : Option (List Field)) → constant ≡ kind_of first → read_body first (entry_body fields) l ≡ some (d, rest) → Fits (Constant shape) d
   unfolding entry_body read_body may_stand setting_fault passing has_room room_for counted_as kids_in count_of is_plain same_kind_lem
   fits-constant shape none t h = clash (cc)
   fits-constant shape (some fields) t h =

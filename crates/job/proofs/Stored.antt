@@ -1,4 +1,7 @@
 -- What the readers at stored places rest on: they stay inside the job, and find what stands there. Assumes nothing.
+use Rattle.std.proofs.Common.{rules}
+use Rattle.std.specs.Prelude as std
+use Rattle.std.specs.Prelude.{Some, None, IsSome}
 use mathlib.Core.Bool.{Bool, true, false, ◌&&◌}
 use mathlib.Core.List.{List, [], ◌∷◌}
 use mathlib.Core.Option.{Option, none, some}
@@ -23,7 +26,7 @@ use Rattle.job.specs.declared.Stretch.{Stretch}
 use Rattle.job.specs.declared.RefType.TheVariants as refType
 use Rattle.raw_const.specs.Entries.{fields_of}
 use Rattle.raw_const.specs.declared.Shape.{Shape}
-use Rattle.raw_const.specs.declared.Shape.TheVariants.{Text, Bits, One, Two, Dynamic, KindOne, Unknown}
+use Rattle.raw_const.specs.declared.Shape.TheVariants.{Text, Bits, One, Two, Dynamic, KindOne}
 use Rattle.job.specs.declared.Opening.{Opening}
 use Rattle.job.specs.declared.Opening.TheVariants.{Constant, Bootstrap, NamedConstant, NamedBootstrap, RawConstant, RawBootstrap, Version, Texts, Highest, Expression}
 use Rattle.raw_const.specs.contracts.Shape.{the_type as shape-type}
@@ -35,14 +38,14 @@ use Rattle.job.proofs.Expressions.{expression-first, WorkedIs, number-body}
 use Rattle.job.proofs.Standing.{stretch, spans, name_there, Says, reference-says, Refers, LiteralIs, FieldsAre, BootstrapIs, EntryIs, definition_read, tag-there, entry_there, worked-there}
 
 -- how many references a constant has, by its shape
-abbrev pub kids_of : Shape → ℕ
-kids_of Text = 0
-kids_of (Bits n) = 0
-kids_of One = 1
-kids_of Two = 2
-kids_of Dynamic = 2
-kids_of KindOne = 1
-kids_of Unknown = 0
+abbrev pub kids_of : std.Option Shape → ℕ
+kids_of (Some Text) = 0
+kids_of (Some (Bits n)) = 0
+kids_of (Some One) = 1
+kids_of (Some Two) = 2
+kids_of (Some Dynamic) = 2
+kids_of (Some KindOne) = 1
+kids_of None = 0
 
 -- the references of an entry stand from the first one on
 kid_first :
@@ -183,14 +186,14 @@ module _ (s : List ℕ) (at : ℕ) where
     pub plain : is_worked s at ≡ false → LiteralIs s (at + 1) (at + 1) n e next
 
   -- what an entry is by its tag
-  abbrev ShapeIs : Shape → Entry (List ℕ) Reference → ℕ → Type 0
-  ShapeIs Text e next = FieldsAre s (at + 1) Text e next
-  ShapeIs (Bits n) e next = NumberIs n e next
-  ShapeIs One e next = FieldsAre s (at + 1) One e next
-  ShapeIs Two e next = FieldsAre s (at + 1) Two e next
-  ShapeIs Dynamic e next = FieldsAre s (at + 1) Dynamic e next
-  ShapeIs KindOne e next = FieldsAre s (at + 1) KindOne e next
-  ShapeIs Unknown e next = ⊥
+  abbrev ShapeIs : std.Option Shape → Entry (List ℕ) Reference → ℕ → Type 0
+  ShapeIs (Some Text) e next = FieldsAre s (at + 1) (Some Text) e next
+  ShapeIs (Some (Bits n)) e next = NumberIs n e next
+  ShapeIs (Some One) e next = FieldsAre s (at + 1) (Some One) e next
+  ShapeIs (Some Two) e next = FieldsAre s (at + 1) (Some Two) e next
+  ShapeIs (Some Dynamic) e next = FieldsAre s (at + 1) (Some Dynamic) e next
+  ShapeIs (Some KindOne) e next = FieldsAre s (at + 1) (Some KindOne) e next
+  ShapeIs None e next = ⊥
 
   abbrev ByTag : Opening → Entry (List ℕ) Reference → ℕ → Type 0
   ByTag (Constant shape) e next = ShapeIs shape e next
@@ -205,14 +208,14 @@ module _ (s : List ℕ) (at : ℕ) where
   ByTag Expression e next = ⊥
 
   module _ (e : Entry (List ℕ) Reference) (next : ℕ) where
-    by_shape : (shape : Shape) → FieldsAre s (at + 1) shape e next → ShapeIs shape e next
-    by_shape Text h = h
-    by_shape (Bits n) h = record { no_byte_lem = h.no_byte_lem; no_kids_lem = h.no_kids_lem; plain = λ _. h }
-    by_shape One h = h
-    by_shape Two h = h
-    by_shape Dynamic h = h
-    by_shape KindOne h = h
-    by_shape Unknown h = h
+    by_shape : (shape : std.Option Shape) → FieldsAre s (at + 1) shape e next → ShapeIs shape e next
+    by_shape (Some Text) h = h
+    by_shape (Some (Bits n)) h = record { no_byte_lem = h.no_byte_lem; no_kids_lem = h.no_kids_lem; plain = λ _. h }
+    by_shape (Some One) h = h
+    by_shape (Some Two) h = h
+    by_shape (Some Dynamic) h = h
+    by_shape (Some KindOne) h = h
+    by_shape None h = h
 
     -- the tag is the first byte
     by_first : is_worked s at ≡ false → (o : Opening) → body_of o ≡ lookup (get_or s at 0) bodies → EntryIs s at o e next → ByTag o e next
@@ -229,14 +232,14 @@ module _ (s : List ℕ) (at : ℕ) where
     by_first plain Expression t h = true≢false (sym (expression-first (get_or s at 0) (sym t)) ∙ plain)
 
     -- the tag is that of what was worked out
-    by_bits : (n : ℕ) (shape : Shape) → NumberIs n e next → fields_of shape ≡ some (bits n ∷ []) → ShapeIs shape e next
-    by_bits n Text h t = clash (cc)
-    by_bits n (Bits m) h t = let same : m ≡ n = cc in rw same h
-    by_bits n One h t = clash (cc)
-    by_bits n Two h t = clash (cc)
-    by_bits n Dynamic h t = clash (cc)
-    by_bits n KindOne h t = clash (cc)
-    by_bits n Unknown h t = clash (cc)
+    by_bits : (n : ℕ) (shape : std.Option Shape) → NumberIs n e next → fields_of shape ≡ some (bits n ∷ []) → ShapeIs shape e next
+    by_bits n (Some Text) h t = clash (cc)
+    by_bits n (Some (Bits m)) h t = let same : m ≡ n = cc in rw same h
+    by_bits n (Some One) h t = clash (cc)
+    by_bits n (Some Two) h t = clash (cc)
+    by_bits n (Some Dynamic) h t = clash (cc)
+    by_bits n (Some KindOne) h t = clash (cc)
+    by_bits n None h t = clash (cc)
 
     by_fields : (n : ℕ) (o : Opening) → NumberIs n e next → body_of o ≡ some (of_entry (bits n ∷ [])) → ByTag o e next
     unfolding body_of entry_body bootstrap_shape
@@ -307,72 +310,78 @@ module _ (s : List ℕ) (at : ℕ) where
     pub bootstrap_literal : OneOf (1 ∷ 2 ∷ 3 ∷ 4 ∷ 5 ∷ 6 ∷ 7 ∷ 8 ∷ 9 ∷ []) (tag_of the_type opening) → WhatEntry s at (λ e. Spans s (record { start = at; end = at }) e.literal)
     bootstrap_literal k e next f = nothing_spans e.literal (omega arith) (bootstrap_shaped k e next f).no_literal
 
-    module _ (shape : Shape) (constant-opened : opening ≡ Constant shape) where
+    module _ (shape : std.Option Shape) (constant-opened : opening ≡ Constant shape) where
       constant_shaped : (e : Entry (List ℕ) Reference) (next : ℕ) → Found any_definition s at (define e) next → ShapeIs shape e next
       constant_shaped e next f = rw constant-opened at (opened e next f)
 
-      pub text_room : shape ≡ Text → EntryStands s at → at + 3 + number s (at + 1) ≤ length s
+      -- an entry that stands has a shape
+      pub known : EntryStands s at → IsSome shape
+      known h = ways shape (constant_shaped h.0 h.1 h.2)
+        where
+          ways : (x : std.Option Shape) → ShapeIs x h.0 h.1 → IsSome x
+          ways (Some x) k = search rules
+          ways None k = absurd k
+
+      pub text_room : shape ≡ Some Text → EntryStands s at → at + 3 + number s (at + 1) ≤ length s
       text_room t h = let g = rw t at (constant_shaped h.0 h.1 h.2) in omega (arith, g.end, h.2.within)
 
-      pub text_literal : shape ≡ Text → WhatEntry s at (λ e. Spans s (record { start = at + 3; end = at + 3 + number s (at + 1) }) e.literal)
+      pub text_literal : shape ≡ Some Text → WhatEntry s at (λ e. Spans s (record { start = at + 3; end = at + 3 + number s (at + 1) }) e.literal)
       text_literal t e next f =
           let g = rw t at (constant_shaped e next f) in
           let place : at + 1 + 2 ≡ at + 3 = omega arith in
           rw (← place) (spans s (at + 1 + 2) (number s (at + 1)) e.literal (omega (arith, g.end, f.within)) g.literal)
 
-      pub bits-room : is_worked s at ≡ false → (n : ℕ) → shape ≡ Bits n → EntryStands s at → at + 1 + n ≤ length s
+      pub bits-room : is_worked s at ≡ false → (n : ℕ) → shape ≡ Some (Bits n) → EntryStands s at → at + 1 + n ≤ length s
       bits-room plain n t h = let g = rw t at (constant_shaped h.0 h.1 h.2) in omega (arith, (g.plain plain).end, h.2.within)
 
-      pub bits-literal : is_worked s at ≡ false → (n : ℕ) → shape ≡ Bits n → WhatEntry s at (λ e. Spans s (record { start = at + 1; end = at + 1 + n }) e.literal)
+      pub bits-literal : is_worked s at ≡ false → (n : ℕ) → shape ≡ Some (Bits n) → WhatEntry s at (λ e. Spans s (record { start = at + 1; end = at + 1 + n }) e.literal)
       bits-literal plain n t e next f =
           let g = (rw t at (constant_shaped e next f)).plain plain in
           spans s (at + 1) n e.literal (omega (arith, g.end, f.within)) g.literal
 
-      pub no_literal_lem : OneOf (2 ∷ 3 ∷ 4 ∷ 5 ∷ 6 ∷ []) (tag_of shape-type shape) → WhatEntry s at (λ e. Spans s (record { start = at; end = at }) e.literal)
-      no_literal_lem k e next f = nothing_spans e.literal (omega arith) (ways shape k (constant_shaped e next f))
+      pub no_literal_lem : (inner : Shape) → shape ≡ Some inner → OneOf (2 ∷ 3 ∷ 4 ∷ 5 ∷ []) (tag_of shape-type inner) → WhatEntry s at (λ e. Spans s (record { start = at; end = at }) e.literal)
+      no_literal_lem inner t k e next f = nothing_spans e.literal (omega arith) (ways inner k (rw t at (constant_shaped e next f)))
         where
-          ways : (x : Shape) → OneOf (2 ∷ 3 ∷ 4 ∷ 5 ∷ 6 ∷ []) (tag_of shape-type x) → ShapeIs x e next → e.literal ≡ []
-          ways Text k h = absurd (miss (2 ∷ 3 ∷ 4 ∷ 5 ∷ 6 ∷ []) 0 tt k)
-          ways (Bits n) k h = absurd (miss (2 ∷ 3 ∷ 4 ∷ 5 ∷ 6 ∷ []) 1 tt k)
+          ways : (x : Shape) → OneOf (2 ∷ 3 ∷ 4 ∷ 5 ∷ []) (tag_of shape-type x) → ShapeIs (Some x) e next → e.literal ≡ []
+          ways Text k h = absurd (miss (2 ∷ 3 ∷ 4 ∷ 5 ∷ []) 0 tt k)
+          ways (Bits n) k h = absurd (miss (2 ∷ 3 ∷ 4 ∷ 5 ∷ []) 1 tt k)
           ways One k h = h.no_literal
           ways Two k h = h.no_literal
           ways Dynamic k h = h.no_literal
           ways KindOne k h = h.1.no_literal
-          ways Unknown k h = absurd h
 
       -- ---- kind bytes
 
-      pub handle_room : shape ≡ KindOne → EntryStands s at → at + 1 < length s
+      pub handle_room : shape ≡ Some KindOne → EntryStands s at → at + 1 < length s
       handle_room t h = (rw t at (constant_shaped h.0 h.1 h.2)).0
 
-      pub handle_byte : shape ≡ KindOne → WhatEntry s at (λ e. get_or s (at + 1) 0 ≡ e.byte)
+      pub handle_byte : shape ≡ Some KindOne → WhatEntry s at (λ e. get_or s (at + 1) 0 ≡ e.byte)
       handle_byte t e next f = sym (rw t at (constant_shaped e next f)).1.kind_byte
 
-      pub no_byte : OneOf (0 ∷ 1 ∷ 2 ∷ 3 ∷ 4 ∷ 6 ∷ []) (tag_of shape-type shape) → WhatEntry s at (λ e. 0 ≡ e.byte)
-      no_byte k e next f = ways shape k (constant_shaped e next f)
+      pub no_byte : (inner : Shape) → shape ≡ Some inner → OneOf (0 ∷ 1 ∷ 2 ∷ 3 ∷ 4 ∷ []) (tag_of shape-type inner) → WhatEntry s at (λ e. 0 ≡ e.byte)
+      no_byte inner t k e next f = ways inner k (rw t at (constant_shaped e next f))
         where
-          ways : (x : Shape) → OneOf (0 ∷ 1 ∷ 2 ∷ 3 ∷ 4 ∷ 6 ∷ []) (tag_of shape-type x) → ShapeIs x e next → 0 ≡ e.byte
+          ways : (x : Shape) → OneOf (0 ∷ 1 ∷ 2 ∷ 3 ∷ 4 ∷ []) (tag_of shape-type x) → ShapeIs (Some x) e next → 0 ≡ e.byte
           ways Text k h = sym h.no_byte_lem
           ways (Bits n) k h = sym h.no_byte_lem
           ways One k h = sym h.kind_byte
           ways Two k h = sym h.kind_byte
-          ways KindOne k h = absurd (miss (0 ∷ 1 ∷ 2 ∷ 3 ∷ 4 ∷ 6 ∷ []) 5 tt k)
+          ways KindOne k h = absurd (miss (0 ∷ 1 ∷ 2 ∷ 3 ∷ 4 ∷ []) 5 tt k)
           ways Dynamic k h = sym h.kind_byte
-          ways Unknown k h = absurd h
 
       -- ---- references
 
       pub constant_count : (n : ℕ) → kids_of shape ≡ n → WhatEntry s at (λ e. n ≡ length e.kids)
       constant_count n t e next f = ways shape t (constant_shaped e next f)
         where
-          ways : (x : Shape) → kids_of x ≡ n → ShapeIs x e next → n ≡ length e.kids
-          ways Text t h = sym t ∙ sym (ap length h.no_kids_lem)
-          ways (Bits m) t h = sym t ∙ sym (ap length h.no_kids_lem)
-          ways One t h = sym t ∙ sym h.count
-          ways Two t h = sym t ∙ sym h.count
-          ways Dynamic t h = sym t ∙ sym h.count
-          ways KindOne t h = sym t ∙ sym h.1.count
-          ways Unknown t h = absurd h
+          ways : (x : std.Option Shape) → kids_of x ≡ n → ShapeIs x e next → n ≡ length e.kids
+          ways (Some Text) t h = sym t ∙ sym (ap length h.no_kids_lem)
+          ways (Some (Bits m)) t h = sym t ∙ sym (ap length h.no_kids_lem)
+          ways (Some One) t h = sym t ∙ sym h.count
+          ways (Some Two) t h = sym t ∙ sym h.count
+          ways (Some Dynamic) t h = sym t ∙ sym h.count
+          ways (Some KindOne) t h = sym t ∙ sym h.1.count
+          ways None t h = absurd h
 
       module _ (table : table_of opening ≡ kind_of tag) where
         -- by its shape, what an entry's first reference leads to, and that nothing stands behind it
@@ -388,30 +397,30 @@ module _ (s : List ℕ) (at : ℕ) where
             ∙ ap (λ k. bytes_between k 0) (sym table)
             ∙ ap (λ x. bytes_between (table_of x) 0) constant-opened
 
-        pub handle_first : shape ≡ KindOne → WhatEntry s at (λ e. 0 < length e.kids → KidAt s e 0 (at + 2))
+        pub handle_first : shape ≡ Some KindOne → WhatEntry s at (λ e. 0 < length e.kids → KidAt s e 0 (at + 2))
         unfolding entry_body kind_in first_kind_lem
         handle_first t e next f more =
             let g = rw t at (constant_shaped e next f) in
             let place : at + 1 + 1 ≡ at + 2 = omega arith in
             rw (← place) (kid_first s e constant (at + 1 + 1) 0 next (kind-there e next f ∙ ap (λ x. kind_in (entry_body (fields_of x))) t) (between-there e next f) g.1.refers)
 
-        pub constant_first : OneOf (0 ∷ 1 ∷ 2 ∷ 3 ∷ 4 ∷ 6 ∷ []) (tag_of shape-type shape) → WhatEntry s at (λ e. 0 < length e.kids → KidAt s e 0 (at + 1))
+        pub constant_first :
+            (inner : Shape) → shape ≡ Some inner → OneOf (0 ∷ 1 ∷ 2 ∷ 3 ∷ 4 ∷ []) (tag_of shape-type inner) → WhatEntry s at (λ e. 0 < length e.kids → KidAt s e 0 (at + 1))
         unfolding entry_body kind_in first_kind_lem
-        constant_first k e next f more = ways shape k (kind-there e next f) (constant_shaped e next f)
+        constant_first inner t k e next f more = ways inner k (rw t at (kind-there e next f)) (rw t at (constant_shaped e next f))
           where
             first : (kind : Kind) → kid_kind e.tag 0 ≡ kind → Refers s kind (at + 1) 0 e.kids next → KidAt s e 0 (at + 1)
             first kind same r = kid_first s e kind (at + 1) 0 next same (between-there e next f) r
 
             ways :
-                (x : Shape) → OneOf (0 ∷ 1 ∷ 2 ∷ 3 ∷ 4 ∷ 6 ∷ []) (tag_of shape-type x) → kid_kind e.tag 0 ≡ kind_in (entry_body (fields_of x)) →
-                ShapeIs x e next → KidAt s e 0 (at + 1)
+                (x : Shape) → OneOf (0 ∷ 1 ∷ 2 ∷ 3 ∷ 4 ∷ []) (tag_of shape-type x) → kid_kind e.tag 0 ≡ kind_in (entry_body (fields_of (Some x))) →
+                ShapeIs (Some x) e next → KidAt s e 0 (at + 1)
             ways Text k same h = absurd (omega (arith, ap length h.no_kids_lem))
             ways (Bits n) k same h = absurd (omega (arith, ap length h.no_kids_lem))
             ways One k same h = first constant same h.refers
             ways Two k same h = first constant same h.refers
-            ways KindOne k same h = absurd (miss (0 ∷ 1 ∷ 2 ∷ 3 ∷ 4 ∷ 6 ∷ []) 5 tt k)
+            ways KindOne k same h = absurd (miss (0 ∷ 1 ∷ 2 ∷ 3 ∷ 4 ∷ []) 5 tt k)
             ways Dynamic k same h = first bootstrap same h.refers
-            ways Unknown k same h = absurd h
 
     -- ---- a bootstrap: its first reference, and its count behind it
 

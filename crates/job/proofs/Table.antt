@@ -1,4 +1,6 @@
 -- What a first byte opens, by the definition's table. Assumes nothing.
+use Rattle.std.specs.Prelude as std
+use Rattle.std.specs.Prelude.{Some, None}
 use mathlib.Core.Bool.{Bool, true, false}
 use mathlib.Core.List.{List, [], ◌∷◌, ◌++◌, map}
 use mathlib.Core.Path.{◌≡◌, refl, sym, ap, ◌∙◌}
@@ -36,7 +38,7 @@ tags_first x (r ∷ t) kinds h = ways (eqb x r.0) refl (tags_first x t kinds h)
     ways false e later = rw (e, lookup) later
 
 pub tag-right :
-    (x : ℕ) (shape : Shape) → fields_of shape ≡ lookup x shapes → (x ≡ 0x40 → ⊥) → (x ≡ 0x41 → ⊥) → (x ≡ 0x42 → ⊥) → (x ≡ 0x43 → ⊥) → (x ≡ 0x44 → ⊥) →
+    (x : ℕ) (shape : std.Option Shape) → fields_of shape ≡ lookup x shapes → (x ≡ 0x40 → ⊥) → (x ≡ 0x41 → ⊥) → (x ≡ 0x42 → ⊥) → (x ≡ 0x43 → ⊥) → (x ≡ 0x44 → ⊥) →
     (x ≡ 0x47 → ⊥) → (x ≡ 0x48 → ⊥) → (x ≡ 0x49 → ⊥) → (x ≡ 0x46 → ⊥) →
     Right x (Constant shape)
 unfolding body_of table_of kind_of bodies

@@ -15,8 +15,6 @@ use Rattle.definition.specs.Job.{Definition}
 use Rattle.definition.specs.Form.{Counts, nothing_yet, with_broken, Definitions, form_definitions, Requests, form_requests, form}
 use Rattle.definition.specs.Numbering.{entries, constants_of, bootstraps_of, settings}
 use Rattle.job.specs.declared.JobCounts.{JobCounts}
-use Rattle.job.specs.declared.Formed.{Formed}
-use Rattle.job.specs.declared.Formed.TheVariants as formed
 use Rattle.job.specs.Forms.{references_in, version_from, highest_from, counts_of, more, tables_in, tallied, place_of, formed_requests, formed_of}
 use Rattle.job.proofs.Counting.{none_more}
 use Rattle.job.proofs.Blind.{requests_blind}
@@ -45,14 +43,14 @@ requests_start s rest l n = let e : length s - 0 ≡ length s = omega arith in r
 
 module _ (s : List ℕ) where
   -- the rest of the pass, behind the definitions
-  abbrev pub After : Result Refusal Definitions → Formed
+  abbrev pub After : Result Refusal Definitions → Result Refusal JobCounts
   After x =
       formed_of
       (x >>= λ d.
       form_requests (length s) d.counts 0 (suc (length d.list)) d.rest >>= λ r.
       good (record { definitions = d.list; requests = r.list; build = r.build }))
 
-  pub after_bad : (x : Result Refusal Definitions) (refusal : Refusal) → tallied (counts_of [] 0) x ≡ bad refusal → After x ≡ formed.Refused refusal.code refusal.place
+  pub after_bad : (x : Result Refusal Definitions) (refusal : Refusal) → tallied (counts_of [] 0) x ≡ bad refusal → After x ≡ bad refusal
   unfolding tallied formed_of
   after_bad (good d) refusal e = clash (cc)
   after_bad (bad other) refusal e = let p : other ≡ refusal = cc in rw p
@@ -74,7 +72,7 @@ module _ (s : List ℕ) where
 
   pub whole-bad :
       (refusal : Refusal) → tallied (counts_of [] 0) (form_definitions (length s) nothing_yet 0 s) ≡ bad refusal →
-      formed_of (form s) ≡ formed.Refused refusal.code refusal.place
+      formed_of (form s) ≡ bad refusal
   unfolding form
   whole-bad refusal e = after_bad (form_definitions (length s) nothing_yet 0 s) refusal e
 

@@ -15,7 +15,10 @@ use Rattle.definition.specs.Value.{value, one_kind, folded, bits_bytes, constant
 use Rattle.definition.specs.Shapes.{Entry, is_wide}
 use Rattle.definition.specs.Job.{Reference, Definition, define, as_constant, read_definition}
 use Rattle.folding.specs.declared.Constant.{Constant}
-use Rattle.folding.specs.declared.Constant.TheVariants.{Of, Refused}
+use Rattle.std.specs.Prelude as std
+use Rattle.std.specs.Prelude.{Ok, Err}
+use Rattle.refusal.specs.Numbers.{answer_of}
+use Rattle.refusal.specs.declared.Refusal.{Refusal}
 use Rattle.folding.specs.Folding.{constant_as, OfKind, HasKind, TellsKind}
 use Rattle.job.specs.Stored.{Found, WhatStands, EntryStands, WhatEntry, any_definition, is_worked, words_bytes}
 use Rattle.job.proofs.Expressions.{opens-expression, WorkedIs}
@@ -85,20 +88,20 @@ module _ (s : List ℕ) (at : ℕ) (worked : is_worked s at ≡ true) where
   unfolding constant_in
   comes_to e next w = ap constant_in w.read ∙ w.folds
 
-  module _ (c : Constant) (told : c ≡ constant_as (constant_in (read_expression (drop (at + 1) s)))) where
-    pub worked-words : (tag b : ℕ) → c ≡ Of tag b → WhatEntry s at (λ e. words_bytes e.tag (b / 4294967296) (b % 4294967296) ≡ e.literal)
-    unfolding constant_as as_constant
-    worked-words tag b is e next f =
+  module _ (c : std.Result Constant Refusal) (told : answer_of c ≡ constant_as (constant_in (read_expression (drop (at + 1) s)))) where
+    pub worked-words : (k : Constant) → c ≡ Ok k → WhatEntry s at (λ e. words_bytes e.tag (k.bits / 4294967296) (k.bits % 4294967296) ≡ e.literal)
+    unfolding constant_as as_constant answer_of
+    worked-words k is e next f =
         let w = there e next f in
-        let same : Of tag b ≡ constant_as (good w.number) = sym is ∙ told ∙ ap constant_as (comes_to e next w) in
-        let number : b ≡ w.number.1 = cc in
+        let same : good k ≡ constant_as (good w.number) = ap answer_of (sym is) ∙ told ∙ ap constant_as (comes_to e next w) in
+        let number : k.bits ≡ w.number.1 = ap (λ (c : Constant). c.bits) (good_inj same) in
         rw (w.is, number) (words_bytes_lem w.number.0 w.number.1)
 
-    pub worked-never : {X : Type 0} (code : ℕ) → c ≡ Refused code → EntryStands s at → X
-    unfolding constant_as
-    worked-never code is h =
+    pub worked-never : {X : Type 0} (refusal : Refusal) → c ≡ Err refusal → EntryStands s at → X
+    unfolding constant_as answer_of
+    worked-never refusal is h =
         let w = there h.0 h.1 h.2 in
-        let same : Refused code ≡ constant_as (good w.number) = sym is ∙ told ∙ ap constant_as (comes_to h.0 h.1 w) in
+        let same = ap answer_of (sym is) ∙ told ∙ ap constant_as (comes_to h.0 h.1 w) in
         clash (cc)
 
   -- ---- its end

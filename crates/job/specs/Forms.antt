@@ -1,27 +1,26 @@
 -- What the form pass returns, and how it goes by the definition's readers. Assumes nothing.
 use Rattle.std.specs.Prelude.{Bool, true, false, ◌&&◌, ◌||◌, not, List, [], ◌∷◌, ◌≡◌, ℕ, zero, suc, ◌+◌, ◌*◌, ◌-◌, ◌^◌, ◌≤◌, ◌<◌, eqb, ltb, length, get_or, take, drop}
+use Rattle.std.specs.Prelude.{Some, None, Ok, Err}
+use Rattle.std.specs.Prelude as std
 use Rattle.std.proofs.Math.Option.{Option, none, some}
-use Rattle.definition.specs.Basics.{Result, good, bad, Refusal, every, lookup, only}
+use Rattle.definition.specs.Basics.{Result, good, bad, Refusal, at_record, unless, every, lookup, only}
 use Rattle.definition.specs.Bytes.{Parser}
 use Rattle.definition.specs.Settings.{version, texts, highest, is_slot, highest_of, newest}
 use Rattle.definition.specs.Shapes.{Kind, constant, bootstrap, Field, bootstrap_shape, read_entry}
 use Rattle.definition.specs.Texts.{is_text}
 use Rattle.definition.specs.Job.{Definition, define, named, placed, setting, Build, Job, Body, of_entry, of_name, of_raw, of_expression, of_number, of_nothing, bodies, reference, read_body}
-use Rattle.definition.specs.Form.{Counts, count_of, kind_of, with_broken, cites, cites_earlier, table_size, Definitions, Requests}
+use Rattle.definition.specs.Form.{Counts, count_of, kind_of, with_broken, cites, cites_earlier, table_size, Definitions, form_definition, form_definitions, Requests}
 use Rattle.definition.specs.Numbering.{constants_of, bootstraps_of, settings}
 use Rattle.definition.specs.Definitions.{same_kind_lem}
 use Rattle.raw_const.specs.Entries.{fields_of}
 use Rattle.job.specs.declared.Opening.{Opening}
 use Rattle.job.specs.declared.Opening.TheVariants.{Constant, Bootstrap, NamedConstant, NamedBootstrap, RawConstant, RawBootstrap, Version, Texts, Highest, Expression}
 use Rattle.job.specs.declared.JobCounts.{JobCounts}
-use Rattle.job.specs.declared.Formed.{Formed}
-use Rattle.job.specs.declared.Formed.TheVariants as formed
 use Rattle.job.specs.declared.Step.{Step}
-use Rattle.job.specs.declared.Step.TheVariants as step
-use Rattle.job.specs.declared.Defined.{Defined}
-use Rattle.job.specs.declared.Defined.TheVariants as defined
 use Rattle.job.specs.declared.Skipped.{Skipped}
-use Rattle.job.specs.declared.Skipped.TheVariants as skipped
+use Rattle.refusal.specs.Numbers.{number}
+use Rattle.refusal.specs.declared.Refusal as refusals
+use Rattle.refusal.specs.declared.Refused.{Refused}
 
 -- ---- what a first byte opens
 
@@ -97,16 +96,25 @@ pub record Read {A : Type 0} (p : Parser A) (ok : A → Bool) (kids : A → ℕ)
   pub count : references ≡ kids value
 
 -- skipping at a place does as the reader p does, and tells of the value read whether it is ok and how many references it has
-abbrev pub Skips : {A : Type 0} → Parser A → (A → Bool) → (A → ℕ) → List ℕ → ℕ → Skipped → Type 0
-Skips p ok kids s at (skipped.To next cited references) = Read p ok kids s at next cited references
-Skips p ok kids s at skipped.Cut = p (drop at s) ≡ none
+abbrev pub Skips : {A : Type 0} → Parser A → (A → Bool) → (A → ℕ) → List ℕ → ℕ → std.Option Skipped → Type 0
+Skips p ok kids s at (Some r) = Read p ok kids s at r.next r.cited r.references
+Skips p ok kids s at None = p (drop at s) ≡ none
+
+-- what cites nothing ends at a place
+abbrev pub bare : ℕ → Skipped
+bare next = record { next = next; cited = true; references = 0 }
+
+-- the number in two bytes at a place, unless they are cut
+abbrev pub NumberAt : List ℕ → ℕ → std.Option ℕ → Type 0
+NumberAt s at (Some n) = (at + 2 ≤ length s) × (n ≡ 256 * get_or s at 0 + get_or s (at + 1) 0)
+NumberAt s at None = length s - at < 2
 
 -- a reference into a table that has so many entries yet
-abbrev pub SkipsReference : ℕ → List ℕ → ℕ → Skipped → Type 0
+abbrev pub SkipsReference : ℕ → List ℕ → ℕ → std.Option Skipped → Type 0
 SkipsReference entries s at r = (kind : Kind) (n : Counts) → count_of kind n ≡ entries → Skips (reference kind) (cites n) (λ _. 1) s at r
 
 -- an entry with these fields, where so many entries stand earlier
-abbrev pub SkipsEntry : Counts → List Field → List ℕ → ℕ → Skipped → Type 0
+abbrev pub SkipsEntry : Counts → List Field → List ℕ → ℕ → std.Option Skipped → Type 0
 SkipsEntry n fields s at r = (tag : ℕ) → Skips (read_entry reference tag fields) (λ e. every (cites n) e.kids) (λ e. length e.kids) s at r
 
 -- how many references a definition's entry has
@@ -117,11 +125,11 @@ kids_in (placed kind at number) = 0
 kids_in (setting s) = 0
 
 -- a definition behind its first byte, where so many entries stand earlier
-abbrev pub SkipsDefinition : Counts → Option Body → List ℕ → ℕ → Skipped → Type 0
+abbrev pub SkipsDefinition : Counts → Option Body → List ℕ → ℕ → std.Option Skipped → Type 0
 SkipsDefinition n body s at r = (first : ℕ) → Skips (read_body first body) (cites_earlier n) kids_in s at r
 
 -- the same, where the tables have so many entries
-abbrev pub SkipsAfter : ℕ → ℕ → Option Body → List ℕ → ℕ → Skipped → Type 0
+abbrev pub SkipsAfter : ℕ → ℕ → Option Body → List ℕ → ℕ → std.Option Skipped → Type 0
 SkipsAfter constants bootstraps body s at r = (n : Counts) → n.constants ≡ constants → n.bootstraps ≡ bootstraps → SkipsDefinition n body s at r
 
 -- a setting's number stands at a place
@@ -170,14 +178,14 @@ is_broken (named kind s r) = false
 is_broken (placed kind at number) = false
 is_broken (setting s) = false
 
--- one more than the record of the first such text, with one record more; 0: there is none
-unfoldable pub broken_with : ℕ → Bool → ℕ → ℕ
-broken_with place broken zero = elim broken [ true ↦ suc place | false ↦ 0 ]
-broken_with place broken (suc earlier) = suc earlier
+-- the record of the first such text, with one record more
+unfoldable pub broken_with : ℕ → Bool → std.Option ℕ → std.Option ℕ
+broken_with place broken None = elim broken [ true ↦ Some place | false ↦ None ]
+broken_with place broken (Some earlier) = Some earlier
 
-unfoldable pub as_broken : ℕ → Option ℕ
-as_broken zero = none
-as_broken (suc place) = some place
+unfoldable pub as_broken : std.Option ℕ → Option ℕ
+as_broken None = none
+as_broken (Some place) = some place
 
 -- ---- counting
 
@@ -257,9 +265,9 @@ counts_of list requests =
     }
 
 -- what the form pass returns
-unfoldable pub formed_of : Result Refusal (Job (List ℕ)) → Formed
-formed_of (good job) = formed.Counts (counts_of job.definitions (length job.requests))
-formed_of (bad refusal) = formed.Refused refusal.code refusal.place
+unfoldable pub formed_of : Result Refusal (Job (List ℕ)) → Result Refusal JobCounts
+formed_of (good job) = good (counts_of job.definitions (length job.requests))
+formed_of (bad refusal) = bad refusal
 
 -- counts, and those of definitions and requests behind them
 unfoldable pub more : JobCounts → List (Definition (List ℕ)) → ℕ → JobCounts
@@ -360,9 +368,10 @@ setting_fault Texts number c = once_fault c.texts
 setting_fault Highest number c = highest_fault c.definitions number
 setting_fault Expression number c = 0
 
--- no record 48 stands with a text that isn't one, where there are so many, and one more than the record of the first such text is this
-unfoldable pub texts_hold : ℕ → ℕ → Bool
-texts_hold holding broken = eqb broken 0 || eqb holding 0
+-- 25 at the first text that isn't one, where so many records 48 stand
+unfoldable pub texts_hold : ℕ → std.Option ℕ → Result Refusal (Unit {0})
+texts_hold holding None = good tt
+texts_hold holding (Some place) = at_record place (unless (eqb holding 0) 25)
 
 -- ---- a record, and all of them
 
@@ -388,9 +397,9 @@ pub record Moved {A : Type 0} (f : ℕ → List ℕ → Result ℕ (A × List �
   pub bounded : Bounded next d
 
 -- a record at a place is read as f does from its first byte
-abbrev pub Steps : {A : Type 0} → (ℕ → List ℕ → Result ℕ (A × List ℕ)) → (A → List (Definition (List ℕ))) → ℕ → List ℕ → ℕ → JobCounts → Step → Type 0
-Steps f list requests s at c (step.To next d) = Moved f list requests s at c next d
-Steps f list requests s at c (step.Refused code) = f (get_or s at 0) (drop (at + 1) s) ≡ bad code
+abbrev pub Steps : {A : Type 0} → (ℕ → List ℕ → Result ℕ (A × List ℕ)) → (A → List (Definition (List ℕ))) → ℕ → List ℕ → ℕ → JobCounts → std.Result Step refusals.Refusal → Type 0
+Steps f list requests s at c (Ok r) = Moved f list requests s at c r.next r.counts
+Steps f list requests s at c (Err refusal) = f (get_or s at 0) (drop (at + 1) s) ≡ bad (number refusal)
 
 -- what is seen of all definitions: what they count, beside what was counted before them, the entries, and the bytes behind 50; not the
 -- first text that isn't one
@@ -398,23 +407,53 @@ unfoldable pub tallied : JobCounts → Result Refusal Definitions → Result Ref
 tallied c (good d) = good (more c d.list 0, with_broken none d.counts, d.rest)
 tallied c (bad refusal) = bad refusal
 
-abbrev pub defined_as : List ℕ → Defined → Result Refusal (JobCounts × Counts × List ℕ)
-defined_as s (defined.To next counts) = good (counts, tables_in counts, drop next s)
-defined_as s (defined.Refused code place) = bad (record { code = code; place = place })
+-- what is left of them at a place, after what was counted, with this for the first text that isn't one
+abbrev pub Holding : JobCounts → Option ℕ → Counts
+Holding c b =
+    record {
+      constants = c.constants;
+      bootstraps = c.bootstraps;
+      records = c.definitions;
+      versions = c.versions;
+      texts = c.texts;
+      broken = b;
+    }
 
-abbrev pub Within : List ℕ → Defined → Type 0
-Within s (defined.To next counts) = (next ≤ length s) × Bounded next counts
-Within s (defined.Refused code place) = Unit {0}
+abbrev pub DefinitionsLeft : List ℕ → ℕ → JobCounts → Option ℕ → Result Refusal (JobCounts × Counts × List ℕ)
+DefinitionsLeft s at c b = tallied c (form_definitions (length s - c.definitions) (Holding c b) c.definitions (drop at s))
+
+-- a refusal and its place, as the definition has them
+abbrev pub told : Refused → Refusal
+told r = record { code = number r.refusal; place = r.place }
+
+-- a definition was read at a place, or 50 stands there, or the definitions are refused, whatever text isn't one
+pub record Defines (s : List ℕ) (at : ℕ) (c : JobCounts) (r : Step) : Type 0 where
+  pub low : at < length s
+  pub other : get_or s at 0 ≡ 0x50 → ⊥
+  pub moved : Moved (form_definition (tables_in c)) (λ d. d ∷ []) 0 s at c r.next r.counts
+
+abbrev pub Next : List ℕ → ℕ → JobCounts → std.Result (std.Option Step) Refused → Type 0
+Next s at c (Ok (Some r)) = Defines s at c r
+Next s at c (Ok None) = (at < length s) × (get_or s at 0 ≡ 0x50)
+Next s at c (Err refused) = (b : Option ℕ) → DefinitionsLeft s at c b ≡ bad (told refused)
+
+abbrev pub defined_as : List ℕ → std.Result Step Refused → Result Refusal (JobCounts × Counts × List ℕ)
+defined_as s (Ok r) = good (r.counts, tables_in r.counts, drop r.next s)
+defined_as s (Err refused) = bad (told refused)
+
+abbrev pub Within : List ℕ → std.Result Step Refused → Type 0
+Within s (Ok r) = (r.next ≤ length s) × Bounded r.next r.counts
+Within s (Err refused) = Unit {0}
 
 -- the record in turn, behind the definitions, 50 and the requests so far
 abbrev pub place_of : JobCounts → ℕ
 place_of c = suc (c.definitions + c.requests)
 
 -- what the requests and 60 lead to, after what was counted before them
-unfoldable pub formed_requests : JobCounts → Result Refusal Requests → Formed
-formed_requests c (good r) = formed.Counts (more c [] (length r.list))
-formed_requests c (bad refusal) = formed.Refused refusal.code refusal.place
+unfoldable pub formed_requests : JobCounts → Result Refusal Requests → Result Refusal JobCounts
+formed_requests c (good r) = good (more c [] (length r.list))
+formed_requests c (bad refusal) = bad refusal
 
-unfoldable pub formed_build : JobCounts → Result Refusal Build → Formed
-formed_build c (good b) = formed.Counts c
-formed_build c (bad refusal) = formed.Refused refusal.code refusal.place
+unfoldable pub formed_build : JobCounts → Result Refusal Build → Result Refusal JobCounts
+formed_build c (good b) = good c
+formed_build c (bad refusal) = bad refusal

@@ -1,6 +1,7 @@
 -- `job::first_reference` meets its contract. Assumes nothing.
-use Rattle.job.proofs.Stored.{bootstrap_first, handle_first, constant_first}
-use borrow.Author.Rules.{rules}
+use Rattle.std.specs.Prelude.{Some}
+use mathlib.Core.Path.{ap, ◌∙◌}
+use Rattle.job.proofs.Stored.{known, bootstrap_first, handle_first, constant_first}
 use borrow.Enum.Refused.{opened}
 use Rattle.job.proofs.first_reference.Goals as goal
 
@@ -11,9 +12,12 @@ returns-in_default c = let a = c.args in
 pub returns-in-KindOne : goal.returns-in-KindOne
 returns-in-KindOne c = let a = c.args in
     let t = c.opening_of.ensures in
-    handle_first a.job.now a.at _ _ c.tag_at.ensures t.0 c.in-Constant.shape c.in-Constant.is t.1 c.in-KindOne.is
+    handle_first a.job.now a.at _ _ c.tag_at.ensures t.0 c.in-Constant.shape c.in-Constant.is t.1 (c.unwrap.ensures ∙ ap Some c.in-KindOne.is)
 
-pub returns-in_default-shape : goal.returns-in_default-shape
-returns-in_default-shape c = let a = c.args in
+pub returns-in_default-unwrap : goal.returns-in_default-unwrap
+returns-in_default-unwrap c = let a = c.args in
     let t = c.opening_of.ensures in
-    constant_first a.job.now a.at _ _ c.tag_at.ensures t.0 c.in-Constant.shape c.in-Constant.is t.1 (opened c.in_default-shape.in_default-shape-own.keys2)
+    constant_first a.job.now a.at _ _ c.tag_at.ensures t.0 c.in-Constant.shape c.in-Constant.is t.1 _ c.unwrap.ensures (opened c.in_default-unwrap.in_default-unwrap-own.keys2)
+
+pub unwrap-requires : goal.unwrap-requires
+unwrap-requires c = known _ _ _ _ c.tag_at.ensures c.opening_of.ensures.0 c.in-Constant.shape c.in-Constant.is c.requires

@@ -1,14 +1,20 @@
 -- `job::form` meets its contract. Assumes nothing.
-use Rattle.job.proofs.Whole.{whole-good, whole-bad}
-use mathlib.Core.Path.{sym, ◌∙◌}
-use borrow.Author.Rules.{rules}
+use Rattle.std.specs.Prelude.{Err}
+use Rattle.std.proofs.Common.{rules}
+use Rattle.refusal.specs.Numbers.{told_of}
+use Rattle.job.specs.Forms.{told}
+use Rattle.job.proofs.Whole.{whole-bad, whole-good}
+use mathlib.Core.Path.{◌≡◌, sym, ap, ◌∙◌}
 use Rattle.job.proofs.form.Goals as goal
 
-pub form_requests-requires : goal.form_requests-requires
-form_requests-requires c = rw c.in-To.is at c.form_definitions.ensures.within
+pub returns-in_err-defined : goal.returns-in_err-defined
+unfolding told_of
+returns-in_err-defined c =
+    let f = c.in_err-defined.field-0.0 in
+    let r : c.from_residual.result ≡ Err f = search rules in
+    ap told_of r ∙ sym (whole-bad c.args.job.now (told f) c.in_err-defined.ensures.job_value)
 
-pub returns-in-To : goal.returns-in-To
-returns-in-To c = c.form_requests.ensures ∙ sym (whole-good c.args.job.now c.in-To.counts c.in-To.next (rw c.in-To.is at c.form_definitions.ensures.job_value))
-
-pub returns-in-Refused : goal.returns-in-Refused
-returns-in-Refused c = sym (whole-bad c.args.job.now (record { code = c.in-Refused.code; place = c.in-Refused.place }) (rw c.in-Refused.is at c.form_definitions.ensures.job_value))
+pub returns : goal.returns
+returns c =
+    let d = c.in_ok-defined in
+    c.form_requests.ensures ∙ sym (whole-good c.args.job.now d.defined.counts d.defined.next d.ensures.job_value)

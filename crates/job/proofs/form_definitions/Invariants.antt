@@ -1,21 +1,16 @@
--- `job::form_definitions` meets its contract. Assumes nothing.
-use native.Mathlib.Omega.{arith}
-use Prim.Native.Nat.{ℕ, ◌-◌, ◌≤◌}
-use mathlib.Core.List.{[]}
-use mathlib.Core.Option.{Option, none}
-use mathlib.Core.Path.{◌≡◌, sym, ◌∙◌}
-use lib.ListN.{length}
-use Rattle.definition.specs.Basics.{only}
+-- `job::form_definitions`: what is left of the definitions comes to the whole, and the last is nearer to the end. Assumes nothing.
+use Rattle.std.specs.Prelude.{◌≡◌, [], ℕ, ◌-◌, ◌≤◌, length}
+use Rattle.std.proofs.Math.Option.{Option}
 use Rattle.definition.specs.Form.{nothing_yet, form_definitions}
-use Rattle.definition.specs.Settings.{highest_of}
-use Rattle.definition.specs.Numbering.{entries, constants_of, bootstraps_of, settings}
-use Rattle.job.specs.Forms.{Bounded, counts_of, references_in, version_from, tallied}
-use Rattle.job.proofs.Passes.{DefinitionsLeft, broken_behind, definitions_start, definitions_end, definitions_bad, definitions_free, definitions_none}
-use borrow.Author.Rules.{rules}
+use Rattle.job.specs.Forms.{counts_of, Bounded, tallied, DefinitionsLeft}
 use Rattle.job.proofs.form_definitions.Given as goal
 
-abbrev pub invariant-loop-at : goal.invariant-loop-at
-invariant-loop-at l = (l.at ≤ length l.job) × Bounded l.at l.counts × (b : Option ℕ) × (DefinitionsLeft l.job l.at l.counts b ≡ tallied (counts_of [] 0) (form_definitions (length l.job) nothing_yet 0 l.job))
+abbrev pub invariant-loop-step : goal.invariant-loop-step
+invariant-loop-step l =
+    (l.so_far.next ≤ length l.job)
+    × Bounded l.so_far.next l.so_far.counts
+    × (b : Option ℕ)
+    × (DefinitionsLeft l.job l.so_far.next l.so_far.counts b ≡ tallied (counts_of [] 0) (form_definitions (length l.job) nothing_yet 0 l.job))
 
-abbrev pub decreases-loop-at : goal.decreases-loop-at
-decreases-loop-at l = length l.job - l.at
+abbrev pub decreases-loop-step : goal.decreases-loop-step
+decreases-loop-step l = length l.job - l.so_far.next

@@ -1,11 +1,9 @@
 -- `job::form_requests` meets its contract. Assumes nothing.
-use Rattle.job.proofs.Passes.{RequestsLeft, requests_end, requests_bad, requests_next, requests_none}
+use Rattle.job.proofs.Passes.{RequestsLeft}
 use Rattle.job.specs.Forms.{Bounded}
 use lib.ListN.{length}
-use mathlib.Core.Path.{◌≡◌, refl, sym, ◌∙◌}
+use mathlib.Core.Path.{◌≡◌}
 use Prim.Native.Nat.{◌-◌, ◌≤◌}
-use native.Mathlib.Omega.{arith}
-use borrow.Author.Rules.{rules}
 use Rattle.job.proofs.form_requests.Given as goal
 
 abbrev pub invariant-loop-at : goal.invariant-loop-at

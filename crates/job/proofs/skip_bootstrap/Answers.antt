@@ -1,44 +1,45 @@
 -- `job::skip_bootstrap` meets its contract. Assumes nothing.
-use Prim.Native.Nat.{◌+◌}
-use Rattle.job.proofs.Entries.{reference-bounds, several_bounds, to_cut, bootstrap_to, bootstrap_cut, arguments-cut}
 use Rattle.definition.specs.Shapes.{constant, to_many, bootstrap_shape}
 use Rattle.definition.specs.Form.{count_of}
 use mathlib.Core.List.{[], ◌∷◌}
+use Prim.Native.Nat.{◌+◌}
 use native.Mathlib.Omega.{arith}
-use borrow.Author.Rules.{rules}
+use Rattle.job.proofs.Entries.{reference-bounds, several_bounds, to_cut, bootstrap_to, bootstrap_cut, arguments-cut}
 use Rattle.job.proofs.skip_bootstrap.Goals as goal
 
-pub returns-in_default : goal.returns-in_default
+pub returns-in_err-handle : goal.returns-in_err-handle
 unfolding count_of bootstrap_shape
-returns-in_default c = λ n e.
-    to_cut n c.args.job.now c.args.at constant (to_many ∷ []) (rw c.in_default.is at (c.skip_reference.ensures constant n e))
+returns-in_err-handle c n e =
+    rw c.from_residual.ensures (to_cut n c.args.job.now c.args.at constant (to_many ∷ []) (rw c.in_err-handle.was at (c.skip_reference.ensures constant n e)))
 
-pub overflow_sub-job : goal.overflow_sub-job
-overflow_sub-job c = let a = c.args in
-    (reference-bounds a.entries a.job.now a.at c.in-To.next c.in-To.cited c.in-To.references (rw c.in-To.is at c.skip_reference.ensures)).1
+pub number_at-requires : goal.number_at-requires
+number_at-requires c = (reference-bounds c.args.entries c.args.job.now c.args.at c.in_ok-handle.handle (rw c.in_ok-handle.was at c.skip_reference.ensures)).1
 
-pub returns-then-job-next-lt2 : goal.returns-then-job-next-lt2
+pub returns-in_err-n : goal.returns-in_err-n
 unfolding count_of
-returns-then-job-next-lt2 c = λ n e.
-    let a = c.args in
-    bootstrap_cut n a.job.now a.at c.in-To.next c.in-To.cited c.in-To.references (rw c.in-To.is at (c.skip_reference.ensures constant n e)) c.if-job-next-lt2.true
+returns-in_err-n c n e =
+    let h = c.in_ok-handle.handle in
+    rw c.from_residual-in_err-n.ensures
+    (bootstrap_cut n c.args.job.now c.args.at h.next h.cited h.references (rw c.in_ok-handle.was at (c.skip_reference.ensures constant n e)) c.in_err-n.ensures)
+
+pub returns-in_err-arguments : goal.returns-in_err-arguments
+unfolding count_of
+returns-in_err-arguments c n e =
+    let h = c.in_ok-handle.handle in
+    rw c.from_residual-in_err-arguments.ensures
+    (arguments-cut n c.args.job.now c.args.at h.next h.cited h.references (rw c.in_ok-handle.was at (c.skip_reference.ensures constant n e)) c.in_ok-n.ensures.0
+    (rw (c.in_err-arguments.was, c.in_ok-n.ensures.1) at (c.skip_references.ensures n e)))
 
 pub overflow_add-result : goal.overflow_add-result
-overflow_add-result c = let a = c.args in
-    let b = several_bounds a.entries c.get_u16-n.result a.job.now (c.in-To.next + 2) c.in-To-skip_references.end c.in-To-skip_references.all_cited c.in-To-skip_references.references (rw c.in-To-skip_references.is at c.skip_references.ensures) in
+overflow_add-result c =
+    let r = c.in_ok-arguments.arguments in
+    let b = several_bounds c.args.entries c.in_ok-n.n c.args.job.now (c.in_ok-handle.handle.next + 2) r (rw c.in_ok-arguments.was at c.skip_references.ensures) in
     omega (arith, c.well_formed)
 
-pub returns-in-To-skip_references : goal.returns-in-To-skip_references
+pub returns : goal.returns
 unfolding count_of
-returns-in-To-skip_references c = λ n e.
-    let a = c.args in
-    bootstrap_to n a.job.now a.at c.in-To.next c.in-To.cited c.in-To.references (rw c.in-To.is at (c.skip_reference.ensures constant n e))
-    c.in-To-skip_references.end c.in-To-skip_references.all_cited c.in-To-skip_references.references (omega arith)
-    (rw (c.in-To-skip_references.is, c.get_u16-n.ensures) at (c.skip_references.ensures n e))
-
-pub returns-in-Cut : goal.returns-in-Cut
-unfolding count_of
-returns-in-Cut c = λ n e.
-    let a = c.args in
-    arguments-cut n a.job.now a.at c.in-To.next c.in-To.cited c.in-To.references (rw c.in-To.is at (c.skip_reference.ensures constant n e)) (omega arith)
-    (rw (c.in-Cut.is, c.get_u16-n.ensures) at (c.skip_references.ensures n e))
+returns c n e =
+    let h = c.in_ok-handle.handle in
+    let r = c.in_ok-arguments.arguments in
+    bootstrap_to n c.args.job.now c.args.at h.next h.cited h.references (rw c.in_ok-handle.was at (c.skip_reference.ensures constant n e))
+    r.next r.cited r.references c.in_ok-n.ensures.0 (rw (c.in_ok-arguments.was, c.in_ok-n.ensures.1) at (c.skip_references.ensures n e))

@@ -4,7 +4,6 @@ use Rattle.definition.specs.Shapes.{constant, bootstrap, bootstrap_shape}
 use Rattle.definition.specs.Settings.{version, texts, highest}
 use Rattle.job.specs.Forms.{body_of}
 use Rattle.job.proofs.Records.{entry_to, number-to, nothing_to, expression-to}
-use borrow.Author.Rules.{rules}
 use Rattle.job.proofs.skip_definition.Goals as goal
 
 pub returns-in-Constant : goal.returns-in-Constant
@@ -39,7 +38,7 @@ returns-in-Version c = let a = c.args in
 
 pub returns-in-Texts : goal.returns-in-Texts
 unfolding body_of
-returns-in-Texts c = let a = c.args in λ n e f. rw c.in-Texts.is (nothing_to n a.job.now a.at texts c.requires)
+returns-in-Texts c = let a = c.args in λ n e f. rw (c.in-Texts.is, c.bare.ensures) (nothing_to n a.job.now a.at texts c.requires)
 
 pub returns-in-Highest : goal.returns-in-Highest
 unfolding body_of

@@ -1,7 +1,6 @@
 -- `job::skip_form` meets its contract. Assumes nothing.
 use Rattle.job.proofs.Laws.{form-raw, form-number, form-name, form-unknown}
 use native.Mathlib.Omega.{arith}
-use borrow.Author.Rules.{rules}
 use Rattle.job.proofs.skip_form.Goals as goal
 
 pub returns-in-0 : goal.returns-in-0

@@ -3,7 +3,6 @@ use Rattle.job.proofs.Entries.{handle_to, handle_cut}
 use Rattle.definition.specs.Shapes.{constant}
 use Rattle.definition.specs.Form.{count_of}
 use native.Mathlib.Omega.{arith}
-use borrow.Author.Rules.{rules}
 use Rattle.job.proofs.skip_handle.Goals as goal
 
 pub returns-then-job-at : goal.returns-then-job-at

@@ -4,7 +4,6 @@ use Rattle.definition.specs.Job.{short_name}
 use Rattle.definition.specs.Bytes.{one, many}
 use mathlib.Core.Bool.{true}
 use native.Mathlib.Omega.{arith}
-use borrow.Author.Rules.{rules}
 use Rattle.job.proofs.skip_name.Goals as goal
 
 pub returns-then-job-at : goal.returns-then-job-at
@@ -14,4 +13,4 @@ returns-then-job-at c = none-one (λ _. true) (λ _. 0) c.args.job.now c.args.at
 pub returns : goal.returns
 unfolding short_name
 returns c = then_one (λ _. true) (λ _. 0) c.args.job.now c.args.at (λ size. many size one) c.skip_bytes.result (omega arith)
-    (rw c.get_u8-n.ensures at c.skip_bytes.ensures)
+    c.skip_bytes.ensures

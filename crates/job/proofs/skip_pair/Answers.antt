@@ -1,25 +1,26 @@
 -- `job::skip_pair` meets its contract. Assumes nothing.
-use Rattle.job.proofs.Entries.{reference-bounds, to_cut, pair_to, pair_cut}
-use mathlib.Core.List.{[], ◌∷◌}
 use Rattle.definition.specs.Shapes.{to}
-use borrow.Author.Rules.{rules}
+use mathlib.Core.List.{[], ◌∷◌}
+use Rattle.job.proofs.Entries.{reference-bounds, to_cut, pair_to, pair_cut}
 use Rattle.job.proofs.skip_pair.Goals as goal
 
-pub skip_reference-requires-in-To : goal.skip_reference-requires-in-To
-skip_reference-requires-in-To c = let a = c.args in
-    (reference-bounds a.entries a.job.now a.at c.in-To.next c.in-To.cited c.in-To.references (rw c.in-To.is at c.skip_reference.ensures)).1
+pub returns-in_err-first : goal.returns-in_err-first
+returns-in_err-first c k l n e f =
+    rw c.from_residual.ensures (to_cut n c.args.job.now c.args.at k (to l ∷ []) (rw c.in_err-first.was at (c.skip_reference.ensures k n e)))
 
-pub returns-in-To-skip_reference : goal.returns-in-To-skip_reference
-returns-in-To-skip_reference c = λ k l n e f.
-    let a = c.args in
-    pair_to n a.job.now a.at k l c.in-To.next c.in-To.cited c.in-To.references (rw c.in-To.is at (c.skip_reference.ensures k n e))
-    c.in-To-skip_reference.end c.in-To-skip_reference.second_cited c.in-To-skip_reference.references (rw c.in-To-skip_reference.is at (c.skip_reference-in-To.ensures l n f))
+pub skip_reference-requires-2 : goal.skip_reference-requires-2
+skip_reference-requires-2 c = (reference-bounds c.args.entries c.args.job.now c.args.at c.in_ok-first.first (rw c.in_ok-first.was at c.skip_reference.ensures)).1
 
-pub returns-in-Cut-skip_reference : goal.returns-in-Cut-skip_reference
-returns-in-Cut-skip_reference c = λ k l n e f.
-    let a = c.args in
-    pair_cut n a.job.now a.at k l c.in-To.next c.in-To.cited c.in-To.references (rw c.in-To.is at (c.skip_reference.ensures k n e))
-    (rw c.in-Cut-skip_reference.is at (c.skip_reference-in-To.ensures l n f))
+pub returns-in_err-second : goal.returns-in_err-second
+returns-in_err-second c k l n e f =
+    let r = c.in_ok-first.first in
+    rw c.from_residual-in_err-second.ensures
+    (pair_cut n c.args.job.now c.args.at k l r.next r.cited r.references (rw c.in_ok-first.was at (c.skip_reference.ensures k n e))
+    (rw c.in_err-second.was at (c.skip_reference-2.ensures l n f)))
 
-pub returns-in-Cut : goal.returns-in-Cut
-returns-in-Cut c = λ k l n e f. to_cut n c.args.job.now c.args.at k (to l ∷ []) (rw c.in-Cut.is at (c.skip_reference.ensures k n e))
+pub returns : goal.returns
+returns c k l n e f =
+    let r = c.in_ok-first.first in
+    let q = c.in_ok-second.second in
+    pair_to n c.args.job.now c.args.at k l r.next r.cited r.references (rw c.in_ok-first.was at (c.skip_reference.ensures k n e))
+    q.next q.cited q.references (rw c.in_ok-second.was at (c.skip_reference-2.ensures l n f))

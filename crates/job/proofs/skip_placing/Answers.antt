@@ -1,12 +1,9 @@
 -- `job::skip_placing` meets its contract. Assumes nothing.
-use Rattle.job.proofs.Records.{placing_to, placing_cut}
-use native.Mathlib.Omega.{arith}
-use borrow.Author.Rules.{rules}
+use Rattle.job.proofs.Records.{placing_cut, placing_to}
 use Rattle.job.proofs.skip_placing.Goals as goal
 
-pub returns-then-job-at-lt2 : goal.returns-then-job-at-lt2
-returns-then-job-at-lt2 c = λ kind n e. placing_cut n c.args.job.now c.args.at kind c.if-job-at-lt2.true
+pub returns-in_err-number_at : goal.returns-in_err-number_at
+returns-in_err-number_at c kind n e = rw c.from_residual.ensures (placing_cut n c.args.job.now c.args.at kind c.in_err-number_at.ensures)
 
 pub returns : goal.returns
-returns c = λ kind n e.
-    placing_to n c.args.job.now c.args.at kind c.args.entries c.skip_number.result e (omega arith) c.skip_number.ensures
+returns c kind n e = placing_to n c.args.job.now c.args.at kind c.args.entries c.skip_number.result e c.in_ok-number_at.ensures.0 c.skip_number.ensures

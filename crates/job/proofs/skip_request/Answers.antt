@@ -9,7 +9,6 @@ use Rattle.definition.specs.Basics.{lookup}
 use mathlib.Core.Path.{refl}
 use mathlib.Core.Bool.{true, false}
 use native.Mathlib.Omega.{arith}
-use borrow.Author.Rules.{rules}
 use Rattle.job.proofs.skip_request.Goals as goal
 
 pub returns-in-81 : goal.returns-in-81
