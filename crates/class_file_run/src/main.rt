@@ -7,221 +7,141 @@
 // `refused CODE`.
 #![tactic(auto)]
 
-ghost use Rattle.std.specs.Prelude.{◌≤◌, length};
+ghost use Rattle.std.specs.Prelude.{◌+◌, ◌≤◌, length};
 
-use class_file::{ClassRead, Written};
-use frames::{FRAME_CUT, GO_ON, READ_FAILED, STREAM_ENDS};
-use std::io::{Result, Stderr, Stdin, Stdout};
+use class_file::Parts;
+use frames::{End, Line, ReadError};
+use refusal::Refusal;
+use std::io;
+use std::io::{Read, Write};
+use writer::BigEndian;
 
-// The first n bytes in hex, if there are so many.
-fn put_bytes(text: &mut [u8], start: usize, bytes: &[u8], n: usize) -> usize {
-    if bytes.len() < n {
-        return start;
-    }
-    let mut at = start;
-    let mut i = 0;
-    while i < n {
-        at = frames::put_hex(text, at, bytes[i]);
-        i += 1;
-    }
-    at
-}
+// The longest pool that is taken to write.
+const LONGEST_POOL: usize = 262144;
 
-fn put_written(text: &mut [u8], written: Written, file: &[u8]) -> usize {
+fn put_written(line: &mut Line, written: Result<usize, Refusal>, file: &[u8]) {
     match written {
-        Written::File(n) => {
-            let word = frames::put_word(text, 0, b"file ");
-            put_bytes(text, word, file, n)
+        Ok(n) => {
+            line.put_word(b"file ");
+            for b in file.iter().take(n) {
+                line.put_hex(*b);
+            }
         }
-        Written::Refused(code) => frames::put_refusal(text, code),
+        Err(refusal) => line.put_refusal(u32::from(refusal)),
     }
 }
 
-// Writes a file of a frame's numbers, pool and bootstrap methods; whether its line was written.
-fn write_part(
-    output: &mut Stdout,
-    head: &[u8; 14],
-    pool: &[u8],
-    n: usize,
-    methods: &[u8],
-    size: usize,
-    file: &mut [u8],
-    text: &mut [u8],
-) -> Result<bool>
-    requires n_in_bounds { n ≤ length pool.now }
-    requires size_in_bounds { size ≤ length methods.now }
-{
-    let written = class_file::write_class(
-        writer::get_u16(head, 0),
-        writer::get_u16(head, 2),
-        &pool[..n],
-        writer::get_u16(head, 4),
-        writer::get_u16(head, 6),
-        writer::get_u16(head, 8),
-        writer::get_u16(head, 10),
-        writer::get_u16(head, 12),
-        &methods[..size],
-        file,
-    );
-    let end = put_written(text, written, file);
-    frames::end_line(output, text, end)
-}
-
-fn put_three(text: &mut [u8], at: usize, a: usize, b: usize, c: usize) -> usize {
-    let at = frames::put_number(text, at, a);
-    let at = frames::put_number(text, at, b);
-    frames::put_number(text, at, c)
-}
-
-fn put_parts(
-    text: &mut [u8],
-    minor: u16,
-    major: u16,
-    pool_end: usize,
-    access_flags: u16,
-    this_class: u16,
-    super_class: u16,
-    name: u16,
-    count: u16,
-    bootstraps: usize,
-) -> usize {
-    let at = frames::put_word(text, 0, b"parts");
-    let at = put_three(text, at, minor as usize, major as usize, pool_end);
-    let at = put_three(
-        text,
-        at,
-        access_flags as usize,
-        this_class as usize,
-        super_class as usize,
-    );
-    put_three(text, at, name as usize, count as usize, bootstraps)
-}
-
-fn put_read(text: &mut [u8], read: ClassRead) -> usize {
-    match read {
-        ClassRead::Parts {
-            minor,
-            major,
-            pool_end,
-            access_flags,
-            this_class,
-            super_class,
-            name,
-            count,
-            bootstraps,
-        } => put_parts(
-            text,
-            minor,
-            major,
-            pool_end,
-            access_flags,
-            this_class,
-            super_class,
-            name,
-            count,
-            bootstraps,
-        ),
-        ClassRead::Refused(code) => frames::put_refusal(text, code),
+// The parts that a frame's numbers, pool and bootstrap methods are.
+fn parts_of<'a>(head: &[u8; 14], pool: &'a [u8], bootstraps: &'a [u8]) -> Parts<'a> {
+    Parts {
+        minor: u16::get(head, 0),
+        major: u16::get(head, 2),
+        pool,
+        access_flags: u16::get(head, 4),
+        this_class: u16::get(head, 6),
+        super_class: u16::get(head, 8),
+        name: u16::get(head, 10),
+        count: u16::get(head, 12),
+        bootstraps,
     }
 }
 
-// Reads the file that the first n bytes are; whether its line was written.
-fn read_part(output: &mut Stdout, file: &[u8], n: usize, text: &mut [u8]) -> Result<bool>
-    requires { n ≤ length file.now }
-{
-    let end = put_read(text, class_file::read_class(&file[..n]));
-    frames::end_line(output, text, end)
-}
-
+// Writes the file of a frame's parts.
 fn next_write(
-    input: &mut Stdin,
-    output: &mut Stdout,
+    input: &mut impl Read,
+    line: &mut Line,
     pool: &mut [u8; 262208],
     methods: &mut [u8; 131072],
-    file: &mut [u8; 196608],
-    text: &mut [u8; 524288],
-) -> Result<u8> {
+    file: &mut [u8],
+) -> Result<(), ReadError> {
     let mut head = [0u8; 14];
-    if !frames::read_part(input, &mut head, 14)? {
-        return Ok(FRAME_CUT);
-    }
-    let n = frames::next_block(input, pool)?;
-    if 262144 < n {
-        return Ok(FRAME_CUT);
-    }
+    frames::read_part(input, &mut head, 14)?;
+    let n = frames::next_block(input, &mut pool[..LONGEST_POOL])?;
     let size = frames::next_block(input, methods)?;
-    if 131072 < size {
-        return Ok(FRAME_CUT);
-    }
-    let written = write_part(output, &head, pool, n, methods, size, file, text);
-    Ok(frames::after(written.unwrap_or(false)))
+    let parts = parts_of(&head, &pool[..n], &methods[..size]);
+    let written = class_file::write_class(&parts, file);
+    put_written(line, written, file);
+    Ok(())
 }
 
+// Where the pool ends and where the bootstrap methods begin, of the parts of a file: magic number and versions stand in front of the
+// pool, and nothing behind the bootstrap methods.
+fn put_parts(line: &mut Line, parts: &Parts, file: &[u8])
+    requires { 8 + length parts.now.pool.now + length parts.now.bootstraps.now ≤ length file.now }
+{
+    line.put_word(b"parts");
+    line.put_number(parts.minor as usize);
+    line.put_number(parts.major as usize);
+    line.put_number(8 + parts.pool.len());
+    line.put_number(parts.access_flags as usize);
+    line.put_number(parts.this_class as usize);
+    line.put_number(parts.super_class as usize);
+    line.put_number(parts.name as usize);
+    line.put_number(parts.count as usize);
+    line.put_number(file.len() - parts.bootstraps.len());
+}
+
+// Reads a frame's file.
 fn next_read(
-    input: &mut Stdin,
-    output: &mut Stdout,
+    input: &mut impl Read,
+    line: &mut Line,
     file: &mut [u8; 262208],
-    text: &mut [u8; 524288],
-) -> Result<u8> {
+) -> Result<(), ReadError> {
     let n = frames::next_block(input, file)?;
-    if 262208 < n {
-        return Ok(FRAME_CUT);
+    let file = &file[..n];
+    match class_file::read_class(file) {
+        Ok(parts) => put_parts(line, &parts, file),
+        Err(refusal) => line.put_refusal(u32::from(refusal)),
     }
-    let written = read_part(output, file, n, text);
-    Ok(frames::after(written.unwrap_or(false)))
+    Ok(())
 }
 
 // One class, if there is one. A pool or a file that is read stands in `bytes`.
 fn next_class(
-    input: &mut Stdin,
-    output: &mut Stdout,
+    input: &mut impl Read,
+    output: &mut impl Write,
+    line: &mut Line,
     bytes: &mut [u8; 262208],
     methods: &mut [u8; 131072],
-    file: &mut [u8; 196608],
-    text: &mut [u8; 524288],
-) -> Result<u8> {
+    file: &mut [u8],
+) -> Result<(), End> {
     let mut kind = [0u8; 1];
-    if !frames::read_part(input, &mut kind, 1)? {
-        return Ok(STREAM_ENDS);
-    }
-    if kind[0] == 0 {
-        return next_write(input, output, bytes, methods, file, text);
-    }
-    next_read(input, output, bytes, text)
-}
-
-// The next class; a read that fails ends the stream.
-fn go_on(
-    input: &mut Stdin,
-    output: &mut Stdout,
-    bytes: &mut [u8; 262208],
-    methods: &mut [u8; 131072],
-    file: &mut [u8; 196608],
-    text: &mut [u8; 524288],
-) -> u8 {
-    next_class(input, output, bytes, methods, file, text).unwrap_or(READ_FAILED)
+    frames::read_part(input, &mut kind, 1)?;
+    let read = if kind[0] == 0 {
+        next_write(input, line, bytes, methods, file)
+    } else {
+        next_read(input, line, bytes)
+    };
+    read.map_err(|e| e.inside())?;
+    line.end(output)?;
+    Ok(())
 }
 
 // Classes in turn; how the stream ends is told.
 fn run_stream(
-    input: &mut Stdin,
-    output: &mut Stdout,
-    errors: &mut Stderr,
+    input: &mut impl Read,
+    output: &mut impl Write,
+    errors: &mut impl Write,
     bytes: &mut [u8; 262208],
     methods: &mut [u8; 131072],
     file: &mut [u8; 196608],
     text: &mut [u8; 524288],
-) -> Result<()> {
+) -> io::Result<()> {
+    let mut line = Line::new(text);
     let mut classes: u64 = 0;
-    let mut how = go_on(input, output, bytes, methods, file, text);
-    while classes < u64::MAX && how == GO_ON {
+    let end = loop {
+        if let Err(end) = next_class(input, output, &mut line, bytes, methods, file) {
+            break end;
+        }
+        if classes == u64::MAX {
+            break End::WriteFailed;
+        }
         classes += 1;
-        how = go_on(input, output, bytes, methods, file, text);
-    }
-    frames::tell(errors, b"class_file_run", how, classes)
+    };
+    frames::tell(errors, b"class_file_run", end, classes)
 }
 
-fn main(rt: HostRuntime) -> Result<()> {
+fn main(rt: HostRuntime) -> io::Result<()> {
     let mut bytes = [0u8; 262208];
     let mut methods = [0u8; 131072];
     let mut file = [0u8; 196608];
