@@ -11,14 +11,8 @@ use Prim.Native.Nat.{◌+◌}
 use borrow.Author.Rules.{rules}
 use Rattle.definitions.proofs.add_bs_raw_def.Goals as goal
 
-pub overflow_add-at : goal.overflow_add-at
-overflow_add-at c = let a = c.args in let h = c.requires in omega (arith, raw_stands a.p.now h.2.0 a.job.now (store a.p.now a.w.now) a.at h.2.1 h.1 (λ i. (c.type_inv.job i).fits) bootstrap h.3, (room a.job.now a.p.now h.1).bytes)
-
 pub get_u16-index-requires : goal.get_u16-index-requires
 get_u16-index-requires c = let a = c.args in let h = c.requires in omega (arith, raw_stands a.p.now h.2.0 a.job.now (store a.p.now a.w.now) a.at h.2.1 h.1 (λ i. (c.type_inv.job i).fits) bootstrap h.3)
-
-pub overflow_add-at-2 : goal.overflow_add-at-2
-overflow_add-at-2 c = let a = c.args in let h = c.requires in omega (arith, raw_stands a.p.now h.2.0 a.job.now (store a.p.now a.w.now) a.at h.2.1 h.1 (λ i. (c.type_inv.job i).fits) bootstrap h.3, (room a.job.now a.p.now h.1).bytes)
 
 pub get_u16-e-requires : goal.get_u16-e-requires
 get_u16-e-requires c = let a = c.args in let h = c.requires in omega (arith, raw_stands a.p.now h.2.0 a.job.now (store a.p.now a.w.now) a.at h.2.1 h.1 (λ i. (c.type_inv.job i).fits) bootstrap h.3)
@@ -31,9 +25,6 @@ overflow_add-constants c = let a = c.args in let h = c.requires in let m = room 
 
 pub place_bootstrap-requires : goal.place_bootstrap-requires
 place_bootstrap-requires c = let a = c.args in let h = c.requires in let m = room a.job.now a.p.now h.1 in let g = index-cited a.p.now h.2.0 a.job.now (store a.p.now a.w.now) a.at h.2.1 h.1 (λ i. (c.type_inv.job i).fits) h.3 in (search rules, m.raws, some-raws a.p.now h.2.0 a.job.now (store a.p.now a.w.now) a.at h.2.1, g.1, rw c.get_u16-index.ensures (first_low a.p.now h.2.0 a.job.now (store a.p.now a.w.now) a.at h.2.1 h.1 (λ i. (c.type_inv.job i).fits)), rw (c.constants.ensures, m.constants, c.get_u16-e.ensures) (omega (arith, g.0, m.entries)))
-
-pub overflow_add-result : goal.overflow_add-result
-overflow_add-result c = let a = c.args in let h = c.requires in omega (arith, raw_stands a.p.now h.2.0 a.job.now (store a.p.now a.w.now) a.at h.2.1 h.1 (λ i. (c.type_inv.job i).fits) bootstrap h.3, (room a.job.now a.p.now h.1).bytes)
 
 pub returns-in_err-place_bootstrap : goal.returns-in_err-place_bootstrap
 unfolding answered

@@ -6,9 +6,6 @@ use native.Mathlib.Omega.{arith}
 use borrow.Author.Rules.{rules}
 use Rattle.definitions.proofs.add_entry.Goals as goal
 
-pub reference_count-n-requires : goal.reference_count-n-requires
-reference_count-n-requires c = let h = c.requires.2 in (h.0, h.1, h.2.stands)
-
 pub put_entry-requires : goal.put_entry-requires
 put_entry-requires c = let a = c.args in let h = c.requires.2 in let m = room a.job.now a.p.now c.requires.1 in (search rules, omega (arith, m.records, h.2.low), omega (arith, m.offsets, h.2.low), omega (arith, m.firsts, h.2.low), omega (arith, m.sizes, h.2.low), m.counts, omega (arith, m.bytes, h.2.stands.past, h.2.stands.within), omega (arith, m.references, h.2.room, c.reference_count-n.ensures h.0 h.1 h.2.stands))
 

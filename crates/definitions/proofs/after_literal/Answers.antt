@@ -6,15 +6,9 @@ use native.Mathlib.Omega.{arith}
 use borrow.Author.Tests.{eqb-true, eqb-false}
 use Rattle.definitions.proofs.after_literal.Goals as goal
 
-pub is_worked-requires : goal.is_worked-requires
-is_worked-requires c = let h = c.requires.0 in omega (arith, h.2.past, h.2.within)
-
 pub after_worked-requires : goal.after_worked-requires
 after_worked-requires c = let h = c.requires.0 in
     ((h.0, h.1, h.2), sym c.is_worked.ensures ∙ c.if-is_worked.true)
-
-pub returns-then-is_worked : goal.returns-then-is_worked
-returns-then-is_worked c = λ x next f bare. c.after_worked.ensures (define x) next f
 
 pub get_u16-requires : goal.get_u16-requires
 get_u16-requires c = let plain = sym c.is_worked.ensures ∙ c.if-is_worked.false in

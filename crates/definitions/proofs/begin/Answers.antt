@@ -15,12 +15,6 @@ start-requires c = let a = c.args in let q = c.requires in start_asks a.job.now 
 pub define_all-requires : goal.define_all-requires
 define_all-requires c = let a = c.args in let q = c.requires in let l = start_leaves a.job.now a.c q.0 q.1 _ _ _ c.start.ensures in (l.1, l.0, start_zeros a.c _ _ _ _ c.start.ensures, counted a.job.now a.c q.1, q.4)
 
-pub shape_of-w-in_err-define_all : goal.shape_of-w-in_err-define_all
-shape_of-w-in_err-define_all c = c.define_all.auto.w ∙ c.start.auto.w
-
-pub shape_of-p-in_err-define_all : goal.shape_of-p-in_err-define_all
-shape_of-p-in_err-define_all c = c.start.auto.p
-
 pub returns-in_err-define_all : goal.returns-in_err-define_all
 unfolding code_of
 returns-in_err-define_all c = let a = c.args in let q = c.requires in let l = start_leaves a.job.now a.c q.0 q.1 _ _ _ c.start.ensures in let r = err_from_is_err_and c.from_residual.result c.from_residual.ensures.1 in
@@ -29,12 +23,6 @@ returns-in_err-define_all c = let a = c.args in let q = c.requires in let l = st
 pub end_definitions-requires : goal.end_definitions-requires
 unfolding code_of
 end_definitions-requires c = let a = c.args in let q = c.requires in let l = start_leaves a.job.now a.c q.0 q.1 _ _ _ c.start.ensures in let g = c.in_ok-define_all.ensures in (on_kept _ c.start.new.w c.define_all.new.w c.define_all.auto.w l.1, l.0, (a.top, (g.through refl).0.0, (g.through refl).0.1), fresh_still _ a.top a.job.now _ _ _ l.0 (start_zeros a.c _ _ _ _ c.start.ensures) g)
-
-pub shape_of-w : goal.shape_of-w
-shape_of-w c = c.end_definitions.auto.w ∙ c.define_all.auto.w ∙ c.start.auto.w
-
-pub shape_of-p : goal.shape_of-p
-shape_of-p c = c.start.auto.p
 
 pub returns : goal.returns
 unfolding code_of

@@ -33,15 +33,6 @@ name_kind b low high = ⊎_elim (λ (e : b ≡ 0x41). (constant, e)) (λ (e : b 
 pub add_sym_def-requires : goal.add_sym_def-requires
 add_sym_def-requires c = let a = c.args in let h = c.requires in (search rules, h.1, (a.top, h.2), name_kind (get_or a.job.now a.at 0) (omega arith) (omega arith))
 
-pub add_raw_def-requires : goal.add_raw_def-requires
-add_raw_def-requires c = let h = c.requires in (search rules, h.1, h.2, c.in-67.is)
-
-pub add_bs_raw_def-requires : goal.add_bs_raw_def-requires
-add_bs_raw_def-requires c = let a = c.args in let h = c.requires in (search rules, h.1, (a.top, h.2), c.in-68.is)
-
-pub add_worked-requires : goal.add_worked-requires
-add_worked-requires c = let a = c.args in let h = c.requires in (search rules, h.1, (a.top, h.2), c.in-70.is)
-
 pub add_counted-requires-in_default : goal.add_counted-requires-in_default
 add_counted-requires-in_default c = let a = c.args in let h = c.requires in elim c.in_default.branch [
   | in_default-via-then-this-lt64 w ↦ (search rules, h.1, omega arith, omega arith, constant_needs a.p.now a.top a.job.now (store a.p.now a.w.now) a.at h.2 h.1 (λ i. (c.type_inv.job i).fits) (length-store a.p.now a.w.now) (λ q. omega (arith, q)) (λ q. omega (arith, q)) (λ q. omega (arith, q)) (λ q. omega (arith, q)) (λ q. omega (arith, q)) (λ q. omega (arith, q)) (λ q. omega (arith, q)) (λ q. omega (arith, q)))
@@ -50,18 +41,6 @@ add_counted-requires-in_default c = let a = c.args in let h = c.requires in elim
 
 pub returns-in-64 : goal.returns-in-64
 returns-in-64 c = let a = c.args in let h = c.requires in let m = room a.job.now a.p.now h.1 in let e : get_or a.job.now a.at 0 ≡ 0x40 = c.in-64.is in bootstrap_done a.p.now a.top a.job.now (store a.p.now a.w.now) a.at h.2 h.1 (λ i. (c.type_inv.job i).fits) (length-store a.p.now a.w.now) (λ q. omega (arith, q, e)) (λ q. omega (arith, q, e)) (λ q. omega (arith, q, e)) (λ q. omega (arith, q, e)) (λ q. omega (arith, q, e)) (λ q. omega (arith, q, e)) (λ q. omega (arith, q, e)) e _ c.add_counted.result (rw (c.constants.ensures, m.constants) at c.add_counted.ensures)
-
-pub returns-in-65 : goal.returns-in-65
-returns-in-65 c = c.add_sym_def.ensures c.args.top c.requires.2
-
-pub returns-in-67 : goal.returns-in-67
-returns-in-67 c = c.add_raw_def.ensures
-
-pub returns-in-68 : goal.returns-in-68
-returns-in-68 c = c.add_bs_raw_def.ensures c.args.top c.requires.2
-
-pub returns-in-70 : goal.returns-in-70
-returns-in-70 c = c.add_worked.ensures c.args.top c.requires.2
 
 pub returns-in-71 : goal.returns-in-71
 returns-in-71 c = let a = c.args in let h = c.requires in ⊎_elim

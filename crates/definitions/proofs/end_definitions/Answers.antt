@@ -7,9 +7,6 @@ use Rattle.refusal.specs.Numbers.{code_of}
 use borrow.Author.Rules.{rules}
 use Rattle.definitions.proofs.end_definitions.Goals as goal
 
-pub resolve_names-requires : goal.resolve_names-requires
-resolve_names-requires c = let a = c.args in let h = c.requires in (search rules, h.1, end-names a.p.now h.2.0 a.job.now (store a.p.now a.w.now) h.2.1 h.2.2)
-
 pub link_references-requires : goal.link_references-requires
 link_references-requires c = let a = c.args in let h = c.requires in let f = c.resolve_names.ensures in (search rules, h.1, still_names a.p.now h.2.0 a.job.now (store a.p.now a.w.now) h.2.1 h.2.2 _ f, f.goals, still_words a.p.now h.2.0 a.job.now (store a.p.now a.w.now) h.2.1 h.2.2 _ f)
 

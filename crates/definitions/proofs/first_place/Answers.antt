@@ -5,12 +5,6 @@ use native.Mathlib.Omega.{arith}
 use borrow.Author.Tests.{eqb-true, eqb-false}
 use Rattle.definitions.proofs.first_place.Goals as goal
 
-pub overflow_add-result : goal.overflow_add-result
-overflow_add-result c = omega arith
-
-pub overflow_add-result-else-is_handle : goal.overflow_add-result-else-is_handle
-overflow_add-result-else-is_handle c = omega arith
-
 pub returns-then-is_handle : goal.returns-then-is_handle
 returns-then-is_handle c = let args = c.args in
     first_yes args.tag args.at (eqb-true args.tag 15 (sym c.is_handle.ensures ∙ c.if-is_handle.true))

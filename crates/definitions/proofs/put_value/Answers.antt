@@ -12,23 +12,8 @@ use Rattle.store.proofs.Worked.{words_stand}
 use Rattle.definitions.proofs.Valuing.{value-put}
 use Rattle.definitions.proofs.put_value.Goals as goal
 
-pub worked_at-value-requires : goal.worked_at-value-requires
-worked_at-value-requires c = (c.requires.2, c.requires.3)
-
-pub tag_at-requires : goal.tag_at-requires
-tag_at-requires c = c.requires.2
-
-pub is_long-requires : goal.is_long-requires
-is_long-requires c = tt
-
-pub overflow_cast-first : goal.overflow_cast-first
-overflow_cast-first c = omega arith
-
 pub save-requires : goal.save-requires
 save-requires c = (search rules, omega (arith, words_stand c.args.job.now c.args.at c.requires.2 c.requires.3 c.args.p.now c.requires.1 1 (omega arith)), omega arith)
-
-pub overflow_add-at : goal.overflow_add-at
-overflow_add-at c = omega arith
 
 pub save-requires-2 : goal.save-requires-2
 save-requires-2 c = (search rules, words_stand c.args.job.now c.args.at c.requires.2 c.requires.3 c.args.p.now c.requires.1 1 (omega arith), omega arith)

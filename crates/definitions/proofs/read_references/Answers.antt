@@ -36,8 +36,5 @@ place_behind-from-requires c = let a = c.args in let h = c.requires.2 in (kid_st
 pub loop-i-preserved : goal.loop-i-preserved
 loop-i-preserved c = let a = c.args in let l = c.loop-i in (omega (arith, l.invariant.0, c.save.auto), omega arith, rw c.save.ensures (kept_put (GOALS ∷ []) _ _ GOALS _ _ refl l.invariant.2), λ x next h. rw c.save.ensures (kid_read a.job.now (store a.p.now a.w.now) (store a.p.now l.w) a.at a.n a.first l.i l.from c.tag_at-tag.result c.tag_at-tag.ensures x next h (l.invariant.3 x next h) c.loop-i-test.true c.reference_word-word.result c.place_behind-from.result (omega (arith, length-store a.p.now l.w GOALS, c.requires.4, c.loop-i-test.true)) (rw c.is_dynamic-dynamic.ensures at c.reference_word-word.ensures) c.place_behind-from.ensures))
 
-pub shape_of-w : goal.shape_of-w
-shape_of-w c = omega (arith, c.loop-i.invariant.0)
-
 pub returns : goal.returns
 returns c = let a = c.args in let l = c.loop-i in let e : l.i ≡ a.n = omega (arith, c.loop-i-test.false, l.invariant.1) in record { all = λ x next h. rw e at (read_end a.job.now (store a.p.now a.w.now) a.first x next (store a.p.now l.w) l.i l.from (e ∙ h.count) (l.invariant.3 x next h)); kept = l.invariant.2 }

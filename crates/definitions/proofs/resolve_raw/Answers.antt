@@ -15,8 +15,5 @@ pub returns-then-e-eq-HALF : goal.returns-then-e-eq-HALF
 unfolding code_of
 returns-then-e-eq-HALF c = let a = c.args in half_resolved (size a.p.now NODE-HEADS) a.job.now (store a.p.now a.w.now) _ c.requires.3 (sym c.raw_entry-e.ensures.word ∙ c.if-e-eq-HALF.true)
 
-pub resolve-requires : goal.resolve-requires
-resolve-requires c = let a = c.args in let h = c.requires in (search rules, h.1, h.2, h.3, inl (omega (arith, c.raw_entry-e.ensures.word, h.6 (λ q. c.if-e-eq-HALF.false (c.raw_entry-e.ensures.word ∙ q)))), h.7)
-
 pub returns : goal.returns
 returns c = let a = c.args in let h = c.requires in let other : c.raw_entry-e.result ≡ HALF → ⊥ = c.if-e-eq-HALF.false in entry_resolved (size a.p.now NODE-HEADS) a.job.now (store a.p.now a.w.now) _ _ (code_of c.resolve.result) (h.6 (λ q. other (c.raw_entry-e.ensures.word ∙ q))) (room a.job.now a.p.now h.1).entries (λ q. other (c.raw_entry-e.ensures.word ∙ q)) (rw c.raw_entry-e.ensures.word at c.resolve.ensures)

@@ -14,9 +14,6 @@ use Rattle.definitions.proofs.resolve_raws.Goals as goal
 pub load-n-requires : goal.load-n-requires
 load-n-requires c = let a = c.args in (search rules, omega (arith, (room a.job.now a.p.now c.requires.1).counts))
 
-pub loop-i-init : goal.loop-i-init
-loop-i-init c = let a = c.args in (refl, omega arith, raws_begin (size a.p.now NODE-HEADS) a.job.now (store a.p.now a.w.now) c.load-n.result c.requires.3)
-
 pub resolve_raw-requires : goal.resolve_raw-requires
 resolve_raw-requires c = let a = c.args in let h = c.requires in let l = c.loop-i in let far = l.invariant.2 in let n = c.load-n.ensures.word in let t = store a.p.now a.w.now in let u = store a.p.now l.w in (search rules, h.1, table_still a.job.now t u far.kept h.2, far.rests, omega (arith, h.4.room, n, c.loop-i-test.true), rw (far.kept ORDER refl) (h.4.inside l.i (omega (arith, n, c.loop-i-test.true))), rw (same-raw (size a.p.now NODE-HEADS) a.job.now t c.load-n.result u l.i far) (h.4.raws l.i (omega (arith, n, c.loop-i-test.true))), omega (arith, far.visits, h.4.few, n, c.loop-i-test.true))
 

@@ -6,9 +6,6 @@ use Rattle.store.proofs.Stores.{length-store}
 use Rattle.rows.proofs.Numbers.{boot_node, boot_is, number-there, number-boot, number-slot, slot-inside}
 use Rattle.rows.proofs.child_number.Goals as goal
 
-pub is_bootstrap-requires : goal.is_bootstrap-requires
-is_bootstrap-requires c = let q = c.requires in (q.0, q.1, q.2, q.3)
-
 pub overflow_sub-child : goal.overflow_sub-child
 overflow_sub-child c = let a = c.args in boot_node a.p.now (store a.p.now a.w.now) a.child c.is_bootstrap.result c.is_bootstrap.ensures c.if-is_bootstrap.true
 

@@ -8,14 +8,8 @@ use Rattle.store.proofs.Stores.{length-store}
 use Rattle.rows.proofs.Finding.{looking_start, looking_low, looking_node, looking_hit, looking_on, looking_less, looking_miss}
 use Rattle.rows.proofs.find_row.Goals as goal
 
-pub first_link-link-requires : goal.first_link-link-requires
-first_link-link-requires c = let q = c.requires in (q.0, q.1.heads, q.6)
-
 pub loop-link-init : goal.loop-link-init
 loop-link-init c = let a = c.args in let q = c.requires in looking_start a.p.now (store a.p.now a.w.now) a.k q.3 a.hash c.first_link-link.result (length-store a.p.now a.w.now ROW-HEADS) q.1.heads.two q.5 c.first_link-link.ensures
-
-pub overflow_sub-i : goal.overflow_sub-i
-overflow_sub-i c = omega arith
 
 pub load-requires : goal.load-requires
 load-requires c = let a = c.args in let q = c.requires in (q.0, omega (arith, looking_low a.p.now (store a.p.now a.w.now) a.k q.3 c.loop-link.link c.loop-link-test.true c.loop-link.invariant (length-store a.p.now a.w.now INDEXES), q.1.inline))

@@ -8,6 +8,3 @@ load-requires c = let a = c.args in let q = c.requires in (q.0, node_place_lem a
 
 pub load-requires-2 : goal.load-requires-2
 load-requires-2 c = let a = c.args in let q = c.requires in (q.0, first_place_lem a.p.now (store a.p.now a.w.now) q.1 q.2 a.k q.3 c.load.result c.load.ensures.word)
-
-pub returns : goal.returns
-returns c = rw (← c.load.ensures.word) c.load-2.ensures

@@ -7,12 +7,6 @@ use Rattle.rows.proofs.Slotting.{folding_begin, folding_next, folding_end, hashe
 use Rattle.rows.proofs.Reading.{kid_place, kid_add, kid_small}
 use Rattle.rows.proofs.hash_row.Goals as goal
 
-pub child_count-n-requires : goal.child_count-n-requires
-child_count-n-requires c = c.requires
-
-pub first_child-first-requires : goal.first_child-first-requires
-first_child-first-requires c = c.requires
-
 pub loop-i-init : goal.loop-i-init
 loop-i-init c = folding_begin _ _ _ c.child_count-n.ensures.small
 
@@ -24,9 +18,6 @@ load-requires c = let a = c.args in let q = c.requires in (q.0, kid_place a.p.no
 
 pub child_slot-requires : goal.child_slot-requires
 child_slot-requires c = let a = c.args in let q = c.requires in (q.0, kid_small a.p.now (store a.p.now a.w.now) q.1 q.2 a.k q.3 c.first_child-first.result c.child_count-n.result c.loop-i.i c.first_child-first.ensures.word c.child_count-n.result c.child_count-n.ensures.word refl c.loop-i-test.true c.load.result c.load.ensures.word)
-
-pub mix-hash-requires : goal.mix-hash-requires
-mix-hash-requires c = (c.loop-i.invariant.small, c.child_slot.ensures.1)
 
 pub loop-i-preserved : goal.loop-i-preserved
 loop-i-preserved c = folding_next _ _ _ c.loop-i.hash c.loop-i.i c.loop-i.invariant c.loop-i-test.true c.mix-hash.result c.child_slot.result (rw (← c.first_child-first.ensures.word, ← c.load.ensures.word) c.child_slot.ensures.0) c.mix-hash.ensures.0 c.mix-hash.ensures.1

@@ -6,14 +6,8 @@ use Rattle.rows.proofs.index_word.Goals as goal
 pub load-requires : goal.load-requires
 load-requires c = let a = c.args in let q = c.requires in (q.0, node_place_lem a.p.now (store a.p.now a.w.now) q.1 q.2 a.k q.3.made)
 
-pub constants-requires : goal.constants-requires
-constants-requires c = let q = c.requires in (q.0.0, q.1.indexes)
-
 pub overflow_sub-load : goal.overflow_sub-load
 overflow_sub-load c = let a = c.args in let q = c.requires in boot_behind a.p.now a.w.now q.1 a.k q.3 c.load.result c.constants.result c.load.ensures.word c.constants.ensures
 
 pub load-requires-2 : goal.load-requires-2
 load-requires-2 c = let a = c.args in let q = c.requires in (q.0, boot_place a.p.now a.w.now q.1 a.k q.3 c.load.result c.constants.result c.load.ensures.word c.constants.ensures)
-
-pub returns : goal.returns
-returns c = rw (← c.constants.ensures, ← c.load.ensures.word) (c.load-2.ensures.word, c.load-2.ensures.small)

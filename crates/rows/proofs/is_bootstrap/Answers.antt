@@ -8,9 +8,6 @@ use Rattle.rows.proofs.is_bootstrap.Goals as goal
 pub returns-then-child-lt-ENTRY : goal.returns-then-child-lt-ENTRY
 returns-then-child-lt-ENTRY c = let a = c.args in not-boot a.p.now (store a.p.now a.w.now) a.child c.if-child-lt-ENTRY.true
 
-pub constants-requires : goal.constants-requires
-constants-requires c = let q = c.requires in (q.0.0, q.1.indexes)
-
 pub load-requires : goal.load-requires
 load-requires c = let a = c.args in let q = c.requires in (q.0, node_place_lem a.p.now (store a.p.now a.w.now) q.1 q.2 _ (omega arith))
 

@@ -7,11 +7,5 @@ use Rattle.rows.proofs.raw_rows.Goals as goal
 pub load-requires : goal.load-requires
 load-requires c = let a = c.args in let q = c.requires in (q.0, counter a.p.now q.1 _ (omega arith))
 
-pub load-requires-2 : goal.load-requires-2
-load-requires-2 c = let a = c.args in let q = c.requires in (q.0, counter a.p.now q.1 _ (omega arith))
-
 pub overflow_sub-result : goal.overflow_sub-result
 overflow_sub-result c = let a = c.args in let q = c.requires in omega (arith, raws_held a.p.now (store a.p.now a.w.now) q.2, c.load-2.ensures.word, c.load.ensures.word)
-
-pub returns : goal.returns
-returns c = (cc)

@@ -18,12 +18,6 @@ use Rattle.rows.proofs.row_index.Goals as goal
 same_item : (i : ℕ) (l : List ℕ) (x : ℕ) → x ≡ get_or l i 0 → x ≡ get_or l (i + 1 - 1) 0
 same_item i l x e = let back : i + 1 - 1 ≡ i = omega arith in rw back e
 
-pub hash_row-hash-requires : goal.hash_row-hash-requires
-hash_row-hash-requires c = let q = c.requires in (search rules, q.1, q.2, q.5.made)
-
-pub find_row-requires : goal.find_row-requires
-find_row-requires c = let q = c.requires in (search rules, q.1, q.2, q.4, q.5.made, c.hash_row-hash.ensures.0, c.hash_row-hash.ensures.1)
-
 pub take_index-requires : goal.take_index-requires
 take_index-requires c = let a = c.args in let q = c.requires in (search rules, q.1, q.2, q.3, q.4, q.5, new_row a.p.now a.k (store a.p.now a.w.now) 0 c.in-None.ensures refl, c.hash_row-hash.ensures.0, c.hash_row-hash.ensures.1)
 
@@ -35,9 +29,6 @@ load-requires c = let a = c.args in let q = c.requires in let t = store a.p.now 
 
 pub index_word-shared-requires : goal.index_word-shared-requires
 index_word-shared-requires c = let a = c.args in let q = c.requires in let t = store a.p.now a.w.now in (search rules, q.1, q.2, old_boot a.p.now a.k t q.4 q.5 _ c.in-Some.ensures (λ z. omega arith) c.load.result (same_item c.in-Some.i _ c.load.result c.load.ensures.word))
-
-pub set_index-requires : goal.set_index-requires
-set_index-requires c = let q = c.requires in (search rules, q.1, q.2, q.5, c.index_word-shared.ensures.1)
 
 pub returns-in-Some : goal.returns-in-Some
 unfolding code_of

@@ -10,9 +10,6 @@ use Rattle.rows.proofs.Reading.{eq_some, ne_some}
 use Rattle.rows.proofs.Listing.{few_room}
 use Rattle.rows.proofs.row_node.Goals as goal
 
-pub inline_index-requires : goal.inline_index-requires
-inline_index-requires c = let q = c.requires in (q.0, q.1, q.2, q.4)
-
 pub load-requires : goal.load-requires
 load-requires c = let a = c.args in let q = c.requires in let t = store a.p.now a.w.now in (q.0, omega (arith, node_inside a.p.now t q.3 a.index a.inline a.raws q.5 q.6 q.7 c.inline_index.result c.inline_index.ensures (eq_some c.inline_index.result a.index (sym c.eq.ensures ∙ c.if-eq.true)), few_room (t INDEXES) (inline_count t) q.4.inlined.few, length-store a.p.now a.w.now INDEXES, q.1.inline))
 

@@ -7,20 +7,8 @@ use Rattle.rows.proofs.Slotting.{matching_begin, matching_next, rows_differ, row
 use Rattle.rows.proofs.Reading.{kid_place, kid_add, kid_small}
 use Rattle.rows.proofs.same_row.Goals as goal
 
-pub child_count-n-requires : goal.child_count-n-requires
-child_count-n-requires c = let q = c.requires in (q.0, q.1, q.2, q.3)
-
-pub child_count-requires : goal.child_count-requires
-child_count-requires c = let q = c.requires in (q.0, q.1, q.2, q.4)
-
 pub returns-then-child_count-n : goal.returns-then-child_count-n
 returns-then-child_count-n c = rows_differ _ _ _ _ _ _ _ c.child_count-n.ensures.word c.child_count.result c.child_count.ensures.word c.if-child_count-n.true
-
-pub first_child-a-requires : goal.first_child-a-requires
-first_child-a-requires c = let q = c.requires in (q.0, q.1, q.2, q.3)
-
-pub first_child-b-requires : goal.first_child-b-requires
-first_child-b-requires c = let q = c.requires in (q.0, q.1, q.2, q.4)
 
 pub loop-i-init : goal.loop-i-init
 loop-i-init c = matching_begin _ _ _

@@ -6,14 +6,8 @@ use Rattle.rows.proofs.set_index.Goals as goal
 pub load-e-requires : goal.load-e-requires
 load-e-requires c = let a = c.args in let q = c.requires in (q.0, node_place_lem a.p.now (store a.p.now a.w.now) q.1 q.2 a.k q.3.made)
 
-pub constants-requires : goal.constants-requires
-constants-requires c = let q = c.requires in (q.0.0, q.1.indexes)
-
 pub overflow_sub-e : goal.overflow_sub-e
 overflow_sub-e c = let a = c.args in let q = c.requires in boot_behind a.p.now a.w.now q.1 a.k q.3 c.load-e.result c.constants.result c.load-e.ensures.word c.constants.ensures
 
 pub save-requires : goal.save-requires
 save-requires c = let a = c.args in let q = c.requires in (q.0, boot_place a.p.now a.w.now q.1 a.k q.3 c.load-e.result c.constants.result c.load-e.ensures.word c.constants.ensures, q.4)
-
-pub returns : goal.returns
-returns c = rw (← c.constants.ensures, ← c.load-e.ensures.word) c.save.ensures

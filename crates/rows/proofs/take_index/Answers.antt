@@ -10,12 +10,6 @@ use Rattle.rows.proofs.Reading.{counter, kids_at_lem}
 use borrow.Author.Rules.{rules}
 use Rattle.rows.proofs.take_index.Goals as goal
 
-pub write_raw-requires : goal.write_raw-requires
-write_raw-requires c = let q = c.requires in (search rules, q.1, q.3, q.4)
-
-pub load-rows-requires : goal.load-rows-requires
-load-rows-requires c = let a = c.args in let q = c.requires in (search rules, counter a.p.now q.1 _ (omega arith))
-
 pub returns-then-rows-ge65535 : goal.returns-then-rows-ge65535
 unfolding code_of number
 returns-then-rows-ge65535 c = let a = c.args in no_index-left a.p.now a.k (store a.p.now a.w.now) (store a.p.now c.write_raw.new.w) c.write_raw.ensures c.load-rows.result c.load-rows.ensures.word c.if-rows-ge65535.true

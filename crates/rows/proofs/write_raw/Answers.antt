@@ -9,17 +9,8 @@ use Rattle.rows.proofs.Writing.{writing_begin, writing_less, writing_low, writin
 use borrow.Author.Rules.{rules}
 use Rattle.rows.proofs.write_raw.Goals as goal
 
-pub load-rows-requires : goal.load-rows-requires
-load-rows-requires c = let a = c.args in let q = c.requires in (search rules, counter a.p.now q.1 _ (omega arith))
-
-pub load-written-requires : goal.load-written-requires
-load-written-requires c = let a = c.args in let q = c.requires in (search rules, counter a.p.now q.1 _ (omega arith))
-
 pub loop-rows-init : goal.loop-rows-init
 loop-rows-init c = let a = c.args in let q = c.requires in writing_begin a.p.now (store a.p.now a.w.now) q.3 c.load-rows.result c.load-written.result c.load-rows.ensures.word c.load-written.ensures.word
-
-pub raw_index-requires : goal.raw_index-requires
-raw_index-requires c = let q = c.requires in (search rules, q.1, q.2)
 
 pub overflow_add-rows : goal.overflow_add-rows
 overflow_add-rows c = let a = c.args in let q = c.requires in omega (arith, writing_low a.p.now (store a.p.now a.w.now) q.2 c.loop-rows.rows c.loop-rows.written c.loop-rows.invariant c.raw_index.result c.raw_index.ensures (eq_some c.raw_index.result c.loop-rows.rows (sym c.eq.ensures ∙ c.loop-rows-test.true)))

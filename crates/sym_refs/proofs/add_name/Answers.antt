@@ -18,14 +18,8 @@ use Rattle.sym_refs.proofs.add_name.Goals as goal
 pub bounds-job-at : goal.bounds-job-at
 bounds-job-at c = let a = c.args in let x = c.requires.3 in omega (arith, naming_room a.job.now a.at (x.0, x.2))
 
-pub overflow_add-at : goal.overflow_add-at
-overflow_add-at c = let a = c.args in let x = c.requires.3 in omega (arith, naming_room a.job.now a.at (x.0, x.2))
-
 pub hash_name-hash-requires : goal.hash_name-hash-requires
 hash_name-hash-requires c = let a = c.args in let x = c.requires.3 in naming_name a.job.now a.at x.0 x.2
-
-pub overflow_add-at-2 : goal.overflow_add-at-2
-overflow_add-at-2 c = let a = c.args in let x = c.requires.3 in omega (arith, naming_room a.job.now a.at (x.0, x.2))
 
 pub find_name-requires : goal.find_name-requires
 find_name-requires c = let a = c.args in let x = c.requires.3 in (c.requires.0, c.requires.1, c.requires.2, naming_name a.job.now a.at x.0 x.2, c.hash_name-hash.ensures.0, c.hash_name-hash.ensures.1)

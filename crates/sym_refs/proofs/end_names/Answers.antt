@@ -8,20 +8,8 @@ use Rattle.sym_refs.proofs.Rounds.{finish-begin, finish-next, finish-end}
 use borrow.Author.Rules.{rules}
 use Rattle.sym_refs.proofs.end_names.Goals as goal
 
-pub size_of-n-requires : goal.size_of-n-requires
-size_of-n-requires c = (c.requires.0, omega arith)
-
-pub loop-i-init : goal.loop-i-init
-loop-i-init c = (refl, finish-begin _ _)
-
 pub load-requires : goal.load-requires
 load-requires c = let e = c.loop-i.invariant.0 in (search rules, omega (arith, c.size_of-n.ensures))
-
-pub ended-goal-requires : goal.ended-goal-requires
-ended-goal-requires c = c.load.ensures.small
-
-pub save-requires : goal.save-requires
-save-requires c = let e = c.loop-i.invariant.0 in (search rules, omega (arith, c.size_of-n.ensures), c.ended-goal.ensures.1)
 
 pub loop-i-preserved : goal.loop-i-preserved
 loop-i-preserved c = let l = c.loop-i in let a = c.args in (

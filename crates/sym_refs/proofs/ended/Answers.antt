@@ -4,9 +4,6 @@ use mathlib.Core.Path.{sym}
 use Rattle.sym_refs.proofs.Jumping.{ended_same, ended_circular}
 use Rattle.sym_refs.proofs.ended.Goals as goal
 
-pub overflow_add-result : goal.overflow_add-result
-overflow_add-result c = omega arith
-
 pub returns-then-goal-lt-NAME : goal.returns-then-goal-lt-NAME
 returns-then-goal-lt-NAME c = (sym (ended_same _ c.if-goal-lt-NAME.true), omega arith)
 

@@ -21,9 +21,6 @@ loop-link-init c = let a = c.args in let m = room a.job.now a.p.now c.requires.1
     rw c.first_link-link.ensures
     (name_start (size a.p.now NAME-HEADS) a.job.now a.first (label_at a.job.now a.at) a.hash (store a.p.now a.w.now NAME-PLACES) (store a.p.now a.w.now NAME-HEADS) (store a.p.now a.w.now NAME-LINKS) (name_count (store a.p.now a.w.now)) m.heads.two (length-store a.p.now a.w.now NAME-HEADS) c.requires.2 c.requires.4)
 
-pub overflow_sub-i : goal.overflow_sub-i
-overflow_sub-i c = omega arith
-
 pub load-requires : goal.load-requires
 load-requires c = let a = c.args in let m = room a.job.now a.p.now c.requires.1 in (c.requires.0, omega (arith, m.places, c.loop-link.invariant.below, c.requires.2.few))
 

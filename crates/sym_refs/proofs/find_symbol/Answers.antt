@@ -6,9 +6,6 @@ use Rattle.sym_refs.proofs.Rooms.{room}
 use Rattle.sym_refs.proofs.Wording.{ref_name, ref_bootstrap_name, name_stands_at, bootstrap_stands_at}
 use Rattle.sym_refs.proofs.find_symbol.Goals as goal
 
-pub overflow_sub-at : goal.overflow_sub-at
-overflow_sub-at c = omega arith
-
 pub hash_name-requires : goal.hash_name-requires
 hash_name-requires c = let a = c.args in let m = room a.job.now a.p.now c.requires.1 in name_stands_at a.job.now (entries_in a.job.now) a.symbol c.requires.3 (omega (arith, m.entries)) c.requires.4 c.if-symbol-lt-BOOTSTRAP_SYM.true
 

@@ -12,9 +12,6 @@ load-at-requires c = let a = c.args in let m = room a.job.now a.p.now c.requires
 pub bounds-job-at : goal.bounds-job-at
 bounds-job-at c = let a = c.args in omega (arith, first_inside a.job.now a.p.now (store a.p.now a.w.now) c.requires.1 c.requires.2 a.i c.load-at.result c.requires.3 c.load-at.ensures.word)
 
-pub overflow_add-at : goal.overflow_add-at
-overflow_add-at c = let a = c.args in omega (arith, first_inside a.job.now a.p.now (store a.p.now a.w.now) c.requires.1 c.requires.2 a.i c.load-at.result c.requires.3 c.load-at.ensures.word)
-
 pub name_at-requires : goal.name_at-requires
 name_at-requires c = let a = c.args in first_name_stands a.job.now a.p.now (store a.p.now a.w.now) c.requires.1 c.requires.2 a.i c.load-at.result c.requires.3 c.load-at.ensures.word
 

@@ -11,9 +11,6 @@ use Rattle.sym_refs.proofs.goal_of.Goals as goal
 pub returns-then-reference-lt-SYM : goal.returns-then-reference-lt-SYM
 returns-then-reference-lt-SYM c = let a = c.args in (goes_low a.job.now a.reference c.requires.4 c.if-reference-lt-SYM.true, omega arith)
 
-pub find_symbol-requires : goal.find_symbol-requires
-find_symbol-requires c = (c.requires.0, c.requires.1, c.requires.2.0, c.requires.4, c.if-reference-lt-SYM.false)
-
 pub load-requires : goal.load-requires
 load-requires c = let a = c.args in let m = room a.job.now a.p.now c.requires.1 in (c.requires.0, omega (arith, m.name_goals, c.requires.2.1, c.in-Some.ensures.low))
 

@@ -8,9 +8,6 @@ use Rattle.sym_refs.proofs.hash_name.Goals as goal
 pub bounds-job-at : goal.bounds-job-at
 bounds-job-at c = (name_room _ _ c.requires).0
 
-pub overflow_add-at : goal.overflow_add-at
-overflow_add-at c = let a = c.args in omega (arith, name_room a.job.now a.at c.requires)
-
 pub hash_bytes-requires : goal.hash_bytes-requires
 hash_bytes-requires c = let a = c.args in (omega (arith, name_room a.job.now a.at c.requires), search rules, search rules)
 

@@ -11,24 +11,12 @@ use Rattle.sym_refs.proofs.Rounds.{round-end}
 use borrow.Author.Rules.{rules}
 use Rattle.sym_refs.proofs.jump_names.Goals as goal
 
-pub size_of-n-requires : goal.size_of-n-requires
-size_of-n-requires c = (c.requires.0.0, omega arith)
-
-pub loop-i-init : goal.loop-i-init
-loop-i-init c = (refl, turn_start _ _ c.requires.2, λ k f. refl)
-
 pub load-requires : goal.load-requires
 load-requires c = let e = c.loop-i.invariant.0 in (search rules, omega (arith, c.size_of-n.ensures))
-
-pub hop-goal-requires : goal.hop-goal-requires
-hop-goal-requires c = let l = c.loop-i in let e = l.invariant.0 in (search rules, rw c.load.ensures.word (l.invariant.1.inner l.i (omega (arith, c.loop-i-test.true, c.size_of-n.ensures))))
 
 pub save-requires : goal.save-requires
 save-requires c = let l = c.loop-i in let e = l.invariant.0 in let a = c.args in
     (search rules, omega (arith, c.size_of-n.ensures), rw (c.hop-goal.ensures, c.load.ensures.word) (omega (arith, c.requires.1, inner_hop (size a.p.now NAME-GOALS) l.i (store a.p.now l.w NAME-GOALS) l.invariant.1.inner (omega (arith, c.loop-i-test.true, c.size_of-n.ensures)))))
-
-pub overflow_add-left : goal.overflow_add-left
-overflow_add-left c = omega (arith, c.on_name-left.ensures.1, c.loop-i.invariant.1.few)
 
 pub loop-i-preserved : goal.loop-i-preserved
 loop-i-preserved c = let l = c.loop-i in let a = c.args in let p = a.p.now in let t = store p a.w.now in let u = store p l.w in (

@@ -9,12 +9,6 @@ use Rattle.sym_refs.proofs.Ends.{link_begin, link_next, link_end}
 use borrow.Author.Rules.{rules}
 use Rattle.sym_refs.proofs.link_references.Goals as goal
 
-pub size_of-n-requires : goal.size_of-n-requires
-size_of-n-requires c = (c.requires.0.0, omega arith)
-
-pub loop-i-init : goal.loop-i-init
-loop-i-init c = (refl, link_begin _ _ _)
-
 pub load-requires : goal.load-requires
 load-requires c = let e = c.loop-i.invariant.0 in (search rules, omega (arith, c.size_of-n.ensures))
 
@@ -26,9 +20,6 @@ goal_of-goal-requires c = let a = c.args in let l = c.loop-i in let k = l.invari
   rw (k NAME-GOALS refl) c.requires.3,
   rw (c.load.ensures.word, l.invariant.1.rest l.i (omega arith)) (c.requires.4 l.i (omega (arith, c.loop-i-test.true, c.size_of-n.ensures, m.goals))),
 )
-
-pub save-requires : goal.save-requires
-save-requires c = let e = c.loop-i.invariant.0 in (search rules, omega (arith, c.size_of-n.ensures), c.goal_of-goal.ensures.1)
 
 pub loop-i-preserved : goal.loop-i-preserved
 loop-i-preserved c = let l = c.loop-i in let a = c.args in (

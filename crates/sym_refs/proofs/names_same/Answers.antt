@@ -6,26 +6,14 @@ use Rattle.sym_refs.proofs.names_same.Goals as goal
 pub bounds-job-at : goal.bounds-job-at
 bounds-job-at c = (name_room _ _ c.requires.1).0
 
-pub bounds-job-naming : goal.bounds-job-naming
-bounds-job-naming c = let a = c.args in omega (arith, naming_room a.job.now a.naming c.requires.0)
-
 pub returns-then-job-naming : goal.returns-then-job-naming
 returns-then-job-naming c = let a = c.args in let q = c.if-job-naming.true in λ x here. other_kind a.job.now a.naming a.at a.first c.requires.1 x here (λ z. omega arith)
-
-pub overflow_add-naming : goal.overflow_add-naming
-overflow_add-naming c = let a = c.args in omega (arith, naming_room a.job.now a.naming c.requires.0)
 
 pub bounds-job-naming-2 : goal.bounds-job-naming-2
 bounds-job-naming-2 c = let a = c.args in (naming_room a.job.now a.naming c.requires.0).0
 
 pub returns-then-job-naming-2 : goal.returns-then-job-naming-2
 returns-then-job-naming-2 c = let a = c.args in let q = c.if-job-naming-2.true in λ x here. other_size a.job.now a.naming a.at a.first c.requires.1 x here (λ z. omega arith)
-
-pub overflow_add-naming-2 : goal.overflow_add-naming-2
-overflow_add-naming-2 c = let a = c.args in omega (arith, naming_room a.job.now a.naming c.requires.0)
-
-pub overflow_add-at : goal.overflow_add-at
-overflow_add-at c = let a = c.args in omega (arith, name_room a.job.now a.at c.requires.1)
 
 pub same_bytes-requires : goal.same_bytes-requires
 same_bytes-requires c = let a = c.args in let z = c.if-job-naming-2.false in (omega (arith, naming_room a.job.now a.naming c.requires.0), omega (arith, name_room a.job.now a.at c.requires.1))

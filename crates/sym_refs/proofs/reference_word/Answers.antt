@@ -4,9 +4,6 @@ use Rattle.sym_refs.proofs.Rooms.{room}
 use Rattle.sym_refs.proofs.Worded.{raw_worded, constant_worded, bootstrap_worded, name_worded, bootstrap_name_worded}
 use Rattle.sym_refs.proofs.reference_word.Goals as goal
 
-pub reference_at-requires : goal.reference_at-requires
-reference_at-requires c = c.requires.1
-
 pub constants-requires : goal.constants-requires
 constants-requires c = let a = c.args in let m = room a.job.now a.p.now c.requires.0 in (m.laid, omega (arith, m.marks, m.indexes, m.both))
 
@@ -15,18 +12,6 @@ overflow_add-result c = let a = c.args in let m = room a.job.now a.p.now c.requi
 
 pub overflow_add-result-then-bootstrap : goal.overflow_add-result-then-bootstrap
 overflow_add-result-then-bootstrap c = let a = c.args in let m = room a.job.now a.p.now c.requires.0 in omega (arith, c.constants.ensures, m.marks, m.entries)
-
-pub overflow_add-result-then-bootstrap-2 : goal.overflow_add-result-then-bootstrap-2
-overflow_add-result-then-bootstrap-2 c = let a = c.args in let m = room a.job.now a.p.now c.requires.0 in let f = c.requires.1.1.2 in omega (arith, f.past, f.within, m.bytes)
-
-pub overflow_add-result-then-bootstrap-2-2 : goal.overflow_add-result-then-bootstrap-2-2
-overflow_add-result-then-bootstrap-2-2 c = let a = c.args in let m = room a.job.now a.p.now c.requires.0 in let f = c.requires.1.1.2 in omega (arith, f.past, f.within, m.bytes)
-
-pub overflow_add-result-else-bootstrap-2 : goal.overflow_add-result-else-bootstrap-2
-overflow_add-result-else-bootstrap-2 c = let a = c.args in let m = room a.job.now a.p.now c.requires.0 in let f = c.requires.1.1.2 in omega (arith, f.past, f.within, m.bytes)
-
-pub overflow_add-result-else-bootstrap-2-2 : goal.overflow_add-result-else-bootstrap-2-2
-overflow_add-result-else-bootstrap-2-2 c = let a = c.args in let m = room a.job.now a.p.now c.requires.0 in let f = c.requires.1.1.2 in omega (arith, f.past, f.within, m.bytes)
 
 pub returns-in-Raw : goal.returns-in-Raw
 returns-in-Raw c = let a = c.args in raw_worded a.job.now a.p.now a.at a.bootstrap c.requires.0 _ c.reference_at.ensures c.in-Raw.n c.in-Raw.is

@@ -11,12 +11,6 @@ use borrow.Author.Rules.{rules}
 use Rattle.sym_refs.proofs.resolve_names.Goals.{else-loop-span-test, then-loop-span-test+then-jump_names-eq0}
 use Rattle.sym_refs.proofs.resolve_names.Goals as goal
 
-pub start_names-requires : goal.start_names-requires
-start_names-requires c = c.requires
-
-pub size_of-n-requires : goal.size_of-n-requires
-size_of-n-requires c = (c.requires.0.0, omega arith)
-
 pub loop-span-init : goal.loop-span-init
 loop-span-init c = (refl, follow-begin _ _ _ _ c.start_names.ensures)
 
@@ -27,14 +21,8 @@ jump_names-requires c = let a = c.args in let e = c.loop-span.invariant.0 in let
 pub overflow_add-span : goal.overflow_add-span
 overflow_add-span c = let a = c.args in let m = room a.job.now a.p.now c.requires.1 in omega (arith, c.loop-span-test.true, c.size_of-n.ensures, m.name_goals, m.names)
 
-pub loop-span-smaller : goal.loop-span-smaller
-loop-span-smaller c = omega (arith, c.loop-span-test.true, c.loop-span.invariant.1.low)
-
 pub loop-span-preserved : goal.loop-span-preserved
 loop-span-preserved c = let l = c.loop-span in (c.jump_names.auto.w ∙ l.invariant.0, follow-next _ _ _ _ _ l.span c.jump_names.result l.invariant.1 c.jump_names.ensures)
-
-pub end_names-requires : goal.end_names-requires
-end_names-requires c = let e = c.loop-span.invariant.0 in let d = c.start_names.auto.w in let f = c.loop-span-test.auto.w in search rules
 
 pub returns : goal.returns
 returns c = let a = c.args in let p = a.p.now in let l = c.loop-span in let m = room a.job.now p c.requires.1 in

@@ -9,12 +9,6 @@ use Rattle.sym_refs.proofs.Rounds.{start_begin, start_next, start_end}
 use borrow.Author.Rules.{rules}
 use Rattle.sym_refs.proofs.start_names.Goals as goal
 
-pub size_of-n-requires : goal.size_of-n-requires
-size_of-n-requires c = (c.requires.0.0, omega arith)
-
-pub loop-i-init : goal.loop-i-init
-loop-i-init c = (refl, start_begin _ _ _)
-
 pub first_goal-goal-requires : goal.first_goal-goal-requires
 first_goal-goal-requires c = let l = c.loop-i in let k = l.invariant.1.kept in let e = l.invariant.0 in
     (search rules, c.requires.1, rw (k NAME-PLACES refl, k NAME-HEADS refl, k NAME-LINKS refl, k COUNTS refl) c.requires.2, omega (arith, c.loop-i-test.true, c.size_of-n.ensures))
