@@ -110,6 +110,7 @@ fn skip(input: &mut impl Read, s: &mut [u8], n: usize) -> Result<(), ReadError>
 pub fn next_block(input: &mut impl Read, s: &mut [u8]) -> Result<usize, ReadError>
     ensures block { BlockRead s.old s.new (size_of result) }
     ensures size { IfOk result (λ n. n < no_more) }
+    ensures len { length s.new ≡ length s.old }
 {
     let n = next_length(input)?;
     read_block(input, s, n)
@@ -120,6 +121,7 @@ pub fn next_or_skipped(input: &mut impl Read, s: &mut [u8]) -> Result<Option<usi
     requires { 0 < length s.old }
     ensures block { skipped_of result < too_long_lem → BlockRead s.old s.new (skipped_of result) }
     ensures size { skipped_of result ≤ too_long_lem }
+    ensures len { length s.new ≡ length s.old }
 {
     let n = next_length(input)?;
     if s.len() < n {
