@@ -8,7 +8,8 @@ use lib.ListN.{length, take, drop, set, get_or, length-append, length-take}
 use lib.Seq.{paste, take-paste, drop-paste, take-suc-set, drop-set-lt, drop-drop, take-suc, length-take-le}
 use Rattle.io.specs.Counts.{IsPrefixLen}
 use Rattle.definition.specs.Basics.{concat}
-use Rattle.poolrun_text.specs.Text.{Behind}
+use Rattle.poolrun_text.specs.Page.{Behind, Prints}
+use Rattle.poolrun_text.specs.declared.page.Page.{Page}
 
 -- bytes that stay as they were from a place on stay so from a later one on
 still : (a b : List ℕ) (r s n : ℕ) → s ≡ r + n → drop r a ≡ drop r b → drop s a ≡ drop s b
@@ -51,6 +52,17 @@ word_behind d w e at n inside room is =
 -- the same text in other words
 pub reworded : {b a : List ℕ} {at r : ℕ} {t u : List ℕ} → t ≡ u → Behind b a at r t → Behind b a at r u
 reworded {b} {a} {at} {r} e p = subst (Behind b a at r) e p
+
+-- the same of a page
+pub then_prints : {b a c : Page} {t u : List ℕ} → Prints b a t → Prints a c u → Prints b c (t ++ u)
+then_prints p q =
+    record { same_buffer = q.same_buffer ∙ p.same_buffer; same_room = q.same_room ∙ p.same_room; behind = then p.behind q.behind }
+
+pub none-printed : (page : Page) → Prints page page []
+none-printed page = record { same_buffer = refl; same_room = refl; behind = none-behind page.out.now page.at }
+
+pub reprinted : {b a : Page} {t u : List ℕ} → t ≡ u → Prints b a t → Prints b a u
+reprinted {b} {a} e p = subst (Prints b a) e p
 
 -- a text from the buffer's start is what the buffer's front holds
 pub whole :

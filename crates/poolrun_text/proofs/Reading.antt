@@ -14,9 +14,11 @@ use Rattle.definition.specs.Run.{longest_job, run, overwrite}
 use Rattle.definition.specs.Blocks.{block_count, block_at, block_data, used_in, blocks_right, most_blocks, read_blocks, blocks_after, printed, poolrun_lent, poolrun}
 use Rattle.facts.proofs.Results.{guarded, bad≢good, good_inj, bad_inj}
 use Rattle.laws.proofs.Blocks.ReadingTests.{job_in, whole_blocks, reading}
-use Rattle.blocks.specs.declared.BlocksRead.{BlocksRead}
-use Rattle.blocks.specs.declared.BlocksRead.TheVariants as blocks_read
-use Rattle.blocks.specs.Answers.{read_answer, length_of}
+use Rattle.std.specs.Prelude as prelude
+use Rattle.std.specs.Prelude.{Ok, Err}
+use Rattle.refusal.specs.declared.Refused.{Refused}
+use Rattle.refusal.specs.Numbers.{number, told_of}
+use Rattle.blocks.specs.Answers.{length_of}
 use Rattle.poolrun_text.specs.Text.{refused_text, ReadInto, read_text}
 use Rattle.poolrun_text.proofs.Texts.{refused_is}
 
@@ -106,14 +108,11 @@ module _ (file : List ℕ) (short : length file ≤ 2560) where
 
   -- either, as the code tells them apart
   pub read_text_lem :
-      (read : BlocksRead) (before after : List ℕ) → read_answer read ≡ length_of (read_blocks 2560 file) →
+      (read : prelude.Result ℕ Refused) (before after : List ℕ) → told_of read ≡ length_of (read_blocks 2560 file) →
       after ≡ blocks_after (read_blocks 2560 file) before → ReadInto read (length after) × (read_text read after ≡ poolrun file)
-  unfolding read_answer ReadInto read_text
-  read_text_lem (blocks_read.Read n) before after answer written = read_is n before after answer written
-  read_text_lem blocks_read.NotBlocks before after answer written = (tt, refusal_is 20 0 answer)
-  read_text_lem blocks_read.TooLong before after answer written = (tt, refusal_is 1 0 answer)
-  read_text_lem (blocks_read.BadBlock k) before after answer written = (tt, refusal_is 19 k answer)
-  read_text_lem blocks_read.NoRoom before after answer written = (tt, refusal_is 18 0 answer)
+  unfolding told_of ReadInto read_text
+  read_text_lem (Ok n) before after answer written = read_is n before after answer written
+  read_text_lem (Err r) before after answer written = (tt, refusal_is (number r.refusal) r.place answer)
 
 -- a file that is too long
 pub long_text : (file : List ℕ) → 2560 < length file → refused_text 1 0 ≡ poolrun file

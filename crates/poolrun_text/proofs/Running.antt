@@ -13,10 +13,11 @@ use Rattle.definition.specs.Run.{Lent, lent_of, run, returned, class_out, overwr
 use Rattle.definition.specs.Blocks.{printed, poolrun_lent}
 use Rattle.slots.specs.declared.Gap.{Gap}
 use Rattle.slots.specs.Gaps.{gap_of}
-use Rattle.cpool.specs.declared.ClassLength.{ClassLength}
-use Rattle.cpool.specs.declared.ClassLength.TheVariants as classLength
-use Rattle.cpool.specs.declared.Outcome.{Outcome}
-use Rattle.cpool.specs.declared.Outcome.TheVariants as outcome
+use Rattle.std.specs.Prelude as prelude
+use Rattle.std.specs.Prelude.{Ok, Err, None, Some}
+use Rattle.refusal.specs.declared.Refused.{Refused}
+use Rattle.refusal.specs.Numbers.{number}
+use Rattle.cpool.specs.declared.Built as code
 use Rattle.cpool.specs.Ran.{Numbers, told, is_built, given, bytes_of, class_size, numbers, Slices, memory_of, result_of, Ran}
 use Rattle.cpool.specs.Promises.{handed}
 use Rattle.cpool.proofs.Handed.{numbers-built, answers_built, marks_built, marks_many, pool_built, bootstraps_built, class_built, built_result, refused_result}
@@ -24,36 +25,36 @@ use Rattle.poolrun_text.specs.Text.{built_text, name_of, text_of, Room, Fits, Le
 use Rattle.poolrun_text.proofs.Texts.{refused_is}
 
 -- the class name as it is handed
-name_is : (size : ClassLength) (class : List ℕ) → elim (eqb (given size) 1) [ true ↦ some (take (bytes_of size) class) | false ↦ none ] ≡ name_of size class
+name_is : (size : prelude.Option ℕ) (class : List ℕ) → elim (eqb (given size) 1) [ true ↦ some (take (bytes_of size) class) | false ↦ none ] ≡ name_of size class
 unfolding given bytes_of name_of
-name_is classLength.None class = refl
-name_is (classLength.Bytes n) class = refl
+name_is None class = refl
+name_is (Some n) class = refl
 
 -- the text of what stands in the outputs
 pub text_ran :
-    (job : List ℕ) (before after : Slices) (r : Outcome) → Ran job before after r →
+    (job : List ℕ) (before after : Slices) (r : prelude.Result code.Built Refused) → Ran job before after r →
     text_of r after.answers after.marks after.pool after.bootstraps after.class ≡ printed (result_of job before)
 unfolding text_of built_text is_built told handed
-text_ran job before after (outcome.Built asked poolSize count rowsSize name size visits) ran =
-    let r = outcome.Built asked poolSize count rowsSize name size visits in
+text_ran job before after (Ok n) ran =
+    let r : prelude.Result code.Built Refused = Ok n in
     ap
     (λ (class : Option (List ℕ)).
     printed
     (good
     (record {
-      answers = take asked after.answers;
-      marks = take asked after.marks;
-      pool = take poolSize after.pool;
-      bootstrap_count = count;
-      bootstraps = take rowsSize after.bootstraps;
-      name = name;
+      answers = take n.answers after.answers;
+      marks = take n.answers after.marks;
+      pool = take n.pool after.pool;
+      bootstrap_count = n.bootstrap_count;
+      bootstraps = take n.bootstraps after.bootstraps;
+      name = n.name;
       class = class;
-      visits = visits;
+      visits = n.visits;
     })))
-    (sym (name_is size after.class))
+    (sym (name_is n.class_name after.class))
     ∙ ap printed (sym (built_result job before after r ran refl))
-text_ran job before after (outcome.Refused code place) ran =
-    refused_is code place ∙ ap printed (sym (refused_result job before after (outcome.Refused code place) ran refl))
+text_ran job before after (Err r) ran =
+    refused_is (number r.refusal) r.place ∙ ap printed (sym (refused_result job before after (Err r) ran refl))
 
 -- what was written lies inside its output
 inside : (new before after : List ℕ) (n : ℕ) → after ≡ overwrite new before → n ≡ length new → n ≤ length after
@@ -66,33 +67,33 @@ class_size_lem none = refl
 class_size_lem (some s) = refl
 
 pub fits-ran :
-    (job : List ℕ) (before after : Slices) (r : Outcome) (out : ℕ) → Ran job before after r → 1245184 ≤ out →
+    (job : List ℕ) (before after : Slices) (r : prelude.Result code.Built Refused) (out : ℕ) → Ran job before after r → 1245184 ≤ out →
     length after.answers ≤ 32768 → length after.marks ≤ 65536 → length after.pool ≤ 65536 → length after.bootstraps ≤ 65536 → length after.class ≤ 65536 →
     Fits r out (length after.answers) (length after.marks) (length after.pool) (length after.bootstraps) (length after.class)
 unfolding Fits is_built told numbers returned
-fits-ran job before after (outcome.Refused code place) out ran room a l p s c = omega (arith, room)
-fits-ran job before after (outcome.Built asked poolSize count rowsSize name size visits) out ran room a l p s c =
-    let r = outcome.Built asked poolSize count rowsSize name size visits in
+fits-ran job before after (Err r) out ran room a l p s c = omega (arith, room)
+fits-ran job before after (Ok m) out ran room a l p s c =
+    let r : prelude.Result code.Built Refused = Ok m in
     let b = handed r after in
     let is : result_of job before ≡ good b = built_result job before after r ran refl in
     let n : told r ≡ numbers (good b) = numbers-built job before after r ran b is in
-    let asked_in : asked ≤ length after.answers =
-    inside b.answers before.answers after.answers asked (answers_built job before after r ran b is) (ap (λ (m : Numbers). m.answers) n) in
-    let marks-in : asked ≤ length after.marks =
-    inside b.marks before.marks after.marks asked (marks_built job before after r ran b is)
-    (ap (λ (m : Numbers). m.answers) n ∙ sym (marks_many job before after r ran b is)) in
-    let pool-in : poolSize ≤ length after.pool =
-    inside b.pool before.pool after.pool poolSize (pool_built job before after r ran b is) (ap (λ (m : Numbers). m.pool) n) in
-    let rows_in : rowsSize ≤ length after.bootstraps =
-    inside b.bootstraps before.bootstraps after.bootstraps rowsSize (bootstraps_built job before after r ran b is) (ap (λ (m : Numbers). m.bootstraps) n) in
-    let class-in : bytes_of size ≤ length after.class =
+    let asked_in : m.answers ≤ length after.answers =
+    inside b.answers before.answers after.answers m.answers (answers_built job before after r ran b is) (ap (λ (k : Numbers). k.answers) n) in
+    let marks-in : m.answers ≤ length after.marks =
+    inside b.marks before.marks after.marks m.answers (marks_built job before after r ran b is)
+    (ap (λ (k : Numbers). k.answers) n ∙ sym (marks_many job before after r ran b is)) in
+    let pool-in : m.pool ≤ length after.pool =
+    inside b.pool before.pool after.pool m.pool (pool_built job before after r ran b is) (ap (λ (k : Numbers). k.pool) n) in
+    let rows_in : m.bootstraps ≤ length after.bootstraps =
+    inside b.bootstraps before.bootstraps after.bootstraps m.bootstraps (bootstraps_built job before after r ran b is) (ap (λ (k : Numbers). k.bootstraps) n) in
+    let class-in : bytes_of m.class_name ≤ length after.class =
     inside
     (class_out b.class)
     before.class
     after.class
-    (bytes_of size)
+    (bytes_of m.class_name)
     (class_built job before after r ran b is)
-    (ap (λ (m : Numbers). m.class_bytes) n ∙ class_size_lem b.class) in
+    (ap (λ (k : Numbers). k.class_bytes) n ∙ class_size_lem b.class) in
     (asked_in, marks-in, pool-in, rows_in, record { marks_are = refl; out_room = omega (arith, room, asked_in, pool-in, rows_in, class-in, a, p, s, c); class_room = class-in })
 
 -- the room of what is cut out of the outputs
@@ -163,7 +164,7 @@ lent_is before l =
     }
 
 pub text_over :
-    (job : List ℕ) (before after : Slices) (r : Outcome) → Ran job before after r →
+    (job : List ℕ) (before after : Slices) (r : prelude.Result code.Built Refused) → Ran job before after r →
     Lengths
     (length before.work)
     (length before.rows)

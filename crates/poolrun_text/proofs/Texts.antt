@@ -11,7 +11,8 @@ use Rattle.definition.specs.Basics.{bad}
 use Rattle.definition.specs.Ascii.{ascii, decimal, hex, hex_digit}
 use Rattle.definition.specs.Blocks.{line, class_text, mark_text, answer_lines, printed}
 use Rattle.poolrun_text.proofs.Putting.{parts_more}
-use Rattle.poolrun_text.specs.Text.{two_digits_lem, asked_text, pool_text, bootstraps_text, last_text, refused_text, built_text}
+use Rattle.poolrun_text.specs.Page.{two_digits_lem}
+use Rattle.poolrun_text.specs.Text.{asked_text, pool_text, bootstraps_text, last_text, refused_text, built_text}
 
 -- a word before a line; a word, a number and a space before a line
 pub labelled : (w n : List ℕ) → w ++ line n ≡ line (w ++ n)

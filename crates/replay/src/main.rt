@@ -8,168 +8,87 @@
 mod line;
 mod packed;
 
-ghost use Rattle.std.specs.Prelude.{◌≤◌};
-
-use cpool::Outcome;
-use packed::{Lent, ROOM, lent_of, next_packed};
+use cpool::Built;
+use frames::ReadError;
+use packed::{Lent, next_packed};
+use refusal::Refused;
 use slots::Gap;
-use std::io::{BufWriter, Result, Stdin, Write};
+use std::io;
+use std::io::{BufWriter, Read, Write};
 
 // How much text waits before it is written.
 const WAITING: usize = 16384;
 
-fn least(a: usize, b: usize) -> usize
-    ensures { result ≤ b }
-{
-    if a < b { a } else { b }
+// The memory of which runs are lent.
+#[derive(Drop)]
+struct Memory<'a> {
+    work: &'a mut [u32],
+    gaps: &'a mut [Gap],
+    answers: &'a mut [u16],
+    marks: &'a mut [u8],
+    pool: &'a mut [u8],
+    bootstraps: &'a mut [u8],
+    class_name: &'a mut [u8],
 }
 
-// Runs a job with outputs whole, and of work and gaps no more than is lent.
-fn run_within(
-    job: &[u8],
-    words: usize,
-    most: usize,
-    work: &mut [u32],
-    gaps: &mut [Gap],
-    answers: &mut [u16],
-    marks: &mut [u8],
-    pool: &mut [u8],
-    bootstraps: &mut [u8],
-    class_name: &mut [u8],
-) -> Outcome {
-    let words = least(words, work.len());
-    let most = least(most, gaps.len());
+// Runs a job over no more of the memory than it is lent.
+fn run_lent(job: &[u8], lent: Lent, memory: &mut Memory) -> Result<Built, Refused> {
+    let words = lent.words.min(memory.work.len());
+    let gaps = lent.gaps.min(memory.gaps.len());
+    let answers = lent.answers.min(memory.answers.len());
+    let marks = lent.answers.min(memory.marks.len());
+    let pool = lent.pool.min(memory.pool.len());
+    let bootstraps = lent.bootstraps.min(memory.bootstraps.len());
+    let class_name = lent.class_name.min(memory.class_name.len());
     cpool::run(
         job,
-        &mut work[..words],
-        &mut gaps[..most],
-        answers,
-        marks,
-        pool,
-        bootstraps,
-        class_name,
+        &mut memory.work[..words],
+        &mut memory.gaps[..gaps],
+        &mut memory.answers[..answers],
+        &mut memory.marks[..marks],
+        &mut memory.pool[..pool],
+        &mut memory.bootstraps[..bootstraps],
+        &mut memory.class_name[..class_name],
     )
 }
 
-// Runs the job that the first n bytes are.
-fn run_lent(
-    job: &[u8],
-    n: usize,
-    lent: Lent,
-    work: &mut [u32],
-    gaps: &mut [Gap],
-    answers: &mut [u16],
-    marks: &mut [u8],
-    pool: &mut [u8],
-    bootstraps: &mut [u8],
-    class_name: &mut [u8],
-) -> Outcome {
-    let size = least(n, job.len());
-    let asked = least(lent.answers, answers.len());
-    let marked = least(lent.answers, marks.len());
-    let pool_size = least(lent.pool, pool.len());
-    let rows_size = least(lent.bootstraps, bootstraps.len());
-    let name_size = least(lent.class_name, class_name.len());
-    run_within(
-        &job[..size],
-        lent.words,
-        lent.gaps,
-        work,
-        gaps,
-        &mut answers[..asked],
-        &mut marks[..marked],
-        &mut pool[..pool_size],
-        &mut bootstraps[..rows_size],
-        &mut class_name[..name_size],
-    )
-}
-
-// One job, if there is one; whether to go on.
-fn next_job(
-    input: &mut Stdin,
-    text: &mut impl Write,
-    job: &mut [u8; 1114112],
-    work: &mut [u32; 1201024],
-    gaps: &mut [Gap],
-    answers: &mut [u16; 65536],
-    marks: &mut [u8; 65536],
-    pool: &mut [u8; 65536],
-    bootstraps: &mut [u8; 65536],
-    class_name: &mut [u8; 65536],
-) -> Result<bool> {
-    let mut head = [0u8; 25];
-    let n = next_packed(input, job, &mut head)?;
-    if ROOM < n {
-        return Ok(false);
-    }
-    let lent = lent_of(&head);
-    let outcome = run_lent(
-        job, n, lent, work, gaps, answers, marks, pool, bootstraps, class_name,
-    );
-    line::print_outcome(text, outcome, answers, marks, pool, bootstraps, class_name)?;
-    Ok(true)
-}
-
+// Runs all jobs, up to the stream's end or one that can't be unpacked.
 fn run_all(
-    input: &mut Stdin,
+    input: &mut impl Read,
     text: &mut impl Write,
-    job: &mut [u8; 1114112],
-    work: &mut [u32; 1201024],
-    gaps: &mut [Gap],
-    answers: &mut [u16; 65536],
-    marks: &mut [u8; 65536],
-    pool: &mut [u8; 65536],
-    bootstraps: &mut [u8; 65536],
-    class_name: &mut [u8; 65536],
-) -> Result<()> {
-    let mut turns = u64::MAX;
-    while 0 < turns
-        && next_job(
-            input, text, job, work, gaps, answers, marks, pool, bootstraps, class_name,
-        )?
-    {
-        turns -= 1;
+    job: &mut [u8],
+    memory: &mut Memory,
+) -> io::Result<()> {
+    for _ in 0..u64::MAX {
+        let (size, lent) = match next_packed(input, job) {
+            Ok(packed) => packed,
+            Err(ReadError::Failed(error)) => return Err(error),
+            Err(_) => break,
+        };
+        let outcome = run_lent(&job[..size.min(job.len())], lent, memory);
+        line::print_outcome(text, outcome, memory)?;
     }
     Ok(())
 }
 
-// Runs all jobs over gaps for the longest that runs.
-fn run_over_gaps(
-    input: &mut Stdin,
-    text: &mut impl Write,
-    job: &mut [u8; 1114112],
-    work: &mut [u32; 1201024],
-    answers: &mut [u16; 65536],
-    marks: &mut [u8; 65536],
-    pool: &mut [u8; 65536],
-    bootstraps: &mut [u8; 65536],
-    class_name: &mut [u8; 65536],
-) -> Result<()> {
-    let gap = slots::no_gap();
-    let mut gaps = [gap; 40002];
-    run_all(
-        input, text, job, work, &mut gaps, answers, marks, pool, bootstraps, class_name,
-    )
-}
-
-fn main(rt: HostRuntime) -> Result<()> {
+fn main(rt: HostRuntime) -> io::Result<()> {
     let mut job = [0u8; 1114112];
     let mut work = [0u32; 1201024];
+    let mut gaps = [slots::no_gap(); 40002];
     let mut answers = [0u16; 65536];
     let mut marks = [0u8; 65536];
     let mut pool = [0u8; 65536];
     let mut bootstraps = [0u8; 65536];
     let mut class_name = [0u8; 65536];
+    let mut memory = Memory {
+        work: &mut work,
+        gaps: &mut gaps,
+        answers: &mut answers,
+        marks: &mut marks,
+        pool: &mut pool,
+        bootstraps: &mut bootstraps,
+        class_name: &mut class_name,
+    };
     let mut text = BufWriter::with_capacity(rt.alloc(), WAITING, rt.stdout())?;
-    run_over_gaps(
-        &mut rt.stdin(),
-        &mut text,
-        &mut job,
-        &mut work,
-        &mut answers,
-        &mut marks,
-        &mut pool,
-        &mut bootstraps,
-        &mut class_name,
-    )
+    run_all(&mut rt.stdin(), &mut text, &mut job, &mut memory)
 }

@@ -2,19 +2,15 @@
 // bytes each); then the parts. A part is a pattern and how often it stands in the job: times (four bytes), the pattern's length, two
 // places in it and a step (two bytes each), the pattern. Each time, the two-byte numbers at both places grow by the step; there is no
 // place 65535.
-ghost use Rattle.std.specs.Prelude.{◌+◌, ◌≤◌};
+use frames::{ReadError, read_part};
+use std::io::Read;
+use writer::BigEndian;
 
-use frames::read_part;
-use std::io::{Result, Stdin};
-
-// More than the longest job has, for those that are too long.
-pub(crate) const ROOM: usize = 1114112;
-
-// The length of a job that can't be unpacked.
-const BROKEN: usize = 1114113;
+// The number that stands in a part for no place.
+const NO_PLACE: u16 = 65535;
 
 // How much of the memory a run is lent, at most.
-#[derive(Drop)]
+#[derive(Clone, Copy)]
 pub(crate) struct Lent {
     pub(crate) words: usize,
     pub(crate) gaps: usize,
@@ -35,106 +31,87 @@ struct Part {
 
 fn part_of(head: &[u8; 12]) -> Part {
     Part {
-        times: writer::get_u32(head, 0),
-        size: writer::get_u16(head, 4),
-        first: writer::get_u16(head, 6),
-        second: writer::get_u16(head, 8),
-        step: writer::get_u16(head, 10),
+        times: u32::get(head, 0),
+        size: u16::get(head, 4),
+        first: u16::get(head, 6),
+        second: u16::get(head, 8),
+        step: u16::get(head, 10),
     }
 }
 
 fn grow(pattern: &mut [u8; 65536], place: u16, step: u16) {
-    if place == 65535 {
-        return;
+    if place != NO_PLACE {
+        let n = u16::get(pattern, place as usize);
+        n.wrapping_add(step).put(pattern, place as usize);
     }
-    let n = writer::get_u16(pattern, place as usize);
-    writer::put_u16(pattern, place as usize, std::num::wrapping_add_u16(n, step));
 }
 
 // Puts a pattern into the job once; where it ends.
-fn put_once(job: &mut [u8; 1114112], at: usize, pattern: &[u8; 65536], size: u16) -> usize {
-    let n = size as usize;
-    if ROOM < at {
-        return BROKEN;
-    }
-    if ROOM - at < n {
-        return BROKEN;
+fn put_once(job: &mut [u8], at: usize, pattern: &[u8]) -> Result<usize, ReadError> {
+    let n = pattern.len();
+    if job.len() < at || job.len() - at < n {
+        return Err(ReadError::Cut);
     }
     writer::copy(pattern, 0, job, at, n);
-    at + n
+    Ok(at + n)
 }
 
-fn step_on(job: &mut [u8; 1114112], at: usize, pattern: &mut [u8; 65536], part: Part) -> usize {
-    let end = put_once(job, at, pattern, part.size);
-    grow(pattern, part.first, part.step);
-    grow(pattern, part.second, part.step);
-    end
-}
-
-fn repeat(job: &mut [u8; 1114112], start: usize, pattern: &mut [u8; 65536], part: Part) -> usize {
-    let mut at = start;
-    let mut left = part.times;
-    while 0 < left {
-        at = step_on(job, at, pattern, part);
-        left -= 1;
-    }
-    at
-}
-
-fn next_part(
-    input: &mut Stdin,
-    job: &mut [u8; 1114112],
-    at: usize,
+fn repeat(
+    job: &mut [u8],
+    start: usize,
     pattern: &mut [u8; 65536],
-) -> Result<usize> {
-    let mut head = [0u8; 12];
-    if !read_part(input, &mut head, 12)? {
-        return Ok(BROKEN);
-    }
-    let part = part_of(&head);
-    if !read_part(input, pattern, part.size as usize)? {
-        return Ok(BROKEN);
-    }
-    Ok(repeat(job, at, pattern, part))
-}
-
-// Unpacks a job of so many parts; its length.
-fn unpack(input: &mut Stdin, job: &mut [u8; 1114112], parts: u8) -> Result<usize> {
-    let mut pattern = [0u8; 65536];
-    let mut at = 0;
-    let mut left = parts;
-    while 0 < left {
-        at = next_part(input, job, at, &mut pattern)?;
-        left -= 1;
+    part: Part,
+) -> Result<usize, ReadError> {
+    let mut at = start;
+    for _ in 0..part.times {
+        at = put_once(job, at, &pattern[..part.size as usize])?;
+        grow(pattern, part.first, part.step);
+        grow(pattern, part.second, part.step);
     }
     Ok(at)
 }
 
-fn number(head: &[u8; 25], at: usize) -> usize
-    requires { at + 4 ≤ 25 }
-{
-    writer::get_u32(head, at) as usize
+fn next_part(
+    input: &mut impl Read,
+    job: &mut [u8],
+    at: usize,
+    pattern: &mut [u8; 65536],
+) -> Result<usize, ReadError> {
+    let mut head = [0u8; 12];
+    read_part(input, &mut head, 12)?;
+    let part = part_of(&head);
+    read_part(input, pattern, part.size as usize)?;
+    repeat(job, at, pattern, part)
 }
 
-pub(crate) fn lent_of(head: &[u8; 25]) -> Lent {
+// Unpacks a job of so many parts; its length.
+fn unpack(input: &mut impl Read, job: &mut [u8], parts: u8) -> Result<usize, ReadError> {
+    let mut pattern = [0u8; 65536];
+    let mut at = 0;
+    for _ in 0..parts {
+        at = next_part(input, job, at, &mut pattern)?;
+    }
+    Ok(at)
+}
+
+fn lent_of(head: &[u8; 25]) -> Lent {
     Lent {
-        words: number(head, 1),
-        gaps: number(head, 5),
-        answers: number(head, 9),
-        pool: number(head, 13),
-        bootstraps: number(head, 17),
-        class_name: number(head, 21),
+        words: u32::get(head, 1) as usize,
+        gaps: u32::get(head, 5) as usize,
+        answers: u32::get(head, 9) as usize,
+        pool: u32::get(head, 13) as usize,
+        bootstraps: u32::get(head, 17) as usize,
+        class_name: u32::get(head, 21) as usize,
     }
 }
 
-// Reads the next job and what stands ahead of it; its length, past all room if there is none.
+// Reads the next job: its length, and how much it is lent.
 pub(crate) fn next_packed(
-    input: &mut Stdin,
-    job: &mut [u8; 1114112],
-    head: &mut [u8; 25],
-) -> Result<usize> {
-    if !read_part(input, head, 25)? {
-        return Ok(BROKEN);
-    }
-    unpack(input, job, head[0])
+    input: &mut impl Read,
+    job: &mut [u8],
+) -> Result<(usize, Lent), ReadError> {
+    let mut head = [0u8; 25];
+    read_part(input, &mut head, 25)?;
+    let size = unpack(input, job, head[0])?;
+    Ok((size, lent_of(&head)))
 }

@@ -1,9 +1,8 @@
 -- `poolrun_text::put_answer` meets its contract. Assumes nothing.
-use native.Mathlib.Omega.{arith}
 use Rattle.definition.specs.Blocks.{line}
-use Rattle.poolrun_text.proofs.Putting.{then}
+use Rattle.poolrun_text.proofs.Putting.{then_prints}
 use Rattle.poolrun_text.proofs.put_answer.Goals as goal
 
-pub returns : goal.returns
+pub returns-clause-line : goal.returns-clause-line
 unfolding line
-returns c = record { upper_bound = omega arith; behind = then (then c.put_decimal-word.ensures.behind c.put_mark-end.ensures.behind) c.put.ensures.behind }
+returns-clause-line c = then_prints (then_prints c.put_decimal.ensures.digits c.put_mark.ensures.mark) c.put.ensures

@@ -1,12 +1,10 @@
 -- `poolrun_text::put_refusal` meets its contract. Assumes nothing.
-use Rattle.poolrun_text.specs.Text.{refused_text}
+use mathlib.Core.Path.{ap}
 use Rattle.definition.specs.Ascii.{ascii}
-use native.Mathlib.Omega.{arith}
+use Rattle.poolrun_text.specs.Text.{refused_text}
+use Rattle.poolrun_text.proofs.Putting.{reprinted}
 use Rattle.poolrun_text.proofs.put_refusal.Goals as goal
-
-pub put_two-requires : goal.put_two-requires
-put_two-requires c = omega arith
 
 pub returns : goal.returns
 unfolding refused_text ascii
-returns c = c.put_two.ensures.behind
+returns c = reprinted (ap (λ n. refused_text n c.args.refused.place) c.from-code.ensures) c.put_two.ensures.line

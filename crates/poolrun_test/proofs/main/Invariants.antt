@@ -1,9 +1,0 @@
--- `poolrun_test::main` meets its contract. Assumes nothing.
-use borrow.Author.Rules.{rules}
-use Rattle.poolrun_test.proofs.main.Given as goal
-
-abbrev pub invariant-loop-turns : goal.invariant-loop-turns
-invariant-loop-turns l = Unit {0}
-
-abbrev pub decreases-loop-turns : goal.decreases-loop-turns
-decreases-loop-turns l = l.turns

@@ -1,9 +1,0 @@
--- `replay::packed::repeat` meets its contract. Assumes nothing.
-use Rattle.std.proofs.Common.{rules}
-use Rattle.replay.proofs.packed.repeat.Given as goal
-
-abbrev pub invariant-loop-left : goal.invariant-loop-left
-invariant-loop-left l = Unit {0}
-
-abbrev pub decreases-loop-left : goal.decreases-loop-left
-decreases-loop-left l = l.left
