@@ -5,7 +5,7 @@
 
 ghost use Rattle.std.specs.Prelude.{◌<◌, ◌≤◌, length};
 
-use job::{Formed, form};
+use job::form;
 use std::io::{BufWriter, Result, Write};
 
 fn tell(output: &mut impl Write, right: bool) -> Result<()> {
@@ -19,24 +19,27 @@ fn end_line(output: &mut impl Write) -> Result<()> {
 
 fn is_refused(job: &[u8], code: u32, place: usize) -> bool {
     match form(job) {
-        Formed::Refused { code: c, place: p } => (c == code) & (p == place),
-        Formed::Counts(_) => false,
+        Ok(_) => false,
+        Err(refused) => (u32::from(refused.refusal) == code) & (refused.place == place),
     }
 }
 
 fn is_counted(job: &[u8], expected: [usize; 8]) -> bool {
     match form(job) {
-        Formed::Refused { code: _, place: _ } => false,
-        Formed::Counts(c) => {
-            (c.definitions == expected[0])
-                & (c.constants == expected[1])
-                & (c.bootstraps == expected[2])
-                & (c.references == expected[3])
-                & (c.names == expected[4])
-                & (c.raw_constants == expected[5])
-                & (c.raw_bootstraps == expected[6])
-                & (c.requests == expected[7])
+        Ok(c) => {
+            let counted = [
+                c.definitions,
+                c.constants,
+                c.bootstraps,
+                c.references,
+                c.names,
+                c.raw_constants,
+                c.raw_bootstraps,
+                c.requests,
+            ];
+            counted == expected
         }
+        Err(_) => false,
     }
 }
 
@@ -50,8 +53,8 @@ fn counted(output: &mut impl Write, job: &[u8], expected: [usize; 8]) -> Result<
 
 fn is_set(job: &[u8], highest: usize, version: usize) -> bool {
     match form(job) {
-        Formed::Refused { code: _, place: _ } => false,
-        Formed::Counts(c) => (c.highest == highest) & (c.version == version),
+        Ok(c) => (c.highest == highest) & (c.version == version),
+        Err(_) => false,
     }
 }
 
@@ -297,10 +300,7 @@ fn is_held(a: u8, b: u8, c: u8) -> bool {
     let job = [
         0x48, 0x01, 0x00, 0x03, a, b, c, 0x50, 0x60, 0x02, 0x00, 0x00, 0x00,
     ];
-    match form(&job) {
-        Formed::Refused { code, place } => !((code == 25) & (place == 1)),
-        Formed::Counts(_) => true,
-    }
+    !is_refused(&job, 25, 1)
 }
 
 // The forms of JVMS 4.4.7: one, two and three bytes, overlong and surrogate ones too; then bytes that no form has in their place.
@@ -394,10 +394,8 @@ fn expressions(output: &mut impl Write) -> Result<()> {
 // Puts a record's bytes at a place of a job, if they fit there.
 fn put(job: &mut [u8], at: usize, record: &[u8]) {
     let n = record.len();
-    if n <= job.len() {
-        if at <= job.len() - n {
-            writer::copy(record, 0, job, at, n);
-        }
+    if n <= job.len() && at <= job.len() - n {
+        job[at..at + n].copy_from_slice(record);
     }
 }
 
@@ -454,22 +452,13 @@ const ENDS: [usize; 29] = [
 
 // How many records end within so many bytes: the number of the record that holds the next byte.
 fn record_at(n: usize) -> usize {
-    let mut k = 0;
-    while k < 29 {
-        if n < ENDS[k] {
-            return k;
-        }
-        k += 1;
-    }
-    k
+    ENDS.iter().position(|end| n < *end).unwrap_or(ENDS.len())
 }
 
 // The job cut after every byte but its last is 3 at the record that is cut or missing.
 fn cut_everywhere(output: &mut impl Write, job: &[u8]) -> Result<()> {
-    let mut n = 0;
-    while n < job.len() {
+    for n in 0..job.len() {
         refused(output, &job[0..n], 3, record_at(n))?;
-        n += 1;
     }
     end_line(output)
 }
@@ -514,10 +503,8 @@ fn refused_at_each(
     byte: u8,
     code: u32,
 ) -> Result<()> {
-    let mut i = 0;
-    while i < places.len() {
-        refused_with(output, job, places[i], byte, code)?;
-        i += 1;
+    for at in places {
+        refused_with(output, job, *at, byte, code)?;
     }
     end_line(output)
 }
@@ -528,10 +515,8 @@ fn counted_at_each(
     places: &[usize],
     byte: u8,
 ) -> Result<()> {
-    let mut i = 0;
-    while i < places.len() {
-        counted_with(output, job, places[i], byte)?;
-        i += 1;
+    for at in places {
+        counted_with(output, job, *at, byte)?;
     }
     end_line(output)
 }
@@ -555,25 +540,35 @@ const LENGTHS: [usize; 11] = [1, 46, 67, 81, 87, 104, 115, 118, 124, 130, 155];
 const FREE: [usize; 14] = [3, 6, 11, 16, 25, 39, 47, 50, 53, 69, 91, 119, 135, 151];
 
 // Where a number of an entry or of a request ends, and the first number that isn't there.
-const NUMBERS: [usize; 19] = [
-    36, 44, 58, 61, 65, 72, 76, 80, 85, 98, 101, 108, 112, 122, 128, 138, 143, 148, 161,
-];
-
-const MISSING: [u8; 19] = [
-    5, 7, 9, 9, 10, 11, 12, 13, 13, 2, 13, 14, 15, 17, 2, 17, 2, 17, 3,
+const NUMBERS: [(usize, u8); 19] = [
+    (36, 5),
+    (44, 7),
+    (58, 9),
+    (61, 9),
+    (65, 10),
+    (72, 11),
+    (76, 12),
+    (80, 13),
+    (85, 13),
+    (98, 2),
+    (101, 13),
+    (108, 14),
+    (112, 15),
+    (122, 17),
+    (128, 2),
+    (138, 17),
+    (143, 2),
+    (148, 17),
+    (161, 3),
 ];
 
 // A record may cite the last entry before it, and none from itself on.
 fn wrong_numbers(output: &mut impl Write, job: [u8; 162]) -> Result<()> {
-    let mut i = 0;
-    while i < 19 {
-        let at = NUMBERS[i];
-        let missing = MISSING[i];
+    for (at, missing) in NUMBERS {
         if 0 < missing {
             refused_with(output, job, at, missing, 4)?;
             counted_with(output, job, at, missing - 1)?;
         }
-        i += 1;
     }
     end_line(output)
 }
@@ -595,10 +590,8 @@ fn out_of_place(output: &mut impl Write, job: [u8; 162]) -> Result<()> {
 fn fill(job: &mut [u8], kind: u8, size: usize, end: usize)
     requires { (0 < size) × (size < 8) × (end ≤ length job.old) }
 {
-    let mut at = 0;
-    while at < end {
+    for at in (0..end).step_by(size) {
         job[at] = kind;
-        at += size;
     }
 }
 
@@ -611,12 +604,9 @@ fn refused_behind(
     code: u32,
 ) -> Result<()> {
     let n = record.len();
-    if n <= job.len() {
-        if at <= job.len() - n {
-            writer::copy(record, 0, job, at, n);
-            let end = at + n;
-            refused(output, &job[0..end], code, 65536)?;
-        }
+    if n <= job.len() && at <= job.len() - n {
+        put(job, at, record);
+        refused(output, &job[..at + n], code, 65536)?;
     }
     Ok(())
 }
@@ -629,12 +619,9 @@ fn counted_behind(
     expected: [usize; 8],
 ) -> Result<()> {
     let n = record.len();
-    if n <= job.len() {
-        if at <= job.len() - n {
-            writer::copy(record, 0, job, at, n);
-            let end = at + n;
-            counted(output, &job[0..end], expected)?;
-        }
+    if n <= job.len() && at <= job.len() - n {
+        put(job, at, record);
+        counted(output, &job[..at + n], expected)?;
     }
     Ok(())
 }
