@@ -12,8 +12,7 @@ use lib.Seq.{get_or-set_same, get_or-set_other, ext_get_or}
 use Rattle.definition.specs.Basics.{from}
 use Rattle.facts.proofs.Lists.{equal}
 use Rattle.facts.proofs.Chunks.{length_from, from-get}
-use Rattle.trace.specs.declared.Traced.TheVariants.{Counts}
-use Rattle.trace.specs.declared.Marks.{Marks}
+use Rattle.trace.specs.declared.Counts.{Counts}
 use Rattle.trace.specs.Trace.{how_many, action, expected, slot, steps, right, flag, succeeds, fails, rests, all_clear, report}
 use Rattle.trace.specs.Step.{flag_behind, passes_by, one}
 use Rattle.trace.specs.Answers.{counted, OneStep}
@@ -22,7 +21,7 @@ use Rattle.trace.proofs.Flags.{flag_first, flag_here, flag_there}
 
 -- what one step's calls give is a step
 pub one-step :
-    {holds : ℕ → ℕ → Bool} {trace : List ℕ} {i : ℕ} {flags clear flags' clear' : List ℕ} {m : Marks} {a t s : ℕ} {r g b : Bool} →
+    {holds : ℕ → ℕ → Bool} {trace : List ℕ} {i : ℕ} {flags clear flags' clear' : List ℕ} {m : Counts} {a t s : ℕ} {r g b : Bool} →
     s < 65536 → a ≡ action trace i → t ≡ expected trace i → s ≡ slot trace i → r ≡ holds s t →
     (g ≡ passes_by a r (get_or flags s 0)) × (flags' ≡ set flags s (flag_behind a r (get_or flags s 0))) →
     (b ≡ passes_by a r (get_or clear s 0)) × (clear' ≡ set clear s (flag_behind a r (get_or clear s 0))) →
@@ -96,7 +95,7 @@ module _ (holds : ℕ → ℕ → Bool) (trace : List ℕ) where
   }
 
 module _ {holds : ℕ → ℕ → Bool} {trace lent flags clear : List ℕ} {good failed rested i : ℕ} (going : Going holds trace lent flags clear good failed rested i) where
-  module _ {flags' clear' : List ℕ} {m : Marks} (step : OneStep holds trace i flags clear flags' clear' m) where
+  module _ {flags' clear' : List ℕ} {m : Counts} (step : OneStep holds trace i flags clear flags' clear' m) where
     -- no count passes the steps
     pub going_small : (good + m.good ≤ i + 1) × (failed + m.failed ≤ i + 1) × (rested + m.rested ≤ i + 1)
     going_small = (
@@ -128,7 +127,7 @@ module _ {holds : ℕ → ℕ → Bool} {trace lent flags clear : List ℕ} {goo
         more p n k e f = rw (add-one i, many_more p i, e, f)
 
   pub going_last : length lent ≡ 65536 → i ≡ steps trace →
-      (Counts good failed rested ≡ counted (report holds trace lent)) × (flags ≡ (report holds trace lent).flags)
+      (◌≡◌ {A = Counts} (record { good = good; failed = failed; rested = rested }) (counted (report holds trace lent))) × (flags ≡ (report holds trace lent).flags)
   unfolding report
   going_last z e = (
     rw (going.goods, going.faileds, going.resteds, e),

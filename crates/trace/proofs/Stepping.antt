@@ -9,11 +9,12 @@ use native.Mathlib.Omega.{arith}
 use lib.Dec.{eqb, ltb}
 use lib.ListN.{get_or, set}
 use lib.Seq.{set-get_or}
+use mir.Val.{bool_byte}
 use borrow.Author.Tests.{ne_eqb, lt-ltb, le-ltb}
 use Rattle.facts.proofs.Lists.{order, true≢false}
 use Rattle.places.specs.Noting.{tag_at}
 use Rattle.trace.specs.Trace.{some-from, action, steps, unknown_action}
-use Rattle.trace.specs.Step.{next, flag_behind, passes_by}
+use Rattle.trace.specs.Step.{next, flag_behind, passes_by, one}
 use Rattle.trace.specs.Answers.{held}
 use Rattle.trace.proofs.Counting.{from_more, from_found}
 use Rattle.trace.proofs.Flags.{set-stays}
@@ -93,3 +94,22 @@ module _ (trace : List ℕ) where
       ways : (1 < action trace i) ⊎ (action trace i ≤ 1) → action trace i ≤ 1
       ways (inl u) = true≢false (sym (unknown i h u) ∙ k)
       ways (inr l) = l
+
+  -- the actions below i are known, one by one
+  pub known_up : (i : ℕ) → ((k : ℕ) → k < i → action trace k ≤ 1) → unknown_action trace i ≡ false
+  known_up zero all = known-first
+  known_up (suc i) all = rw (add-one i) at (known_more i (known_up i (λ k h. all k (omega arith))) (all i (omega arith)))
+
+  pub known_not : (((k : ℕ) → k < steps trace → action trace k ≤ 1) → ⊥) → unknown_action trace (steps trace) ≡ true
+  known_not h = ways (unknown_action trace (steps trace)) refl
+    where
+      ways : (b : Bool) → unknown_action trace (steps trace) ≡ b → b ≡ true
+      ways true e = refl
+      ways false e = absurd (h (λ k below. known_at k e below))
+
+-- A BOOL AS A NUMBER
+
+pub byte_one : (b : Bool) → bool_byte b ≡ one b
+unfolding one
+byte_one true = refl
+byte_one false = refl

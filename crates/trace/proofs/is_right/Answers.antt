@@ -1,10 +1,14 @@
 -- `trace::is_right` meets its contract. Assumes nothing.
-use borrow.Author.Rules.{rules}
+use mathlib.Core.Bool.{not}
+use mathlib.Core.Path.{ap, ◌∙◌}
+use borrow.Author.Tests.{eq-eqb}
 use Rattle.trace.proofs.Stepping.{never_zero, held-other}
 use Rattle.trace.proofs.is_right.Goals as goal
 
-pub returns-then-tag-eq0 : goal.returns-then-tag-eq0
-returns-then-tag-eq0 c = never_zero c.args.pool.now c.args.places.now c.args.slot c.args.tag c.if-tag-eq0.true
+pub returns-then-tag-ne0 : goal.returns-then-tag-ne0
+returns-then-tag-ne0 c = held-other c.args.pool.now c.args.places.now c.args.slot c.args.tag c.tag_at.result c.if-tag-ne0.true c.tag_at.ensures
 
-pub returns : goal.returns
-returns c = held-other c.args.pool.now c.args.places.now c.args.slot c.args.tag c.tag_at.result c.if-tag-eq0.false c.tag_at.ensures
+pub returns-else-tag-ne0 : goal.returns-else-tag-ne0
+returns-else-tag-ne0 c =
+    ap not (eq-eqb c.args.tag 0 c.if-tag-ne0.false)
+    ∙ never_zero c.args.pool.now c.args.places.now c.args.slot c.args.tag c.if-tag-ne0.false

@@ -1,5 +1,4 @@
 -- `trace::run_step` meets its contract, one law for each way through it. Assumes nothing.
-use borrow.Author.Rules.{rules}
 use Rattle.trace.proofs.Stepping.{step-clears, step_set, step_right, step-wrong}
 use Rattle.trace.proofs.run_step.Goals as goal
 

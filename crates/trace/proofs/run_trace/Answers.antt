@@ -1,17 +1,21 @@
 -- `trace::run_trace` meets its contract, one law for each way through it. Assumes nothing.
-use borrow.Author.Rules.{rules}
+use mathlib.Core.Path.{sym, ◌∙◌}
+use lib.ListN.{replicate}
+use borrow.Author.Tests.{not-true, not-false}
 use Rattle.places.proofs.Rows.{blank_zeros}
-use Rattle.trace.proofs.Running.{unread, more-behind, goes_on}
+use Rattle.trace.proofs.Running.{not_whole, when-whole}
 use Rattle.trace.proofs.run_trace.Goals as goal
 
-pub returns-in_default : goal.returns-in_default
-returns-in_default c = let told = let args = c.args in
-    unread args.pool.now args.trace.now args.flags.now _ _ c.note_pool.result c.note_pool.ensures c.in_default.is in record { value = told.0; flags_after = told.1 }
-
-pub returns-then-next-pool : goal.returns-then-next-pool
-returns-then-next-pool c = let told = let args = c.args in
-    more-behind args.pool.now args.trace.now args.flags.now _ _ c.note_pool.result c.note_pool.ensures _ c.in-Good.is c.if-next-pool.true in record { value = told.0; flags_after = told.1 }
+pub returns-then-ne : goal.returns-then-ne
+returns-then-ne c =
+    let args = c.args in
+    let part = not-true _ (sym c.ne.ensures ∙ c.if-ne.true) in
+    let told = not_whole args.pool.now args.trace.now args.flags.now (replicate 65536 0) c.note_pool.new.places c.note_pool.result c.note_pool.ensures part in
+    record { value = told.0; flags_after = told.1 }
 
 pub returns : goal.returns
-returns c = let told = let args = c.args in
-    goes_on args.pool.now args.trace.now args.flags.now _ _ c.note_pool.result c.note_pool.ensures _ c.in-Good.is blank_zeros c.if-next-pool.false _ _ (c.run_over.ensures.value, c.run_over.ensures.flags_after) in record { value = told.0; flags_after = told.1 }
+returns c =
+    let args = c.args in
+    let all = not-false _ (sym c.ne.ensures ∙ c.if-ne.false) in
+    let told = when-whole args.pool.now args.trace.now args.flags.now (replicate 65536 0) c.note_pool.new.places c.note_pool.result c.note_pool.ensures all blank_zeros c.run_over.new.flags c.run_over.result (c.run_over.ensures.value, c.run_over.ensures.flags_after) in
+    record { value = told.0; flags_after = told.1 }
