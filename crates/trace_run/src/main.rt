@@ -5,180 +5,121 @@
 // flags is (four bytes, at most 65,600); how many flags are given (two bytes); each flag's slot (two bytes) and value. Others are 0.
 #![tactic(auto)]
 
-ghost use Rattle.std.specs.Prelude.{◌≡◌, ◌*◌, ◌≤◌, length};
+ghost use Rattle.std.specs.Prelude.{◌≤◌, length};
 
-use frames::{FRAME_CUT, GO_ON, READ_FAILED};
-use std::io::{Result, Stderr, Stdin, Stdout};
-use trace::Traced;
+use frames::{End, Line, ReadError};
+use refusal::Refusal;
+use std::io::{self, Read, Write};
+use trace::Counts;
+use writer::BigEndian;
 
 // A flag that is given: its slot in two bytes, and its value.
 const FLAG: usize = 3;
 
-// The longest table of flags, all clear.
-fn no_flags() -> [u8; 65600]
-    ensures { 65600 ≡ length result }
+// The longest table of flags.
+const MOST_FLAGS: usize = 65600;
+
+// Sets the flags that are given.
+fn set_flags(flags: &mut [u8], given: &[u8])
+    requires { 65536 ≤ length flags.old }
 {
-    [0; 65600]
-}
-
-// Sets the first so many flags that are given.
-fn set_flags(flags: &mut [u8], given: &[u8], number: usize)
-    requires in_bounds { 65536 ≤ length flags.old }
-    requires number_in_bounds { 3 * number ≤ length given.now }
-{
-    let mut i = 0;
-    while i < number {
-        let slot = writer::get_u16(given, FLAG * i) as usize;
-        flags[slot] = writer::get_u8(given, FLAG * i + 2);
-        i += 1;
+    for i in 0..given.len() / FLAG {
+        let slot = u16::get(given, FLAG * i) as usize;
+        flags[slot] = given[FLAG * i + 2];
     }
 }
 
-fn put_flag(text: &mut [u8], at: usize, slot: usize, value: u8) -> usize {
-    if value == 0 {
-        return at;
+fn put_flags(line: &mut Line, flags: &[u8]) {
+    line.put_word(b" flags");
+    for (slot, value) in flags.iter().enumerate() {
+        if *value != 0 {
+            line.put_number(slot);
+            line.put_word(b"=");
+            line.put_decimal(*value as usize);
+        }
     }
-    let end = frames::put_number(text, at, slot);
-    let sign = frames::put_word(text, end, b"=");
-    frames::put_decimal(text, sign, value as usize)
 }
 
-fn put_flags(text: &mut [u8], start: usize, flags: &[u8]) -> usize {
-    let mut at = frames::put_word(text, start, b" flags");
-    let mut i = 0;
-    while i < flags.len() {
-        at = put_flag(text, at, i, flags[i]);
-        i += 1;
-    }
-    at
+fn put_counts(line: &mut Line, counts: Counts) {
+    line.put_word(b"good");
+    line.put_number(counts.good);
+    line.put_word(b" failed");
+    line.put_number(counts.failed);
+    line.put_word(b" rested");
+    line.put_number(counts.rested);
 }
 
-fn put_counts(text: &mut [u8], good: usize, failed: usize, rested: usize) -> usize {
-    let word = frames::put_word(text, 0, b"good");
-    let end = frames::put_number(text, word, good);
-    let word = frames::put_word(text, end, b" failed");
-    let end = frames::put_number(text, word, failed);
-    let word = frames::put_word(text, end, b" rested");
-    frames::put_number(text, word, rested)
-}
-
-fn put_traced(text: &mut [u8], traced: Traced) -> usize {
+fn put_traced(line: &mut Line, traced: Result<Counts, Refusal>) {
     match traced {
-        Traced::Counts {
-            good,
-            failed,
-            rested,
-        } => put_counts(text, good, failed, rested),
-        Traced::Refused(code) => frames::put_refusal(text, code),
+        Ok(counts) => put_counts(line, counts),
+        Err(refusal) => line.put_refusal(refusal.into()),
     }
 }
 
-// Runs a trace over a pool and flags; whether its line was written.
+// Runs a trace over a pool and flags, and writes its line.
 fn run_part(
-    output: &mut Stdout,
+    output: &mut impl Write,
     pool: &[u8],
-    n: usize,
     trace: &[u8],
-    size: usize,
     flags: &mut [u8],
     text: &mut [u8],
-) -> Result<bool>
-    requires n_in_bounds { n ≤ length pool.now }
-    requires size_in_bounds { size ≤ length trace.now }
-{
-    let traced = trace::run_trace(&pool[..n], &trace[..size], flags);
-    let end = put_traced(text, traced);
-    let end = put_flags(text, end, flags);
-    frames::end_line(output, text, end)
+) -> Result<(), End> {
+    let mut line = Line::new(text);
+    put_traced(&mut line, trace::run_trace(pool, trace, flags));
+    put_flags(&mut line, flags);
+    line.end(output)?;
+    Ok(())
 }
 
-// Sets the flags that are given in a table of a length, and runs the trace over it.
-fn run_given(
-    output: &mut Stdout,
-    pool: &[u8],
-    n: usize,
-    trace: &[u8],
-    size: usize,
-    slots: usize,
-    given: &[u8],
-    number: usize,
-    text: &mut [u8],
-) -> Result<bool>
-    requires n_in_bounds { n ≤ length pool.now }
-    requires size_in_bounds { size ≤ length trace.now }
-    requires slots_bound { slots ≤ 65600 }
-    requires number_in_bounds { 3 * number ≤ length given.now }
-{
-    let mut flags = no_flags();
-    set_flags(&mut flags, given, number);
-    run_part(output, pool, n, trace, size, &mut flags[..slots], text)
-}
-
-// One trace, if there is one.
+// Reads a trace and runs it, or says how the stream ends.
 fn next_trace(
-    input: &mut Stdin,
-    output: &mut Stdout,
+    input: &mut impl Read,
+    output: &mut impl Write,
     pool: &mut [u8; 262144],
     trace: &mut [u8; 4194304],
     given: &mut [u8; 196608],
     text: &mut [u8; 1048576],
-) -> Result<u8> {
+) -> Result<(), End> {
     let n = frames::next_block(input, pool)?;
-    if 262144 < n {
-        return Ok(frames::without(n));
-    }
-    let size = frames::next_block(input, trace)?;
-    if 4194304 < size {
-        return Ok(FRAME_CUT);
-    }
+    let size = frames::next_block(input, trace).map_err(ReadError::inside)?;
     let mut head = [0u8; 6];
-    if !frames::read_part(input, &mut head, 6)? {
-        return Ok(FRAME_CUT);
+    frames::read_part(input, &mut head, 6).map_err(ReadError::inside)?;
+    let slots = u32::get(&head, 0) as usize;
+    let number = u16::get(&head, 4) as usize;
+    if MOST_FLAGS < slots {
+        return Err(End::Cut);
     }
-    let slots = writer::get_u32(&head, 0) as usize;
-    let number = writer::get_u16(&head, 4) as usize;
-    if 65600 < slots {
-        return Ok(FRAME_CUT);
-    }
-    if !frames::read_part(input, given, FLAG * number)? {
-        return Ok(FRAME_CUT);
-    }
-    let written = run_given(output, pool, n, trace, size, slots, given, number, text);
-    Ok(frames::after(written.unwrap_or(false)))
-}
-
-// The next trace; a read that fails ends the stream.
-fn go_on(
-    input: &mut Stdin,
-    output: &mut Stdout,
-    pool: &mut [u8; 262144],
-    trace: &mut [u8; 4194304],
-    given: &mut [u8; 196608],
-    text: &mut [u8; 1048576],
-) -> u8 {
-    next_trace(input, output, pool, trace, given, text).unwrap_or(READ_FAILED)
+    frames::read_part(input, given, FLAG * number).map_err(ReadError::inside)?;
+    let mut flags = [0u8; MOST_FLAGS];
+    set_flags(&mut flags, &given[..FLAG * number]);
+    run_part(
+        output,
+        &pool[..n],
+        &trace[..size],
+        &mut flags[..slots],
+        text,
+    )
 }
 
 // Traces in turn; how the stream ends is told.
 fn run_stream(
-    input: &mut Stdin,
-    output: &mut Stdout,
-    errors: &mut Stderr,
+    input: &mut impl Read,
+    output: &mut impl Write,
+    errors: &mut impl Write,
     pool: &mut [u8; 262144],
     trace: &mut [u8; 4194304],
     given: &mut [u8; 196608],
     text: &mut [u8; 1048576],
-) -> Result<()> {
-    let mut traces: u64 = 0;
-    let mut how = go_on(input, output, pool, trace, given, text);
-    while traces < u64::MAX && how == GO_ON {
-        traces += 1;
-        how = go_on(input, output, pool, trace, given, text);
+) -> io::Result<()> {
+    for traces in 0..u64::MAX {
+        if let Err(end) = next_trace(input, output, pool, trace, given, text) {
+            return frames::tell(errors, b"trace_run", end, traces);
+        }
     }
-    frames::tell(errors, b"trace_run", how, traces)
+    frames::tell(errors, b"trace_run", End::Whole, u64::MAX)
 }
 
-fn main(rt: HostRuntime) -> Result<()> {
+fn main(rt: HostRuntime) -> io::Result<()> {
     let mut pool = [0u8; 262144];
     let mut trace = [0u8; 4194304];
     let mut given = [0u8; 196608];
