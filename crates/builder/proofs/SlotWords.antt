@@ -39,7 +39,9 @@ use Rattle.rows.specs.Rowed.{HasNumber}
 use Rattle.pool.specs.Pooled.{NodesThere}
 use Rattle.pool.specs.Owning.{IsOwner}
 use Rattle.ending.specs.Ended.{name_in}
-use Rattle.output.specs.Contents.{NOTHING, EMPTY, ATTRIBUTE, number_in, finished_in, shown_in, wide_in, link_word, link_of, owner_in, wide_at, content_word}
+use Rattle.output.specs.declared.Content.{Content}
+use Rattle.output.specs.declared.Content.TheVariants as content
+use Rattle.output.specs.Contents.{number_in, finished_in, shown_in, wide_in, link_word, link_of, owner_in, wide_at, content_word}
 use Rattle.output.specs.Names.{shown_at}
 use Rattle.output.proofs.Owners.{link_back}
 use Rattle.output.proofs.Holding.{raw_half, raw_node_lem, link_node, link_wide, link_empty, wide_past, wide_node, owner_name, owner_raw, owner_given}
@@ -150,7 +152,7 @@ module _
   abbrev pub Entered : ℕ → Type 0
   Entered n =
       (e : Entry ℕ ℕ)
-      × (c : ℕ)
+      × (c : Content)
       × (lookup n after.owned ≡ some e)
       × ((wide : Bool) → owner_in v n wide ≡ c)
       × (shown_in s v c ≡ some (spelled (literals (job_in s)) e))
@@ -164,7 +166,7 @@ module _
   abbrev pub Second : ℕ → Type 0
   Second n =
       (lookup n after.owned ≡ none)
-      × ((wide : Bool) → owner_in v n wide ≡ NOTHING)
+      × ((wide : Bool) → owner_in v n wide ≡ content.Nothing)
       × (j : ℕ)
       × (n ≡ suc j)
       × (e : Entry ℕ ℕ)
@@ -182,25 +184,24 @@ module _
   unfolding attribute_text is_wide with_literal literal_of literals
   name_way n low is = (
     attribute_text,
-    ATTRIBUTE,
+    content.Attribute,
     ap (lookup n) (f.named.named (omega (arith, is))) ∙ lookup-hit n (name_in v, attribute_text) m.owned is,
     λ wide. owner_name v n wide is,
-    shown-attribute (finished_in s v) ATTRIBUTE (omega arith) (λ z. omega arith) (λ z. omega arith),
-    wide_past (finished_in s v) ATTRIBUTE (omega arith),
+    shown-attribute (finished_in s v) content.Attribute refl,
+    wide_past (finished_in s v) content.Attribute (λ k e. cc),
   )
 
-  node_way : (n k : ℕ) → (n ≡ name_in v → ⊥) → Among (n, k) holding → IsOwner v k → ((wide : Bool) → owner_in v n wide ≡ k) → Entered n
+  node_way : (n k : ℕ) → (n ≡ name_in v → ⊥) → Among (n, k) holding → IsOwner v k → ((wide : Bool) → owner_in v n wide ≡ content.Node k) → Entered n
   unfolding with_kids with_literal
   node_way n k other a owner words =
       let (e, nd, l, at, is) = held-entry n k a in
-      let low : k < NOTHING = omega (arith, node_low k nd at owner, few_nodes) in
       let shows : finished_in s v k ≡ spelled (literals (job_in s)) e = node_shown k nd at owner ∙ ap (spelled (literals (job_in s))) (sym is) in (
         e,
-        k,
+        content.Node k,
         owned_before n other ∙ l,
         words,
-        shown-node (finished_in s v) k low ∙ ap some shows,
-        wide_node (finished_in s v) k low ∙ ap (λ (x : Entry (List ℕ) ℕ). is_wide x.tag) shows,
+        shown-node (finished_in s v) (content.Node k) k refl ∙ ap some shows,
+        wide_node (finished_in s v) (content.Node k) k refl ∙ ap (λ (x : Entry (List ℕ) ℕ). is_wide x.tag) shows,
       )
 
   -- nothing is owned where nothing is to be held
@@ -236,7 +237,7 @@ module _
       let (x, l, tag) = held-tag j k on in
       (x, owned_before j (λ q. name_behind s p v h d ready asked m after are work f j k r w (named-there j q low)) ∙ l, ap is_wide tag ∙ w)
 
-  half_way : (n : ℕ) → (n ≡ name_in v → ⊥) → Among (n, half) d.held → ((wide : Bool) → owner_in v n wide ≡ NOTHING) → Second n
+  half_way : (n : ℕ) → (n ≡ name_in v → ⊥) → Among (n, half) d.held → ((wide : Bool) → owner_in v n wide ≡ content.Nothing) → Second n
   half_way n other a words =
       let (j, e, is, b, wide) = defined_halves (top_of (job_in s)) (constants_of (records_in s)) (records_in s) d f.is_defined n a in
       let (k, r, mark) = held.starts-raw s p v h d ready asked m after are work f j e b in
@@ -317,28 +318,28 @@ module _
       ap (wide_in s v) (words false) ∙ wide ∙ ap wide_there (sym l ∙ q))
       (⊎_elim
       (λ (x : Unowned (suc n)).
-      ap (wide_in s v) (x.1 false ∙ link_empty false 0 refl refl) ∙ wide_past (finished_in s v) EMPTY (omega arith) ∙ ap wide_there (sym x.0 ∙ q))
-      (λ (x : Second (suc n)). ap (wide_in s v) (x.1 false) ∙ wide_past (finished_in s v) NOTHING (omega arith) ∙ ap wide_there (sym x.0 ∙ q)))
+      ap (wide_in s v) (x.1 false ∙ link_empty false 0 refl refl) ∙ wide_past (finished_in s v) content.Empty (λ k e. cc) ∙ ap wide_there (sym x.0 ∙ q))
+      (λ (x : Second (suc n)). ap (wide_in s v) (x.1 false) ∙ wide_past (finished_in s v) content.Nothing (λ k e. cc) ∙ ap wide_there (sym x.0 ∙ q)))
       (slot-ways (suc n) (omega arith) high)
 
   behind-shown : (o : Option (Entry ℕ ℕ)) → shown_in s v (link_word (wide_there o) 0) ≡ shown (literals (job_in s)) (behind o)
   unfolding wide_there behind shown link_word
-  behind-shown none = shown-empty (finished_in s v) EMPTY refl
+  behind-shown none = shown-empty (finished_in s v) content.Empty refl
   behind-shown (some e) = ways (is_wide e.tag)
     where
       ways :
           (b : Bool) →
-          shown_in s v (elim b [ true ↦ NOTHING | false ↦ EMPTY ]) ≡ shown (literals (job_in s)) (elim b [ true ↦ nothing | false ↦ empty_text ])
-      ways true = shown-nothing (finished_in s v) NOTHING refl
-      ways false = shown-empty (finished_in s v) EMPTY refl
+          shown_in s v (elim b [ true ↦ content.Nothing | false ↦ content.Empty ]) ≡ shown (literals (job_in s)) (elim b [ true ↦ nothing | false ↦ empty_text ])
+      ways true = shown-nothing (finished_in s v) content.Nothing refl
+      ways false = shown-empty (finished_in s v) content.Empty refl
 
   behind-wide : (o : Option (Entry ℕ ℕ)) → wide_there o ≡ true → shown (literals (job_in s)) (behind o) ≡ none
   behind-wide o w =
-      sym (behind-shown o) ∙ ap (shown_in s v) (link_wide (wide_there o) 0 refl w) ∙ shown-nothing (finished_in s v) NOTHING refl
+      sym (behind-shown o) ∙ ap (shown_in s v) (link_wide (wide_there o) 0 refl w) ∙ shown-nothing (finished_in s v) content.Nothing refl
 
   pub shown-same : (n : ℕ) → n < 65536 → shown_at s v n ≡ shown (literals (job_in s)) (content_of after.owned n)
   unfolding content_word content_of shown wide_there
-  shown-same zero high = shown-nothing (finished_in s v) NOTHING refl
+  shown-same zero high = shown-nothing (finished_in s v) content.Nothing refl
   shown-same (suc n) high =
       let wide = wide_at (owner_in v) (wide_in s v) n in
       ⊎_elim
@@ -354,7 +355,7 @@ module _
       let (l, words, j, is, e, there-is, w) = x in
       let q : lookup n after.owned ≡ some e = ap (λ i. lookup i after.owned) (suc_inj is) ∙ there-is in
       ap (shown_in s v) (words wide)
-      ∙ shown-nothing (finished_in s v) NOTHING refl
+      ∙ shown-nothing (finished_in s v) content.Nothing refl
       ∙ sym (behind-wide (lookup n after.owned) (ap wide_there q ∙ w))
       ∙ ap (shown (literals (job_in s))) (sym (content_behind after.owned n l))))
       (slot-ways (suc n) (omega arith) high)

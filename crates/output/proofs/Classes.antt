@@ -1,14 +1,14 @@
 -- The class name, by the tests that the code makes. Assumes nothing.
-use mathlib.Core.Bool.{Bool, true, false, ◌&&◌, not}
+use mathlib.Core.Bool.{Bool, true, false, not}
 use mathlib.Core.List.{List, []}
 use mathlib.Core.Logic.{◌⊎◌, inl, inr, ⊎_elim}
 use mathlib.Core.Option.{Option, none, some}
 use mathlib.Core.Path.{◌≡◌, refl, sym, ap, subst, ◌∙◌}
 use Prim.Native.Nat.{ℕ, zero, suc, ◌+◌, ◌≤◌, ◌<◌}
 use native.Mathlib.Omega.{arith}
-use lib.Dec.{eqb, ltb}
+use lib.Dec.{eqb}
 use lib.ListN.{length, get_or, take, drop}
-use borrow.Author.Tests.{lt-ltb, le-ltb, eq-eqb, ne_eqb}
+use borrow.Author.Tests.{eq-eqb, ne_eqb}
 use Rattle.definition.specs.Bytes.{Parser, return, and_then, ◌>>=◌, one, two}
 use Rattle.definition.specs.Shapes.{Entry}
 use Rattle.definition.specs.Job.{ClassSlot, slot, request, Build, name_form, class_form, read_build}
@@ -18,15 +18,18 @@ use Rattle.definition.specs.Run.{class_out, overwrite}
 use Rattle.facts.proofs.Copies.{part_length}
 use Rattle.raw_const.proofs.Writes.{wrote_part}
 use lib.Seq.{paste}
-use Rattle.facts.proofs.Lists.{none≢some, true≢false, some_inj, equal, order}
+use Rattle.facts.proofs.Lists.{none≢some, true≢false, some_inj, equal}
 use Rattle.writer.specs.Numbers.{number2}
 use Rattle.job.proofs.Taking.{byte_then, two_then}
 use Rattle.store.specs.Store.{Store, size}
 use Rattle.store.specs.Regions.{Work}
-use Rattle.output.specs.Contents.{NOTHING, EMPTY, text_entry, shown_word, finished_in, shown_in, content_in, KidsNumbered, IsContent, Searched, Owned}
+use Rattle.std.specs.Prelude.{Some, None, Option as Maybe}
+use Rattle.output.specs.declared.Content.{Content}
+use Rattle.output.specs.declared.Content.TheVariants as content
+use Rattle.output.specs.Contents.{text_entry, shown_word, finished_in, shown_in, content_in, KidsNumbered, IsContent, Searched, Owned}
 use Rattle.output.specs.declared.ClassName.{ClassName}
 use Rattle.output.specs.declared.ClassName.TheVariants as class_name
-use Rattle.output.specs.Names.{text_of, class_of, NameIs, shown_at, class_slot_in, class_in}
+use Rattle.output.specs.Names.{text_of, class_of, NameIs, IsClass, shown_at, class_slot_in, class_in}
 use Rattle.interner.specs.Nodes.{node_count}
 use Rattle.output.proofs.Shown.{shown-node, shown-nothing, shown-empty, shown-attribute, name_length, name_whole}
 use Rattle.output.proofs.Pools.{paste-first}
@@ -57,44 +60,29 @@ module _ (shown : ℕ → Option (Entry (List ℕ) ℕ)) where
   unfolding class_of
   class_nothing = refl
 
-  module _ (node : ℕ → Entry (List ℕ) ℕ) (c : ℕ) where
+  module _ (node : ℕ → Entry (List ℕ) ℕ) where
     -- no Class
-    pub class_none : (ltb c NOTHING && eqb (node c).tag 7) ≡ false → class_of shown (shown_word node c) ≡ none
-    class_none h =
-        ⊎_elim
-        (λ (l : c < NOTHING). rw (shown-node node c l) (class_other (node c) (rw (lt-ltb c NOTHING l) at h)))
-        (λ (l : NOTHING ≤ c).
-        ⊎_elim
-        (λ (z : c ≡ NOTHING). rw (shown-nothing node c z) class_nothing)
-        (λ (z : c ≡ NOTHING → ⊥).
-        ⊎_elim
-        (λ (y : c ≡ EMPTY). rw (shown-empty node c y) (class_other (text_entry []) refl))
-        (λ (y : c ≡ EMPTY → ⊥). rw (shown-attribute node c l z y) (class_other (text_entry attribute_name) refl))
-        (equal c EMPTY))
-        (equal c NOTHING))
-        (order c NOTHING)
+    pub class_none : (c : Content) → IsClass node c None → class_of shown (shown_word node c) ≡ none
+    class_none (content.Node k) h =
+        rw (shown-node node (content.Node k) k refl) (class_other (node k) (ne_eqb (node k).tag 7 (h k refl)))
+    class_none content.Nothing h = rw (shown-nothing node content.Nothing refl) class_nothing
+    class_none content.Empty h = rw (shown-empty node content.Empty refl) (class_other (text_entry []) refl)
+    class_none content.Attribute h = rw (shown-attribute node content.Attribute refl) (class_other (text_entry attribute_name) refl)
 
-    -- a Class
-    pub class_low : (ltb c NOTHING && eqb (node c).tag 7) ≡ true → c < NOTHING
-    class_low h =
-        ⊎_elim
-        (λ (l : c < NOTHING). l)
-        (λ (l : NOTHING ≤ c). true≢false (sym h ∙ rw (le-ltb c NOTHING l)))
-        (order c NOTHING)
+    module _ (c : Content) (k : ℕ) (h : IsClass node c (Some k)) where
+      -- a Class
+      pub class_low : c ≡ content.Node k
+      class_low = h.0
 
-    pub class_some :
-        (ltb c NOTHING && eqb (node c).tag 7) ≡ true → class_of shown (shown_word node c) ≡ text_of (shown (get_or (node c).kids 0 0))
-    unfolding class_of
-    class_some h =
-        let l = class_low h in
-        let t : eqb (node c).tag 7 ≡ true = rw (lt-ltb c NOTHING l) at h in
-        rw (shown-node node c l) (rw (t, class_of))
+      pub class_some : class_of shown (shown_word node c) ≡ text_of (shown (get_or (node k).kids 0 0))
+      unfolding class_of
+      class_some = rw (shown-node node c k h.0) (rw (eq-eqb (node k).tag 7 h.1, class_of))
 
 -- any slot holds a content
 pub any_content : (s p : List ℕ) (t : Store) → Work s p → Searched p t → Owned s t → (n : ℕ) → IsContent s t (content_in s t n)
 any_content s p t work sought owned n =
     ⊎_elim
-    (λ (z : n ≡ 0). subst (IsContent s t) (sym (content_zero s t n z)) (omega arith, λ l. absurd (omega arith)))
+    (λ (z : n ≡ 0). subst (IsContent s t) (sym (content_zero s t n z)) tt)
     (λ (z : n ≡ 0 → ⊥).
     subst (IsContent s t) (sym (content_owner s t n (omega arith))) (owner_is s p t work sought owned n _ (omega arith)))
     (equal n 0)
@@ -172,52 +160,52 @@ module _ (s : List ℕ) (at : ℕ) (b : Build) (r : ClassRead s at b) (byte numb
 
 -- A CLASS NAME as the code has it
 
-module _ (s : List ℕ) (c : ClassName) (o : Option (List ℕ)) (h : NameIs s c o) where
-  name_none : c ≡ class_name.None → o ≡ none
+module _ (s : List ℕ) (c : Maybe ClassName) (o : Option (List ℕ)) (h : NameIs s c o) where
+  name_none : c ≡ None → o ≡ none
   name_none e = rw e at h
 
-  pub name_bytes : (start size : ℕ) → c ≡ class_name.Bytes start size → (start + size ≤ length s) × (o ≡ some (take size (drop start s)))
+  pub name_bytes : (start size : ℕ) → c ≡ Some (class_name.Bytes start size) → (start + size ≤ length s) × (o ≡ some (take size (drop start s)))
   name_bytes start size e = rw e at h
 
-  name_attribute : c ≡ class_name.Attribute → o ≡ some attribute_name
+  name_attribute : c ≡ Some class_name.Attribute → o ≡ some attribute_name
   name_attribute e = rw e at h
 
-  pub none-length : c ≡ class_name.None → 0 ≡ length (class_out o)
+  pub none-length : c ≡ None → 0 ≡ length (class_out o)
   unfolding class_out
   none-length e = rw (name_none e)
 
-  pub bytes-length : (start size : ℕ) → c ≡ class_name.Bytes start size → size ≡ length (class_out o)
+  pub bytes-length : (start size : ℕ) → c ≡ Some (class_name.Bytes start size) → size ≡ length (class_out o)
   unfolding class_out
   bytes-length start size e = let r = name_bytes start size e in rw r.1 (sym (part_length s start size r.0))
 
-  pub attribute-long : c ≡ class_name.Attribute → 16 ≡ length (class_out o)
+  pub attribute-long : c ≡ Some class_name.Attribute → 16 ≡ length (class_out o)
   unfolding class_out
   attribute-long e = rw (name_attribute e) (sym name_length)
 
-  pub wrote_none : (d : List ℕ) → c ≡ class_name.None → d ≡ overwrite (class_out o) d
+  pub wrote_none : (d : List ℕ) → c ≡ None → d ≡ overwrite (class_out o) d
   unfolding class_out overwrite
   wrote_none d e = rw (name_none e)
 
-  pub wrote_name : (d d₁ : List ℕ) (start size : ℕ) → c ≡ class_name.Bytes start size → d₁ ≡ paste d 0 (drop start s) size → d₁ ≡ overwrite (class_out o) d
+  pub wrote_name : (d d₁ : List ℕ) (start size : ℕ) → c ≡ Some (class_name.Bytes start size) → d₁ ≡ paste d 0 (drop start s) size → d₁ ≡ overwrite (class_out o) d
   unfolding class_out
   wrote_name d d₁ start size e q =
       let r = name_bytes start size e in
       rw r.1 ((wrote_part d s 0 start size r.0 q).out ∙ paste-first d (take size (drop start s)))
 
   pub wrote_attribute :
-      (d d₁ name : List ℕ) → name ≡ attribute_name → c ≡ class_name.Attribute → d₁ ≡ paste d 0 (drop 0 name) 16 → d₁ ≡ overwrite (class_out o) d
+      (d d₁ name : List ℕ) → name ≡ attribute_name → c ≡ Some class_name.Attribute → d₁ ≡ paste d 0 (drop 0 name) 16 → d₁ ≡ overwrite (class_out o) d
   unfolding class_out
   wrote_attribute d d₁ name is e q =
       let fits : 0 + 16 ≤ length name = omega (arith, ap length is, name_length) in
       rw (name_attribute e) ((wrote_part d name 0 0 16 fits q).out ∙ paste-first d (take 16 (drop 0 name)) ∙ ap (λ l. overwrite l d) (rw is name_whole))
 
 -- the test for a Class
-module _ (node : ℕ → Entry (List ℕ) ℕ) (c : ℕ) where
-  pub class_no : NOTHING ≤ c → false ≡ ltb c NOTHING && eqb (node c).tag 7
-  class_no h = rw (le-ltb c NOTHING h)
+module _ (node : ℕ → Entry (List ℕ) ℕ) (c : Content) where
+  pub class_no : ((k : ℕ) → c ≡ content.Node k → ⊥) → IsClass node c None
+  class_no h = λ k is tag. h k is
 
-  pub class_by_tag : c < NOTHING → (tag : ℕ) → tag ≡ (node c).tag → eqb tag 7 ≡ ltb c NOTHING && eqb (node c).tag 7
-  class_by_tag h tag q = rw (lt-ltb c NOTHING h, q)
+  pub class_by_tag : (k : ℕ) → c ≡ content.Node k → (tag : ℕ) → tag ≡ (node k).tag → (tag ≡ 7 → IsClass node c (Some k)) × ((tag ≡ 7 → ⊥) → IsClass node c None)
+  class_by_tag k is tag q = (λ h. (is, sym q ∙ h), λ h n other seven. h (q ∙ (let e : k ≡ n = cc in ap (λ x. (node x).tag) e) ∙ seven))
 
 flip_true : (b : Bool) → not b ≡ true → b ≡ false
 flip_true true h = true≢false (sym h)
@@ -228,26 +216,24 @@ flip_false true h = refl
 flip_false false h = true≢false h
 
 -- what the class slot holds, tested for a Class
-module _
-    (s : List ℕ) (t : Store) (c : ℕ) (is : c ≡ content_in s t (class_slot_in s t)) (b : Bool)
-    (test : b ≡ ltb c NOTHING && eqb (finished_in s t c).tag 7) where
+module _ (s : List ℕ) (t : Store) (c : Content) (is : c ≡ content_in s t (class_slot_in s t)) where
   whole : class_of (shown_at s t) (shown_in s t c) ≡ class_in s t
   whole = ap (λ x. class_of (shown_at s t) (shown_in s t x)) is
 
-  pub name_missing : not b ≡ true → class_in s t ≡ none
-  name_missing h = sym whole ∙ class_none (shown_at s t) (finished_in s t) c (sym test ∙ flip_true b h)
+  pub name_missing : IsClass (finished_in s t) c None → class_in s t ≡ none
+  name_missing h = sym whole ∙ class_none (shown_at s t) (finished_in s t) c h
 
-  pub class_node : (p : List ℕ) → Work s p → Searched p t → Owned s t → not b ≡ false → (c < node_count t) × KidsNumbered s t c
-  class_node p work sought owned h =
-      (subst (IsContent s t) (sym is) (any_content s p t work sought owned (class_slot_in s t))).1
-      (class_low (shown_at s t) (finished_in s t) c (sym test ∙ flip_false b h))
+  module _ (k : ℕ) (h : IsClass (finished_in s t) c (Some k)) where
+    pub class_node : (p : List ℕ) → Work s p → Searched p t → Owned s t → (k < node_count t) × KidsNumbered s t k
+    class_node p work sought owned =
+        subst (IsContent s t) (sym is ∙ class_low (shown_at s t) (finished_in s t) c k h) (any_content s p t work sought owned (class_slot_in s t))
 
-  pub name_there :
-      not b ≡ false → (n : ℕ) → n ≡ get_or (finished_in s t c).kids 0 0 → (d : ℕ) → d ≡ content_in s t n → (r : ClassName) →
-      NameIs s r (text_of (shown_in s t d)) → NameIs s r (class_in s t)
-  name_there h n kid d holds r name =
-      let e : text_of (shown_in s t d) ≡ class_in s t =
-      ap (λ x. text_of (shown_in s t x)) (holds ∙ ap (content_in s t) kid)
-      ∙ sym (class_some (shown_at s t) (finished_in s t) c (sym test ∙ flip_false b h))
-      ∙ whole in
-      subst (NameIs s r) e name
+    pub name_there :
+        (n : ℕ) → n ≡ get_or (finished_in s t k).kids 0 0 → (d : Content) → d ≡ content_in s t n → (r : Maybe ClassName) →
+        NameIs s r (text_of (shown_in s t d)) → NameIs s r (class_in s t)
+    name_there n kid d holds r name =
+        let e : text_of (shown_in s t d) ≡ class_in s t =
+        ap (λ x. text_of (shown_in s t x)) (holds ∙ ap (content_in s t) kid)
+        ∙ sym (class_some (shown_at s t) (finished_in s t) c k h)
+        ∙ whole in
+        subst (NameIs s r) e name

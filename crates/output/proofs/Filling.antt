@@ -18,7 +18,7 @@ use Rattle.store.specs.Regions.{GIVEN, FIRSTS, SIZES, CHILDREN, ORDER, NODES}
 use Rattle.store.proofs.Stores.{in_words}
 use Rattle.store.specs.Words.{child_slot}
 use Rattle.output.specs.Contents.{child_count}
-use Rattle.output.specs.Rows.{row_in, RowReady, raw_rows, raw_index_at, inline_index_at, count_rows, raw_index_in, inline_index_in, row_count_in, reached_at, passed, node_or, row_node_in, row_at_in, rows_in, constants_for, RowsReady}
+use Rattle.output.specs.Rows.{row_in, RowReady, raw_rows, raw_index_at, inline_index_at, count_rows, raw_index_in, inline_index_in, row_count_in, reached_at, passed, node_or, row_node_in, row_at_in, rows_in, constants_for, Filled, RowsReady}
 use Rattle.output.proofs.Pools.{paste-first}
 use Rattle.output.proofs.Rowing.{row_long}
 use Rattle.facts.proofs.Lists.{order as compare}
@@ -89,13 +89,6 @@ unfolding passed
 passed-next next index have one got a b c = rw (add-one index) (rw (c, b, a))
 
 -- THE WALK over the rows
-
-pub record Filled (p : List ℕ) (t : Store) (inline raws index : ℕ) : Type 0 where
-  pub high : index ≤ row_count_in t
-  pub inlines : inline ≡ passed (inline_index_in (constants_for p) t) index
-  pub raw_ones : raws ≡ passed (raw_index_in t) index
-  pub inline_low : inline ≤ index
-  pub raw_low : raws ≤ index
 
 module _ (p : List ℕ) (t : Store) where
   pub filled-begin : Filled p t 0 0 0

@@ -11,48 +11,52 @@ use Rattle.definition.specs.Shapes.{Entry, is_wide}
 use Rattle.store.specs.Store.{Store, size}
 use Rattle.store.specs.Regions.{MARKS, GIVEN, RAW-KEYS, RAW-ENTRIES, ORDER, Work}
 use Rattle.store.specs.Words.{HALF}
-use Rattle.store.proofs.Bounds.{work-small}
 use Rattle.interner.specs.Nodes.{node_count}
 use Rattle.raws.specs.Raws.{raw_count, held_count}
-use Rattle.output.specs.Contents.{NOTHING, EMPTY, ATTRIBUTE, wide_word, wide_in, raw_word_lem, raw_or, link_word, link_of, owner_word, owner_in, name_slot, wide_at, content_word, content_in, IsContent, Searched, Owned, held_at, held_in_lem, HeldOrder, Sweep}
+use Rattle.output.specs.declared.Content.{Content}
+use Rattle.output.specs.declared.Content.TheVariants as content
+use Rattle.output.specs.Contents.{wide_word, wide_in, raw_word_lem, raw_or, link_word, link_of, owner_word, owner_in, name_slot, wide_at, content_word, content_in, IsContent, Searched, Owned, held_at, held_in_lem, HeldOrder, Sweep}
 use Rattle.output.proofs.Owners.{link_miss, link_hit, link_back}
 use Rattle.facts.proofs.Lists.{equal, order as compare}
 
 -- WORDS
 
-pub raw_half : (marks : List ℕ) (e : ℕ) → e ≡ HALF → raw_word_lem marks e ≡ NOTHING
+pub raw_half : (marks : List ℕ) (e : ℕ) → e ≡ HALF → raw_word_lem marks e ≡ content.Nothing
 unfolding raw_word_lem
 raw_half marks e h = rw (eq-eqb e HALF h, raw_word_lem)
 
-pub raw_node_lem : (marks : List ℕ) (e : ℕ) → (e ≡ HALF → ⊥) → raw_word_lem marks e ≡ get_or marks e 0 - 2
+pub raw_node_lem : (marks : List ℕ) (e : ℕ) → (e ≡ HALF → ⊥) → raw_word_lem marks e ≡ content.Node (get_or marks e 0 - 2)
 unfolding raw_word_lem
 raw_node_lem marks e h = rw (ne_eqb e HALF h, raw_word_lem)
 
-pub link_node : (wide : Bool) (link k : ℕ) → link ≡ suc k → link_word wide link ≡ k
+pub link_node : (wide : Bool) (link k : ℕ) → link ≡ suc k → link_word wide link ≡ content.Node k
 unfolding link_word
 link_node wide link k h = rw h
 
-pub link_wide : (wide : Bool) (link : ℕ) → link ≡ 0 → wide ≡ true → link_word wide link ≡ NOTHING
+pub link_wide : (wide : Bool) (link : ℕ) → link ≡ 0 → wide ≡ true → link_word wide link ≡ content.Nothing
 unfolding link_word
 link_wide wide link h w = rw (h, w)
 
-pub link_empty : (wide : Bool) (link : ℕ) → link ≡ 0 → wide ≡ false → link_word wide link ≡ EMPTY
+pub link_empty : (wide : Bool) (link : ℕ) → link ≡ 0 → wide ≡ false → link_word wide link ≡ content.Empty
 unfolding link_word
 link_empty wide link h w = rw (h, w)
 
-module _ (node : ℕ → Entry (List ℕ) ℕ) (c : ℕ) where
-  pub wide_past : NOTHING ≤ c → wide_word node c ≡ false
+module _ (node : ℕ → Entry (List ℕ) ℕ) where
+  pub wide_past : (c : Content) → ((k : ℕ) → c ≡ content.Node k → ⊥) → wide_word node c ≡ false
   unfolding wide_word
-  wide_past h = rw (le-ltb c NOTHING h, wide_word)
+  wide_past (content.Node k) h = absurd (h k refl)
+  wide_past content.Nothing h = refl
+  wide_past content.Empty h = refl
+  wide_past content.Attribute h = refl
 
-  pub wide_node : c < NOTHING → wide_word node c ≡ is_wide (node c).tag
+  pub wide_node : (c : Content) (k : ℕ) → c ≡ content.Node k → wide_word node c ≡ is_wide (node k).tag
   unfolding wide_word
-  wide_node h = rw (lt-ltb c NOTHING h, wide_word)
+  wide_node c k h = rw h
 
 -- OWNERS
 
 module _ (t : Store) (slot : ℕ) (wide : Bool) where
-  pub owner_name : slot ≡ name_slot t → owner_in t slot wide ≡ ATTRIBUTE
+  pub owner_name : slot ≡ name_slot t → owner_in t slot wide ≡ content.Attribute
   unfolding owner_word
   owner_name h = rw (eq-eqb slot (name_slot t) h, owner_word)
 
@@ -72,17 +76,17 @@ cases (suc i) P f g = g i refl
 
 -- A CONTENT that a slot holds stands for something
 module _ (s p : List ℕ) (t : Store) (work : Work s p) (sought : Searched p t) (owned : Owned s t) where
-  few : node_count t ≤ 131072
-  few = omega (arith, owned.made.few, (work-small s p work).entries)
-
-  past_content : (c : ℕ) → NOTHING ≤ c → c ≤ ATTRIBUTE → IsContent s t c
-  past_content c a b = (b, λ l. absurd (omega arith))
+  past_content : (c : Content) → ((k : ℕ) → c ≡ content.Node k → ⊥) → IsContent s t c
+  past_content (content.Node k) h = absurd (h k refl)
+  past_content content.Nothing h = tt
+  past_content content.Empty h = tt
+  past_content content.Attribute h = tt
 
   pub raw_content_is : (i : ℕ) → i < raw_count t → IsContent s t (raw_word_lem (t MARKS) (get_or (t RAW-ENTRIES) i 0))
   raw_content_is i h =
       let e = get_or (t RAW-ENTRIES) i 0 in
       ⊎_elim
-      (λ (z : e ≡ HALF). subst (IsContent s t) (sym (raw_half (t MARKS) e z)) (past_content NOTHING (omega arith) (omega arith)))
+      (λ (z : e ≡ HALF). subst (IsContent s t) (sym (raw_half (t MARKS) e z)) (past_content content.Nothing (λ k e. cc)))
       (λ (z : e ≡ HALF → ⊥).
       let n = owned.raw_nodes i h z in
       subst (IsContent s t) (sym (raw_node_lem (t MARKS) e z))
@@ -90,7 +94,7 @@ module _ (s p : List ℕ) (t : Store) (work : Work s p) (sought : Searched p t) 
       (λ (y : e ≡ HALF). absurd (z y))
       (λ (y : (e < size p MARKS) × (1 < get_or (t MARKS) e 0)).
       let low : get_or (t MARKS) e 0 - 2 < node_count t = omega (arith, n.0, y.1) in
-      (omega (arith, few), λ _. (low, n.1)))
+      (low, n.1))
       (sought.raw_done i h)))
       (equal e HALF)
 
@@ -101,16 +105,16 @@ module _ (s p : List ℕ) (t : Store) (work : Work s p) (sought : Searched p t) 
       (λ k z.
       let b = link_back (t GIVEN) (node_count t) slot k z in
       subst (IsContent s t) (sym (link_node wide (link_of (t GIVEN) (node_count t) slot) k z))
-      (omega (arith, b.0, few), λ _. (b.0, owned.given_nodes k b.0 (omega (arith, b.1)))))
+      (b.0, owned.given_nodes k b.0 (omega (arith, b.1))))
     where
       none-there : (wide : Bool) → link_of (t GIVEN) (node_count t) slot ≡ 0 → IsContent s t (link_word wide (link_of (t GIVEN) (node_count t) slot))
-      none-there true z = subst (IsContent s t) (sym (link_wide true _ z refl)) (past_content NOTHING (omega arith) (omega arith))
-      none-there false z = subst (IsContent s t) (sym (link_empty false _ z refl)) (past_content EMPTY (omega arith) (omega arith))
+      none-there true z = subst (IsContent s t) (sym (link_wide true _ z refl)) (past_content content.Nothing (λ k e. cc))
+      none-there false z = subst (IsContent s t) (sym (link_empty false _ z refl)) (past_content content.Empty (λ k e. cc))
 
   pub owner_is : (slot : ℕ) (wide : Bool) → 0 < slot → IsContent s t (owner_in t slot wide)
   owner_is slot wide h =
       ⊎_elim
-      (λ (z : slot ≡ name_slot t). subst (IsContent s t) (sym (owner_name t slot wide z)) (past_content ATTRIBUTE (omega arith) (omega arith)))
+      (λ (z : slot ≡ name_slot t). subst (IsContent s t) (sym (owner_name t slot wide z)) (past_content content.Attribute (λ k e. cc)))
       (λ (z : slot ≡ name_slot t → ⊥).
       cases (link_of (t RAW-KEYS) (raw_count t) slot) (IsContent s t (owner_in t slot wide))
       (λ y. subst (IsContent s t) (sym (owner_given t slot wide z y)) (given-content_is slot wide h))
@@ -131,8 +135,8 @@ module _ (s p : List ℕ) (t : Store) (work : Work s p) (sought : Searched p t) 
       cases (link_of (t GIVEN) (node_count t) slot) (wide_in s t (owner_in t slot false) ≡ wide_in s t (owner_in t slot true))
       (λ x.
       ap (wide_in s t) (owner_given t slot false z y ∙ link_empty false _ x refl)
-      ∙ wide_past _ EMPTY (omega arith)
-      ∙ sym (ap (wide_in s t) (owner_given t slot true z y ∙ link_wide true _ x refl) ∙ wide_past _ NOTHING (omega arith)))
+      ∙ wide_past _ content.Empty (λ k e. cc)
+      ∙ sym (ap (wide_in s t) (owner_given t slot true z y ∙ link_wide true _ x refl) ∙ wide_past _ content.Nothing (λ k e. cc)))
       (λ k x.
       ap (wide_in s t)
       (owner_given t slot false z y ∙ link_node false _ k x ∙ sym (owner_given t slot true z y ∙ link_node true _ k x))))
@@ -141,7 +145,7 @@ module _ (s p : List ℕ) (t : Store) (work : Work s p) (sought : Searched p t) 
 
 -- ANY SLOT
 
-pub content_zero : (s : List ℕ) (t : Store) (slot : ℕ) → slot ≡ 0 → content_in s t slot ≡ NOTHING
+pub content_zero : (s : List ℕ) (t : Store) (slot : ℕ) → slot ≡ 0 → content_in s t slot ≡ content.Nothing
 unfolding content_word
 content_zero s t slot h = rw h
 

@@ -8,6 +8,7 @@ pub mod Pools
 pub mod Rowing
 pub mod Classes
 pub mod Filling
+pub mod Past
 pub mod Handing
 pub mod Owned
 pub mod Rendering

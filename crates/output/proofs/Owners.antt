@@ -60,6 +60,14 @@ module _ (keys : List ℕ) (n key r : ℕ) (found : Sought (λ i. get_or keys i 
       let is = found.hit h in
       link_hit keys n key (r - 1) (omega (arith, found.low)) is (λ j a b e. alone (r - 1) j a b is e)
 
+-- an item that a search gave
+pub link_item :
+    (keys : List ℕ) (n key i : ℕ) → Sought (λ i. get_or keys i 0 ≡ key) n (i + 1) →
+    ((i j : ℕ) → i < j → j < n → get_or keys i 0 ≡ key → get_or keys j 0 ≡ key → ⊥) → link_of keys n key ≡ suc i
+link_item keys n key i found alone =
+    let e : i + 1 - 1 ≡ i = omega arith in
+    link_found keys n key (i + 1) found alone (omega arith) ∙ ap suc e
+
 -- THE CHAINS of all nodes
 
 pub record Owning (p : List ℕ) (t u : Store) (n k : ℕ) : Type 0 where

@@ -17,7 +17,8 @@ use Rattle.store.specs.Regions.{Work}
 use Rattle.store.proofs.Laying.{work-sizes}
 use Rattle.store.proofs.Bounds.{work-small}
 use Rattle.raws.specs.Raws.{held_count}
-use Rattle.output.specs.Contents.{shown_in, wide_in, owner_in, wide_at, content_in, slot_in, pool_count, pool_in, IsContent, held_in_lem, HeldOrder, Sweep, Finished}
+use Rattle.output.specs.declared.Content.{Content}
+use Rattle.output.specs.Contents.{shown_in, wide_in, owner_in, content_in, slot_in, pool_count, pool_in, IsContent, held_in_lem, HeldOrder, Sweep, Walked, Finished}
 use Rattle.output.proofs.Holding.{owner_is, wide_same, content_owner, wide_first, wide_later, sweep_begin, sweep_next, sweep_stay}
 
 -- LISTS JOINED
@@ -66,12 +67,6 @@ paste-first d l = let z : 0 + length l ≡ length l = omega arith in rw (z, take
 
 -- THE WALK, at a slot
 
-pub record Walked (s : List ℕ) (t : Store) (slot raws held : ℕ) (wide : Bool) : Type 0 where
-  pub low : 1 ≤ slot
-  pub high : slot ≤ pool_count t
-  pub sweep : Sweep t slot raws held
-  pub before : wide ≡ wide_at (owner_in t) (wide_in s t) (slot - 1)
-
 module _ (s p : List ℕ) (t : Store) (done : Finished s p t) where
   pub walked_begin : (held : ℕ) → held ≡ held_in_lem t 0 → Walked s t 1 0 held false
   walked_begin held is =
@@ -81,17 +76,17 @@ module _ (s p : List ℕ) (t : Store) (done : Finished s p t) where
     pub walked_slot : slot < 65536
     walked_slot = omega (arith, done.high)
 
-    module _ (content : ℕ) (is : content ≡ owner_in t slot wide) where
-      pub content_here : content ≡ content_in s t slot
+    module _ (holds : Content) (is : holds ≡ owner_in t slot wide) where
+      pub content_here : holds ≡ content_in s t slot
       content_here = is ∙ ap (owner_in t slot) w.before ∙ sym (content_owner s t slot w.low)
 
-      pub content_good : IsContent s t content
+      pub content_good : IsContent s t holds
       content_good = rw is (owner_is s p t work done.sought done.owned slot wide w.low)
 
-      pub bytes-here : slot_bytes (shown_in s t content) ≡ slot_in s t slot
+      pub bytes-here : slot_bytes (shown_in s t holds) ≡ slot_in s t slot
       bytes-here = ap (λ c. slot_bytes (shown_in s t c)) content_here
 
-      pub walked_next : (raws' held' : ℕ) (wide' : Bool) → wide' ≡ wide_in s t content → Sweep t (slot + 1) raws' held' → Walked s t (slot + 1) raws' held' wide'
+      pub walked_next : (raws' held' : ℕ) (wide' : Bool) → wide' ≡ wide_in s t holds → Sweep t (slot + 1) raws' held' → Walked s t (slot + 1) raws' held' wide'
       walked_next raws' held' wide' q sweep =
           let e : slot + 1 - 1 ≡ slot = omega arith in
           record {
@@ -104,13 +99,13 @@ module _ (s p : List ℕ) (t : Store) (done : Finished s p t) where
           }
 
       -- measured
-      pub size-next : (sum n : ℕ) → sum ≡ 2 + length (below (slot_in s t) slot) → n ≡ length (slot_bytes (shown_in s t content)) → sum + n ≡ 2 + length (below (slot_in s t) (slot + 1))
+      pub size-next : (sum n : ℕ) → sum ≡ 2 + length (below (slot_in s t) slot) → n ≡ length (slot_bytes (shown_in s t holds)) → sum + n ≡ 2 + length (below (slot_in s t) (slot + 1))
       size-next sum n a b =
           let m = ap length (below_more (slot_in s t) slot w.low) ∙ length-append (below (slot_in s t) slot) (slot_in s t slot) in
           omega (arith, a, b, ap length bytes-here, m)
 
       -- and written
-      pub content_room : (at : ℕ) → at ≡ 2 + length (below (slot_in s t) slot) → at + length (slot_bytes (shown_in s t content)) ≤ length (pool_in s t)
+      pub content_room : (at : ℕ) → at ≡ 2 + length (below (slot_in s t) slot) → at + length (slot_bytes (shown_in s t holds)) ≤ length (pool_in s t)
       unfolding be2
       content_room at a =
           let r = below_room (slot_in s t) slot (pool_count t) w.low inside in
@@ -118,8 +113,12 @@ module _ (s p : List ℕ) (t : Store) (done : Finished s p t) where
 
       pub pool_next :
           {d₀ d d₁ : List ℕ} {at r : ℕ} → 2 + length (below (slot_in s t) slot) ≤ length d₀ →
-          Wrote d₀ 2 (below (slot_in s t) slot) d at → Wrote d at (slot_bytes (shown_in s t content)) d₁ r → Wrote d₀ 2 (below (slot_in s t) (slot + 1)) d₁ r
+          Wrote d₀ 2 (below (slot_in s t) slot) d at → Wrote d at (slot_bytes (shown_in s t holds)) d₁ r → Wrote d₀ 2 (below (slot_in s t) (slot + 1)) d₁ r
       pool_next room a b = rw (below_more (slot_in s t) slot w.low) (wrote_then a room (rw bytes-here at b))
+
+    -- what the slot holds, as the code finds it
+    pub content_back : (holds : Content) → holds ≡ content_in s t slot → holds ≡ owner_in t slot wide
+    content_back holds q = q ∙ sym (content_here (owner_in t slot wide) refl)
 
     pub sweep_hit_on : slot ≡ held → (raws' held' next : ℕ) → raws' ≡ raws + 1 → held' ≡ next → next ≡ held_in_lem t (raws + 1) → Sweep t (slot + 1) raws' held'
     sweep_hit_on h raws' held' next a b q = rw (a, b) (sweep_next p t done.order slot raws held w.sweep h walked_slot next q)

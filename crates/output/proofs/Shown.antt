@@ -1,20 +1,18 @@
 -- What the code writes of a node and of a content are the bytes of what it shows. Assumes nothing.
 use mathlib.Core.List.{List, [], ◌∷◌, map}
-use mathlib.Core.Logic.{⊎_elim}
 use mathlib.Core.Option.{Option, none, some}
 use mathlib.Core.Path.{◌≡◌, refl, sym}
 use Prim.Native.Nat.{ℕ, ◌+◌, ◌-◌, ◌≤◌, ◌<◌}
 use native.Mathlib.Omega.{arith}
 use lib.ListN.{length, get_or, set, take, drop, length-append}
 use lib.Seq.{paste}
-use borrow.Author.Tests.{lt-ltb, le-ltb, ne_eqb}
 use Rattle.definition.specs.Ascii.{ascii}
 use Rattle.definition.specs.Basics.{lookup}
 use Rattle.definition.specs.Bytes.{be2}
 use Rattle.definition.specs.Shapes.{Field, text, bits, shapes, Entry, write_fields}
 use Rattle.definition.specs.Numbering.{attribute_name}
 use Rattle.definition.specs.Run.{entry_bytes, slot_bytes}
-use Rattle.facts.proofs.Lists.{clash, equal, order}
+use Rattle.facts.proofs.Lists.{clash}
 use Rattle.facts.proofs.Tables.{looked_up}
 use Rattle.laws.specs.Statements.{IsBytes}
 use Rattle.raw_const.specs.Entries.{LiteralFits, entry_of, Wrote}
@@ -28,7 +26,9 @@ use Rattle.store.specs.Words.{cut}
 use Rattle.store.proofs.Laying.{work-sizes}
 use Rattle.store.proofs.Bounds.{work-constants}
 use Rattle.interner.specs.Nodes.{node_count}
-use Rattle.output.specs.Contents.{NOTHING, EMPTY, child_number, ShortChild, finished_in, Made, KidsNumbered, text_entry, shown_word, shown_in, IsContent}
+use Rattle.output.specs.declared.Content.{Content}
+use Rattle.output.specs.declared.Content.TheVariants as content
+use Rattle.output.specs.Contents.{child_number, ShortChild, finished_in, Made, KidsNumbered, text_entry, shown_word, shown_in, IsContent}
 use Rattle.output.proofs.Numbers.{short_child}
 use Rattle.output.proofs.Showing.{entry_known, found, shown-kids, shown-fits, has_kids, no_kids}
 
@@ -84,22 +84,22 @@ module _ (s p : List ℕ) (t : Store) (k : ℕ) (work : Work s p) (made : Made s
 
 -- A CONTENT
 
-module _ (node : ℕ → Entry (List ℕ) ℕ) (c : ℕ) where
-  pub shown-node : c < NOTHING → shown_word node c ≡ some (node c)
+module _ (node : ℕ → Entry (List ℕ) ℕ) (c : Content) where
+  pub shown-node : (k : ℕ) → c ≡ content.Node k → shown_word node c ≡ some (node k)
   unfolding shown_word
-  shown-node h = rw (lt-ltb c NOTHING h, shown_word)
+  shown-node k h = rw h
 
-  pub shown-nothing : c ≡ NOTHING → shown_word node c ≡ none
+  pub shown-nothing : c ≡ content.Nothing → shown_word node c ≡ none
   unfolding shown_word
   shown-nothing h = rw h
 
-  pub shown-empty : c ≡ EMPTY → shown_word node c ≡ some (text_entry [])
+  pub shown-empty : c ≡ content.Empty → shown_word node c ≡ some (text_entry [])
   unfolding shown_word
   shown-empty h = rw h
 
-  pub shown-attribute : NOTHING ≤ c → (c ≡ NOTHING → ⊥) → (c ≡ EMPTY → ⊥) → shown_word node c ≡ some (text_entry attribute_name)
+  pub shown-attribute : c ≡ content.Attribute → shown_word node c ≡ some (text_entry attribute_name)
   unfolding shown_word
-  shown-attribute h f g = rw (le-ltb c NOTHING h, shown_word) (rw (ne_eqb c NOTHING f, ne_eqb c EMPTY g))
+  shown-attribute h = rw h
 
 -- the bytes of what it shows
 pub slot-some : (o : Option (Entry (List ℕ) ℕ)) (e : Entry (List ℕ) ℕ) → o ≡ some e → slot_bytes o ≡ entry_bytes e
@@ -140,8 +140,8 @@ pub name_length : length attribute_name ≡ 16
 unfolding attribute_name ascii
 name_length = refl
 
-pub attribute-bytes : (name : List ℕ) → name ≡ attribute_name → entry_bytes (entry_of 1 0 (take 16 (drop 0 name)) 0 0) ≡ entry_bytes (text_entry attribute_name)
-attribute-bytes name h = parts_are (text_entry attribute_name) 1 0 (take 16 (drop 0 name)) 0 0 refl refl (rw h name_whole) refl refl
+pub attribute-bytes : (name : List ℕ) → name ≡ attribute_name → entry_bytes (entry_of 1 0 name 0 0) ≡ entry_bytes (text_entry attribute_name)
+attribute-bytes name h = parts_are (text_entry attribute_name) 1 0 name 0 0 refl refl h refl refl
 
 -- NO ENTRY IS LONGER than the longest text
 
@@ -189,20 +189,14 @@ entry_bound e =
       ),
     )
 
-pub content_bound : (s : List ℕ) (t : Store) (c : ℕ) → IsBytes s → Made s t → IsContent s t c → length (slot_bytes (shown_in s t c)) ≤ 65538
-content_bound s t c b made is =
-    ⊎_elim
-    (λ (l : c < NOTHING).
-    rw (slot-some (shown_in s t c) (finished_in s t c) (shown-node (finished_in s t) c l))
-    (entry_bound (finished_in s t c) (shown-fits s t c made (is.1 l).0 b)))
-    (λ (l : NOTHING ≤ c).
-    ⊎_elim
-    (λ (z : c ≡ NOTHING). rw (slot-none (shown_in s t c) (shown-nothing (finished_in s t) c z)) (omega arith))
-    (λ (z : c ≡ NOTHING → ⊥).
-    ⊎_elim
-    (λ (y : c ≡ EMPTY). rw (slot-some (shown_in s t c) (text_entry []) (shown-empty (finished_in s t) c y)) (omega (arith, empty_length)))
-    (λ (y : c ≡ EMPTY → ⊥).
-    rw (slot-some (shown_in s t c) (text_entry attribute_name) (shown-attribute (finished_in s t) c l z y)) (omega (arith, attribute-length)))
-    (equal c EMPTY))
-    (equal c NOTHING))
-    (order c NOTHING)
+pub content_bound : (s : List ℕ) (t : Store) (c : Content) → IsBytes s → Made s t → IsContent s t c → length (slot_bytes (shown_in s t c)) ≤ 65538
+content_bound s t (content.Node k) b made is =
+    rw (slot-some (shown_in s t (content.Node k)) (finished_in s t k) (shown-node (finished_in s t) (content.Node k) k refl))
+    (entry_bound (finished_in s t k) (shown-fits s t k made is.0 b))
+content_bound s t content.Nothing b made is =
+    rw (slot-none (shown_in s t content.Nothing) (shown-nothing (finished_in s t) content.Nothing refl)) (omega arith)
+content_bound s t content.Empty b made is =
+    rw (slot-some (shown_in s t content.Empty) (text_entry []) (shown-empty (finished_in s t) content.Empty refl)) (omega (arith, empty_length))
+content_bound s t content.Attribute b made is =
+    rw (slot-some (shown_in s t content.Attribute) (text_entry attribute_name) (shown-attribute (finished_in s t) content.Attribute refl))
+    (omega (arith, attribute-length))

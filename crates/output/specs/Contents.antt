@@ -1,5 +1,5 @@
 -- What the finished words say: the number of a child, a node's entry as it is shown, and what a slot holds. Assumes nothing.
-use Rattle.std.specs.Prelude.{Bool, true, false, List, [], ◌∷◌, ◌++◌, map, ◌⊎◌, ◌≡◌, ℕ, zero, suc, ◌+◌, ◌-◌, ◌≤◌, ◌<◌, eqb, ltb, get_or}
+use Rattle.std.specs.Prelude.{Bool, true, false, List, [], ◌∷◌, ◌++◌, map, ◌⊎◌, ◌≡◌, ℕ, zero, suc, ◌+◌, ◌-◌, ◌≤◌, ◌<◌, eqb, ltb, get_or, unwrap_or}
 use Rattle.std.proofs.Math.Option.{Option, none, some}
 use Rattle.std.proofs.Math.ListN.{get_elem?}
 use Rattle.definition.specs.Basics.{from, concat}
@@ -14,6 +14,9 @@ use Rattle.store.specs.Regions.{COUNTS, MARKS, GIVEN, INDEXES, RAW-HEADS, OWNER-
 use Rattle.store.specs.Words.{ENTRY, HALF, cut}
 use Rattle.interner.specs.Nodes.{node_count, EnteredIn}
 use Rattle.raws.specs.Raws.{raw_count, held_count}
+use Rattle.output.specs.declared.Content.{Content}
+use Rattle.output.specs.declared.Content.TheVariants as content
+use Rattle.output.specs.declared.SlotWalk.{SlotWalk}
 
 -- CHILDREN
 
@@ -90,60 +93,47 @@ KidsNumbered s t k =
     (i : ℕ) → i < child_count (t SIZES) (t NODES) k →
     Numbered (constants_in s) (node_count t) (t GIVEN) (t INDEXES) (t NODES) (child_at (t FIRSTS) (t CHILDREN) (t NODES) k i)
 
--- CONTENTS: below 131,072 a node
-
-abbrev pub NOTHING : ℕ
-NOTHING = 131072
-
--- the empty text
-abbrev pub EMPTY : ℕ
-EMPTY = 131073
-
--- the text "BootstrapMethods"
-abbrev pub ATTRIBUTE : ℕ
-ATTRIBUTE = 131074
+-- CONTENTS of slots
 
 -- a text, as an entry
 abbrev pub text_entry : List ℕ → Entry (List ℕ) ℕ
 text_entry l = record { tag = 1; literal = l; byte = 0; kids = [] }
 
 -- what a content shows, where `node` shows the nodes
-unfoldable pub shown_word : (ℕ → Entry (List ℕ) ℕ) → ℕ → Option (Entry (List ℕ) ℕ)
-shown_word node c =
-    elim (ltb c NOTHING) [
-      | true ↦ some (node c)
-      | false ↦
-          elim (eqb c NOTHING) [
-            | true ↦ none
-            | false ↦ elim (eqb c EMPTY) [ true ↦ some (text_entry []) | false ↦ some (text_entry attribute_name) ]
-          ]
-    ]
+unfoldable pub shown_word : (ℕ → Entry (List ℕ) ℕ) → Content → Option (Entry (List ℕ) ℕ)
+shown_word node (content.Node k) = some (node k)
+shown_word node content.Nothing = none
+shown_word node content.Empty = some (text_entry [])
+shown_word node content.Attribute = some (text_entry attribute_name)
 
-abbrev pub shown_in : List ℕ → Store → ℕ → Option (Entry (List ℕ) ℕ)
+abbrev pub shown_in : List ℕ → Store → Content → Option (Entry (List ℕ) ℕ)
 shown_in s t c = shown_word (finished_in s t) c
 
 -- a content is a node, and wide
-unfoldable pub wide_word : (ℕ → Entry (List ℕ) ℕ) → ℕ → Bool
-wide_word node c = elim (ltb c NOTHING) [ true ↦ is_wide (node c).tag | false ↦ false ]
+unfoldable pub wide_word : (ℕ → Entry (List ℕ) ℕ) → Content → Bool
+wide_word node (content.Node k) = is_wide (node k).tag
+wide_word node content.Nothing = false
+wide_word node content.Empty = false
+wide_word node content.Attribute = false
 
-abbrev pub wide_in : List ℕ → Store → ℕ → Bool
+abbrev pub wide_in : List ℕ → Store → Content → Bool
 wide_in s t c = wide_word (finished_in s t) c
 
 -- WHAT A SLOT HOLDS
 
 -- a raw slot, by its entry
-unfoldable pub raw_word_lem : List ℕ → ℕ → ℕ
-raw_word_lem marks e = elim (eqb e HALF) [ true ↦ NOTHING | false ↦ get_or marks e 0 - 2 ]
+unfoldable pub raw_word_lem : List ℕ → ℕ → Content
+raw_word_lem marks e = elim (eqb e HALF) [ true ↦ content.Nothing | false ↦ content.Node (get_or marks e 0 - 2) ]
 
 -- by the link that a search for its raw item gave, else what it holds otherwise
-unfoldable pub raw_or : List ℕ → List ℕ → ℕ → ℕ → ℕ
+unfoldable pub raw_or : List ℕ → List ℕ → ℕ → Content → Content
 raw_or marks entries zero other = other
 raw_or marks entries (suc i) other = raw_word_lem marks (get_or entries i 0)
 
 -- by the link that a search for its node gave: that node, else nothing behind a wide one, else the empty text
-unfoldable pub link_word : Bool → ℕ → ℕ
-link_word wide zero = elim wide [ true ↦ NOTHING | false ↦ EMPTY ]
-link_word wide (suc k) = k
+unfoldable pub link_word : Bool → ℕ → Content
+link_word wide zero = elim wide [ true ↦ content.Nothing | false ↦ content.Empty ]
+link_word wide (suc k) = content.Node k
 
 -- one more than the last of the first n places that has this number; 0 where there is none
 abbrev pub link_of : List ℕ → ℕ → ℕ → ℕ
@@ -154,10 +144,10 @@ abbrev pub NoneAbove : List ℕ → ℕ → ℕ → Type 0
 NoneAbove keys n top = (i : ℕ) → i < n → get_or keys i 0 ≤ top
 
 -- a slot above 0, where `wide` tells whether the slot before holds a wide constant
-unfoldable pub owner_word : ℕ → List ℕ → List ℕ → List ℕ → List ℕ → ℕ → ℕ → ℕ → Bool → ℕ
+unfoldable pub owner_word : ℕ → List ℕ → List ℕ → List ℕ → List ℕ → ℕ → ℕ → ℕ → Bool → Content
 owner_word name marks given keys entries raws nodes slot wide =
     elim (eqb slot name) [
-      | true ↦ ATTRIBUTE
+      | true ↦ content.Attribute
       | false ↦ raw_or marks entries (link_of keys raws slot) (link_word wide (link_of given nodes slot))
     ]
 
@@ -167,19 +157,19 @@ name_slot t = get_or (t COUNTS) NAME-SLOT 0
 abbrev pub pool_count : Store → ℕ
 pool_count t = get_or (t COUNTS) POOL-COUNT 0
 
-abbrev pub owner_in : Store → ℕ → Bool → ℕ
+abbrev pub owner_in : Store → ℕ → Bool → Content
 owner_in t slot wide = owner_word (name_slot t) (t MARKS) (t GIVEN) (t RAW-KEYS) (t RAW-ENTRIES) (raw_count t) (node_count t) slot wide
 
 -- any slot, where `own` tells what those above 0 hold, and `wide` which contents are wide
-unfoldable pub wide_at : (ℕ → Bool → ℕ) → (ℕ → Bool) → ℕ → Bool
+unfoldable pub wide_at : (ℕ → Bool → Content) → (Content → Bool) → ℕ → Bool
 wide_at own wide zero = false
 wide_at own wide (suc n) = wide (own (suc n) false)
 
-unfoldable pub content_word : (ℕ → Bool → ℕ) → (ℕ → Bool) → ℕ → ℕ
-content_word own wide zero = NOTHING
+unfoldable pub content_word : (ℕ → Bool → Content) → (Content → Bool) → ℕ → Content
+content_word own wide zero = content.Nothing
 content_word own wide (suc n) = own (suc n) (wide_at own wide n)
 
-abbrev pub content_in : List ℕ → Store → ℕ → ℕ
+abbrev pub content_in : List ℕ → Store → ℕ → Content
 content_in s t slot = content_word (owner_in t) (wide_in s t) slot
 
 -- the bytes of a slot
@@ -191,8 +181,11 @@ abbrev pub pool_in : List ℕ → Store → List ℕ
 pool_in s t = be2 (pool_count t) ++ concat (from (slot_in s t) 1 (pool_count t - 1))
 
 -- a content that stands for something
-abbrev pub IsContent : List ℕ → Store → ℕ → Type 0
-IsContent s t c = (c ≤ ATTRIBUTE) × (c < NOTHING → (c < node_count t) × KidsNumbered s t c)
+abbrev pub IsContent : List ℕ → Store → Content → Type 0
+IsContent s t (content.Node k) = (k < node_count t) × KidsNumbered s t k
+IsContent s t content.Nothing = Unit {0}
+IsContent s t content.Empty = Unit {0}
+IsContent s t content.Attribute = Unit {0}
 
 -- what the searches ask: the chains of raw items and of nodes, in which a number stands once, and the nodes of the raw items
 pub record Searched (p : List ℕ) (t : Store) : Type 0 where
@@ -242,6 +235,19 @@ pub record Sweep (t : Store) (slot raws held : ℕ) : Type 0 where
   pub is : held ≡ held_in_lem t raws
   pub below : (j : ℕ) → j < raws → j < held_count t → get_or (t RAW-KEYS) (get_or (t ORDER) j 0) 0 < slot
   pub above : (j : ℕ) → raws ≤ j → j < held_count t → slot ≤ get_or (t RAW-KEYS) (get_or (t ORDER) j 0) 0
+
+-- the same walk: what it has at the slot in turn
+pub record Walked (s : List ℕ) (t : Store) (slot raws held : ℕ) (wide : Bool) : Type 0 where
+  pub low : 1 ≤ slot
+  pub high : slot ≤ pool_count t
+  pub sweep : Sweep t slot raws held
+  pub before : wide ≡ wide_at (owner_in t) (wide_in s t) (slot - 1)
+
+-- the code's
+pub record Walks (s : List ℕ) (t : Store) (slot : ℕ) (walk : SlotWalk) : Type 0 where
+  pub name : walk.name ≡ name_slot t
+  pub last : NoneAbove (t GIVEN) (node_count t) walk.last
+  pub walked : Walked s t slot walk.raws (unwrap_or walk.held 65536) walk.wide
 
 -- OWNERS
 

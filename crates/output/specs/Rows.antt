@@ -98,6 +98,14 @@ rows_in constants t = concat (from (row_at_in constants t) 0 (row_count_in t))
 abbrev pub constants_for : List ℕ → ℕ
 constants_for p = size p MARKS - size p INDEXES
 
+-- a walk over the rows, at an index: so many inline and so many raw rows are below it
+pub record Filled (p : List ℕ) (t : Store) (inline raws index : ℕ) : Type 0 where
+  pub high : index ≤ row_count_in t
+  pub inlines : inline ≡ passed (inline_index_in (constants_for p) t) index
+  pub raw_ones : raws ≡ passed (raw_index_in t) index
+  pub inline_low : inline ≤ index
+  pub raw_low : raws ≤ index
+
 -- an inline row's node is a bootstrap that has an index
 pub record Inlined (p : List ℕ) (indexes nodes : List ℕ) (k : ℕ) : Type 0 where
   pub node : k < size p NODES

@@ -2,7 +2,7 @@
 // is written.
 #![tactic(auto)]
 
-ghost use Rattle.std.specs.Prelude.{List, [], ◌∷◌, map, ◌⊎◌, ◌≡◌, ℕ, ◌+◌, ◌-◌, ◌*◌, ◌<◌, ◌≤◌, length, get_or, true, ◌&&◌, eqb, ltb};
+ghost use Rattle.std.specs.Prelude.{List, [], ◌∷◌, map, ◌⊎◌, ◌≡◌, ℕ, ◌+◌, ◌-◌, ◌*◌, ◌<◌, ◌≤◌, length, get_or, true, unwrap_or};
 ghost use Rattle.std.proofs.Math.Option.{Option, some};
 ghost use Rattle.definition.specs.Basics.{concat};
 ghost use Rattle.definition.specs.Bytes.{be2};
@@ -18,33 +18,51 @@ ghost use Rattle.store.specs.Chains.{Heads};
 ghost use Rattle.store.specs.Words.{ENTRY, HALF, cut, child_slot};
 ghost use Rattle.store.specs.Entries.{WordsAt};
 ghost use Rattle.interner.specs.Nodes.{node_count};
-ghost use Rattle.output.specs.Contents.{NOTHING, ATTRIBUTE, child_number, ChildThere, child_count, finished_in, Made, KidsNumbered, ShortChild, text_entry, shown_in, wide_in, IsContent, raw_word_lem, link_word, link_of, NoneAbove, owner_in, name_slot, wide_at, content_in, Searched, Owned, held_in_lem, HeldOrder, Sweep, OwnersMade, pool_in, Finished};
-ghost use Rattle.output.specs.Names.{text_of, class_slot_in, class_in, NameIs, ClassAt};
+ghost use Rattle.output.specs.Contents.{child_number, ChildThere, child_count, finished_in, Made, KidsNumbered, ShortChild, text_entry, shown_in, wide_in, IsContent, raw_word_lem, link_word, link_of, NoneAbove, owner_in, name_slot, pool_count, wide_at, content_in, Searched, Owned, held_in_lem, HeldOrder, Sweep, OwnersMade, pool_in, Finished};
+ghost use Rattle.output.specs.Names.{IsClass, text_of, class_slot_in, class_in, NameIs, ClassAt};
 ghost use Rattle.output.specs.Rows.{slots_from, row_in, Slotted, RowReady, raw_rows, raw_index_in, inline_index_in, raw_node_in, row_count_in, reached_at, passed, row_node_in, rows_in, constants_for, RowsReady};
 
+use raw_const::Entry as RawEntry;
 use store::{
     ANSWERS, AT, CHILDREN, COUNTS, ENTRY, FIRSTS, GIVEN, HALF, HELD_COUNT, INDEXES, INLINE,
     INLINE_COUNT, NAME_SLOT, NODE_COUNT, NODES, OFFSETS, ORIGINS, OWNER_HEADS, POOL_COUNT,
     RAW_COUNT, RAW_ENTRIES, RAW_HEADS, RAW_KEYS, ROW_COUNT, SIZES, VALUES, WRITTEN_COUNT,
     constants, find_number, load, push_link, size_of,
 };
+use writer::BigEndian;
 
-// What a slot holds, as a number: a node, or past every node nothing, the empty text, or the text "BootstrapMethods": `Content`.
-const NOTHING: usize = 131072;
+// What a slot holds: a node, nothing, the empty text, or the text "BootstrapMethods".
+#[derive(Clone, Copy, Debug, PartialEq, Eq)]
+pub enum Content {
+    Node(usize),
+    Nothing,
+    Empty,
+    Attribute,
+}
 
-const EMPTY: usize = 131073;
-
-const ATTRIBUTE: usize = 131074;
-
-// Past every index and every slot.
-const PAST: usize = 65536;
-
-// A class name: none, or the bytes of the job that it is, or the text "BootstrapMethods".
-#[derive(Clone, Copy)]
+// A class name: the bytes of the job that it is, or the text "BootstrapMethods".
+#[derive(Clone, Copy, Debug, PartialEq, Eq)]
 pub enum ClassName {
-    None,
     Bytes { start: usize, size: usize },
     Attribute,
+}
+
+// A walk over the slots from 1 on: the name's slot, the highest that a node has been given, how many raw slots are behind, the next of
+// them, and whether the slot before holds a wide constant.
+#[derive(Clone, Copy)]
+struct SlotWalk {
+    name: usize,
+    last: usize,
+    raws: usize,
+    held: Option<usize>,
+    wide: bool,
+}
+
+// A walk over the rows of the bootstrap table: how many inline rows and how many raw ones are behind.
+#[derive(Clone, Copy)]
+struct RowWalk {
+    inline: usize,
+    raws: usize,
 }
 
 // Where the record of a node's entry stands.
@@ -127,28 +145,17 @@ fn node_length(job: &[u8], w: &[u32], p: &[usize], k: usize) -> usize
     raw_const::entry_length(tag, interner::literal_size(job, at))
 }
 
-// The text that the bootstrap attribute's name needs: `attribute_name`.
-fn attribute_name() -> [u8; 16]
-    ensures { result ≡ attribute_name }
-{
-    *b"BootstrapMethods"
-}
-
 // How many bytes a content takes: `length (slot_bytes ..)`.
-fn content_length(job: &[u8], w: &[u32], p: &[usize], content: usize) -> usize
+fn content_length(job: &[u8], w: &[u32], p: &[usize], content: Content) -> usize
     requires { On p.now (length w.now) × Work job.now p.now × Made job.now (store p.now w.now) × IsContent job.now (store p.now w.now) content }
     ensures { result ≡ length (slot_bytes (shown_in job.now (store p.now w.now) content)) }
 {
-    if content < NOTHING {
-        return node_length(job, w, p, content);
+    match content {
+        Content::Node(k) => node_length(job, w, p, k),
+        Content::Nothing => 0,
+        Content::Empty => 3,
+        Content::Attribute => 19,
     }
-    if content == NOTHING {
-        return 0;
-    }
-    if content == EMPTY {
-        return 3;
-    }
-    19
 }
 
 // The number of child i of n that stand from `first` on; 0 where there is none.
@@ -181,7 +188,14 @@ fn write_references(
     let children = first_child(w, p, k);
     let first = number_at(w, p, children, n, 0);
     let second = number_at(w, p, children, n, 1);
-    raw_const::write_entry(pool, at, tag, kind, job, from, 0, first, second)
+    let entry = RawEntry {
+        tag,
+        literal: &[],
+        kind,
+        first,
+        second,
+    };
+    raw_const::write_entry(pool, at, &entry)
 }
 
 // Writes the constant at a place of the job, which was worked out; the place behind it.
@@ -197,10 +211,10 @@ fn write_worked(
     ensures { WhatEntry job.now from (λ x. Wrote pool.old at (x.tag ∷ x.literal) pool.new result) }
 {
     let tag = job::tag_at(job, from);
-    writer::put_u8(pool, at, tag);
-    writer::put_u32(pool, at + 1, load(w, p, VALUES, from / 3) as u32);
+    pool[at] = tag;
+    (load(w, p, VALUES, from / 3) as u32).put(pool, at + 1);
     if raw_const::is_long(tag) {
-        writer::put_u32(pool, at + 5, load(w, p, VALUES, from / 3 + 1) as u32);
+        (load(w, p, VALUES, from / 3 + 1) as u32).put(pool, at + 5);
         return at + 9;
     }
     at + 5
@@ -221,8 +235,14 @@ fn write_node(pool: &mut [u8], at: usize, job: &[u8], w: &[u32], p: &[usize], k:
     }
     let tag = job::tag_at(job, from);
     let s = job::literal_at(job, from);
-    let start = s.start;
-    raw_const::write_entry(pool, at, tag, 0, job, start, s.end - start, 0, 0)
+    let entry = RawEntry {
+        tag,
+        literal: &job[s.start..s.end],
+        kind: 0,
+        first: 0,
+        second: 0,
+    };
+    raw_const::write_entry(pool, at, &entry)
 }
 
 // Writes the empty text; the place behind it: `entry_bytes`. It fills most slots of a sparse pool, so it doesn't go by the table of fields.
@@ -230,9 +250,25 @@ fn write_empty(pool: &mut [u8], at: usize) -> usize
     requires { at + 3 ≤ length pool.old }
     ensures { Wrote pool.old at (entry_bytes (text_entry [])) pool.new result }
 {
-    writer::put_u8(pool, at, 1);
-    writer::put_u16(pool, at + 1, 0);
+    pool[at] = 1;
+    0u16.put(pool, at + 1);
     at + 3
+}
+
+// Writes the text "BootstrapMethods"; the place behind it: `entry_bytes`.
+fn write_attribute(pool: &mut [u8], at: usize) -> usize
+    requires { at + 19 ≤ length pool.old }
+    ensures { Wrote pool.old at (entry_bytes (text_entry attribute_name)) pool.new result }
+{
+    let name = interner::attribute_name();
+    let entry = RawEntry {
+        tag: 1,
+        literal: &name,
+        kind: 0,
+        first: 0,
+        second: 0,
+    };
+    raw_const::write_entry(pool, at, &entry)
 }
 
 // Writes a content; the place behind it: `slot_bytes`.
@@ -242,22 +278,17 @@ fn write_content(
     job: &[u8],
     w: &[u32],
     p: &[usize],
-    content: usize,
+    content: Content,
 ) -> usize
     requires { On p.now (length w.now) × Work job.now p.now × Made job.now (store p.now w.now) × IsContent job.now (store p.now w.now) content × (at + length (slot_bytes (shown_in job.now (store p.now w.now) content)) ≤ length pool.old) }
     ensures { Wrote pool.old at (slot_bytes (shown_in job.now (store p.now w.now) content)) pool.new result }
 {
-    if content < NOTHING {
-        return write_node(pool, at, job, w, p, content);
+    match content {
+        Content::Node(k) => write_node(pool, at, job, w, p, k),
+        Content::Nothing => at,
+        Content::Empty => write_empty(pool, at),
+        Content::Attribute => write_attribute(pool, at),
     }
-    if content == NOTHING {
-        return at;
-    }
-    if content == EMPTY {
-        return write_empty(pool, at);
-    }
-    let name = attribute_name();
-    raw_const::write_entry(pool, at, 1, 0, &name, 0, 16, 0, 0)
 }
 
 // Each node joins the chain of its slot, one without a slot that of 0.
@@ -265,72 +296,68 @@ pub fn own_slots(w: &mut [u32], p: &[usize])
     requires { On p.now (length w.old) × Heads p.now OWNER-HEADS × (NODE-COUNT < size p.now COUNTS) × (node_count (store p.now w.old) ≤ size p.now GIVEN) × (node_count (store p.now w.old) ≤ size p.now OWNER-LINKS) × ((i : ℕ) → get_or (store p.now w.old OWNER-HEADS) i 0 ≡ 0) }
     ensures { OwnersMade p.now (store p.now w.old) (store p.now w.new) }
 {
-    let n = load(w, p, COUNTS, NODE_COUNT);
-    let mut k = 0;
-    while k < n {
+    for k in 0..load(w, p, COUNTS, NODE_COUNT) {
         let slot = load(w, p, GIVEN, k);
         push_link(w, p, OWNER_HEADS, slot, k);
-        k += 1;
     }
 }
 
 // What a raw slot holds, by its entry: `starts`, `half`.
-fn raw_content(w: &[u32], p: &[usize], e: usize) -> usize
+fn raw_content(w: &[u32], p: &[usize], e: usize) -> Content
     requires { On p.now (length w.now) × ((e ≡ HALF) ⊎ ((e < size p.now MARKS) × (1 < get_or (store p.now w.now MARKS) e 0))) }
     ensures { result ≡ raw_word_lem (store p.now w.now MARKS) e }
 {
     if e == HALF {
-        return NOTHING;
+        return Content::Nothing;
     }
-    resolver::node_of(w, p, e)
+    Content::Node(resolver::node_of(w, p, e))
 }
 
 // What a slot that nobody owns holds: nothing behind a wide constant, else the empty text: `behind`.
-fn unowned(wide: bool) -> usize
+fn unowned(wide: bool) -> Content
     ensures { result ≡ link_word wide 0 }
 {
     if wide {
-        return NOTHING;
+        Content::Nothing
+    } else {
+        Content::Empty
     }
-    EMPTY
 }
 
 // What a slot that is neither raw nor the name's holds: a node that has it, else it is unowned: `lookup`, `behind`.
-fn given_content(w: &[u32], p: &[usize], slot: usize, wide: bool) -> usize
+fn given_content(w: &[u32], p: &[usize], slot: usize, wide: bool) -> Content
     requires { On p.now (length w.now) × Searched p.now (store p.now w.now) × (0 < slot) × IsWord slot }
     ensures { result ≡ link_word wide (link_of (store p.now w.now GIVEN) (node_count (store p.now w.now)) slot) }
 {
-    let link = find_number(w, p, OWNER_HEADS, GIVEN, slot);
-    if 0 < link {
-        return link - 1;
+    match find_number(w, p, OWNER_HEADS, GIVEN, slot) {
+        Some(k) => Content::Node(k),
+        None => unowned(wide),
     }
-    unowned(wide)
 }
 
 // What a slot above 0 holds, `wide` telling whether the slot before holds a wide constant: `lookup slot owned`, `behind`.
-fn owner_of(w: &[u32], p: &[usize], slot: usize, wide: bool) -> usize
+fn owner_of(w: &[u32], p: &[usize], slot: usize, wide: bool) -> Content
     requires { On p.now (length w.now) × Searched p.now (store p.now w.now) × (0 < slot) × IsWord slot }
     ensures { result ≡ owner_in (store p.now w.now) slot wide }
 {
     if slot == load(w, p, COUNTS, NAME_SLOT) {
-        return ATTRIBUTE;
+        return Content::Attribute;
     }
-    let raw = find_number(w, p, RAW_HEADS, RAW_KEYS, slot);
-    if 0 < raw {
-        return raw_content(w, p, load(w, p, RAW_ENTRIES, raw - 1));
+    match find_number(w, p, RAW_HEADS, RAW_KEYS, slot) {
+        Some(i) => raw_content(w, p, load(w, p, RAW_ENTRIES, i)),
+        None => given_content(w, p, slot, wide),
     }
-    given_content(w, p, slot, wide)
 }
 
 // A content is a node, and wide.
-fn is_wide(job: &[u8], w: &[u32], p: &[usize], content: usize) -> bool
-    requires { On p.now (length w.now) × Work job.now p.now × Made job.now (store p.now w.now) × (content < NOTHING → content < node_count (store p.now w.now)) }
+fn is_wide(job: &[u8], w: &[u32], p: &[usize], content: Content) -> bool
+    requires { On p.now (length w.now) × Work job.now p.now × Made job.now (store p.now w.now) × IsContent job.now (store p.now w.now) content }
     ensures { result ≡ wide_in job.now (store p.now w.now) content }
 {
-    if NOTHING <= content {
-        return false;
+    match content {
+        Content::Node(k) => node_is_wide(job, w, p, k),
+        _ => false,
     }
-    node_is_wide(job, w, p, content)
 }
 
 // The slot before one above 0 holds a wide constant.
@@ -345,25 +372,25 @@ fn wide_before(job: &[u8], w: &[u32], p: &[usize], slot: usize) -> bool
 }
 
 // What a slot holds: `content_of`.
-fn content_of(job: &[u8], w: &[u32], p: &[usize], slot: usize) -> usize
+fn content_of(job: &[u8], w: &[u32], p: &[usize], slot: usize) -> Content
     requires { On p.now (length w.now) × Work job.now p.now × Searched p.now (store p.now w.now) × Owned job.now (store p.now w.now) × IsWord slot }
     ensures { result ≡ content_in job.now (store p.now w.now) slot }
 {
     if slot == 0 {
-        return NOTHING;
+        return Content::Nothing;
     }
     owner_of(w, p, slot, wide_before(job, w, p, slot))
 }
 
-// The raw slot i by rising slot; past every slot where there is none.
-fn held_slot(w: &[u32], p: &[usize], i: usize) -> usize
+// The raw slot i by rising slot, if there is one.
+fn held_slot(w: &[u32], p: &[usize], i: usize) -> Option<usize>
     requires { On p.now (length w.now) × HeldOrder p.now (store p.now w.now) }
-    ensures { result ≡ held_in_lem (store p.now w.now) i }
+    ensures { unwrap_or result 65536 ≡ held_in_lem (store p.now w.now) i }
 {
     if i < load(w, p, COUNTS, HELD_COUNT) {
-        return raws::raw_key(w, p, i);
+        return Some(raws::raw_key(w, p, i));
     }
-    PAST
+    None
 }
 
 // The highest slot that a node has been given; 0 where there is none. A pool can end far above it, at a raw slot, and no slot between
@@ -372,44 +399,59 @@ fn last_given(w: &[u32], p: &[usize]) -> usize
     requires { On p.now (length w.now) × Searched p.now (store p.now w.now) }
     ensures { NoneAbove (store p.now w.now GIVEN) (node_count (store p.now w.now)) result }
 {
-    let n = load(w, p, COUNTS, NODE_COUNT);
     let mut last = 0;
-    let mut k = 0;
-    while k < n {
-        let given = load(w, p, GIVEN, k);
-        if last < given {
-            last = given;
-        }
-        k += 1;
+    for k in 0..load(w, p, COUNTS, NODE_COUNT) {
+        last = last.max(load(w, p, GIVEN, k));
     }
     last
 }
 
-// What a slot holds, where no node has one above `last`, `raws` raw slots are below it, `held` is the next one, and `wide` tells of the
-// slot before: `content_of`.
-fn next_content(
-    w: &[u32],
-    p: &[usize],
-    slot: usize,
-    name: usize,
-    last: usize,
-    raws: usize,
-    held: usize,
-    wide: bool,
-) -> usize
-    requires { On p.now (length w.now) × Searched p.now (store p.now w.now) × HeldOrder p.now (store p.now w.now) × Sweep (store p.now w.now) slot raws held × (name ≡ name_slot (store p.now w.now)) × (0 < slot) × (slot < 65536) × NoneAbove (store p.now w.now GIVEN) (node_count (store p.now w.now)) last }
-    ensures { result ≡ owner_in (store p.now w.now) slot wide }
-{
-    if slot == name {
-        return ATTRIBUTE;
+impl SlotWalk {
+    ghost use Rattle.output.specs.Contents.{Walks};
+
+    fn begin(w: &[u32], p: &[usize]) -> SlotWalk
+        requires { On p.now (length w.now) × ((s : List ℕ) × Finished s p.now (store p.now w.now)) }
+        ensures { (s : List ℕ) → Finished s p.now (store p.now w.now) → Walks s (store p.now w.now) 1 result }
+    {
+        SlotWalk {
+            name: load(w, p, COUNTS, NAME_SLOT),
+            last: last_given(w, p),
+            raws: 0,
+            held: held_slot(w, p, 0),
+            wide: false,
+        }
     }
-    if slot == held {
-        return raw_content(w, p, raws::raw_entry(w, p, raws));
+
+    // What the slot in turn holds: `content_of`.
+    fn content(self, w: &[u32], p: &[usize], slot: usize) -> Content
+        requires { On p.now (length w.now) × Searched p.now (store p.now w.now) × HeldOrder p.now (store p.now w.now) × Sweep (store p.now w.now) slot self.raws (unwrap_or self.held 65536) × (self.name ≡ name_slot (store p.now w.now)) × (0 < slot) × (slot < 65536) × NoneAbove (store p.now w.now GIVEN) (node_count (store p.now w.now)) self.last }
+        ensures { result ≡ owner_in (store p.now w.now) slot self.wide }
+    {
+        if slot == self.name {
+            return Content::Attribute;
+        }
+        if self.held == Some(slot) {
+            return raw_content(w, p, raws::raw_entry(w, p, self.raws));
+        }
+        if self.last < slot {
+            return unowned(self.wide);
+        }
+        given_content(w, p, slot, self.wide)
     }
-    if last < slot {
-        return unowned(wide);
+
+    // The same, and the walk goes on behind the slot.
+    fn next(&mut self, job: &[u8], w: &[u32], p: &[usize], slot: usize) -> Content
+        requires { On p.now (length w.now) × Work job.now p.now × Finished job.now p.now (store p.now w.now) × Walks job.now (store p.now w.now) slot self.old × (slot < pool_count (store p.now w.now)) }
+        ensures { (result ≡ content_in job.now (store p.now w.now) slot) × Walks job.now (store p.now w.now) (slot + 1) self.new }
+    {
+        let holds = self.content(w, p, slot);
+        if self.held == Some(slot) {
+            self.raws += 1;
+            self.held = held_slot(w, p, self.raws);
+        }
+        self.wide = is_wide(job, w, p, holds);
+        holds
     }
-    given_content(w, p, slot, wide)
 }
 
 // How many bytes the pool takes: `length pool`.
@@ -417,23 +459,11 @@ pub fn pool_length(job: &[u8], w: &[u32], p: &[usize]) -> usize
     requires { On p.now (length w.now) × Work job.now p.now × Finished job.now p.now (store p.now w.now) }
     ensures { result ≡ length (pool_in job.now (store p.now w.now)) }
 {
-    let end = load(w, p, COUNTS, POOL_COUNT);
-    let name = load(w, p, COUNTS, NAME_SLOT);
-    let last = last_given(w, p);
+    let mut walk = SlotWalk::begin(w, p);
     let mut size = 2;
-    let mut raws = 0;
-    let mut held = held_slot(w, p, 0);
-    let mut wide = false;
-    let mut slot = 1;
-    while slot < end {
-        let content = next_content(w, p, slot, name, last, raws, held, wide);
-        size += content_length(job, w, p, content);
-        wide = is_wide(job, w, p, content);
-        if slot == held {
-            raws += 1;
-            held = held_slot(w, p, raws);
-        }
-        slot += 1;
+    for slot in 1..load(w, p, COUNTS, POOL_COUNT) {
+        let holds = walk.next(job, w, p, slot);
+        size += content_length(job, w, p, holds);
     }
     size
 }
@@ -444,23 +474,12 @@ pub fn write_pool(pool: &mut [u8], job: &[u8], w: &[u32], p: &[usize])
     ensures { pool.new ≡ overwrite (pool_in job.now (store p.now w.now)) pool.old }
 {
     let end = load(w, p, COUNTS, POOL_COUNT);
-    let name = load(w, p, COUNTS, NAME_SLOT);
-    let last = last_given(w, p);
-    writer::put_u16(pool, 0, end as u16);
+    (end as u16).put(pool, 0);
+    let mut walk = SlotWalk::begin(w, p);
     let mut at = 2;
-    let mut raws = 0;
-    let mut held = held_slot(w, p, 0);
-    let mut wide = false;
-    let mut slot = 1;
-    while slot < end {
-        let holds = next_content(w, p, slot, name, last, raws, held, wide);
+    for slot in 1..end {
+        let holds = walk.next(job, w, p, slot);
         at = write_content(pool, at, job, w, p, holds);
-        wide = is_wide(job, w, p, holds);
-        if slot == held {
-            raws += 1;
-            held = held_slot(w, p, raws);
-        }
-        slot += 1;
     }
 }
 
@@ -469,11 +488,8 @@ pub fn write_answers(answers: &mut [u16], w: &[u32], p: &[usize])
     requires { On p.now (length w.now) × (size p.now ANSWERS ≤ length answers.old) × ((i : ℕ) → i < size p.now ANSWERS → get_or (store p.now w.now ANSWERS) i 0 < 65536) }
     ensures { answers.new ≡ overwrite (store p.now w.now ANSWERS) answers.old }
 {
-    let n = size_of(p, ANSWERS);
-    let mut i = 0;
-    while i < n {
+    for i in 0..size_of(p, ANSWERS) {
         answers[i] = load(w, p, ANSWERS, i) as u16;
-        i += 1;
     }
 }
 
@@ -482,11 +498,8 @@ pub fn write_marks(marks: &mut [u8], w: &[u32], p: &[usize])
     requires { On p.now (length w.now) × (size p.now ORIGINS ≤ length marks.old) × ((i : ℕ) → i < size p.now ORIGINS → get_or (store p.now w.now ORIGINS) i 0 < 256) }
     ensures { marks.new ≡ overwrite (store p.now w.now ORIGINS) marks.old }
 {
-    let n = size_of(p, ORIGINS);
-    let mut i = 0;
-    while i < n {
+    for i in 0..size_of(p, ORIGINS) {
         marks[i] = load(w, p, ORIGINS, i) as u8;
-        i += 1;
     }
 }
 
@@ -502,15 +515,11 @@ fn write_slots(
     requires { On p.now (length w.now) × (first + n ≤ size p.now CHILDREN) × ((i : ℕ) → i < n → Slotted p.now (store p.now w.now GIVEN) (get_or (store p.now w.now CHILDREN) (first + i) 0)) × (start + 2 * n ≤ length out.old) }
     ensures { Wrote out.old start (concat (map be2 (slots_from (store p.now w.now GIVEN) (store p.now w.now CHILDREN) first n))) out.new result }
 {
-    let mut at = start;
-    let mut i = 0;
-    while i < n {
+    for i in 0..n {
         let slot = child_slot(w, p, load(w, p, CHILDREN, first + i));
-        writer::put_u16(out, at, slot as u16);
-        at += 2;
-        i += 1;
+        (slot as u16).put(out, start + 2 * i);
     }
-    at
+    start + 2 * n
 }
 
 // Writes the row of bootstrap node k; the place behind it: `row_bytes`.
@@ -521,42 +530,38 @@ fn write_row(out: &mut [u8], at: usize, w: &[u32], p: &[usize], k: usize) -> usi
     let first = first_child(w, p, k);
     let n = child_count(w, p, k) - 1;
     let behind = write_slots(out, at, w, p, first, 1);
-    writer::put_u16(out, behind, n as u16);
+    (n as u16).put(out, behind);
     write_slots(out, behind + 2, w, p, first + 1, n)
 }
 
 // The text of node k, if it is one.
-fn node_text(job: &[u8], w: &[u32], p: &[usize], k: usize) -> ClassName
+fn node_text(job: &[u8], w: &[u32], p: &[usize], k: usize) -> Option<ClassName>
     requires { On p.now (length w.now) × Work job.now p.now × Made job.now (store p.now w.now) × (k < node_count (store p.now w.now)) }
     ensures { NameIs job.now result (text_of (some (finished_in job.now (store p.now w.now) k))) }
 {
     let at = node_at(w, p, k);
     if job::tag_at(job, at) != 1 {
-        return ClassName::None;
+        return None;
     }
     let s = job::literal_at(job, at);
     let start = s.start;
-    ClassName::Bytes {
+    Some(ClassName::Bytes {
         start,
         size: s.end - start,
-    }
+    })
 }
 
 // The text that a content is, if it is one: `text_in`.
-fn text_in(job: &[u8], w: &[u32], p: &[usize], content: usize) -> ClassName
+fn text_in(job: &[u8], w: &[u32], p: &[usize], content: Content) -> Option<ClassName>
     requires { On p.now (length w.now) × Work job.now p.now × Made job.now (store p.now w.now) × IsContent job.now (store p.now w.now) content }
     ensures { NameIs job.now result (text_of (shown_in job.now (store p.now w.now) content)) }
 {
-    if content < NOTHING {
-        return node_text(job, w, p, content);
+    match content {
+        Content::Node(k) => node_text(job, w, p, k),
+        Content::Nothing => None,
+        Content::Empty => Some(ClassName::Bytes { start: 0, size: 0 }),
+        Content::Attribute => Some(ClassName::Attribute),
     }
-    if content == NOTHING {
-        return ClassName::None;
-    }
-    if content == EMPTY {
-        return ClassName::Bytes { start: 0, size: 0 };
-    }
-    ClassName::Attribute
 }
 
 // The class slot of record 60: `class_slot_of`.
@@ -565,63 +570,64 @@ fn class_slot(job: &[u8], w: &[u32], p: &[usize]) -> usize
     ensures { (result ≡ class_slot_in job.now (store p.now w.now)) × IsWord result }
 {
     let at = load(w, p, COUNTS, AT);
-    let n = writer::get_u16(job, at + 3) as usize;
-    if writer::get_u8(job, at + 2) == 0 {
+    let n = u16::get(job, at + 3) as usize;
+    if job[at + 2] == 0 {
         return n;
     }
     load(w, p, ANSWERS, n)
 }
 
-// The content is a Class.
-fn is_class(job: &[u8], w: &[u32], p: &[usize], content: usize) -> bool
+// The node that a content is, if that is a Class.
+fn class_node(job: &[u8], w: &[u32], p: &[usize], content: Content) -> Option<usize>
     requires { On p.now (length w.now) × Work job.now p.now × Made job.now (store p.now w.now) × IsContent job.now (store p.now w.now) content }
-    ensures { result ≡ ltb content NOTHING && eqb (finished_in job.now (store p.now w.now) content).tag 7 }
+    ensures { IsClass (finished_in job.now (store p.now w.now)) content result }
 {
-    if NOTHING <= content {
-        return false;
+    match content {
+        Content::Node(k) if job::tag_at(job, node_at(w, p, k)) == 7 => Some(k),
+        _ => None,
     }
-    job::tag_at(job, node_at(w, p, content)) == 7
 }
 
 // The class name, if the class slot holds a Class whose slot holds a text: `class_name`.
-pub fn class_name(job: &[u8], w: &[u32], p: &[usize]) -> ClassName
+pub fn class_name(job: &[u8], w: &[u32], p: &[usize]) -> Option<ClassName>
     requires { On p.now (length w.now) × Work job.now p.now × Searched p.now (store p.now w.now) × Owned job.now (store p.now w.now) × ClassAt job.now p.now (store p.now w.now) }
     ensures { NameIs job.now result (class_in job.now (store p.now w.now)) }
 {
-    let class = content_of(job, w, p, class_slot(job, w, p));
-    if !is_class(job, w, p, class) {
-        return ClassName::None;
-    }
+    let class = class_node(job, w, p, content_of(job, w, p, class_slot(job, w, p)))?;
     let n = child_count(w, p, class);
     let text = number_at(w, p, first_child(w, p, class), n, 0);
     text_in(job, w, p, content_of(job, w, p, text as usize))
 }
 
 // How many bytes a class name takes: `length (class_out ..)`.
-pub fn class_length(c: ClassName) -> usize
+pub fn class_length(c: Option<ClassName>) -> usize
     ensures { (s : List ℕ) (o : Option (List ℕ)) → NameIs s c o → result ≡ length (class_out o) }
 {
     match c {
-        ClassName::None => 0,
-        ClassName::Bytes { start: _, size } => size,
-        ClassName::Attribute => 16,
+        None => 0,
+        Some(name) => match name {
+            ClassName::Bytes { start: _, size } => size,
+            ClassName::Attribute => 16,
+        },
     }
 }
 
 // Writes a class name: `class_bytes`.
-pub fn write_class(out: &mut [u8], job: &[u8], c: ClassName)
+pub fn write_class(out: &mut [u8], job: &[u8], c: Option<ClassName>)
     requires { (o : Option (List ℕ)) × NameIs job.now c o × (length (class_out o) ≤ length out.old) }
     ensures { (o : Option (List ℕ)) → NameIs job.now c o → out.new ≡ overwrite (class_out o) out.old }
 {
     match c {
-        ClassName::None => {}
-        ClassName::Bytes { start, size } => {
-            writer::copy(job, start, out, 0, size);
-        }
-        ClassName::Attribute => {
-            let name = attribute_name();
-            writer::copy(&name, 0, out, 0, 16);
-        }
+        None => {}
+        Some(name) => match name {
+            ClassName::Bytes { start, size } => {
+                writer::copy(job, start, out, 0, size);
+            }
+            ClassName::Attribute => {
+                let text = interner::attribute_name();
+                writer::copy(&text, 0, out, 0, 16);
+            }
+        },
     }
 }
 
@@ -633,15 +639,15 @@ fn raw_rows(w: &[u32], p: &[usize]) -> usize
     load(w, p, COUNTS, RAW_COUNT) - load(w, p, COUNTS, HELD_COUNT)
 }
 
-// The index of raw bootstrap i by rising index; past every index where there is none.
-fn raw_index(w: &[u32], p: &[usize], i: usize) -> usize
+// The index of raw bootstrap i by rising index, if there is one.
+fn raw_index(w: &[u32], p: &[usize], i: usize) -> Option<usize>
     requires { On p.now (length w.now) × RowsReady p.now (store p.now w.now) }
-    ensures { result ≡ raw_index_in (store p.now w.now) i }
+    ensures { unwrap_or result 65536 ≡ raw_index_in (store p.now w.now) i }
 {
     if raw_rows(w, p) <= i {
-        return PAST;
+        return None;
     }
-    raws::raw_key(w, p, load(w, p, COUNTS, HELD_COUNT) + i) - ENTRY
+    Some(raws::raw_key(w, p, load(w, p, COUNTS, HELD_COUNT) + i) - ENTRY)
 }
 
 // Its node: `index_nodes`.
@@ -656,16 +662,16 @@ fn raw_row(w: &[u32], p: &[usize], i: usize) -> usize
     )
 }
 
-// The index of inline row i; past every index where there is none.
-fn inline_index(w: &[u32], p: &[usize], i: usize) -> usize
+// The index of inline row i, if there is one.
+fn inline_index(w: &[u32], p: &[usize], i: usize) -> Option<usize>
     requires { On p.now (length w.now) × RowsReady p.now (store p.now w.now) }
-    ensures { result ≡ inline_index_in (constants_for p.now) (store p.now w.now) i }
+    ensures { unwrap_or result 65536 ≡ inline_index_in (constants_for p.now) (store p.now w.now) i }
 {
     if load(w, p, COUNTS, INLINE_COUNT) <= i {
-        return PAST;
+        return None;
     }
     let e = load(w, p, NODES, load(w, p, INLINE, i));
-    index_of(w, p, e, constants(p))
+    Some(index_of(w, p, e, constants(p)))
 }
 
 // How many rows the table has, once its holes are filled: `length (fill_holes written waiting)`.
@@ -675,30 +681,35 @@ pub fn row_count(w: &[u32], p: &[usize]) -> usize
 {
     let n = raw_rows(w, p);
     if load(w, p, COUNTS, WRITTEN_COUNT) < n {
-        return raw_index(w, p, n - 1) + 1;
+        return raw_index(w, p, n - 1).unwrap() + 1;
     }
     load(w, p, COUNTS, ROW_COUNT)
 }
 
-// The node whose row stands at an index, `inline` inline and `raws` raw indexes being below it: `fill_holes`.
-fn row_node(w: &[u32], p: &[usize], index: usize, inline: usize, raws: usize) -> usize
-    requires { On p.now (length w.now) × RowsReady p.now (store p.now w.now) × (index < row_count_in (store p.now w.now)) × (inline ≡ passed (inline_index_in (constants_for p.now) (store p.now w.now)) index) × (raws ≡ passed (raw_index_in (store p.now w.now)) index) }
-    ensures { result ≡ row_node_in (constants_for p.now) (store p.now w.now) index }
-{
-    if inline_index(w, p, inline) == index {
-        return load(w, p, INLINE, inline);
-    }
-    raw_row(w, p, raws)
-}
+impl RowWalk {
+    ghost use Rattle.output.specs.Rows.{Filled};
 
-// 1 if a walk is at the next place that it waits for, else 0.
-fn reached(at: usize, next: usize) -> usize
-    ensures { (result ≡ reached_at at next) × (result ≤ 1) }
-{
-    if at == next {
-        return 1;
+    // The node whose row stands at the index in turn: `fill_holes`.
+    fn node(self, w: &[u32], p: &[usize], index: usize) -> usize
+        requires { On p.now (length w.now) × RowsReady p.now (store p.now w.now) × (index < row_count_in (store p.now w.now)) × Filled p.now (store p.now w.now) self.inline self.raws index }
+        ensures { result ≡ row_node_in (constants_for p.now) (store p.now w.now) index }
+    {
+        if inline_index(w, p, self.inline) == Some(index) {
+            return load(w, p, INLINE, self.inline);
+        }
+        raw_row(w, p, self.raws)
     }
-    0
+
+    // The same, and the walk goes on behind the row.
+    fn next(&mut self, w: &[u32], p: &[usize], index: usize) -> usize
+        requires { On p.now (length w.now) × RowsReady p.now (store p.now w.now) × (index < row_count_in (store p.now w.now)) × Filled p.now (store p.now w.now) self.old.inline self.old.raws index }
+        ensures { (result ≡ row_node_in (constants_for p.now) (store p.now w.now) index) × Filled p.now (store p.now w.now) self.new.inline self.new.raws (index + 1) }
+    {
+        let k = self.node(w, p, index);
+        self.inline += usize::from(inline_index(w, p, self.inline) == Some(index));
+        self.raws += usize::from(raw_index(w, p, self.raws) == Some(index));
+        k
+    }
 }
 
 // How many bytes the bootstrap rows take: `length bootstraps`.
@@ -706,17 +717,11 @@ pub fn rows_length(w: &[u32], p: &[usize]) -> usize
     requires { On p.now (length w.now) × RowsReady p.now (store p.now w.now) }
     ensures { result ≡ length (rows_in (constants_for p.now) (store p.now w.now)) }
 {
-    let end = row_count(w, p);
+    let mut walk = RowWalk { inline: 0, raws: 0 };
     let mut size = 0;
-    let mut inline = 0;
-    let mut raws = 0;
-    let mut index = 0;
-    while index < end {
-        let k = row_node(w, p, index, inline, raws);
+    for index in 0..row_count(w, p) {
+        let k = walk.next(w, p, index);
         size += raw_const::row_length(child_count(w, p, k));
-        inline += reached(index, inline_index(w, p, inline));
-        raws += reached(index, raw_index(w, p, raws));
-        index += 1;
     }
     size
 }
@@ -726,16 +731,10 @@ pub fn write_rows(bootstraps: &mut [u8], w: &[u32], p: &[usize])
     requires { On p.now (length w.now) × RowsReady p.now (store p.now w.now) × (length (rows_in (constants_for p.now) (store p.now w.now)) ≤ length bootstraps.old) }
     ensures { bootstraps.new ≡ overwrite (rows_in (constants_for p.now) (store p.now w.now)) bootstraps.old }
 {
-    let end = row_count(w, p);
+    let mut walk = RowWalk { inline: 0, raws: 0 };
     let mut at = 0;
-    let mut inline = 0;
-    let mut raws = 0;
-    let mut index = 0;
-    while index < end {
-        let k = row_node(w, p, index, inline, raws);
+    for index in 0..row_count(w, p) {
+        let k = walk.next(w, p, index);
         at = write_row(bootstraps, at, w, p, k);
-        inline += reached(index, inline_index(w, p, inline));
-        raws += reached(index, raw_index(w, p, raws));
-        index += 1;
     }
 }

@@ -1,15 +1,11 @@
--- `output::rows_length` meets its contract: the loop has measured the rows behind, and goes over them as `write_rows` does. Assumes nothing.
+-- `output::rows_length` meets its contract: the loop has measured the rows behind. Assumes nothing.
 use mathlib.Core.Path.{◌≡◌}
-use Prim.Native.Nat.{◌*◌, ◌-◌, ◌≤◌}
+use Prim.Native.Nat.{◌*◌, ◌≤◌}
 use lib.ListN.{length}
-use Rattle.store.specs.Store.{store}
 use Rattle.facts.proofs.Chunks.{joined}
-use Rattle.output.specs.Rows.{row_at_in, constants_for}
-use Rattle.output.proofs.Filling.{Filled}
+use Rattle.store.specs.Store.{store}
+use Rattle.output.specs.Rows.{row_at_in, constants_for, Filled}
 use Rattle.output.proofs.rows_length.Given as goal
 
 abbrev pub invariant-loop-index : goal.invariant-loop-index
-invariant-loop-index l = Filled l.p (store l.p l.w) l.inline l.raws l.index × (l.size ≡ length (joined (row_at_in (constants_for l.p) (store l.p l.w)) l.index)) × (l.size ≤ 131074 * l.index)
-
-abbrev pub decreases-loop-index : goal.decreases-loop-index
-decreases-loop-index l = l.end - l.index
+invariant-loop-index l = Filled l.p (store l.p l.w) l.walk.inline l.walk.raws l.index × (l.size ≡ length (joined (row_at_in (constants_for l.p) (store l.p l.w)) l.index)) × (l.size ≤ 131074 * l.index)

@@ -6,5 +6,5 @@ use Rattle.output.proofs.unowned.Goals as goal
 pub returns-then-wide : goal.returns-then-wide
 returns-then-wide c = sym (link_wide c.args.wide 0 refl c.if-wide.true)
 
-pub returns : goal.returns
-returns c = sym (link_empty c.args.wide 0 refl c.if-wide.false)
+pub returns-else-wide : goal.returns-else-wide
+returns-else-wide c = sym (link_empty c.args.wide 0 refl c.if-wide.false)

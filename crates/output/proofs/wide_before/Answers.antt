@@ -18,7 +18,7 @@ pub owner_of-requires : goal.owner_of-requires
 owner_of-requires c = let q = c.requires in (q.0, q.2, omega arith, omega arith)
 
 pub is_wide-requires : goal.is_wide-requires
-is_wide-requires c = let a = c.args in let q = c.requires in let t = store a.p.now a.w.now in (q.0, q.1, q.3.made, rw c.owner_of.ensures (λ h. ((owner_is a.job.now a.p.now t q.1 q.2 q.3 (a.slot - 1) false (omega arith)).1 h).0))
+is_wide-requires c = let a = c.args in let q = c.requires in let t = store a.p.now a.w.now in (q.0, q.1, q.3.made, rw c.owner_of.ensures (owner_is a.job.now a.p.now t q.1 q.2 q.3 (a.slot - 1) false (omega arith)))
 
 pub returns : goal.returns
 returns c = let a = c.args in let t = store a.p.now a.w.now in c.is_wide.ensures ∙ ap (wide_in a.job.now t) c.owner_of.ensures ∙ sym (wide_later a.job.now t (a.slot - 1) (omega arith))

@@ -1,14 +1,9 @@
 -- `output::write_answers` meets its contract: the loop has copied the answers before i. Assumes nothing.
 use mathlib.Core.Path.{◌≡◌}
-use Prim.Native.Nat.{◌-◌, ◌≤◌}
 use lib.Seq.{paste}
-use lib.ListN.{length}
 use Rattle.store.specs.Store.{store}
 use Rattle.store.specs.Regions.{ANSWERS}
 use Rattle.output.proofs.write_answers.Given as goal
 
 abbrev pub invariant-loop-i : goal.invariant-loop-i
-invariant-loop-i l = (length l.answers ≡ length l.initial.answers) × (l.i ≤ l.n) × (l.answers ≡ paste l.initial.answers 0 (store l.p l.w ANSWERS) l.i)
-
-abbrev pub decreases-loop-i : goal.decreases-loop-i
-decreases-loop-i l = l.n - l.i
+invariant-loop-i l = l.answers ≡ paste l.initial.answers 0 (store l.p l.w ANSWERS) l.i
