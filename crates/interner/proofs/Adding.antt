@@ -15,7 +15,8 @@ use Rattle.facts.proofs.Lists.{equal, order}
 use Rattle.laws.proofs.Resolving.Interning.{same_node-equal, intern-old, intern-new}
 use Rattle.store.specs.Store.{Store, size, store, put}
 use Rattle.store.specs.JobIn.{counts_in, entries_in}
-use Rattle.store.specs.Chains.{head_of, Sought, linked}
+use Rattle.std.specs.Prelude.{None, Some}
+use Rattle.store.specs.Chains.{head_of, link_of, Sought, linked}
 use Rattle.store.specs.Regions.{COUNTS, NODE-HEADS, NODE-LINKS, FIRSTS, SIZES, CHILDREN, NODES, NODE-COUNT, entries_of, Work}
 use Rattle.store.proofs.Hashing.{head_lt}
 use Rattle.store.proofs.Keeping.{kept_put}
@@ -228,23 +229,29 @@ module _ (h : ℕ) (s : List ℕ) (t : Store) (e : ℕ) (g : NodesIn h s t) (roo
 
 -- IN THE WORK of a job
 
-module _ (s p w : List ℕ) (e : ℕ) (work : Work s p) (g : NodesIn (size p NODE-HEADS) s (store p w)) (r : ℕ)
-    (sought : Sought (λ i. same_node (node_in_lem s (store p w) e) (node_in_lem s (store p w) (get_or (store p w NODES) i 0)) ≡ true) (node_count (store p w)) r) where
+module _ (s p w : List ℕ) (e : ℕ) (work : Work s p) (g : NodesIn (size p NODE-HEADS) s (store p w)) where
+  -- what the search for the node looks for
+  abbrev pub Wanted : ℕ → Type 0
+  Wanted i = same_node (node_in_lem s (store p w) e) (node_in_lem s (store p w) (get_or (store p w NODES) i 0)) ≡ true
+
   -- a region of entries has room for all
   wide : (k : ℕ) → size p k ≡ entries_of (counts_in s) → entries_in s ≤ length (store p w k)
   wide k q = omega (arith, length-store p w k, entries-counted s)
 
-  pub found_low : 0 < r → r - 1 < entries_in s
-  found_low pos = omega (arith, sought.low, g.few)
+  module _ (k : ℕ) (sought : Sought Wanted (node_count (store p w)) (link_of (Some k))) where
+    pub found_low : k < entries_in s
+    found_low = omega (arith, sought.low, g.few)
 
-  pub interned_found : 0 < r → EnteredIn s (store p w) → e < entries_in s → (u : Store) → Lowers (store p w) u (r - 1) e → Interned (size p NODE-HEADS) s (store p w) u e (r - 1)
-  interned_found = became-one (size p NODE-HEADS) s (store p w) e g (wide NODES (work-sizes s p work).nodes) r sought
+    pub interned_found : EnteredIn s (store p w) → e < entries_in s → (u : Store) → Lowers (store p w) u k e → Interned (size p NODE-HEADS) s (store p w) u e k
+    interned_found all inside u =
+        let z : k + 1 - 1 ≡ k = omega arith in
+        rw z at (became-one (size p NODE-HEADS) s (store p w) e g (wide NODES (work-sizes s p work).nodes) (k + 1) sought (omega arith) all inside u)
 
   pub interned_made :
-      r ≤ 0 → e < entries_in s → node_count (store p w) < entries_in s → (hash k : ℕ) → hash ≡ hash_in s (store p w) e → k ≡ node_count (store p w) →
+      Sought Wanted (node_count (store p w)) (link_of None) → e < entries_in s → node_count (store p w) < entries_in s → (hash k : ℕ) →
+      hash ≡ hash_in s (store p w) e → k ≡ node_count (store p w) →
       Interned (size p NODE-HEADS) s (store p w) (linked (put (put (store p w) COUNTS NODE-COUNT (k + 1)) NODES k e) p NODE-HEADS hash k) e k
-  interned_made end inside few =
-      let z : r ≡ 0 = omega arith in
+  interned_made sought inside few =
       became-new (size p NODE-HEADS) s (store p w) e g (wide NODES (work-sizes s p work).nodes) p refl
       (node_heads s p work).two
       (length-store p w NODE-HEADS)
@@ -252,4 +259,4 @@ module _ (s p w : List ℕ) (e : ℕ) (work : Work s p) (g : NodesIn (size p NOD
       (omega (arith, length-store p w COUNTS, counter_there s p work))
       inside
       few
-      (rw z at sought)
+      sought

@@ -3,11 +3,11 @@ use mathlib.Core.Bool.{Bool, true, false}
 use mathlib.Core.List.{List, [], map}
 use mathlib.Core.Logic.{⊎_elim}
 use mathlib.Core.Path.{◌≡◌, refl, sym, ap, ◌∙◌}
-use Prim.Native.Nat.{ℕ, ◌-◌, ◌≤◌, ◌<◌}
+use Prim.Native.Nat.{ℕ, ◌+◌, ◌-◌, ◌≤◌, ◌<◌}
 use native.Mathlib.Omega.{arith}
 use lib.ListN.{length, get_or}
 use Rattle.definition.specs.Ascii.{ascii}
-use Rattle.definition.specs.Basics.{same, position, from}
+use Rattle.definition.specs.Basics.{position, from}
 use Rattle.definition.specs.Shapes.{with_kids, with_literal}
 use Rattle.definition.specs.Numbering.{Literal, same_literal, attribute_name, literals, number_of, numbered_entry, entries}
 use Rattle.definition.specs.Resolving.{Node, same_node}
@@ -21,13 +21,16 @@ use Rattle.job.specs.declared.Stretch.{Stretch}
 use Rattle.job.specs.Stored.{Spans, WhatEntry}
 use Rattle.store.specs.Store.{Store, size, store}
 use Rattle.store.specs.JobIn.{job_in, entries_in}
-use Rattle.store.specs.Chains.{Sought}
+use lib.Dec.{eqb}
+use Rattle.std.specs.Cmp.Lexicographic.{pointwise}
+use Rattle.std.specs.Prelude.{None, Some}
+use Rattle.store.specs.Chains.{link_of, Sought}
 use Rattle.store.specs.Regions.{NODE-HEADS, NODE-LINKS, OFFSETS, FIRSTS, SIZES, CHILDREN, NODES, Work}
 use Rattle.store.specs.Words.{cut}
 use Rattle.store.proofs.Laying.{work-sizes, entries-counted}
 use Rattle.store.proofs.Stores.{length-store}
 use Rattle.interner.specs.Nodes.{hash_bytes, hash_node, hash_at, node_at_lem, node_in_lem, nodes_in, node_count, EnteredIn, NodesIn}
-use Rattle.interner.proofs.Runs.{run, spans_long}
+use Rattle.interner.proofs.Runs.{run, same_slices}
 use Rattle.interner.proofs.Shaped.{Known, known, node_is, hash_is}
 use Rattle.interner.proofs.Alike.{node_same, stands_at}
 use Rattle.interner.proofs.Listed.{position-old, position-new}
@@ -40,17 +43,12 @@ name_length : length attribute_name ≡ 16
 unfolding attribute_name ascii
 name_length = refl
 
--- all of it, as the code passes it
-name_run : run attribute_name 0 16 ≡ attribute_name
-unfolding attribute_name ascii
-name_run = refl
-
 -- what the code hashes
-pub name_hash : (name : List ℕ) (r : ℕ) → name ≡ attribute_name → r ≡ hash_bytes 1 (run name 0 16) → r ≡ hash_bytes 1 attribute_name
-name_hash name r e q = q ∙ rw (e, name_run)
+pub name_hash : (name : List ℕ) (r : ℕ) → name ≡ attribute_name → r ≡ hash_bytes 1 name → r ≡ hash_bytes 1 attribute_name
+name_hash name r e q = q ∙ rw e
 
-pub name_fits : (name : List ℕ) → name ≡ attribute_name → 16 ≤ length name
-name_fits name e = omega (arith, ap length e, name_length)
+pub name_fits : (name : List ℕ) → name ≡ attribute_name → length name ≡ 16
+name_fits name e = ap length e ∙ name_length
 
 -- THE CODE'S COMPARISON at an entry
 
@@ -66,17 +64,13 @@ module _ (tag : ℕ) (x : List ℕ) where
   other_tag u is f = other (λ t e. f (is ∙ t))
 
   module _ (s : List ℕ) (a : Stretch) (there : Spans s a x) where
-    pub other_length : (a.end - a.start ≡ 16 → ⊥) → false ≡ same_literal (tag, x) name_literal
-    other_length f = other (λ t e. f (sym (spans_long s a x there) ∙ ap length e ∙ name_length))
-
     pub by_bytes :
-        (u : ℕ) → u ≡ tag → u ≡ 1 → a.end - a.start ≡ 16 → (name : List ℕ) → name ≡ attribute_name →
-        (r : Bool) → r ≡ same (run s a.start 16) (run name 0 16) → r ≡ same_literal (tag, x) name_literal
+        (u : ℕ) → u ≡ tag → u ≡ 1 → (name : List ℕ) → name ≡ attribute_name →
+        (r : Bool) → r ≡ pointwise eqb (run s a.start (a.end - a.start)) name → r ≡ same_literal (tag, x) name_literal
     unfolding same_literal
-    by_bytes u is one long name e r q =
-        let h : run s a.start 16 ≡ x = rw long at there.are in
+    by_bytes u is one name e r q =
         let t : tag ≡ 1 = sym is ∙ one in
-        q ∙ rw (e, name_run, h, t)
+        q ∙ same_slices (run s a.start (a.end - a.start)) name ∙ rw (e, there.are, t)
 
 -- AN ENTRY'S NODE
 
@@ -160,14 +154,15 @@ module _ (s p w : List ℕ) (work : Work s p) (g : NodesIn (size p NODE-HEADS) s
   room = omega (arith, g.few, length-store p w NODES, (work-sizes s p work).nodes, entries-counted s)
 
   pub attribute-found :
-      (link : ℕ) → Sought (Is s (store p w) attribute_text) (node_count (store p w)) link → 0 < link →
-      link - 1 ≡ position (same_node attribute_text) (nodes_in s (store p w))
-  attribute-found =
+      (k : ℕ) → Sought (Is s (store p w) attribute_text) (node_count (store p w)) (link_of (Some k)) →
+      k ≡ position (same_node attribute_text) (nodes_in s (store p w))
+  attribute-found k sought =
       let t = store p w in
-      position-old (size p NODE-HEADS) s (t FIRSTS) (t SIZES) (t CHILDREN) (t NODES) (t NODE-HEADS) (t NODE-LINKS) (node_count t) attribute_text g room
+      let z : k + 1 - 1 ≡ k = omega arith in
+      rw z at (position-old (size p NODE-HEADS) s (t FIRSTS) (t SIZES) (t CHILDREN) (t NODES) (t NODE-HEADS) (t NODE-LINKS) (node_count t) attribute_text g room (k + 1) sought (omega arith))
 
   pub attribute-missing :
-      Sought (Is s (store p w) attribute_text) (node_count (store p w)) 0 → (r : ℕ) → r ≡ node_count (store p w) →
+      Sought (Is s (store p w) attribute_text) (node_count (store p w)) (link_of None) → (r : ℕ) → r ≡ node_count (store p w) →
       r ≡ position (same_node attribute_text) (nodes_in s (store p w))
   attribute-missing miss r q =
       let t = store p w in

@@ -2,13 +2,14 @@
 use mathlib.Core.Bool.{Bool, true, false}
 use mathlib.Core.List.{List}
 use mathlib.Core.Path.{◌≡◌, sym, ap, ◌∙◌}
-use Prim.Native.Nat.{ℕ, ◌-◌, ◌≤◌, ◌<◌}
+use Prim.Native.Nat.{ℕ, ◌+◌, ◌-◌, ◌≤◌, ◌<◌}
 use native.Mathlib.Omega.{arith}
 use lib.ListN.{length, get_or}
 use Rattle.definition.specs.Resolving.{Node, same_node}
 use Rattle.store.specs.Store.{Store}
 use Rattle.store.specs.JobIn.{entries_in}
-use Rattle.store.specs.Chains.{head_of, Sought}
+use Rattle.std.specs.Prelude.{None, Some}
+use Rattle.store.specs.Chains.{head_of, link_of, Sought}
 use Rattle.store.specs.Regions.{NODE-HEADS, NODE-LINKS, OFFSETS, FIRSTS, SIZES, CHILDREN, NODES}
 use Rattle.store.proofs.Hashing.{head_lt}
 use Rattle.store.proofs.Walking.{both, Down, walk_start, walk_on}
@@ -62,24 +63,27 @@ module _ (h : ℕ) (s : List ℕ) (t : Store) (new : Node) (hash : ℕ) (g : Nod
       keyed
       (omega (arith, head_lt h hash two)))
 
-  module _ (link : ℕ) (more : 0 < link) (d : Looking h s t new hash link) where
+  module _ (link k : ℕ) (here : (1 ≤ link) × (k ≡ link - 1)) (d : Looking h s t new hash link) where
     -- the node to look at is there
-    pub looking_low : link - 1 < entries_in s
+    pub looking_low : k < entries_in s
     looking_low = omega (arith, d.below, g.few)
 
-    module _ (x : ℕ) (is : x ≡ get_or (t NODES) (link - 1) 0) where
+    module _ (x : ℕ) (is : x ≡ get_or (t NODES) k 0) where
       -- and so is its entry
       pub looking_inside : x < entries_in s
-      looking_inside = rw is (g.inside (link - 1) (omega (arith, d.below)))
+      looking_inside = rw is (g.inside k (omega (arith, d.below)))
 
       module _ (r : Bool) (told : r ≡ same_node new (node_in_lem s t x)) where
-        pub looking_hit : r ≡ true → Sought (Is s t new) (node_count t) link
-        looking_hit hit = record { low = d.below; hit = λ _. rw is at (sym told ∙ hit); miss = λ end. absurd (omega arith) }
+        pub looking_hit : r ≡ true → Sought (Is s t new) (node_count t) (link_of (Some k))
+        looking_hit hit =
+            let e : k + 1 - 1 ≡ k = omega arith in
+            record { low = omega (arith, d.below); hit = λ _. rw e (rw is at (sym told ∙ hit)); miss = λ end. absurd (omega arith) }
 
         module _ (miss : r ≡ false) where
-          next : Looking h s t new hash (get_or (t NODE-LINKS) (link - 1) 0) × (get_or (t NODE-LINKS) (link - 1) 0 < link)
+          next : Looking h s t new hash (get_or (t NODE-LINKS) k 0) × (get_or (t NODE-LINKS) k 0 < link)
           next =
-              walk_on
+              rw here.1
+              (walk_on
               (λ i. head_of h (hash_in s t (get_or (t NODES) i 0)))
               (t NODE-HEADS)
               (t NODE-LINKS)
@@ -89,16 +93,16 @@ module _ (h : ℕ) (s : List ℕ) (t : Store) (new : Node) (hash : ℕ) (g : Nod
               g.chains
               keyed
               link
-              more
+              here.0
               d
-              (λ hit. both hit.1 (rw is at (sym told ∙ miss)))
+              (λ hit. both hit.1 (rw (is, here.1) at (sym told ∙ miss))))
 
-          pub looking_on : (after : ℕ) → after ≡ get_or (t NODE-LINKS) (link - 1) 0 → Looking h s t new hash after
+          pub looking_on : (after : ℕ) → after ≡ get_or (t NODE-LINKS) k 0 → Looking h s t new hash after
           looking_on after q = rw q next.0
 
-          pub looking_less : (after : ℕ) → after ≡ get_or (t NODE-LINKS) (link - 1) 0 → after < link
+          pub looking_less : (after : ℕ) → after ≡ get_or (t NODE-LINKS) k 0 → after < link
           looking_less after q = rw q next.1
 
-  pub looking_miss : (link : ℕ) → link ≤ 0 → Looking h s t new hash link → Sought (Is s t new) (node_count t) 0
+  pub looking_miss : (link : ℕ) → link ≤ 0 → Looking h s t new hash link → Sought (Is s t new) (node_count t) (link_of None)
   looking_miss link end d =
       record { low = omega arith; hit = λ more. absurd (omega arith); miss = λ _ i less is. d.past i (omega arith) less (less, is) }

@@ -10,7 +10,7 @@ ghost use Rattle.definition.specs.Resolving.{same_node};
 ghost use Rattle.definition.specs.Building.{attribute_text};
 ghost use Rattle.job.specs.Stored.{EntryStands, WhatEntry, is_worked};
 ghost use Rattle.store.specs.Store.{size, store, On, IsWord};
-ghost use Rattle.store.specs.Chains.{Sought};
+ghost use Rattle.store.specs.Chains.{link_of, Sought};
 ghost use Rattle.store.specs.JobIn.{entries_in};
 ghost use Rattle.store.specs.Entries.{WordsAt};
 ghost use Rattle.store.specs.Regions.{NODE-HEADS, CHILDREN, NODES, VALUES, Work};
@@ -21,47 +21,23 @@ use store::{
     CHILDREN, COUNTS, FIRSTS, NODE_COUNT, NODE_HEADS, NODE_LINKS, NODES, OFFSETS, SIZES, VALUES,
     first_link, load, mix, next_count, push_link, save,
 };
+use writer::BigEndian;
 
-// A hash of n bytes behind a seed, four at a time, then one at a time.
-pub fn hash_bytes(s: &[u8], start: usize, n: usize, seed: usize) -> usize
-    requires { (start + n ≤ length s.now) × IsWord seed × IsWord n }
-    ensures { (result ≡ hash_bytes seed (take n (drop start s.now))) × IsWord result }
+// A hash of bytes behind a seed, four at a time, then one at a time.
+pub fn hash_bytes(bytes: &[u8], seed: usize) -> usize
+    requires { IsWord seed × IsWord (length bytes.now) }
+    ensures { (result ≡ hash_bytes seed bytes.now) × IsWord result }
 {
-    let mut hash = mix(seed, n);
-    let mut i = 0;
-    while i < n {
-        if n - i < 4 {
-            hash = mix(hash, writer::get_u8(s, start + i) as usize);
-            i += 1;
-        } else {
-            hash = mix(hash, writer::get_u32(s, start + i) as usize);
-            i += 4;
-        }
+    let mut hash = mix(seed, bytes.len());
+    let mut rest = bytes;
+    while let [a, b, c, d, after @ ..] = rest {
+        hash = mix(hash, u32::from_be_bytes([*a, *b, *c, *d]) as usize);
+        rest = after;
+    }
+    for byte in rest {
+        hash = mix(hash, *byte as usize);
     }
     hash
-}
-
-// The n bytes at a place of s and at one of t are the same.
-fn same_runs(s: &[u8], a: usize, t: &[u8], b: usize, n: usize) -> bool
-    requires { (a + n ≤ length s.now) × (b + n ≤ length t.now) }
-    ensures { result ≡ same (take n (drop a s.now)) (take n (drop b t.now)) }
-{
-    let mut i = 0;
-    while i < n {
-        if s[a + i] != t[b + i] {
-            return false;
-        }
-        i += 1;
-    }
-    true
-}
-
-// The n bytes at two places of the job are the same.
-pub fn same_bytes(job: &[u8], a: usize, b: usize, n: usize) -> bool
-    requires { (a + n ≤ length job.now) × (b + n ≤ length job.now) }
-    ensures { result ≡ same (take n (drop a job.now)) (take n (drop b job.now)) }
-{
-    same_runs(job, a, job, b, n)
 }
 
 // A hash of the n children from a place on, behind a seed.
@@ -70,10 +46,8 @@ fn hash_children(w: &[u32], p: &[usize], first: usize, n: usize, seed: usize) ->
     ensures { (result ≡ hash_words seed (cut (store p.now w.now CHILDREN) first n)) × IsWord result }
 {
     let mut hash = seed;
-    let mut i = 0;
-    while i < n {
+    for i in 0..n {
         hash = mix(hash, load(w, p, CHILDREN, first + i));
-        i += 1;
     }
     hash
 }
@@ -83,12 +57,10 @@ fn same_children(w: &[u32], p: &[usize], a: usize, b: usize, n: usize) -> bool
     requires { On p.now (length w.now) × (a + n ≤ size p.now CHILDREN) × (b + n ≤ size p.now CHILDREN) }
     ensures { result ≡ same (cut (store p.now w.now CHILDREN) a n) (cut (store p.now w.now CHILDREN) b n) }
 {
-    let mut i = 0;
-    while i < n {
+    for i in 0..n {
         if load(w, p, CHILDREN, a + i) != load(w, p, CHILDREN, b + i) {
             return false;
         }
-        i += 1;
     }
     true
 }
@@ -106,8 +78,7 @@ pub fn literal_size(job: &[u8], at: usize) -> usize
         };
     }
     let s = job::literal_at(job, at);
-    let start = s.start;
-    s.end - start
+    s.end - s.start
 }
 
 // Four bytes of the literal of the entry at a place, behind i times four, as a word: it is kept as words if it was worked out.
@@ -119,8 +90,7 @@ fn literal_word(job: &[u8], w: &[u32], p: &[usize], at: usize, i: usize) -> usiz
         return load(w, p, VALUES, at / 3 + i);
     }
     let s = job::literal_at(job, at);
-    let start = s.start;
-    writer::get_u32(job, start + 4 * i) as usize
+    u32::get(job, s.start + 4 * i) as usize
 }
 
 // The hash of the literal of the entry at a place, which was worked out, its tag included: as `hash_bytes` has it.
@@ -146,8 +116,7 @@ fn hash_literal(job: &[u8], w: &[u32], p: &[usize], at: usize) -> usize
         return hash_worked(job, w, p, at);
     }
     let s = job::literal_at(job, at);
-    let start = s.start;
-    hash_bytes(job, start, s.end - start, job::tag_at(job, at) as usize)
+    hash_bytes(&job[s.start..s.end], job::tag_at(job, at) as usize)
 }
 
 // The literal of the entry at a place, which was worked out, is the same bytes as that of another.
@@ -162,10 +131,7 @@ fn same_worked(job: &[u8], w: &[u32], p: &[usize], at: usize, other: usize) -> b
     if literal_word(job, w, p, at, 0) != literal_word(job, w, p, other, 0) {
         return false;
     }
-    if n == 4 {
-        return true;
-    }
-    literal_word(job, w, p, at, 1) == literal_word(job, w, p, other, 1)
+    n == 4 || literal_word(job, w, p, at, 1) == literal_word(job, w, p, other, 1)
 }
 
 // The literals of the entries at two places are the same bytes.
@@ -181,11 +147,7 @@ fn same_literal(job: &[u8], w: &[u32], p: &[usize], at: usize, other: usize) -> 
     }
     let a = job::literal_at(job, at);
     let b = job::literal_at(job, other);
-    let n = a.end - a.start;
-    if b.end - b.start != n {
-        return false;
-    }
-    same_bytes(job, a.start, b.start, n)
+    job[a.start..a.end] == job[b.start..b.end]
 }
 
 // The hash of an entry whose children are known: a function of what `same_entry` compares.
@@ -225,19 +187,19 @@ fn same_entry(job: &[u8], w: &[u32], p: &[usize], a: usize, b: usize) -> bool
     same_children(w, p, load(w, p, FIRSTS, a), load(w, p, FIRSTS, b), n)
 }
 
-// 1 + the node that an entry with this hash would be, 0 if there is none.
-fn find_node(job: &[u8], w: &[u32], p: &[usize], e: usize, hash: usize) -> usize
+// The node that an entry with this hash would be.
+fn find_node(job: &[u8], w: &[u32], p: &[usize], e: usize, hash: usize) -> Option<usize>
     requires { On p.now (length w.now) × Work job.now p.now × EnteredIn job.now (store p.now w.now) × NodesIn (size p.now NODE-HEADS) job.now (store p.now w.now) × (e < entries_in job.now) × (hash ≡ hash_in job.now (store p.now w.now) e) × IsWord hash }
-    ensures { Sought (λ i. same_node (node_in_lem job.now (store p.now w.now) e) (node_in_lem job.now (store p.now w.now) (get_or (store p.now w.now NODES) i 0)) ≡ true) (node_count (store p.now w.now)) result }
+    ensures { Sought (λ i. same_node (node_in_lem job.now (store p.now w.now) e) (node_in_lem job.now (store p.now w.now) (get_or (store p.now w.now NODES) i 0)) ≡ true) (node_count (store p.now w.now)) (link_of result) }
 {
     let mut link = first_link(w, p, NODE_HEADS, hash);
-    while 0 < link {
-        if same_entry(job, w, p, e, load(w, p, NODES, link - 1)) {
-            return link;
+    while let Some(k) = link.checked_sub(1) {
+        if same_entry(job, w, p, e, load(w, p, NODES, k)) {
+            return Some(k);
         }
-        link = load(w, p, NODE_LINKS, link - 1);
+        link = load(w, p, NODE_LINKS, k);
     }
-    0
+    None
 }
 
 // Keeps node k as the lower one of its entry and e, whose record is then the lower one too.
@@ -257,10 +219,9 @@ pub fn intern(job: &[u8], w: &mut [u32], p: &[usize], e: usize) -> usize
     ensures { Interned (size p.now NODE-HEADS) job.now (store p.now w.old) (store p.now w.new) e result }
 {
     let hash = hash_entry(job, w, p, e);
-    let found = find_node(job, w, p, e, hash);
-    if 0 < found {
-        keep_lower(w, p, found - 1, e);
-        return found - 1;
+    if let Some(k) = find_node(job, w, p, e, hash) {
+        keep_lower(w, p, k, e);
+        return k;
     }
     let k = next_count(w, p, NODE_COUNT);
     save(w, p, NODES, k, e);
@@ -284,28 +245,23 @@ fn is_attribute(job: &[u8], at: usize) -> bool
         return false;
     }
     let s = job::literal_at(job, at);
-    let start = s.start;
-    if s.end - start != 16 {
-        return false;
-    }
-    let name = attribute_name();
-    same_runs(job, start, &name, 0, 16)
+    job[s.start..s.end] == attribute_name()[..]
 }
 
-// The node of the text "BootstrapMethods", the number of nodes if there is none.
+// The node of the text "BootstrapMethods", the number of nodes if there is none: `position` of the definition, whose number a caller
+// looks up among the slots of nodes.
 pub fn find_attribute(job: &[u8], w: &[u32], p: &[usize]) -> usize
     requires { On p.now (length w.now) × Work job.now p.now × EnteredIn job.now (store p.now w.now) × NodesIn (size p.now NODE-HEADS) job.now (store p.now w.now) }
     ensures { result ≡ position (same_node attribute_text) (nodes_in job.now (store p.now w.now)) }
 {
-    let name = attribute_name();
-    let hash = hash_bytes(&name, 0, 16, 1);
+    let hash = hash_bytes(&attribute_name(), 1);
     let mut link = first_link(w, p, NODE_HEADS, hash);
-    while 0 < link {
-        let e = load(w, p, NODES, link - 1);
+    while let Some(k) = link.checked_sub(1) {
+        let e = load(w, p, NODES, k);
         if is_attribute(job, load(w, p, OFFSETS, e)) {
-            return link - 1;
+            return k;
         }
-        link = load(w, p, NODE_LINKS, link - 1);
+        link = load(w, p, NODE_LINKS, k);
     }
     load(w, p, COUNTS, NODE_COUNT)
 }

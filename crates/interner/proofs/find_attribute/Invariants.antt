@@ -7,8 +7,8 @@ use Rattle.interner.specs.Nodes.{hash_bytes}
 use Rattle.interner.proofs.Finding.{Looking}
 use Rattle.interner.proofs.find_attribute.Given as goal
 
-abbrev pub invariant-loop-link : goal.invariant-loop-link
-invariant-loop-link l = Looking (size l.p NODE-HEADS) l.job (store l.p l.w) attribute_text (hash_bytes 1 attribute_name) l.link
+abbrev pub invariant-loop-k : goal.invariant-loop-k
+invariant-loop-k l = Looking (size l.p NODE-HEADS) l.job (store l.p l.w) attribute_text (hash_bytes 1 attribute_name) l.link
 
-abbrev pub decreases-loop-link : goal.decreases-loop-link
-decreases-loop-link l = l.link
+abbrev pub decreases-loop-k : goal.decreases-loop-k
+decreases-loop-k l = l.link

@@ -1,5 +1,5 @@
 -- `interner::hash_children` meets its contract: the hash is that of the children behind. Assumes nothing.
-use Rattle.interner.proofs.Children.{folding_begin, folding_next, folding_end}
+use Rattle.interner.proofs.Children.{folding_begin, folding_next}
 use Rattle.store.proofs.Stores.{in_words}
 use Rattle.store.specs.Store.{store}
 use Rattle.store.specs.Regions.{CHILDREN}
@@ -14,20 +14,5 @@ loop-i-init c = let a = c.args in folding_begin (store a.p.now a.w.now CHILDREN)
 pub overflow_add-first : goal.overflow_add-first
 overflow_add-first c = let a = c.args in omega (arith, (in_words a.p.now (length a.w.now) CHILDREN (a.first + c.loop-i.i) c.requires.0 (omega arith)).1)
 
-pub load-requires : goal.load-requires
-load-requires c = (c.requires.0, omega arith)
-
-pub mix-hash-requires : goal.mix-hash-requires
-mix-hash-requires c = (c.loop-i.invariant.small, c.load.ensures.small)
-
-pub overflow_add-i : goal.overflow_add-i
-overflow_add-i c = omega arith
-
-pub loop-i-smaller : goal.loop-i-smaller
-loop-i-smaller c = omega arith
-
 pub loop-i-preserved : goal.loop-i-preserved
 loop-i-preserved c = let a = c.args in let l = c.loop-i in folding_next (store a.p.now a.w.now CHILDREN) a.first a.n a.seed l.hash l.i l.invariant c.loop-i-test.true c.mix-hash.result c.load.result c.load.ensures.word c.mix-hash.ensures.0 c.mix-hash.ensures.1
-
-pub returns : goal.returns
-returns c = let a = c.args in let l = c.loop-i in folding_end (store a.p.now a.w.now CHILDREN) a.first a.n a.seed l.hash l.i l.invariant c.loop-i-test.false

@@ -2,11 +2,7 @@
 use Rattle.interner.proofs.Children.{Folding}
 use Rattle.store.specs.Store.{store}
 use Rattle.store.specs.Regions.{CHILDREN}
-use Prim.Native.Nat.{◌-◌}
 use Rattle.interner.proofs.hash_children.Given as goal
 
 abbrev pub invariant-loop-i : goal.invariant-loop-i
 invariant-loop-i l = Folding (store l.p l.w CHILDREN) l.first l.n l.seed l.hash l.i
-
-abbrev pub decreases-loop-i : goal.decreases-loop-i
-decreases-loop-i l = l.n - l.i

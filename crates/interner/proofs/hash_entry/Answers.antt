@@ -19,20 +19,8 @@ returns-then-n-eq0 c = let a = c.args in let q = c.requires in (hashed_literal a
 pub tag_at-requires : goal.tag_at-requires
 tag_at-requires c = let a = c.args in let q = c.requires in stands a.job.now (store a.p.now a.w.now) a.e q.2 q.3 c.load-at.result c.load-at.ensures.word
 
-pub overflow_cast-seed : goal.overflow_cast-seed
-overflow_cast-seed c = omega arith
-
-pub overflow_mul-seed : goal.overflow_mul-seed
-overflow_mul-seed c = omega arith
-
 pub kind_byte-requires : goal.kind_byte-requires
 kind_byte-requires c = let a = c.args in let q = c.requires in stands a.job.now (store a.p.now a.w.now) a.e q.2 q.3 c.load-at.result c.load-at.ensures.word
-
-pub overflow_cast-seed-2 : goal.overflow_cast-seed-2
-overflow_cast-seed-2 c = omega arith
-
-pub overflow_add-seed : goal.overflow_add-seed
-overflow_add-seed c = omega arith
 
 pub load-requires : goal.load-requires
 load-requires c = let a = c.args in let q = c.requires in (q.0, (places a.job.now a.p.now q.1 a.e q.3).firsts)

@@ -7,44 +7,14 @@ use Rattle.store.proofs.Worked.{words_stand}
 use Rattle.interner.proofs.Words.{hash_two, hash_one}
 use Rattle.interner.proofs.hash_worked.Goals as goal
 
-pub tag_at-tag-requires : goal.tag_at-tag-requires
-tag_at-tag-requires c = c.requires.2
-
 pub load-first-requires : goal.load-first-requires
 load-first-requires c = let q = c.requires in (q.0, omega (arith, words_stand c.args.job.now c.args.at c.requires.2 c.requires.4 c.args.p.now c.requires.1 1 (omega arith)))
-
-pub is_long-requires : goal.is_long-requires
-is_long-requires c = tt
-
-pub overflow_cast-tag : goal.overflow_cast-tag
-overflow_cast-tag c = omega arith
-
-pub mix-requires : goal.mix-requires
-mix-requires c = (omega arith, omega arith)
-
-pub mix-hash-requires : goal.mix-hash-requires
-mix-hash-requires c = (c.mix.ensures.1, c.load-first.ensures.small)
-
-pub overflow_add-at : goal.overflow_add-at
-overflow_add-at c = omega arith
 
 pub load-requires : goal.load-requires
 load-requires c = (c.requires.0, words_stand c.args.job.now c.args.at c.requires.2 c.requires.4 c.args.p.now c.requires.1 1 (omega arith))
 
-pub mix-requires-then-is_long : goal.mix-requires-then-is_long
-mix-requires-then-is_long c = (c.mix-hash.ensures.1, c.load.ensures.small)
-
 pub returns-then-is_long : goal.returns-then-is_long
 returns-then-is_long c = let a = c.args in let q = c.requires in let tag = c.tag_at-tag in let first = c.load-first in let second = c.load in (hash_two a.job.now a.at tag.result tag.ensures q.4 (store a.p.now a.w.now VALUES) q.3 first.result first.ensures.word first.ensures.small (sym c.is_long.ensures ∙ c.if-is_long.true) second.result second.ensures.word second.ensures.small c.mix-then-is_long.result (c.mix-then-is_long.ensures.0 ∙ rw (c.mix-hash.ensures.0, c.mix.ensures.0)), c.mix-then-is_long.ensures.1)
-
-pub overflow_cast-tag-2 : goal.overflow_cast-tag-2
-overflow_cast-tag-2 c = omega arith
-
-pub mix-requires-2 : goal.mix-requires-2
-mix-requires-2 c = (omega arith, omega arith)
-
-pub mix-requires-3 : goal.mix-requires-3
-mix-requires-3 c = (c.mix-2.ensures.1, c.load-first.ensures.small)
 
 pub returns : goal.returns
 returns c = let a = c.args in let q = c.requires in let tag = c.tag_at-tag in let first = c.load-first in (hash_one a.job.now a.at tag.result tag.ensures q.4 (store a.p.now a.w.now VALUES) q.3 first.result first.ensures.word first.ensures.small (sym c.is_long.ensures ∙ c.if-is_long.false) c.mix-3.result (c.mix-3.ensures.0 ∙ rw c.mix-2.ensures.0), c.mix-3.ensures.1)

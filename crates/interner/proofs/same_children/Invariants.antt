@@ -2,11 +2,7 @@
 use Rattle.interner.proofs.Children.{Matching}
 use Rattle.store.specs.Store.{store}
 use Rattle.store.specs.Regions.{CHILDREN}
-use Prim.Native.Nat.{◌-◌}
 use Rattle.interner.proofs.same_children.Given as goal
 
 abbrev pub invariant-loop-i : goal.invariant-loop-i
 invariant-loop-i l = Matching (store l.p l.w CHILDREN) l.a l.b l.n l.i
-
-abbrev pub decreases-loop-i : goal.decreases-loop-i
-decreases-loop-i l = l.n - l.i

@@ -1,11 +1,8 @@
 -- `resolver::enter` meets its contract: by the entry's mark. Assumes nothing.
-use mathlib.Core.Path.{refl, sym, ◌∙◌}
+use mathlib.Core.Path.{refl}
 use native.Mathlib.Omega.{arith}
-use Rattle.resolver.proofs.Children.{enters_done, enters_underway, enters_fresh, places_marked}
+use Rattle.resolver.proofs.Children.{enters_done, enters_fresh, places_marked}
 use Rattle.resolver.proofs.enter.Goals as goal
-
-pub load-mark-requires : goal.load-mark-requires
-load-mark-requires c = (c.requires.0, c.requires.1.mark)
 
 pub shape_of-w-then-mark-gt-UNDERWAY : goal.shape_of-w-then-mark-gt-UNDERWAY
 shape_of-w-then-mark-gt-UNDERWAY c = refl
@@ -13,20 +10,8 @@ shape_of-w-then-mark-gt-UNDERWAY c = refl
 pub returns-then-mark-gt-UNDERWAY : goal.returns-then-mark-gt-UNDERWAY
 returns-then-mark-gt-UNDERWAY c = enters_done _ _ _ (omega (arith, c.if-mark-gt-UNDERWAY.true, c.load-mark.ensures.word))
 
-pub shape_of-w-then-mark-eq-UNDERWAY : goal.shape_of-w-then-mark-eq-UNDERWAY
-shape_of-w-then-mark-eq-UNDERWAY c = refl
-
-pub returns-then-mark-eq-UNDERWAY : goal.returns-then-mark-eq-UNDERWAY
-returns-then-mark-eq-UNDERWAY c = enters_underway _ _ _ (sym c.load-mark.ensures.word ∙ c.if-mark-eq-UNDERWAY.true)
-
-pub save-requires : goal.save-requires
-save-requires c = (c.requires.0, c.requires.1.mark, omega arith)
-
 pub push_children-requires : goal.push_children-requires
 push_children-requires c = let z = c.requires.2 (omega (arith, c.if-mark-eq-UNDERWAY.false, c.if-mark-gt-UNDERWAY.false, c.load-mark.ensures.word)) in ((c.requires.0.0, omega (arith, c.save.auto.w, c.requires.0.1)), rw c.save.ensures (places_marked _ _ _ _ _ c.requires.1), rw c.save.ensures z, c.requires.3)
-
-pub shape_of-w : goal.shape_of-w
-shape_of-w c = c.push_children.auto.w ∙ c.save.auto.w
 
 pub returns : goal.returns
 returns c = enters_fresh _ _ _ _ _ (omega (arith, c.if-mark-eq-UNDERWAY.false, c.if-mark-gt-UNDERWAY.false, c.load-mark.ensures.word)) (rw c.save.ensures at c.push_children.ensures)

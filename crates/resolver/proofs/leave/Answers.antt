@@ -1,5 +1,4 @@
 -- `resolver::leave` meets its contract: the children are written, the node is made, then the mark tells it. Assumes nothing.
-use mathlib.Core.Path.{◌∙◌}
 use native.Mathlib.Omega.{arith}
 use Rattle.resolver.proofs.Stepping.{places, few_of}
 use Rattle.resolver.proofs.Leaving.{entered_still, nodes_still, room_still, mark_fits, leaves}
@@ -16,9 +15,6 @@ overflow_add-k c = let q = c.requires in omega (arith, mark_fits _ _ _ _ _ q.5 q
 
 pub save-requires : goal.save-requires
 save-requires c = let q = c.requires in ((q.0.0, omega (arith, q.0.1, c.write_children.auto.w, c.intern-k.auto.w)), (places _ _ _ _ q.1 q.2 q.5).mark, mark_fits _ _ _ _ _ q.5 q.2 q.3 q.4 c.write_children.ensures _ _ c.intern-k.ensures (few_of _ _ q.1).entries)
-
-pub shape_of-w : goal.shape_of-w
-shape_of-w c = c.save.auto.w ∙ c.intern-k.auto.w ∙ c.write_children.auto.w
 
 pub returns : goal.returns
 returns c = let q = c.requires in rw c.save.ensures (leaves _ _ _ _ _ q.5 q.2 q.3 q.4 c.write_children.ensures _ _ c.intern-k.ensures)

@@ -4,11 +4,10 @@ use mathlib.Core.Path.{refl, ◌∙◌}
 use native.Mathlib.Omega.{arith}
 use Rattle.refusal.specs.Numbers.{code_of}
 use Rattle.std.proofs.lemmas.Result.{err_from_is_err_and}
-use Rattle.store.specs.Regions.{COUNTS, NODE-HEADS, STACK}
-use Rattle.store.specs.Store.{size}
+use Rattle.store.specs.Regions.{COUNTS, STACK}
 use Rattle.store.proofs.Laying.{work-sizes}
 use Rattle.store.proofs.Stores.{length-store}
-use Rattle.resolver.proofs.Going.{goal_fits, begin, table_now, visits_fit, running_top, resolving_next, resolving_less, end_refused, end-good}
+use Rattle.resolver.proofs.Going.{goal_fits, begin, visits_fit, resolving_next, end_refused, end-good}
 use Rattle.resolver.proofs.Stepping.{few_of}
 use Rattle.resolver.proofs.resolve.Goals as goal
 
@@ -21,15 +20,6 @@ save-requires c = let q = c.requires in (q.0, omega (arith, (work-sizes _ _ q.1)
 pub loop-n-init : goal.loop-n-init
 loop-n-init c = let q = c.requires in let a = c.args in (refl, begin _ _ _ _ _ c.save.ensures _ q.1 q.3 q.4 (length-store a.p.now a.w.now STACK) _ c.load-visits.ensures.word)
 
-pub overflow_sub-n : goal.overflow_sub-n
-overflow_sub-n c = omega (arith, c.loop-n-test.true)
-
-pub step-requires : goal.step-requires
-step-requires c = let q = c.requires in let z = c.loop-n.invariant in ((q.0.0, omega (arith, q.0.1, z.0, c.save.auto.w)), q.1, table_now (size c.args.p.now NODE-HEADS) _ _ _ _ c.save.ensures _ q.2 z.1.kept, running_top _ _ _ _ _ _ _ z.1 c.loop-n-test.true)
-
-pub shape_of-w-in_err-n : goal.shape_of-w-in_err-n
-shape_of-w-in_err-n c = c.step.auto.w ∙ c.loop-n.invariant.0 ∙ c.save.auto.w
-
 pub returns-in_err-n : goal.returns-in_err-n
 unfolding code_of
 returns-in_err-n c =
@@ -37,20 +27,11 @@ returns-in_err-n c =
     rw (r.1, r.2)
     (end_refused _ _ _ _ _ c.save.ensures _ _ _ _ _ c.loop-n.invariant.1 c.loop-n-test.true c.in_err-n.ensures)
 
-pub overflow_add-visits : goal.overflow_add-visits
-overflow_add-visits c = omega (arith, visits_fit _ _ _ _ _ c.save.ensures _ _ _ c.requires.5 c.loop-n.invariant.1)
-
-pub loop-n-smaller : goal.loop-n-smaller
-loop-n-smaller c = resolving_less _ _ _ _ _ _ _ c.loop-n.invariant.1 _ c.loop-n-test.true _ c.in_ok-n.ensures
-
 pub loop-n-preserved : goal.loop-n-preserved
 loop-n-preserved c = (c.step.auto.w ∙ c.loop-n.invariant.0, resolving_next _ _ _ _ _ _ _ c.loop-n.invariant.1 _ c.loop-n-test.true _ c.in_ok-n.ensures)
 
 pub save-requires-2 : goal.save-requires-2
 save-requires-2 c = let q = c.requires in let z = c.loop-n.invariant in ((q.0.0, omega (arith, q.0.1, z.0, c.save.auto.w)), omega (arith, (work-sizes _ _ q.1).counts), omega (arith, visits_fit _ _ _ _ _ c.save.ensures _ _ _ q.5 z.1))
-
-pub shape_of-w : goal.shape_of-w
-shape_of-w c = c.save-2.auto.w ∙ c.loop-n.invariant.0 ∙ c.save.auto.w
 
 pub returns : goal.returns
 unfolding code_of

@@ -1,25 +1,10 @@
 -- `resolver::write_children` meets its contract: the children behind are written, and the other places are as they were. Assumes nothing.
-use mathlib.Core.Path.{refl, ◌∙◌}
+use mathlib.Core.Path.{◌∙◌}
 use native.Mathlib.Omega.{arith}
 use Rattle.store.specs.Regions.{CHILDREN}
 use Rattle.store.proofs.Stores.{length-store}
-use Rattle.resolver.proofs.Children.{writing_begin, writing_next, child_ready, child_fits, writing_end}
+use Rattle.resolver.proofs.Children.{writing_next, child_ready, child_fits}
 use Rattle.resolver.proofs.write_children.Goals as goal
-
-pub load-first-requires : goal.load-first-requires
-load-first-requires c = (c.requires.0, c.requires.1.first)
-
-pub load-requires : goal.load-requires
-load-requires c = (c.requires.0, c.requires.1.count)
-
-pub overflow_add-end : goal.overflow_add-end
-overflow_add-end c = omega (arith, c.load.ensures.small, c.load-first.ensures.small)
-
-pub loop-i-init : goal.loop-i-init
-loop-i-init c = (refl, writing_begin _ _ _ (omega arith))
-
-pub load-requires-in-loop-i : goal.load-requires-in-loop-i
-load-requires-in-loop-i c = ((c.requires.0.0, omega (arith, c.loop-i.invariant.0, c.requires.0.1)), omega (arith, c.requires.1.goals, c.load-first.ensures.word, c.load.ensures.word))
 
 pub child_of-child-requires : goal.child_of-child-requires
 child_of-child-requires c = ((c.requires.0.0, omega (arith, c.loop-i.invariant.0, c.requires.0.1)), child_ready _ _ c.args.e _ _ _ c.loop-i.invariant.1 c.load-first.ensures.word (omega (arith, c.load-first.ensures.word, c.load.ensures.word)) c.requires.2 c.loop-i-test.true _ c.load-in-loop-i.ensures.word)
@@ -29,9 +14,3 @@ save-requires c = ((c.requires.0.0, omega (arith, c.loop-i.invariant.0, c.requir
 
 pub loop-i-preserved : goal.loop-i-preserved
 loop-i-preserved c = (c.save.auto.w ∙ c.loop-i.invariant.0, rw c.save.ensures (writing_next _ _ c.args.e _ _ _ c.loop-i.invariant.1 _ c.loop-i-test.true (omega (arith, c.requires.1.children, c.load-first.ensures.word, c.load.ensures.word, length-store c.args.p.now c.loop-i.w CHILDREN, c.loop-i-test.true)) c.load-in-loop-i.result c.load-in-loop-i.ensures.word c.child_of-child.ensures))
-
-pub shape_of-w : goal.shape_of-w
-shape_of-w c = c.loop-i.invariant.0
-
-pub returns : goal.returns
-returns c = writing_end _ _ c.args.e _ _ _ c.loop-i.invariant.1 c.load-first.ensures.word (omega (arith, c.load-first.ensures.word, c.load.ensures.word)) (omega arith)

@@ -2,14 +2,8 @@
 use mathlib.Core.Path.{sym}
 use Prim.Native.Nat.{◌-◌, ◌*◌}
 use native.Mathlib.Omega.{arith}
-use Rattle.store.proofs.Hashing.{head_small, head_large, scaled-below, scaled_fits}
+use Rattle.store.proofs.Hashing.{head_small, head_large, scaled-below}
 use Rattle.store.proofs.head_of.Goals as goal
-
-pub overflow_mul-result-else-key-heads : goal.overflow_mul-result-else-key-heads
-overflow_mul-result-else-key-heads c = omega (arith, scaled_fits (c.args.key * 0x9e3779b1) (c.args.heads - 1) (omega arith))
-
-pub overflow_add-result : goal.overflow_add-result
-overflow_add-result c = omega (arith, scaled-below (c.args.key * 0x9e3779b1) (c.args.heads - 1) (omega arith))
 
 pub returns-then-key-heads : goal.returns-then-key-heads
 returns-then-key-heads c = let e = head_small c.args.heads c.args.key c.if-key-heads.true in (sym e, c.if-key-heads.true)

@@ -22,8 +22,5 @@ offset_bounds-w-b c = let a = c.args in let h = in_words a.p.now _ a.k a.i c.req
 pub bounds-w-b : goal.bounds-w-b
 bounds-w-b c = let a = c.args in let h = in_words a.p.now _ a.k a.i c.requires.0 c.requires.1 in omega arith
 
-pub overflow_cast-result : goal.overflow_cast-result
-overflow_cast-result c = let a = c.args in omega (arith, c.type_inv.w (get_or a.p.now a.k 0 + a.i))
-
 pub returns : goal.returns
 returns c = let a = c.args in record { word = sym (at_store a.p.now a.w.now a.k a.i c.requires.1); small = omega (arith, c.type_inv.w (get_or a.p.now a.k 0 + a.i)) }

@@ -6,9 +6,6 @@ use mathlib.Core.Path.{refl}
 use Rattle.store.specs.Chains.{mixed}
 use Rattle.store.proofs.mix.Goals as goal
 
-pub overflow_add-result : goal.overflow_add-result
-overflow_add-result c = omega arith
-
 pub returns : goal.returns
 unfolding mixed
 returns c = (refl, mod-lt ((c.args.hash + c.args.x) * 0x5bd1e995 / 4294967296 + (c.args.hash + c.args.x) * 0x5bd1e995 % 4294967296) (omega arith))

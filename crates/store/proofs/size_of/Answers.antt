@@ -5,12 +5,6 @@ use native.Mathlib.Omega.{arith}
 use borrow.Author.Rules.{rules}
 use Rattle.store.proofs.size_of.Goals as goal
 
-pub overflow_add-result : goal.overflow_add-result
-overflow_add-result c = let h = in_places c.args.p.now c.args.k c.requires.0 c.requires.1 in search rules
-
-pub offset_bounds-p-k : goal.offset_bounds-p-k
-offset_bounds-p-k c = let h = in_places c.args.p.now c.args.k c.requires.0 c.requires.1 in search rules
-
 pub bounds-p-k : goal.bounds-p-k
 bounds-p-k c = let h = in_places c.args.p.now c.args.k c.requires.0 c.requires.1 in omega arith
 
