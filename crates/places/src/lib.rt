@@ -28,6 +28,7 @@ fn note_slots(
 {
     let mut at = start;
     let mut slot = 1;
+    // Not a range: a constant takes one slot or two, as its entry tells.
     while slot < count {
         let entry = raw_const::read_entry(bytes, at)?;
         places[slot] = at;

@@ -132,6 +132,12 @@ module _ (tag : ℕ) (row : Row) (is : row ≡ row_of (lookup tag shapes)) where
   pub by_first : (first : Part) (second : code.Option Part) → row ≡ Some (first, second) → fields_of (Some (shape_in first second)) ≡ lookup tag shapes
   by_first first second e = ap (λ r. fields_of (shape_found r)) (sym e) ∙ told
 
+  pub by_one : row ≡ Some (IndexPart, None) → fields_of (Some One) ≡ lookup tag shapes
+  by_one e = by_first IndexPart None e
+
+  pub by_two : (second : Part) → row ≡ Some (IndexPart, Some second) → fields_of (Some Two) ≡ lookup tag shapes
+  by_two second e = by_first IndexPart (Some second) e
+
   pub by_none : row ≡ None → fields_of None ≡ lookup tag shapes
   by_none e = ap (λ r. fields_of (shape_found r)) (sym e) ∙ told
 
@@ -146,7 +152,26 @@ module _ (tag : ℕ) (row : Row) (is : row ≡ row_of (lookup tag shapes)) where
       (λ e. cc, (λ e. cc, (λ e. cc, (λ e. cc, (λ e. cc, (λ e. cc, (λ e. cc, (λ e. cc, (λ e. cc, (λ e. cc, (λ e. cc, (λ e. cc, (λ e. cc, (λ e. cc, (λ e. cc, (λ e. cc, (λ e. cc, λ e. cc)))))))))))))))))
       (ap behind_of (sym is ∙ e) ∙ rw t)
 
--- ---- the bytes of a walk along a row
+-- ---- the bytes of a field, and of a walk along a row
+
+module _ (field : Part) (kind : ℕ) (literal : List ℕ) (index : ℕ) where
+  pub field_text : field ≡ TextPart → be2 (length literal) ++ literal ≡ field_bytes field kind literal index
+  field_text e = ap (λ f. field_bytes f kind literal index) (sym e)
+
+  pub field_32 : field ≡ BitsPart 4 → literal ≡ field_bytes field kind literal index
+  field_32 e = ap (λ f. field_bytes f kind literal index) (sym e)
+
+  pub field_64 : field ≡ BitsPart 8 → literal ≡ field_bytes field kind literal index
+  field_64 e = ap (λ f. field_bytes f kind literal index) (sym e)
+
+  pub field_kind : field ≡ KindPart → kind ∷ [] ≡ field_bytes field kind literal index
+  field_kind e = ap (λ f. field_bytes f kind literal index) (sym e)
+
+  pub field_index : field ≡ IndexPart → be2 index ≡ field_bytes field kind literal index
+  field_index e = ap (λ f. field_bytes f kind literal index) (sym e)
+
+  pub field_bootstrap : field ≡ BootstrapPart → be2 index ≡ field_bytes field kind literal index
+  field_bootstrap e = ap (λ f. field_bytes f kind literal index) (sym e)
 
 -- the bytes of a field that may not be there
 abbrev pub rest_bytes : code.Option Part → ℕ → List ℕ → ℕ → List ℕ
