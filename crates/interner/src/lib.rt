@@ -187,7 +187,8 @@ fn same_entry(job: &[u8], w: &[u32], p: &[usize], a: usize, b: usize) -> bool
     same_children(w, p, load(w, p, FIRSTS, a), load(w, p, FIRSTS, b), n)
 }
 
-// The node that an entry with this hash would be.
+// The node that an entry with this hash would be. Each walk along a chain stands where its test is: one that took the test as a
+// closure would be no plainer, since each call would say again which nodes it may be asked of, and what it answers.
 fn find_node(job: &[u8], w: &[u32], p: &[usize], e: usize, hash: usize) -> Option<usize>
     requires { On p.now (length w.now) × Work job.now p.now × EnteredIn job.now (store p.now w.now) × NodesIn (size p.now NODE-HEADS) job.now (store p.now w.now) × (e < entries_in job.now) × (hash ≡ hash_in job.now (store p.now w.now) e) × IsWord hash }
     ensures { Sought (λ i. same_node (node_in_lem job.now (store p.now w.now) e) (node_in_lem job.now (store p.now w.now) (get_or (store p.now w.now NODES) i 0)) ≡ true) (node_count (store p.now w.now)) (link_of result) }

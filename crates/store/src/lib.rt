@@ -298,7 +298,7 @@ fn head_of(heads: usize, key: usize) -> usize
     }
 }
 
-// The first link of the chain of a key: 0 for none or 1 + an item. Links fall along the chain.
+// The first link of the chain of a key: 0 for none or 1 + an item, as lent words keep it. Links fall along the chain.
 pub fn first_link(w: &[u32], p: &[usize], heads: usize, key: usize) -> usize
     requires { On p.now (length w.now) × Heads p.now heads × IsWord key }
     ensures { result ≡ get_or (store p.now w.now heads) (head_of (size p.now heads) key) 0 }
