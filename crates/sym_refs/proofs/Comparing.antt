@@ -2,7 +2,7 @@
 use mathlib.Core.Bool.{Bool, false}
 use mathlib.Core.List.{List}
 use mathlib.Core.Path.{◌≡◌, refl, sym, ap, ◌∙◌}
-use Prim.Native.Nat.{ℕ, ◌+◌, ◌≤◌, ◌<◌}
+use Prim.Native.Nat.{ℕ, ◌+◌, ◌-◌, ◌≤◌, ◌<◌}
 use native.Mathlib.Omega.{arith}
 use lib.ListN.{length, get_or, take, drop, length-drop}
 use lib.Seq.{length-take-le}
@@ -12,6 +12,7 @@ use Rattle.definition.specs.Definitions.{Naming}
 use Rattle.facts.proofs.Lists.{same_true, same_refl}
 use Rattle.job.specs.Stored.{Stands}
 use Rattle.store.specs.Words.{label_at}
+use Rattle.interner.proofs.Runs.{run_length}
 use Rattle.store.proofs.Walking.{both}
 use Rattle.sym_refs.specs.Names.{kind_byte, NamingAt}
 use Rattle.sym_refs.specs.Leading.{Decides}
@@ -21,6 +22,13 @@ use Rattle.sym_refs.proofs.Namings.{NamingThere, naming_there}
 -- a name has room
 pub name_room : (s : List ℕ) (at : ℕ) → Stands short_name s at → (at < length s) × (at + 1 + get_or s at 0 ≤ length s)
 name_room s at (l, next, f) = let t = label_there s at l next f in (t.1, omega (arith, t.2, t.3))
+
+-- a part of so many bytes
+pub part_size : (from n : ℕ) → from + n - from ≡ n
+part_size from n = omega arith
+
+pub part_long : (s : List ℕ) (at : ℕ) → Stands short_name s at → length (take (at + 1 + get_or s at 0 - (at + 1)) (drop (at + 1) s)) ≡ get_or s at 0
+part_long s at stands = let r = name_room s at stands in rw (part_size (at + 1) (get_or s at 0)) (run_length s (at + 1) (get_or s at 0) r.1)
 
 pub naming_room : (s : List ℕ) (naming : ℕ) → ((x : Naming) × NamingAt s naming x) → (naming + 1 < length s) × (naming + 2 + get_or s (naming + 1) 0 ≤ length s)
 naming_room s naming (x, here) =

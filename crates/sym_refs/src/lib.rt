@@ -54,7 +54,7 @@ fn hash_name(job: &[u8], at: usize, first: u8) -> usize
     ensures { (result ≡ hash_bytes first (label_at job.now at)) × IsWord result }
 {
     let n = job[at] as usize;
-    interner::hash_bytes(job, at + 1, n, first as usize)
+    interner::hash_bytes(&job[at + 1..at + 1 + n], first as usize)
 }
 
 // The naming record at a place has this first byte and defines the name whose length byte stands at `at`.
@@ -69,7 +69,8 @@ fn names_same(job: &[u8], naming: usize, at: usize, first: u8) -> bool
     if job[naming + 1] != n {
         return false;
     }
-    interner::same_bytes(job, naming + 2, at + 1, n as usize)
+    let n = n as usize;
+    job[naming + 2..naming + 2 + n] == job[at + 1..at + 1 + n]
 }
 
 // The name of this hash and first byte whose length byte stands at a place.

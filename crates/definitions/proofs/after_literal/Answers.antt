@@ -1,7 +1,6 @@
 -- `definitions::after_literal` meets its contract. Assumes nothing.
 use Rattle.definitions.proofs.Reading.{text_end, wide_end, narrow_end}
 use mathlib.Core.Path.{sym, ◌∙◌}
-use Rattle.definition.specs.Job.{define}
 use native.Mathlib.Omega.{arith}
 use borrow.Author.Tests.{eqb-true, eqb-false}
 use Rattle.definitions.proofs.after_literal.Goals as goal

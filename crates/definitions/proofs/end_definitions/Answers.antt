@@ -1,5 +1,5 @@
 -- `definitions::end_definitions` meets its contract. Assumes nothing.
-use Rattle.definitions.proofs.Ends.{end-names, still_names, still_words, still_raws, still_count, end-table, end-rests, end-can, end-done}
+use Rattle.definitions.proofs.Ends.{still_names, still_words, still_raws, still_count, end-table, end-rests, end-can, end-done}
 use Rattle.definitions.proofs.Rooms.{room}
 use Rattle.store.proofs.Stores.{length-store}
 use Rattle.store.specs.Store.{store}

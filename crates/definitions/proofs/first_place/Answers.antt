@@ -1,7 +1,6 @@
 -- `definitions::first_place` meets its contract. Assumes nothing.
 use Rattle.definitions.proofs.Reading.{first_yes, first_no}
 use mathlib.Core.Path.{sym, ◌∙◌}
-use native.Mathlib.Omega.{arith}
 use borrow.Author.Tests.{eqb-true, eqb-false}
 use Rattle.definitions.proofs.first_place.Goals as goal
 

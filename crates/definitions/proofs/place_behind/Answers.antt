@@ -1,6 +1,5 @@
 -- `definitions::place_behind` meets its contract. Assumes nothing.
 use Rattle.definitions.proofs.Reading.{behind-yes, behind-no}
-use native.Mathlib.Omega.{arith}
 use Rattle.definitions.proofs.place_behind.Goals as goal
 
 pub returns-then-counted : goal.returns-then-counted

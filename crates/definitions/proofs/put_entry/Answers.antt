@@ -1,5 +1,4 @@
 -- `definitions::put_entry` meets its contract. Assumes nothing.
-use borrow.Author.Rules.{rules}
 use Rattle.definitions.proofs.put_entry.Goals as goal
 
 pub returns : goal.returns

@@ -4,11 +4,8 @@ use Rattle.definitions.proofs.Ends.{half_resolved, entry_resolved}
 use Rattle.definitions.proofs.Rooms.{room}
 use Rattle.store.specs.Regions.{NODE-HEADS}
 use Rattle.store.specs.Store.{size, store}
-use native.Mathlib.Omega.{arith}
 use mathlib.Core.Path.{◌≡◌, sym, ◌∙◌}
-use mathlib.Core.Logic.{inl}
 use Rattle.refusal.specs.Numbers.{code_of}
-use borrow.Author.Rules.{rules}
 use Rattle.definitions.proofs.resolve_raw.Goals as goal
 
 pub returns-then-e-eq-HALF : goal.returns-then-e-eq-HALF

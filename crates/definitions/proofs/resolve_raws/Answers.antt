@@ -1,5 +1,5 @@
 -- `definitions::resolve_raws` meets its contract. Assumes nothing.
-use Rattle.definitions.proofs.Ends.{table_still, raws_begin, same-raw, raws_next, raws_refused, raws_end}
+use Rattle.definitions.proofs.Ends.{table_still, same-raw, raws_next, raws_refused, raws_end}
 use Rattle.definitions.proofs.Rooms.{room}
 use Rattle.store.specs.Regions.{NODE-HEADS, ORDER}
 use Rattle.store.specs.Store.{size, store}

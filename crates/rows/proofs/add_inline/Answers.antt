@@ -1,6 +1,5 @@
 -- `rows::add_inline` meets its contract. The stores in turn. Assumes nothing.
 use native.Mathlib.Omega.{arith}
-use Rattle.rows.proofs.Reading.{counter}
 use borrow.Author.Rules.{rules}
 use Rattle.rows.proofs.add_inline.Goals as goal
 

@@ -1,5 +1,4 @@
 -- `rows::raw_index` meets its contract. By the number of raw bootstraps. Assumes nothing.
-use native.Mathlib.Omega.{arith}
 use Rattle.store.specs.Store.{store}
 use Rattle.rows.proofs.Reading.{nth_past, nth-there}
 use Rattle.rows.proofs.raw_index.Goals as goal

@@ -6,7 +6,7 @@ use Rattle.refusal.specs.Numbers.{number, code_of}
 use Rattle.store.specs.Store.{store}
 use Rattle.store.proofs.Stores.{length-store}
 use Rattle.rows.proofs.Indexing.{boot_stays, kids_now, hash_stays, new_stays, no_index-left, room_more, index-new}
-use Rattle.rows.proofs.Reading.{counter, kids_at_lem}
+use Rattle.rows.proofs.Reading.{kids_at_lem}
 use borrow.Author.Rules.{rules}
 use Rattle.rows.proofs.take_index.Goals as goal
 

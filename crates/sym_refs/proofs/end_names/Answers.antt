@@ -1,10 +1,10 @@
 -- `sym_refs::end_names` meets its contract. The loop ends the words below i. Assumes nothing.
 use native.Mathlib.Omega.{arith}
-use mathlib.Core.Path.{refl, ◌∙◌}
+use mathlib.Core.Path.{◌∙◌}
 use Rattle.store.specs.Regions.{NAME-GOALS}
 use Rattle.store.specs.Store.{store, size}
 use Rattle.store.proofs.Stores.{length-store}
-use Rattle.sym_refs.proofs.Rounds.{finish-begin, finish-next, finish-end}
+use Rattle.sym_refs.proofs.Rounds.{finish-next, finish-end}
 use borrow.Author.Rules.{rules}
 use Rattle.sym_refs.proofs.end_names.Goals as goal
 

@@ -6,7 +6,7 @@ use Rattle.store.specs.Regions.{NAME-GOALS}
 use Rattle.store.specs.Store.{store, size}
 use Rattle.store.proofs.Keeping.{kept_put}
 use Rattle.store.proofs.Stores.{length-store}
-use Rattle.sym_refs.proofs.Jumping.{turn_start, turn_to, inner_hop}
+use Rattle.sym_refs.proofs.Jumping.{turn_to, inner_hop}
 use Rattle.sym_refs.proofs.Rounds.{round-end}
 use borrow.Author.Rules.{rules}
 use Rattle.sym_refs.proofs.jump_names.Goals as goal

@@ -5,7 +5,7 @@ use Rattle.store.specs.Regions.{COUNTS, NAME-HEADS, NAME-LINKS, NAME-PLACES, NAM
 use Rattle.store.specs.Store.{store, size}
 use Rattle.store.proofs.Stores.{length-store}
 use Rattle.sym_refs.proofs.Rooms.{room}
-use Rattle.sym_refs.proofs.Ends.{link_begin, link_next, link_end}
+use Rattle.sym_refs.proofs.Ends.{link_next, link_end}
 use borrow.Author.Rules.{rules}
 use Rattle.sym_refs.proofs.link_references.Goals as goal
 
