@@ -27,6 +27,7 @@ use store::{
     RAW_COUNT, RECORDS, REFERENCE_COUNT, SIZES, VALUES, constants, load, next_count, save, start,
 };
 use sym_refs::{add_name, link_references, reference_word, resolve_names};
+use writer::BigEndian;
 
 // Entry e is that of the record in turn, at a place, with n references.
 fn put_entry(w: &mut [u32], p: &[usize], e: usize, at: usize, n: usize)
@@ -99,7 +100,7 @@ fn after_literal(job: &[u8], at: usize) -> usize
     }
     let tag = job::tag_at(job, at);
     if raw_const::is_text(tag) {
-        return at + 3 + writer::get_u16(job, at + 1) as usize;
+        return at + 3 + u16::get(job, at + 1) as usize;
     }
     if raw_const::is_long(tag) {
         at + 9
@@ -183,8 +184,8 @@ fn add_raw_def(
     requires { On p.now (length w.old) × Work job.now p.now × SomePlace p.now top job.now (store p.now w.old) at × (get_or job.now at 0 ≡ 0x43) }
     ensures { Stepped p.now top job.now (store p.now w.old) (store p.now w.new) result }
 {
-    let n = writer::get_u16(job, at + 1) as usize;
-    let e = writer::get_u16(job, at + 3) as usize;
+    let n = u16::get(job, at + 1) as usize;
+    let e = u16::get(job, at + 3) as usize;
     let tag = job::tag_at(job, load(w, p, OFFSETS, e));
     place_constant(w, p, top, raw_const::is_long(tag), n, e)?;
     Ok(at + 5)
@@ -195,8 +196,8 @@ fn add_bs_raw_def(job: &[u8], w: &mut [u32], p: &[usize], at: usize) -> Result<u
     requires { On p.now (length w.old) × Work job.now p.now × ((top : ℕ) × SomePlace p.now top job.now (store p.now w.old) at) × (get_or job.now at 0 ≡ 0x44) }
     ensures { (top : ℕ) → SomePlace p.now top job.now (store p.now w.old) at → Stepped p.now top job.now (store p.now w.old) (store p.now w.new) result }
 {
-    let index = writer::get_u16(job, at + 1) as usize;
-    let e = writer::get_u16(job, at + 3) as usize;
+    let index = u16::get(job, at + 1) as usize;
+    let e = u16::get(job, at + 3) as usize;
     place_bootstrap(w, p, index, constants(p) + e)?;
     Ok(at + 5)
 }

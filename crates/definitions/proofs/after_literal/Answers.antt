@@ -9,8 +9,8 @@ pub after_worked-requires : goal.after_worked-requires
 after_worked-requires c = let h = c.requires.0 in
     ((h.0, h.1, h.2), sym c.is_worked.ensures ∙ c.if-is_worked.true)
 
-pub get_u16-requires : goal.get_u16-requires
-get_u16-requires c = let plain = sym c.is_worked.ensures ∙ c.if-is_worked.false in
+pub get-requires : goal.get-requires
+get-requires c = let plain = sym c.is_worked.ensures ∙ c.if-is_worked.false in
     let h = c.requires.0 in
     let is = eqb-true c.tag_at-tag.result 1 (sym c.is_text.ensures ∙ c.if-is_text.true) in
     omega
@@ -19,7 +19,7 @@ get_u16-requires c = let plain = sym c.is_worked.ensures ∙ c.if-is_worked.fals
 pub returns-then-is_text : goal.returns-then-is_text
 returns-then-is_text c = let plain = sym c.is_worked.ensures ∙ c.if-is_worked.false in
     let is = eqb-true c.tag_at-tag.result 1 (sym c.is_text.ensures ∙ c.if-is_text.true) in
-    rw c.get_u16.ensures (text_end c.args.job.now c.args.at c.tag_at-tag.result c.tag_at-tag.ensures plain is)
+    rw c.get.ensures (text_end c.args.job.now c.args.at c.tag_at-tag.result c.tag_at-tag.ensures plain is)
 
 pub returns-then-is_long : goal.returns-then-is_long
 returns-then-is_long c = let plain = sym c.is_worked.ensures ∙ c.if-is_worked.false in
