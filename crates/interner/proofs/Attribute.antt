@@ -30,7 +30,7 @@ use Rattle.store.specs.Words.{cut}
 use Rattle.store.proofs.Laying.{work-sizes, entries-counted}
 use Rattle.store.proofs.Stores.{length-store}
 use Rattle.interner.specs.Nodes.{hash_bytes, hash_node, hash_at, node_at_lem, node_in_lem, nodes_in, node_count, EnteredIn, NodesIn}
-use Rattle.interner.proofs.Runs.{run, same_slices}
+use Rattle.interner.proofs.Runs.{run, same_slices, spans_long}
 use Rattle.interner.proofs.Shaped.{Known, known, node_is, hash_is}
 use Rattle.interner.proofs.Alike.{node_same, stands_at}
 use Rattle.interner.proofs.Listed.{position-old, position-new}
@@ -42,6 +42,11 @@ name_literal = (1, attribute_name)
 name_length : length attribute_name ≡ 16
 unfolding attribute_name ascii
 name_length = refl
+
+-- all of it, as a run
+name_run : run attribute_name 0 16 ≡ attribute_name
+unfolding attribute_name ascii
+name_run = refl
 
 -- what the code hashes
 pub name_hash : (name : List ℕ) (r : ℕ) → name ≡ attribute_name → r ≡ hash_bytes 1 name → r ≡ hash_bytes 1 attribute_name
@@ -64,6 +69,9 @@ module _ (tag : ℕ) (x : List ℕ) where
   other_tag u is f = other (λ t e. f (is ∙ t))
 
   module _ (s : List ℕ) (a : Stretch) (there : Spans s a x) where
+    pub other_length : (a.end - a.start ≡ 16 → ⊥) → false ≡ same_literal (tag, x) name_literal
+    other_length f = other (λ t e. f (sym (spans_long s a x there) ∙ ap length e ∙ name_length))
+
     pub by_bytes :
         (u : ℕ) → u ≡ tag → u ≡ 1 → (name : List ℕ) → name ≡ attribute_name →
         (r : Bool) → r ≡ pointwise eqb (run s a.start (a.end - a.start)) name → r ≡ same_literal (tag, x) name_literal

@@ -104,6 +104,10 @@ module _ (h : ℕ) (s : List ℕ) (t : Store) (n : ℕ) (few : Small s) (table :
       ways (inl g) = rw (item_goal (entries_in s) (get_or (t STACK) n 0) few.entries g) (goal_ok (entries_in s) (get_or (t STACK) n 0) few.entries g)
       ways (inr (a, b)) = rw (item_leave (get_or (t STACK) n 0) a (omega (arith, few.entries))) tt
 
+  -- the stack's room is less than a refusal
+  fuel_low : fuel_for (linked_in s) < REFUSED
+  fuel_low = omega (arith, fuel_counted s, few.entries, few.references)
+
   -- A STEP THAT GOES ON
   module _
       (u : Store) (r : ℕ) (pushed : List Item)
