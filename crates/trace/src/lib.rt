@@ -21,6 +21,7 @@ pub struct Counts {
 // A step: an action, the tag expected, and a slot in two bytes.
 const STEP: usize = 4;
 
+// The actions: bytes of a trace, not an enum, since the definitions `flag_behind` and `passes_by` of a step take them as numbers.
 const LOOK_UP: u8 = 0;
 
 const CLEAR: u8 = 1;
@@ -39,11 +40,20 @@ fn known_actions(trace: &[u8]) -> bool
     true
 }
 
-// Whether a constant of a tag begins at a slot: none has the tag 0, which is told of a slot where none begins.
-fn is_right(pool: &[u8], places: &[usize; 65536], slot: u16, tag: u8) -> bool
-    ensures { result ≡ held pool.now places.now slot tag }
-{
-    tag != 0 && places::tag_at(pool, places, slot) == tag
+// A pool, and the place in it of each slot's constant.
+#[derive(Clone, Copy, Debug)]
+struct Pool<'a> {
+    bytes: &'a [u8],
+    places: &'a [usize; 65536],
+}
+
+impl<'a> Pool<'a> {
+    // Whether a constant of a tag begins at a slot: none has the tag 0, which is told of a slot where none begins.
+    fn holds(&self, slot: u16, tag: u8) -> bool
+        ensures { result ≡ held self.now.bytes.now self.now.places.now slot tag }
+    {
+        tag != 0 && places::tag_at(self.bytes, self.places, slot) == tag
+    }
 }
 
 // Runs a step over a table of flags. Whether it is a look-up that succeeds.
@@ -69,24 +79,17 @@ fn run_step(flags: &mut [u8], action: u8, slot: usize, right: bool) -> bool
 
 // Runs step i over the flags, and over a table that was clear at the start. What it adds to each count: a look-up rests on a flag from the
 // start if it is good and wouldn't be had all flags been clear there.
-fn run_both(
-    pool: &[u8],
-    places: &[usize; 65536],
-    trace: &[u8],
-    i: usize,
-    flags: &mut [u8],
-    clear: &mut [u8],
-) -> Counts
+fn run_both(pool: &Pool, trace: &[u8], i: usize, flags: &mut [u8], clear: &mut [u8]) -> Counts
     requires i_bound { (i < steps trace.now) × (action trace.now i ≤ 1) }
     requires flags_len { (length flags.old ≡ 65536) × (length clear.old ≡ 65536) }
-    ensures { OneStep (held pool.now places.now) trace.now i
+    ensures { OneStep (held pool.now.bytes.now pool.now.places.now) trace.now i
         flags.old clear.old flags.new clear.new result }
 {
     let at = STEP * i;
     let action = trace[at];
     let looks_up = action == LOOK_UP;
     let number = u16::get(trace, at + 2);
-    let right = is_right(pool, places, number, trace[at + 1]);
+    let right = pool.holds(number, trace[at + 1]);
     let slot = number as usize;
     let good = run_step(flags, action, slot, right);
     let bare = run_step(clear, action, slot, right);
@@ -98,17 +101,11 @@ fn run_both(
 }
 
 // Runs a trace of known actions over the flags, and over a table that is clear at the start.
-fn run_steps(
-    pool: &[u8],
-    places: &[usize; 65536],
-    trace: &[u8],
-    flags: &mut [u8],
-    clear: &mut [u8],
-) -> Counts
+fn run_steps(pool: &Pool, trace: &[u8], flags: &mut [u8], clear: &mut [u8]) -> Counts
     requires trace_value { unknown_action trace.now (steps trace.now) ≡ false }
     requires flags_len { (length flags.old ≡ 65536) × (length clear.old ≡ 65536) × ((s : ℕ) → get_or clear.old s 0 ≡ 0) }
-    ensures value { result ≡ counted (report (held pool.now places.now) trace.now flags.old) }
-    ensures flags_after { flags.new ≡ (report (held pool.now places.now) trace.now flags.old).flags }
+    ensures value { result ≡ counted (report (held pool.now.bytes.now pool.now.places.now) trace.now flags.old) }
+    ensures flags_after { flags.new ≡ (report (held pool.now.bytes.now pool.now.places.now) trace.now flags.old).flags }
 {
     let mut counts = Counts {
         good: 0,
@@ -116,7 +113,7 @@ fn run_steps(
         rested: 0,
     };
     for i in 0..trace.len() / STEP {
-        let step = run_both(pool, places, trace, i, flags, clear);
+        let step = run_both(pool, trace, i, flags, clear);
         counts.good += step.good;
         counts.failed += step.failed;
         counts.rested += step.rested;
@@ -125,15 +122,10 @@ fn run_steps(
 }
 
 // Judges the trace and the flags before anything is written.
-fn run_over(
-    pool: &[u8],
-    places: &[usize; 65536],
-    trace: &[u8],
-    flags: &mut [u8],
-) -> Result<Counts, Refusal>
-    ensures value { answer_of result ≡ answer (run-over (held pool.now places.now) trace.now flags.old) }
+fn run_over(pool: &Pool, trace: &[u8], flags: &mut [u8]) -> Result<Counts, Refusal>
+    ensures value { answer_of result ≡ answer (run-over (held pool.now.bytes.now pool.now.places.now) trace.now flags.old) }
     ensures flags_after { flags.new
-        ≡ flags_after (run-over (held pool.now places.now) trace.now flags.old) flags.old }
+        ≡ flags_after (run-over (held pool.now.bytes.now pool.now.places.now) trace.now flags.old) flags.old }
 {
     if trace.len() % STEP != 0 || flags.len() != SLOTS {
         return Err(Refusal::BadTrace);
@@ -142,7 +134,7 @@ fn run_over(
         return Err(Refusal::BadTrace);
     }
     let mut clear = [0u8; 65536];
-    Ok(run_steps(pool, places, trace, flags, &mut clear))
+    Ok(run_steps(pool, trace, flags, &mut clear))
 }
 
 // Runs a trace over a pool, from a flag for each slot that the caller lends, and leaves the flags as the trace ends.
@@ -154,5 +146,9 @@ pub fn run_trace(pool: &[u8], trace: &[u8], flags: &mut [u8]) -> Result<Counts, 
     if places::note_pool(pool, 0, &mut places) != Some(pool.len()) {
         return Err(Refusal::NotPool);
     }
-    run_over(pool, &places, trace, flags)
+    let pool = Pool {
+        bytes: pool,
+        places: &places,
+    };
+    run_over(&pool, trace, flags)
 }

@@ -27,7 +27,7 @@ returns c =
       | then-good w ↦ w.from-is ∙ sym (ap (λ (x : Bool). x && not bare) w.if-good.true)
       | else-good w ↦ w.from-is ∙ w.if-good.false ∙ sym (ap (λ (x : Bool). x && not bare) w.if-good.false)
     ] in
-    one-step (omega arith) refl refl c.get-number.ensures c.is_right-right.ensures
+    one-step (omega arith) refl refl c.get-number.ensures c.holds-right.ensures
     (c.run_step-good.ensures.value, c.run_step-good.ensures.flags_after)
     (c.run_step-bare.ensures.value, c.run_step-bare.ensures.flags_after)
     (c.from.ensures ∙ byte_one good)

@@ -7,7 +7,7 @@ use Rattle.trace.proofs.Going.{going_first, going_small, going_more, going_last}
 use Rattle.trace.proofs.run_steps.Goals as goal
 
 pub loop-i-init : goal.loop-i-init
-loop-i-init c = (going_first (held c.args.pool.now c.args.places.now) c.args.trace.now c.args.flags.now c.args.clear.now c.requires.flags_len.0 c.requires.flags_len.1 c.requires.flags_len.2)
+loop-i-init c = (going_first (held c.args.pool.now.bytes.now c.args.pool.now.places.now) c.args.trace.now c.args.flags.now c.args.clear.now c.requires.flags_len.0 c.requires.flags_len.1 c.requires.flags_len.2)
 
 pub run_both-step-requires : goal.run_both-step-requires
 run_both-step-requires c = record { i_bound = (omega arith, known_at c.args.trace.now c.loop-i.i c.requires.trace_value (omega arith)); flags_len = (c.loop-i.invariant.flags_are.size, c.loop-i.invariant.clear_are.size) }
