@@ -3,8 +3,8 @@ ghost use Rattle.std.specs.Prelude.{◌≡◌};
 
 use crate::reading::ReadError;
 use crate::writing::WriteError;
-use std::fmt;
-use std::io::{Result, Write};
+use std::io::Write;
+use std::{fmt, io};
 
 #[derive(Clone, Copy, Debug, PartialEq, Eq)]
 pub enum End {
@@ -51,8 +51,29 @@ impl fmt::Display for End {
     }
 }
 
+// Answers frames in turn until one says how the stream ends, and tells that.
+pub fn answer_all<F: FnMut() -> Result<(), End>>(
+    errors: &mut impl Write,
+    program: &[u8],
+    mut next: F,
+) -> io::Result<()>
+    requires { F.IsAlwaysCallable next }
+{
+    let mut frames: u64 = 0;
+    let end = loop {
+        if let Err(end) = next() {
+            break end;
+        }
+        if frames == u64::MAX {
+            break End::WriteFailed;
+        }
+        frames += 1;
+    };
+    tell(errors, program, end, frames)
+}
+
 // Says how the stream ends.
-pub fn tell(errors: &mut impl Write, program: &[u8], end: End, frames: u64) -> Result<()> {
+pub fn tell(errors: &mut impl Write, program: &[u8], end: End, frames: u64) -> io::Result<()> {
     errors.write_all(program)?;
     writeln!(errors, ": {end} {frames} frames")
 }

@@ -7,6 +7,6 @@ mod ends;
 mod reading;
 mod writing;
 
-pub use ends::{End, tell};
+pub use ends::{End, answer_all, tell};
 pub use reading::{ReadError, next_block, next_or_skipped, read_part};
 pub use writing::{Line, WriteError, write_part};

@@ -55,7 +55,7 @@ fn read_full(input: &mut impl Read, s: &mut [u8]) -> io::Result<usize>
     Ok(done)
 }
 
-// Reads the first n bytes. No error comes where none is read.
+// Reads the first n bytes. No error comes where none is read. It takes n and not &mut s[..n] since `fewer` speaks of too short an s.
 pub fn read_part(input: &mut impl Read, s: &mut [u8], n: usize) -> Result<(), ReadError>
     ensures part { PartRead s.old n s.new (is_ok result) }
     ensures fewer { length s.old < n → result ≡ Err ReadError.Cut }

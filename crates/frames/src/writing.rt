@@ -23,7 +23,7 @@ impl From<Error> for WriteError {
     }
 }
 
-// Writes the first n bytes of a text.
+// Writes the first n bytes of a text. It takes n and not &text[..n] since its clause speaks of too short a text.
 pub fn write_part(output: &mut impl Write, text: &[u8], n: usize) -> Result<(), WriteError>
     ensures { length text.now < n → result ≡ Err WriteError.TooShort }
 {
