@@ -16,7 +16,7 @@ use Rattle.definition.specs.Layout.{starters, node_at_lem}
 use Rattle.facts.specs.Lists.{Rising, keys}
 use Rattle.facts.proofs.Lists.{equal, read_found, get_map}
 use Rattle.laws.specs.Gaps.{Apart}
-use Rattle.slots.specs.Gaps.{GapTable, gaps_at, AtMost, slots_at_lem, Written}
+use Rattle.slots.specs.Gaps.{GapTable, gaps_at, AtMost, slots_of, Written}
 use Rattle.slots.proofs.Given.{written_apart}
 use Rattle.store.specs.Store.{Store, size, put, among, Kept, IsWord}
 use Rattle.store.specs.Regions.{COUNTS, MARKS, GIVEN, RAW-KEYS, RAW-ENTRIES, ORDER, PENDING, HELD-COUNT, NODE-COUNT, GAP-COUNT, ODD, WIDE, PLAIN, PENDING-COUNT}
@@ -205,7 +205,7 @@ module _
       stack_is = so.stack ∙ rw (same-held, nodes_are)
 
       slots-are : slots_in (u COUNTS) h ≡ start_slots (gaps_from top 1 (keys held))
-      unfolding slots_at_lem start_slots
+      unfolding slots_of start_slots
       slots-are = rw (count_is, odd_is, wide_is, plain_is, written.read)
 
       none-given : (k : ℕ) → lookup k [] ≡ slot_word (get_or (u GIVEN) k 0)

@@ -10,7 +10,7 @@ use lib.Seq.{drop-cons, drop-drop, drop-length, get_or-take}
 use Rattle.definition.specs.Slots.{Gap, gap_before, gaps_from}
 use Rattle.facts.proofs.Lists.{order, read_found, get_map}
 use Rattle.laws.proofs.Slots.Gaps.{gap_before-some, gap_before-none}
-use Rattle.slots.specs.Gaps.{GapTable, gap_of, gaps_at, AtMost, Written}
+use Rattle.slots.specs.Gaps.{GapTable, gap_of, gaps_of, gaps_at, AtMost, Written}
 use Rattle.slots.proofs.Rows.{gaps_length}
 use Rattle.pool.specs.Starting.{order_keys}
 
@@ -35,7 +35,7 @@ before_append first next gaps = ways (order first next)
 
 -- what is written is in the table
 pub written-fits : (gaps : List Gap) (before after : GapTable) (count : ℕ) → Written gaps before after count → count ≤ length after
-unfolding gaps_at
+unfolding gaps_of
 written-fits gaps before after count w =
     omega (arith, w.counted, ap length w.read, length-map (take count after) gap_of, length-take count after)
 
@@ -48,7 +48,7 @@ pub record Between (whole : List Gap) (held : List ℕ) (top : ℕ) (before rows
   pub behind : drop count rows ≡ drop count before
 
 pub between_start : (held : List ℕ) (top : ℕ) (rows : GapTable) → Between (gaps_from top 1 held) held top rows rows 0 0 1
-unfolding gaps_at
+unfolding gaps_of
 between_start held top rows = record { within = omega arith; fits = omega arith; long = refl; rest = refl; behind = refl }
 
 -- room for a gap that the whole still lacks

@@ -9,6 +9,7 @@ use native.Mathlib.Omega.{arith}
 use lib.ListN.{length, get_or, set, take, length-set}
 use lib.Seq.{get_or-set_same, get_or-set_other, take-suc-set}
 use borrow.Author.Tests.{ne_eqb}
+use Rattle.std.specs.Prelude.{Option}
 use Rattle.definition.specs.Basics.{every}
 use Rattle.definition.specs.Building.{Pool}
 use Rattle.facts.proofs.Lists.{equal}
@@ -79,7 +80,7 @@ fewer c f =
     rw (ne_eqb c ODD a, ne_eqb c WIDE b, ne_eqb c PLAIN n)
 
 -- a slot that was asked for
-module _ (wide ldc : Bool) (t u : Store) (g h : GapTable) (r : ℕ) (took : Took wide ldc t u g h r) where
+module _ (wide ldc : Bool) (t u : Store) (g h : GapTable) (r : Option ℕ) (took : Took wide ldc t u g h r) where
   pub same-given : u GIVEN ≡ t GIVEN
   same-given = took.kept GIVEN refl
 

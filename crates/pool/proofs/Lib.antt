@@ -1,4 +1,5 @@
 pub mod Words
+pub mod Codes
 pub mod Nodal
 pub mod Within
 pub mod Taking

@@ -8,6 +8,7 @@ use Prim.Native.Nat.{ℕ, zero, suc, ◌+◌, ◌-◌, ◌≤◌, ◌<◌}
 use native.Mathlib.Omega.{arith}
 use lib.ListN.{length, get_or}
 use borrow.Author.Tests.{lt-ltb, le-ltb}
+use Rattle.std.specs.Prelude.{Option, Some, None}
 use Rattle.definition.specs.Basics.{good, lookup}
 use Rattle.definition.specs.Shapes.{is_wide}
 use Rattle.definition.specs.Definitions.{tag_at}
@@ -16,16 +17,15 @@ use Rattle.definition.specs.Slots.{slot_for}
 use Rattle.definition.specs.Building.{Pool, no_slot, give, allocate, slot_of, raw, new, old, origin_of, mark_of}
 use Rattle.laws.proofs.Slots.SlotRequest.{allocate-new, allocate-old}
 use Rattle.slots.specs.Gaps.{GapTable}
-use Rattle.store.specs.Store.{Store, size, IsWord}
+use Rattle.store.specs.Store.{Store, size, put, IsWord}
 use Rattle.store.specs.JobIn.{entries_in}
 use Rattle.store.specs.Regions.{COUNTS, GIVEN, PENDING, NODE-COUNT, PENDING-COUNT, Work}
 use Rattle.store.specs.Words.{ENTRY, child_slot}
 use Rattle.store.proofs.Bounds.{small}
 use Rattle.store.proofs.Laying.{work-sizes, work-formed, entries-counted}
 use Rattle.interner.specs.Nodes.{node_count, nodes_in}
-use Rattle.pool.specs.Pooled.{Has, Lacks, slots_in, PooledIn, LiveIn, pending_count, NodesThere, Took, Gave, code_in, mark_in, kept_reply, new_reply, Marked, Slotted}
-use Rattle.pool.specs.declared.Reply.{Reply}
-use Rattle.pool.specs.declared.Reply.TheVariants as reply
+use Rattle.pool.specs.Pooled.{Has, Lacks, slots_in, PooledIn, LiveIn, pending_count, with_pending, NodesThere, Took, mark_in, Marked, Slotted}
+use Rattle.pool.specs.declared.Origin.TheVariants as origin
 use Rattle.pool.proofs.Words.{child_raw, child_node, word_none, word_some, zeros-some}
 use Rattle.pool.proofs.Giving.{goes_not, goes_then, goes_took, pooled_took, goes_gave, pooled_gave, gave_slot}
 
@@ -88,10 +88,10 @@ slotted_old s ldc child t g has =
 
 -- ONE THAT HAS NONE gets the one that was asked for
 module _
-    (s : List ℕ) (ldc wide : Bool) (child k slot r : ℕ) (t v u : Store) (g h : GapTable) (is : k ≡ child - ENTRY)
-    (lacks : Lacks (t GIVEN) child) (live : LiveIn t g) (width : wide ≡ is_wide (tag_at (nodes_in s t) k)) (took : Took wide ldc t v g h slot) where
+    (s : List ℕ) (ldc wide : Bool) (child k : ℕ) (found : Option ℕ) (t v : Store) (g h : GapTable) (is : k ≡ child - ENTRY)
+    (lacks : Lacks (t GIVEN) child) (live : LiveIn t g) (width : wide ≡ is_wide (tag_at (nodes_in s t) k)) (took : Took wide ldc t v g h found) where
   live_still : LiveIn v h
-  live_still = (goes_took wide ldc t v g h slot took).live live
+  live_still = (goes_took wide ldc t v g h found took).live live
 
   lacks_still : get_or (v GIVEN) k 0 ≡ 0
   lacks_still = rw (took.kept GIVEN refl, is) lacks.1
@@ -110,7 +110,7 @@ module _
   -- what `give` asks
   pub give-asks :
       (p : List ℕ) → NodesThere s p t → child < ENTRY + node_count t → length (v GIVEN) ≡ size p GIVEN → length (v PENDING) ≡ size p PENDING →
-      (PENDING-COUNT < size p COUNTS) × (k < size p GIVEN) × (pending_count v < size p PENDING) × IsWord (size p PENDING) × IsWord k × IsWord slot
+      (PENDING-COUNT < size p COUNTS) × (k < size p GIVEN) × (pending_count v < size p PENDING) × IsWord (size p PENDING) × IsWord k
   give-asks p there low given pending =
       let z = pool_sizes s p there.0 in
       let n : k < node_count t = omega (arith, lacks.0) in
@@ -121,57 +121,59 @@ module _
         omega arith,
         z.pending,
         omega (arith, z.few, z.given),
-        omega (arith, took.small),
       )
 
-  module _ (low : k < node_count t) (inside : k < length (v GIVEN)) (size : PENDING-COUNT < length (v COUNTS)) where
+  -- there is none
+  pub slotted_none : found ≡ None → Slotted s ldc child t v g h (no_slot ldc)
+  unfolding give
+  slotted_none z =
+      let unmet = rw z at took.unmet in
+      record {
+        met = λ pool q f. absurd (omega (arith, no_slot-some ldc));
+        refused = λ pool q f. asked pool q ∙ rw unmet;
+        node = λ f. lacks.0;
+        has = λ f. absurd (omega (arith, no_slot-some ldc));
+        goes = goes_took wide ldc t v g h found took;
+      }
+
+  -- there is one, which is given
+  module _ (slot : ℕ) (there : found ≡ Some slot) (low : k < node_count t) (inside : k < length (v GIVEN)) (size : PENDING-COUNT < length (v COUNTS)) where
     low-still : k < node_count v
     low-still = rw (took.counters NODE-COUNT refl) low
 
-    pub slotted_new : Gave k slot ldc v u r → Slotted s ldc child t u g h r
+    pub slotted_new : (u : Store) → u ≡ with_pending k (put v GIVEN k slot) → Slotted s ldc child t u g h 0
     unfolding give
-    slotted_new (inl (z, e, same)) =
-        record {
-          met = λ pool q f. absurd (omega (arith, no_slot-some ldc));
-          refused = λ pool q f. asked pool q ∙ rw (took.unmet z, e);
-          node = λ f. lacks.0;
-          has = λ f. absurd (omega (arith, no_slot-some ldc));
-          goes = rw same (goes_took wide ldc t v g h slot took);
-        }
-    slotted_new (inr (z, e, same)) =
+    slotted_new u same =
+        let (z, met) = rw there at took.met in
+        let is_slot_lem : get_or (u GIVEN) k 0 ≡ slot = rw same (gave_slot v h k slot z lacks_still inside low-still size) in
+        let has_slot : child_slot (u GIVEN) child ≡ slot = child_node (u GIVEN) child lacks.0 ∙ rw (← is) is_slot_lem in
         record {
           met =
               λ pool q f. (
                 record { slots = slots_in (v COUNTS) h; given = (k, slot) ∷ pool.given; pending = (slot, k) ∷ pool.pending; version = pool.version },
-                asked pool q ∙ rw (took.met z, has_slot),
+                asked pool q ∙ rw (met, has_slot),
                 rw same
                     (pooled_gave v h k slot z lacks_still inside low-still size live_still
                     (record { slots = slots_in (v COUNTS) h; given = pool.given; pending = pool.pending; version = pool.version })
-                    (pooled_took wide ldc t v g h slot took pool q)),
+                    (pooled_took wide ldc t v g h found took pool q)),
               );
           refused = λ pool q f. absurd (omega arith);
           node = λ f. lacks.0;
-          has = λ f. inr (lacks.0, omega (arith, is_slot_lem, ap (λ (x : ℕ). get_or (u GIVEN) x 0) is));
+          has = λ f. inr (lacks.0, omega (arith, is_slot_lem, z, ap (λ (x : ℕ). get_or (u GIVEN) x 0) is));
           goes =
-              goes_then t v u g h h (goes_took wide ldc t v g h slot took)
+              goes_then t v u g h h (goes_took wide ldc t v g h found took)
               (rw same (goes_gave v h k slot z lacks_still inside low-still size live_still));
         }
-      where
-        is_slot_lem : get_or (u GIVEN) k 0 ≡ slot
-        is_slot_lem = rw same (gave_slot v h k slot z lacks_still inside low-still size)
-
-        has_slot : child_slot (u GIVEN) child ≡ slot
-        has_slot = child_node (u GIVEN) child lacks.0 ∙ rw (← is) is_slot_lem
 
   -- as the code has it
   pub slotted :
       (p : List ℕ) → NodesThere s p t → child < ENTRY + node_count t → length (v GIVEN) ≡ size p GIVEN → length (v COUNTS) ≡ size p COUNTS →
-      Gave k slot ldc v u r → Slotted s ldc child t u g h r
-  slotted p there low given counts =
+      (slot : ℕ) → found ≡ Some slot → (u : Store) → u ≡ with_pending k (put v GIVEN k slot) → Slotted s ldc child t u g h 0
+  slotted p there low given counts slot e u same =
       let z = pool_sizes s p there.0 in
       let n : k < node_count t = omega (arith, lacks.0) in
       let m = node_given s p t there in
-      slotted_new n (omega arith) (omega (arith, z.counts))
+      slotted_new slot e n (omega arith) (omega (arith, z.counts)) u same
 
 -- HOW A CHILD COMES BY ITS SLOT
 
@@ -187,58 +189,17 @@ origin_new : (child : ℕ) (pool : Pool) → first_node ≤ child → lookup (ch
 unfolding origin_of
 origin_new child pool h e = rw (le-ltb child first_node h, e, origin_of)
 
-pub kept_raw : (child : ℕ) → child < ENTRY → kept_reply child ≡ reply.Raw
-unfolding kept_reply
-kept_raw child h = rw (lt-ltb child ENTRY h, kept_reply)
-
-pub kept_old : (child : ℕ) → ENTRY ≤ child → kept_reply child ≡ reply.Old
-unfolding kept_reply
-kept_old child h = rw (le-ltb child ENTRY h, kept_reply)
-
-pub new_given : (code : ℕ) → code ≡ 0 → new_reply code ≡ reply.New
-unfolding new_reply
-new_given code e = rw e
-
-pub new_refused : (code : ℕ) → 0 < code → new_reply code ≡ reply.Refused code
-unfolding new_reply
-new_refused zero h = absurd (omega arith)
-new_refused (suc n) h = refl
-
--- no slot was needed
-module _ (s : List ℕ) (ldc : Bool) (child : ℕ) (t : Store) (g : GapTable) where
-  kept_code : Has (t GIVEN) child → code_in (kept_reply child) ≡ 0
-  unfolding code_in
-  kept_code (inl h) = ap code_in (kept_raw child h)
-  kept_code (inr (h, l)) = ap code_in (kept_old child h)
-
-  kept_mark : Has (t GIVEN) child → Marked child t g (kept_reply child)
+-- a raw number, a node that has a slot, and one that had none
+module _ (child : ℕ) (t : Store) (g : GapTable) where
+  pub marked_raw : child < ENTRY → Marked child t g origin.Raw
   unfolding mark_in mark_of
-  kept_mark (inl h) pool q z = ap mark_in (kept_raw child h) ∙ ap mark_of (sym (origin_raw child pool h))
-  kept_mark (inr (h, l)) pool q z =
-      ap mark_in (kept_old child h)
-      ∙ ap mark_of (sym (origin_old child (get_or (t GIVEN) (child - ENTRY) 0) pool h (q.given (child - ENTRY) ∙ word_some _ l)))
+  marked_raw h pool q = ap mark_of (sym (origin_raw child pool h))
 
-  pub kept_told : Has (t GIVEN) child → (r : Reply) → r ≡ kept_reply child → Slotted s ldc child t t g g (code_in r) × Marked child t g r
-  kept_told has r is =
-      rw is (subst (Slotted s ldc child t t g g) (sym (kept_code has)) (slotted_old s ldc child t g has), kept_mark has)
+  pub marked_old : ENTRY ≤ child → 0 < get_or (t GIVEN) (child - ENTRY) 0 → Marked child t g origin.Old
+  unfolding mark_in mark_of
+  marked_old h l pool q =
+      ap mark_of (sym (origin_old child (get_or (t GIVEN) (child - ENTRY) 0) pool h (q.given (child - ENTRY) ∙ word_some _ l)))
 
-  -- one was given, or there is none
-  new_code : (code : ℕ) → code_in (new_reply code) ≡ code
-  unfolding code_in new_reply
-  new_code zero = refl
-  new_code (suc n) = refl
-
-  new_mark : Lacks (t GIVEN) child → (code : ℕ) → Marked child t g (new_reply code)
-  unfolding code_in mark_in mark_of new_reply
-  new_mark lacks zero pool q z = ap mark_of (sym (origin_new child pool lacks.0 (q.given (child - ENTRY) ∙ word_none _ lacks.1)))
-  new_mark lacks (suc n) pool q z = absurd (omega arith)
-
-  pub new_told :
-      Lacks (t GIVEN) child → (u : Store) (h : GapTable) (code : ℕ) → Slotted s ldc child t u g h code → (r : Reply) → r ≡ new_reply code →
-      Slotted s ldc child t u g h (code_in r) × Marked child t g r
-  new_told lacks u h code slotted r is =
-      rw is (subst (Slotted s ldc child t u g h) (sym (new_code code)) slotted, new_mark lacks code)
-
-  -- as callers have it
-  pub slotted_code : (u : Store) (h : GapTable) (r : Reply) (code : ℕ) → code ≡ code_in r → Slotted s ldc child t u g h (code_in r) → Slotted s ldc child t u g h code
-  slotted_code u h r code e slotted = rw e slotted
+  pub marked_new : Lacks (t GIVEN) child → Marked child t g origin.New
+  unfolding mark_in mark_of
+  marked_new lacks pool q = ap mark_of (sym (origin_new child pool lacks.0 (q.given (child - ENTRY) ∙ word_none _ lacks.1)))

@@ -1,24 +1,23 @@
 -- A slot that is asked for: what the allocator answers, with the positions kept in the counters. Assumes nothing.
 use mathlib.Core.Bool.{Bool, true, false}
-use mathlib.Core.List.{List, [], ◌∷◌}
+use mathlib.Core.List.{List, [], ◌∷◌, ◌++◌}
 use mathlib.Core.Path.{◌≡◌, refl, sym, ap, ◌∙◌}
 use Prim.Native.Nat.{ℕ, ◌≤◌, ◌<◌}
 use native.Mathlib.Omega.{arith}
-use lib.ListN.{length, get_or, set, length-set}
-use lib.Seq.{get_or-set_same, get_or-set_other}
+use lib.ListN.{length, get_or, set, take, drop, length-set, length-append, length-drop}
+use lib.Seq.{get_or-set_same, get_or-set_other, length-take-le}
+use Rattle.std.specs.Prelude.{Option, Some, None, IfNone}
 use Rattle.definition.specs.Slots.{highest_slot, slot_for}
 use Rattle.laws.specs.Gaps.{Apart}
 use Rattle.slots.specs.declared.Positions.{Positions}
-use Rattle.slots.specs.declared.Allocated.{Allocated}
-use Rattle.slots.specs.declared.Allocated.TheVariants.{Slot, None}
-use Rattle.slots.specs.declared.Found.{Found}
-use Rattle.slots.specs.Gaps.{GapTable, gaps_at, ends, AtMost, slots_at_lem, answer_of, Answered, found_in, moved_by, Taken}
+use Rattle.slots.specs.Gaps.{GapTable, gaps_at, ends, AtMost, slots_of, slots_at_lem, answer_of, Answered, behind}
 use Rattle.slots.proofs.Rows.{gaps_length}
 use Rattle.slots.proofs.Given.{apart_most, wide_given, narrow_given}
 use Rattle.store.specs.Store.{Store, put, among, Kept, IsWord}
 use Rattle.store.specs.Regions.{COUNTS, GAP-COUNT, ODD, WIDE, PLAIN}
 use Rattle.store.proofs.Keeping.{kept_put}
-use Rattle.pool.specs.Pooled.{positions_in, gaps_in, slots_in, GapsLive, with_positions, slot_found, Took}
+use Rattle.std.proofs.lemmas.List.{take_at}
+use Rattle.pool.specs.Pooled.{positions_in, gaps_in, slots_in, GapsLive, with_positions, Took}
 use Rattle.pool.proofs.Words.{not-among}
 use Rattle.pool.proofs.Within.{Within, slot-within, apart_few}
 
@@ -69,30 +68,32 @@ module _ (counts : List ℕ) (g : GapTable) (live : GapsLive counts g) where
   few = omega (arith, apart_few highest_slot 1 (gaps_in counts g) live.apart (omega arith), long)
 
   within : Within (slots_in counts g)
-  unfolding slots_at_lem
+  unfolding slots_of
   within = (omega (arith, live.odd, long), omega (arith, live.wide, long), omega (arith, live.plain, long))
 
-  -- WHAT IS ANSWERED
+  -- WHAT IS ANSWERED, over the gaps in use
+
+  abbrev pub AnsweredIn : Bool → Bool → GapTable → Option (ℕ × Positions) → Type 0
+  AnsweredIn wide ldc h r =
+      Answered (slot_for wide ldc (slots_in counts g)) (take (get_or counts GAP-COUNT 0) g) (take (get_or counts GAP-COUNT 0) h) r
 
   module _ (wide ldc : Bool) (h : GapTable) where
     -- a slot that is given
-    module _ (n : ℕ) (q : Positions) (w : Answered (slot_for wide ldc (slots_in counts g)) (get_or counts GAP-COUNT 0) g h (Slot n q)) where
+    module _ (n : ℕ) (q : Positions) (w : AnsweredIn wide ldc h (Some (n, q))) where
       given : (top : ℕ) → Apart top 1 (gaps_in counts g) → (1 ≤ n) × Apart top 1 (gaps_at h (get_or counts GAP-COUNT 0))
       unfolding slot_for
       given top a = ways wide w
         where
-          ways :
-              (b : Bool) → Answered (slot_for b ldc (slots_in counts g)) (get_or counts GAP-COUNT 0) g h (Slot n q) →
-              (1 ≤ n) × Apart top 1 (gaps_at h (get_or counts GAP-COUNT 0))
+          ways : (b : Bool) → AnsweredIn b ldc h (Some (n, q)) → (1 ≤ n) × Apart top 1 (gaps_at h (get_or counts GAP-COUNT 0))
           ways true w =
-              let r = wide_given top (get_or counts GAP-COUNT 0) n g h (positions_in counts) q a w in
+              let r = wide_given top n (take (get_or counts GAP-COUNT 0) g) (take (get_or counts GAP-COUNT 0) h) (positions_in counts) q a w in
               (r.low, r.apart)
           ways false w =
-              let r = (narrow_given top (get_or counts GAP-COUNT 0) n g h (positions_in counts) q a ldc w).0 in
+              let r = (narrow_given top n (take (get_or counts GAP-COUNT 0) g) (take (get_or counts GAP-COUNT 0) h) (positions_in counts) q a ldc w).0 in
               (r.low, r.apart)
 
       moved_within : length h ≡ length g → (q.odd ≤ get_or counts GAP-COUNT 0) × (q.wide ≤ get_or counts GAP-COUNT 0) × (q.plain ≤ get_or counts GAP-COUNT 0)
-      unfolding answer_of slots_at_lem
+      unfolding answer_of slots_of
       moved_within e =
           let r = slot-within wide ldc (slots_in counts g) n (slots_at_lem h (get_or counts GAP-COUNT 0) q) within (sym w.answer) in
           let l = gaps_length h (get_or counts GAP-COUNT 0) (omega (arith, live.inside)) in
@@ -100,14 +101,13 @@ module _ (counts : List ℕ) (g : GapTable) (live : GapsLive counts g) where
 
     -- the positions are words
     pub moved_words :
-        (a : Allocated) → length h ≡ length g → Answered (slot_for wide ldc (slots_in counts g)) (get_or counts GAP-COUNT 0) g h a →
-        IsWord (moved_by a (positions_in counts)).odd × IsWord (moved_by a (positions_in counts)).wide × IsWord (moved_by a (positions_in counts)).plain
-    unfolding moved_by
-    moved_words (Slot n q) e w =
+        (r : Option ℕ) (q : Positions) → length h ≡ length g → AnsweredIn wide ldc h (behind q r) → IfNone r (q ≡ positions_in counts) →
+        IsWord q.odd × IsWord q.wide × IsWord q.plain
+    moved_words (Some n) q e w z =
         let (x, y, z) = moved_within n q w e in
         let f = few in
         (omega arith, omega arith, omega arith)
-    moved_words None e w = let f = few in (omega (arith, live.odd), omega (arith, live.wide), omega (arith, live.plain))
+    moved_words None q e w z = rw z (let f = few in (omega (arith, live.odd), omega (arith, live.wide), omega (arith, live.plain)))
 
 module _ (t : Store) (g : GapTable) (live : GapsLive (t COUNTS) g) (size : PLAIN < length (t COUNTS)) (wide ldc : Bool) (h : GapTable) where
   abbrev count : ℕ
@@ -126,20 +126,17 @@ module _ (t : Store) (g : GapTable) (live : GapsLive (t COUNTS) g) (size : PLAIN
   same_count q = other_counters (t COUNTS) q GAP-COUNT refl
 
   pub took :
-      (a : Allocated) (r : ℕ) → length h ≡ length g →
-      Answered (slot_for wide ldc (slots_in (t COUNTS) g)) count g h a →
-      r ≡ slot_found (found_in a) → r < 65536 →
-      Took wide ldc t (with_positions (moved_by a (positions_in (t COUNTS))) t) g h r
-  unfolding slot_found found_in moved_by answer_of
-  took (Slot n q) r e w is low =
+      (r : Option ℕ) (q : Positions) → length h ≡ length g → AnsweredIn (t COUNTS) g live wide ldc h (behind q r) → IfNone r (q ≡ positions_in (t COUNTS)) →
+      Took wide ldc t (with_positions q t) g h r
+  unfolding answer_of
+  took (Some n) q e w z =
       let moved = moved_within (t COUNTS) g live wide ldc h n q w e in
       let p = positions_are (t COUNTS) q size in
       let c = same_count q in
       let gave = given (t COUNTS) g live wide ldc h n q w in
       record {
-        unmet = λ z. absurd (omega (arith, (gave highest_slot live.apart).0));
-        met = λ z. rw (is, c, p) (sym w.answer);
-        small = low;
+        unmet = tt;
+        met = ((gave highest_slot live.apart).0, rw (c, p) (sym w.answer));
         live =
             record {
               inside = omega (arith, live.inside);
@@ -153,14 +150,12 @@ module _ (t : Store) (g : GapTable) (live : GapsLive (t COUNTS) g) (size : PLAIN
         counters = other_counters (t COUNTS) q;
         kept = kept q;
       }
-  took None r e w is low =
-      let q = positions_in (t COUNTS) in
-      let p = positions_are (t COUNTS) q size in
+  took None q e w z =
+      let p = positions_are (t COUNTS) q size ∙ z in
       let c = same_count q in
       record {
-        unmet = λ z. sym w.answer;
-        met = λ z. absurd (omega arith);
-        small = low;
+        unmet = sym w.answer;
+        met = tt;
         live =
             record {
               inside = omega (arith, live.inside);
@@ -175,23 +170,38 @@ module _ (t : Store) (g : GapTable) (live : GapsLive (t COUNTS) g) (size : PLAIN
         kept = kept q;
       }
 
--- AS THE CODE HAS IT
+-- AS THE CODE HAS IT: the allocator has the gaps in use, and leaves them as some that are as many, with what is behind them as it was
 
 pub slot-asks :
     (counts : List ℕ) (g : GapTable) (count : ℕ) → GapsLive counts g → count ≡ get_or counts GAP-COUNT 0 →
-    (count ≤ length g) × AtMost highest_slot (ends (gaps_at g count))
-slot-asks counts g count live e = rw e (live.inside, live_most counts g live)
+    AtMost highest_slot (ends (gaps_at g count))
+slot-asks counts g count live e = rw e (live_most counts g live)
 
 module _
-    (t : Store) (g h : GapTable) (wide ldc : Bool) (live : GapsLive (t COUNTS) g) (before : Positions) (count : ℕ) (found : Found)
-    (is : before ≡ positions_in (t COUNTS)) (counted : count ≡ get_or (t COUNTS) GAP-COUNT 0) (long : length h ≡ length g)
-    (q : Positions) (taken : Taken (slot_for wide ldc (slots_at_lem g count before)) count g h before q found) where
-  answered : Answered (slot_for wide ldc (slots_in (t COUNTS) g)) (get_or (t COUNTS) GAP-COUNT 0) g h taken.by_value
-  answered = rw (counted, is) at taken.answered
+    (t : Store) (g lent : GapTable) (wide ldc : Bool) (live : GapsLive (t COUNTS) g) (before : Positions) (count : ℕ) (found : Option ℕ)
+    (is : before ≡ positions_in (t COUNTS)) (counted : count ≡ get_or (t COUNTS) GAP-COUNT 0) (long : length lent ≡ length (take count g))
+    (q : Positions) (w : Answered (slot_for wide ldc (slots_at_lem g count before)) (take count g) lent (behind q found))
+    (still : IfNone found (q ≡ before)) where
+  after_lent : GapTable
+  after_lent = lent ++ drop count g
+
+  front : take count after_lent ≡ lent
+  unfolding after_lent
+  front = take_at lent (drop count g) count (long ∙ length-take-le count g (rw counted live.inside))
+
+  same-long : length after_lent ≡ length g
+  unfolding after_lent
+  same-long = length-append lent (drop count g) ∙ (let l = length-take-le count g (rw counted live.inside) in omega (arith, long, length-drop count g, live.inside, counted))
+
+  answered : AnsweredIn (t COUNTS) g live wide ldc after_lent (behind q found)
+  answered = rw (← counted, ← is, front) w
+
+  unmoved : IfNone found (q ≡ positions_in (t COUNTS))
+  unmoved = rw (← is) still
 
   pub save_asks : IsWord q.odd × IsWord q.wide × IsWord q.plain
-  save_asks = rw (taken.moved, is) (moved_words (t COUNTS) g live wide ldc h taken.by_value long answered)
+  save_asks = moved_words (t COUNTS) g live wide ldc after_lent found q same-long answered unmoved
 
-  pub took_all : PLAIN < length (t COUNTS) → (u : Store) (r : ℕ) → u ≡ with_positions q t → r ≡ slot_found found → r < 65536 → Took wide ldc t u g h r
-  took_all size u r e f low =
-      rw (e, taken.moved, is) (took t g live size wide ldc h taken.by_value r long answered (f ∙ ap slot_found taken.found) low)
+  pub took_all : PLAIN < length (t COUNTS) → (u : Store) → u ≡ with_positions q t → Took wide ldc t u g (lent ++ drop count g) found
+  unfolding after_lent
+  took_all size u e = rw e (took t g live size wide ldc after_lent found q same-long answered unmoved)

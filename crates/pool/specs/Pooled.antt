@@ -1,21 +1,20 @@
 -- The pool as it stands in the regions and the gap table: slots given to nodes, the building stack, the gaps and the positions.
 -- Assumes nothing.
-use Rattle.std.specs.Prelude.{Bool, true, false, List, [], ◌∷◌, map, reverse, ◌⊎◌, ◌≡◌, ℕ, zero, suc, ◌+◌, ◌-◌, ◌≤◌, ◌<◌, ltb, length, get_or, take}
+use Rattle.std.specs.Prelude.{Bool, true, false, List, [], ◌∷◌, map, reverse, ◌⊎◌, ◌≡◌, ℕ, zero, suc, ◌+◌, ◌-◌, ◌≤◌, ◌<◌, length, get_or, take, IfNone, IfSome}
+use Rattle.std.specs.Prelude as std
 use Rattle.std.proofs.Math.Option.{Option, none, some}
 use Rattle.definition.specs.Basics.{Result, good, bad, Refusal, lookup}
 use Rattle.definition.specs.Slots.{highest_slot, Gap, Slots, slot_for}
-use Rattle.definition.specs.Building.{Pool, no_slot, slot_of, origin_of, mark_of, slots_of, kids_of}
+use Rattle.definition.specs.Building.{Pool, slot_of, origin_of, mark_of, slots_of, kids_of}
 use Rattle.laws.specs.Gaps.{Apart}
 use Rattle.slots.specs.declared.Positions.{Positions}
-use Rattle.slots.specs.declared.Found.{Found}
-use Rattle.slots.specs.declared.Found.TheVariants.{Slot, None}
 use Rattle.slots.specs.Gaps.{GapTable, gaps_at, slots_at_lem}
 use Rattle.store.specs.Store.{Store, size, put, among, Kept}
 use Rattle.store.specs.Regions.{COUNTS, GIVEN, NODE-HEADS, PENDING, PLACE, NODE-COUNT, GAP-COUNT, ODD, WIDE, PLAIN, PENDING-COUNT, Work}
 use Rattle.store.specs.Words.{ENTRY, child_slot}
 use Rattle.interner.specs.Nodes.{EnteredIn, NodesIn, node_count, nodes_in, record_in}
-use Rattle.pool.specs.declared.Reply.{Reply}
-use Rattle.pool.specs.declared.Reply.TheVariants as reply
+use Rattle.pool.specs.declared.Origin.{Origin}
+use Rattle.pool.specs.declared.Origin.TheVariants as origin
 
 -- WORDS
 
@@ -98,11 +97,6 @@ pending_count t = get_or (t COUNTS) PENDING-COUNT 0
 abbrev pub with_pending : ℕ → Store → Store
 with_pending k t = put (put t COUNTS PENDING-COUNT (pending_count t + 1)) PENDING (pending_count t) k
 
--- what a request for a slot found
-unfoldable pub slot_found : Found → ℕ
-slot_found (Slot n) = n
-slot_found None = 0
-
 -- the counters that change while slots are given
 abbrev pub moving : List ℕ
 moving = ODD ∷ WIDE ∷ PLAIN ∷ PENDING-COUNT ∷ []
@@ -117,46 +111,24 @@ pub record Goes (t u : Store) (g h : GapTable) : Type 0 where
   pub counters : (c : ℕ) → among c moving ≡ false → get_or (u COUNTS) c 0 ≡ get_or (t COUNTS) c 0
   pub kept : Kept (COUNTS ∷ GIVEN ∷ PENDING ∷ []) t u
 
--- a slot was asked for: r is it, or 0
-pub record Took (wide ldc : Bool) (t u : Store) (g h : GapTable) (r : ℕ) : Type 0 where
-  pub unmet : r ≡ 0 → slot_for wide ldc (slots_in (t COUNTS) g) ≡ none
-  pub met : 0 < r → slot_for wide ldc (slots_in (t COUNTS) g) ≡ some (r, slots_in (u COUNTS) h)
-  pub small : r < 65536
+-- a slot was asked for
+pub record Took (wide ldc : Bool) (t u : Store) (g h : GapTable) (r : std.Option ℕ) : Type 0 where
+  pub unmet : IfNone r (slot_for wide ldc (slots_in (t COUNTS) g) ≡ none)
+  pub met : IfSome r (λ n. (0 < n) × (slot_for wide ldc (slots_in (t COUNTS) g) ≡ some (n, slots_in (u COUNTS) h)))
   pub live : GapsLive (u COUNTS) h
   pub apart : (top : ℕ) → Apart top 1 (gaps_in (t COUNTS) g) → Apart top 1 (gaps_in (u COUNTS) h)
   pub long : length h ≡ length g
   pub counters : (c : ℕ) → among c (ODD ∷ WIDE ∷ PLAIN ∷ []) ≡ false → get_or (u COUNTS) c 0 ≡ get_or (t COUNTS) c 0
   pub kept : Kept (COUNTS ∷ []) t u
 
--- the slot found for node k became its own, or there is none and r is the refusal's number
-abbrev pub Gave : ℕ → ℕ → Bool → Store → Store → ℕ → Type 0
-Gave k slot ldc t u r =
-    ((slot ≡ 0) × (r ≡ no_slot ldc) × (u ≡ t)) ⊎ ((0 < slot) × (r ≡ 0) × (u ≡ with_pending k (put t GIVEN k slot)))
+-- how a child came by its slot, as a mark, which is the definition's for the pool before
+unfoldable pub mark_in : Origin → ℕ
+mark_in origin.Raw = 0
+mark_in origin.New = 1
+mark_in origin.Old = 2
 
--- how a child comes by its slot, as the code replies: the refusal's number, 0 if there is a slot, and the mark
-unfoldable pub code_in : Reply → ℕ
-code_in reply.Raw = 0
-code_in reply.New = 0
-code_in reply.Old = 0
-code_in (reply.Refused n) = n
-
-unfoldable pub mark_in : Reply → ℕ
-mark_in reply.Raw = 0
-mark_in reply.New = 1
-mark_in reply.Old = 2
-mark_in (reply.Refused n) = 0
-
--- a child that needs no slot; one that was given one, or refused
-unfoldable pub kept_reply : ℕ → Reply
-kept_reply child = elim (ltb child ENTRY) [ true ↦ reply.Raw | false ↦ reply.Old ]
-
-unfoldable pub new_reply : ℕ → Reply
-new_reply zero = reply.New
-new_reply (suc n) = reply.Refused (suc n)
-
--- the mark is the definition's, for the pool before
-abbrev pub Marked : ℕ → Store → GapTable → Reply → Type 0
-Marked child t g r = (pool : Pool) → PooledIn pool t g → code_in r ≡ 0 → mark_in r ≡ mark_of (origin_of child pool)
+abbrev pub Marked : ℕ → Store → GapTable → Origin → Type 0
+Marked child t g o = (pool : Pool) → PooledIn pool t g → mark_in o ≡ mark_of (origin_of child pool)
 
 -- a child has a slot from then on, or r is the refusal's number
 pub record Slotted (s : List ℕ) (ldc : Bool) (child : ℕ) (t u : Store) (g h : GapTable) (r : ℕ) : Type 0 where

@@ -1,12 +1,13 @@
 // The building pool: slots of nodes, from the gaps that the raw slots leave, and the stack of nodes that have a slot and aren't built yet.
 #![tactic(auto)]
 
-ghost use Rattle.std.specs.Prelude.{true, false, ◌≡◌, ℕ, ◌+◌, ◌-◌, ◌<◌, ◌≤◌, length, get_or};
+ghost use Rattle.std.specs.Prelude.{true, false, ◌≡◌, ℕ, ◌+◌, ◌-◌, ◌<◌, ◌≤◌, IfOk, length, get_or};
 ghost use Rattle.definition.specs.Basics.{good, bad};
 ghost use Rattle.definition.specs.Shapes.{is_wide};
 ghost use Rattle.definition.specs.Definitions.{tag_at};
 ghost use Rattle.definition.specs.Slots.{gaps_from};
 ghost use Rattle.definition.specs.Building.{no_slot};
+ghost use Rattle.refusal.specs.Numbers.{number, code_of};
 ghost use Rattle.job.specs.Stored.{Stands, WhatStands, any_request};
 ghost use Rattle.slots.specs.Gaps.{AtMost, Written};
 ghost use Rattle.store.specs.Store.{size, store, put, On, IsWord, Read};
@@ -14,7 +15,7 @@ ghost use Rattle.store.specs.Regions.{COUNTS, GIVEN, NAME-HEADS, NAME-GOALS, RAW
 ghost use Rattle.store.specs.JobIn.{job_in};
 ghost use Rattle.store.specs.Words.{ENTRY, child_slot};
 ghost use Rattle.interner.specs.Nodes.{node_count, nodes_in, record_in};
-ghost use Rattle.pool.specs.Pooled.{place_count, Has, Lacks, positions_in, GapsLive, NodesThere, with_positions, pending_count, with_pending, slot_found, LiveIn, KidsThere, Took, Gave, kept_reply, new_reply, code_in, mark_in, Marked, Slotted, SlottedAll, Popped};
+ghost use Rattle.pool.specs.Pooled.{place_count, positions_in, GapsLive, NodesThere, with_positions, pending_count, with_pending, LiveIn, KidsThere, Took, mark_in, Marked, Slotted, SlottedAll, Popped};
 ghost use Rattle.raws.specs.Raws.{held_count};
 ghost use Rattle.pool.specs.Starting.{order_keys, raw_at_lem, CanPush, RawPushed, CanPushAll, RawsPushed, SomeStart, PoolStarted};
 ghost use Rattle.sym_refs.specs.Names.{Goals};
@@ -23,21 +24,34 @@ ghost use Rattle.resolver.specs.Resolved.{visits_owed};
 ghost use Rattle.pool.specs.Replying.{RequestAt, WhatRequest, goal_for, LeadsTo, low, KeptAnswer, Asking, Replied, RequestsAt, RepliedAll};
 
 use raws::{raw_entry, raw_key};
+use refusal::Refusal;
 use resolver::node_of;
-use slots::{Found, Gap, Positions};
+use slots::{Gap, Positions};
 use store::{
     ANSWERS, AT, CHILDREN, COUNTS, ENTRY, FIRSTS, GAP_COUNT, GIVEN, HALF, HELD_COUNT, NODES, ODD,
     OFFSETS, ORIGINS, PENDING, PENDING_COUNT, PLACE, PLAIN, RECORDS, SIZES, WIDE, load, next_count,
     save, size_of,
 };
 
-// How a child comes by its slot: it is a raw number, or it gets the slot now, or it was given earlier; or there is none, 14 or 15.
-#[derive(Clone, Copy)]
-pub enum Reply {
+// How a child comes by its slot: it is a raw number, or it gets the slot now, or it was given earlier.
+#[derive(Clone, Copy, Debug, PartialEq, Eq)]
+pub enum Origin {
     Raw,
     New,
     Old,
-    Refused(usize),
+}
+
+impl Origin {
+    // The number that marks an answer: `mark_of`.
+    fn mark(self) -> usize
+        ensures { (result ≡ mark_in self) × IsWord result }
+    {
+        match self {
+            Origin::Raw => 0,
+            Origin::New => 1,
+            Origin::Old => 2,
+        }
+    }
 }
 
 // The slot of a child that has one: a raw number is itself.
@@ -114,33 +128,27 @@ fn save_positions(w: &mut [u32], p: &[usize], q: Positions)
     save(w, p, COUNTS, PLAIN, q.plain);
 }
 
-// The slot found, 0 for none.
-fn slot_found(found: Found) -> usize
-    ensures { (result ≡ slot_found found) × (result < 65536) }
-{
-    match found {
-        Found::Slot(slot) => slot as usize,
-        Found::None => 0,
-    }
-}
-
-// One slot request: the slot, or 0 if there is none.
-pub fn take_slot(w: &mut [u32], p: &[usize], gaps: &mut [Gap], wide: bool, ldc: bool) -> usize
+// One slot request.
+pub fn take_slot(w: &mut [u32], p: &[usize], gaps: &mut [Gap], wide: bool, ldc: bool) -> Option<u16>
     requires { On p.now (length w.old) × (PLAIN < size p.now COUNTS) × GapsLive (store p.now w.old COUNTS) gaps.old }
     ensures { Took wide ldc (store p.now w.old) (store p.now w.new) gaps.old gaps.new result }
 {
     let mut q = load_positions(w, p);
     let count = load(w, p, COUNTS, GAP_COUNT);
-    let found = slots::take_slot(gaps, count, &mut q, wide, ldc);
+    let found = slots::take_slot(&mut gaps[..count], &mut q, wide, ldc);
     save_positions(w, p, q);
-    slot_found(found)
+    found
 }
 
-// 14: no slot, ordinary request; 15: no slot, ldc request.
-fn no_slot(ldc: bool) -> usize
-    ensures { result ≡ no_slot ldc }
+// No slot: of an ordinary request, or of an ldc request.
+fn no_slot(ldc: bool) -> Refusal
+    ensures { number result ≡ no_slot ldc }
 {
-    if ldc { 15 } else { 14 }
+    if ldc {
+        Refusal::NoSlotForLdc
+    } else {
+        Refusal::NoSlot
+    }
 }
 
 // Node k goes onto the building stack.
@@ -152,75 +160,16 @@ fn push_pending(w: &mut [u32], p: &[usize], k: usize)
     save(w, p, PENDING, i, k);
 }
 
-// A child needs no slot: it is a raw number, or a node that has one.
-fn has_slot(w: &[u32], p: &[usize], child: usize) -> bool
-    requires { On p.now (length w.now) × (child < ENTRY + size p.now GIVEN) }
-    ensures { (result ≡ true → Has (store p.now w.now GIVEN) child) × (result ≡ false → Lacks (store p.now w.now GIVEN) child) }
+// The slot found for node k is its own, and the node goes onto the stack.
+fn give(w: &mut [u32], p: &[usize], k: usize, slot: u16)
+    requires { On p.now (length w.old) × (PENDING-COUNT < size p.now COUNTS) × (k < size p.now GIVEN) × (pending_count (store p.now w.old) < size p.now PENDING) × IsWord (size p.now PENDING) × IsWord k }
+    ensures { store p.now w.new ≡ with_pending k (put (store p.now w.old) GIVEN k slot) }
 {
-    if child < ENTRY {
-        return true;
-    }
-    load(w, p, GIVEN, child - ENTRY) != 0
-}
-
-// The slot found for node k is its own and the node goes onto the stack, 0; 14 or 15 if none was found.
-fn give(w: &mut [u32], p: &[usize], k: usize, slot: usize, ldc: bool) -> usize
-    requires { On p.now (length w.old) × (PENDING-COUNT < size p.now COUNTS) × (k < size p.now GIVEN) × (pending_count (store p.now w.old) < size p.now PENDING) × IsWord (size p.now PENDING) × IsWord k × IsWord slot }
-    ensures { Gave k slot ldc (store p.now w.old) (store p.now w.new) result }
-{
-    if slot == 0 {
-        return no_slot(ldc);
-    }
-    save(w, p, GIVEN, k, slot);
+    save(w, p, GIVEN, k, slot as usize);
     push_pending(w, p, k);
-    0
 }
 
-// The reply for a child that needs no slot.
-fn kept_slot(child: usize) -> Reply
-    ensures { result ≡ kept_reply child }
-{
-    if child < ENTRY {
-        return Reply::Raw;
-    }
-    Reply::Old
-}
-
-// The reply where a slot was given, 0, or refused.
-fn new_slot(code: usize) -> Reply
-    ensures { result ≡ new_reply code }
-{
-    if code == 0 {
-        return Reply::New;
-    }
-    Reply::Refused(code)
-}
-
-// The refusal's number, 0 if there is a slot.
-pub fn code_of(reply: Reply) -> usize
-    ensures { result ≡ code_in reply }
-{
-    match reply {
-        Reply::Raw => 0,
-        Reply::New => 0,
-        Reply::Old => 0,
-        Reply::Refused(code) => code,
-    }
-}
-
-// The number that marks an answer: `mark_of`.
-fn mark_of(reply: Reply) -> usize
-    ensures { (result ≡ mark_in reply) × IsWord result }
-{
-    match reply {
-        Reply::Raw => 0,
-        Reply::New => 1,
-        Reply::Old => 2,
-        Reply::Refused(_) => 0,
-    }
-}
-
-// A child has a slot from then on, and how it came by it; 14 or 15 if there is none.
+// A child has a slot from then on, and how it came by it; refused, if there is none.
 pub fn slot_of(
     job: &[u8],
     w: &mut [u32],
@@ -228,48 +177,53 @@ pub fn slot_of(
     gaps: &mut [Gap],
     child: usize,
     ldc: bool,
-) -> Reply
+) -> Result<Origin, Refusal>
     requires { On p.now (length w.old) × NodesThere job.now p.now (store p.now w.old) × LiveIn (store p.now w.old) gaps.old × (child < ENTRY + node_count (store p.now w.old)) }
-    ensures { Slotted job.now ldc child (store p.now w.old) (store p.now w.new) gaps.old gaps.new (code_in result) × Marked child (store p.now w.old) gaps.old result }
+    ensures slotted { Slotted job.now ldc child (store p.now w.old) (store p.now w.new) gaps.old gaps.new (code_of result) }
+    ensures marked { IfOk result (Marked child (store p.now w.old) gaps.old) }
 {
-    if has_slot(w, p, child) {
-        return kept_slot(child);
+    if child < ENTRY {
+        return Ok(Origin::Raw);
     }
     let k = child - ENTRY;
+    if load(w, p, GIVEN, k) != 0 {
+        return Ok(Origin::Old);
+    }
     let wide = node_is_wide(job, w, p, k);
-    let slot = take_slot(w, p, gaps, wide, ldc);
-    let code = give(w, p, k, slot, ldc);
-    new_slot(code)
+    let slot = take_slot(w, p, gaps, wide, ldc).ok_or(no_slot(ldc))?;
+    give(w, p, k, slot);
+    Ok(Origin::New)
 }
 
 // A refusal met while building is told at node k's record, not at the build record: PLACE has it from then on.
-pub fn refuse_at(w: &mut [u32], p: &[usize], k: usize, code: usize) -> usize
+pub fn refuse_at(w: &mut [u32], p: &[usize], k: usize, refusal: Refusal) -> Refusal
     requires { On p.now (length w.old) × (PLACE < size p.now COUNTS) × (k < size p.now NODES) × (get_or (store p.now w.old NODES) k 0 < size p.now RECORDS) }
-    ensures { (result ≡ code) × (place_count (store p.now w.new) ≡ record_in (store p.now w.old) k) }
+    ensures { (result ≡ refusal) × (place_count (store p.now w.new) ≡ record_in (store p.now w.old) k) }
 {
     let place = load(w, p, RECORDS, load(w, p, NODES, k));
     save(w, p, COUNTS, PLACE, place);
-    code
+    refusal
 }
 
-// Node k's children have slots from then on, left to right, 0, or 14 at the child that gets none.
-pub fn slots_of(job: &[u8], w: &mut [u32], p: &[usize], gaps: &mut [Gap], k: usize) -> usize
+// Node k's children have slots from then on, left to right; refused, told at the child that gets none.
+pub fn slots_of(
+    job: &[u8],
+    w: &mut [u32],
+    p: &[usize],
+    gaps: &mut [Gap],
+    k: usize,
+) -> Result<(), Refusal>
     requires { On p.now (length w.old) × NodesThere job.now p.now (store p.now w.old) × LiveIn (store p.now w.old) gaps.old × (k < node_count (store p.now w.old)) × KidsThere job.now (store p.now w.old) k }
-    ensures { SlottedAll job.now k (store p.now w.old) (store p.now w.new) gaps.old gaps.new result }
+    ensures { SlottedAll job.now k (store p.now w.old) (store p.now w.new) gaps.old gaps.new (code_of result) }
 {
     let first = first_child(w, p, k);
-    let n = child_count(w, p, k);
-    let mut i = 0;
-    while i < n {
+    for i in 0..child_count(w, p, k) {
         let child = load(w, p, CHILDREN, first + i);
-        let reply = slot_of(job, w, p, gaps, child, false);
-        let code = code_of(reply);
-        if code != 0 {
-            return refuse_at(w, p, child - ENTRY, code);
+        if let Err(refusal) = slot_of(job, w, p, gaps, child, false) {
+            return Err(refuse_at(w, p, child - ENTRY, refusal));
         }
-        i += 1;
     }
-    0
+    Ok(())
 }
 
 // The node on top of the building stack, which leaves it.
@@ -290,12 +244,10 @@ fn gaps_between(gaps: &mut [Gap], w: &[u32], p: &[usize], n: usize, top: usize) 
 {
     let mut count = 0;
     let mut first = 1;
-    let mut i = 0;
-    while i < n {
+    for i in 0..n {
         let next = raw_key(w, p, i) as u32;
         count = slots::push_gap(gaps, count, first, next);
         first = next + 1;
-        i += 1;
     }
     slots::push_gap(gaps, count, first, top as u32 + 1)
 }
@@ -318,11 +270,8 @@ fn push_raws(w: &mut [u32], p: &[usize])
     requires { On p.now (length w.old) × CanPushAll p.now (store p.now w.old) }
     ensures { RawsPushed (store p.now w.old) (store p.now w.new) (held_count (store p.now w.old)) }
 {
-    let n = load(w, p, COUNTS, HELD_COUNT);
-    let mut i = 0;
-    while i < n {
+    for i in 0..load(w, p, COUNTS, HELD_COUNT) {
         push_raw(w, p, i);
-        i += 1;
     }
 }
 
@@ -351,69 +300,69 @@ fn asks_ldc(job: &[u8], at: usize) -> bool
     requires { Stands any_request job.now at }
     ensures { WhatStands any_request job.now at (λ q next. result ≡ q.ldc) }
 {
-    writer::get_u8(job, at) == 0x52
+    job[at] == 0x52
 }
 
 // ldc can't name the slot.
 fn too_high(ldc: bool, slot: usize) -> bool
     ensures { (result ≡ true → low ldc slot ≡ bad 16) × (result ≡ false → low ldc slot ≡ good tt) }
 {
-    if ldc { 255 < slot } else { false }
+    ldc && 255 < slot
 }
 
-// The slot of a child is answer i, marked with how it was come by, 0; 16 if it is an ldc answer above 255.
-fn keep_answer(w: &mut [u32], p: &[usize], i: usize, child: usize, ldc: bool, mark: usize) -> usize
-    requires { On p.now (length w.old) × (i < size p.now ANSWERS) × (i < size p.now ORIGINS) × (child < ENTRY + size p.now GIVEN) × IsWord mark }
-    ensures { KeptAnswer ldc (child_slot (store p.now w.old GIVEN) child) mark i (store p.now w.old) (store p.now w.new) result }
+// The slot of a child is answer i, marked with how it was come by; refused, if it is an ldc answer above 255.
+fn keep_answer(
+    w: &mut [u32],
+    p: &[usize],
+    i: usize,
+    child: usize,
+    ldc: bool,
+    origin: Origin,
+) -> Result<(), Refusal>
+    requires { On p.now (length w.old) × (i < size p.now ANSWERS) × (i < size p.now ORIGINS) × (child < ENTRY + size p.now GIVEN) }
+    ensures { KeptAnswer ldc (child_slot (store p.now w.old GIVEN) child) (mark_in origin) i (store p.now w.old) (store p.now w.new) (code_of result) }
 {
     let slot = child_slot(w, p, child);
     if too_high(ldc, slot) {
-        return 16;
+        return Err(Refusal::OutOfReachOfLdc);
     }
     save(w, p, ANSWERS, i, slot);
-    save(w, p, ORIGINS, i, mark);
-    0
+    save(w, p, ORIGINS, i, origin.mark());
+    Ok(())
 }
 
-// The request at a place becomes answer i, 0, or a refusal's number.
-fn answer(job: &[u8], w: &mut [u32], p: &[usize], gaps: &mut [Gap], at: usize, i: usize) -> usize
+// The request at a place becomes answer i.
+fn answer(
+    job: &[u8],
+    w: &mut [u32],
+    p: &[usize],
+    gaps: &mut [Gap],
+    at: usize,
+    i: usize,
+) -> Result<(), Refusal>
     requires { On p.now (length w.old) × Work job.now p.now × Asking job.now p.now (store p.now w.old) gaps.old × RequestAt job.now at × (i < size p.now ANSWERS) × IsWord (visits_owed job.now (store p.now w.old) + 1) }
-    ensures { WhatRequest job.now at (λ q. Replied job.now p.now q i (store p.now w.old) (store p.now w.new) gaps.old gaps.new result) }
+    ensures { WhatRequest job.now at (λ q. Replied job.now p.now q i (store p.now w.old) (store p.now w.new) gaps.old gaps.new (code_of result)) }
 {
     let goal = request_goal(job, w, p, at);
-    let code = resolver::resolve(job, w, p, goal);
-    if code != 0 {
-        return code;
-    }
+    resolver::resolve(job, w, p, goal)?;
     let child = resolver::child_of(w, p, goal);
     let ldc = asks_ldc(job, at);
-    let reply = slot_of(job, w, p, gaps, child, ldc);
-    let code = code_of(reply);
-    if code != 0 {
-        return code;
-    }
-    let mark = mark_of(reply);
-    keep_answer(w, p, i, child, ldc, mark)
+    let origin = slot_of(job, w, p, gaps, child, ldc)?;
+    keep_answer(w, p, i, child, ldc, origin)
 }
 
-// The requests in turn, 0, or a refusal's number. Then record 60 is in turn.
-pub fn answer_all(job: &[u8], w: &mut [u32], p: &[usize], gaps: &mut [Gap]) -> usize
+// The requests in turn. Then record 60 is in turn.
+pub fn answer_all(job: &[u8], w: &mut [u32], p: &[usize], gaps: &mut [Gap]) -> Result<(), Refusal>
     requires { On p.now (length w.old) × Work job.now p.now × Asking job.now p.now (store p.now w.old) gaps.old × RequestsAt job.now (get_or (store p.now w.old COUNTS) AT 0) × IsWord (visits_owed job.now (store p.now w.old) + length (job_in job.now).requests + 1) × IsWord (place_count (store p.now w.old) + length (job_in job.now).requests + 1) }
-    ensures { RepliedAll job.now p.now (store p.now w.old) (store p.now w.new) gaps.old gaps.new result }
+    ensures { RepliedAll job.now p.now (store p.now w.old) (store p.now w.new) gaps.old gaps.new (code_of result) }
 {
-    let n = size_of(p, ANSWERS);
     let mut at = load(w, p, COUNTS, AT);
-    let mut i = 0;
-    while i < n {
+    for i in 0..size_of(p, ANSWERS) {
         next_count(w, p, PLACE);
-        let code = answer(job, w, p, gaps, at, i);
-        if code != 0 {
-            return code;
-        }
+        answer(job, w, p, gaps, at, i)?;
         at = job::after_reference(job, at + 1);
-        i += 1;
     }
     next_count(w, p, PLACE);
     save(w, p, COUNTS, AT, at);
-    0
+    Ok(())
 }

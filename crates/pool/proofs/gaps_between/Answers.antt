@@ -18,12 +18,6 @@ push_gap-count-requires c = let a = c.args in let q = c.requires in let l = c.lo
 pub overflow_add-first : goal.overflow_add-first
 overflow_add-first c = let a = c.args in let q = c.requires in let l = c.loop-i in omega (arith, key_low (store a.p.now a.w.now RAW-KEYS) (store a.p.now a.w.now ORDER) a.n a.top (omega (arith, q.on.1, length-store a.p.now a.w.now ORDER)) q.on.3 a.gaps.now l.gaps l.i l.count l.first l.invariant q.room c.loop-i-test.true c.raw_key-next.result c.raw_key-next.ensures.word)
 
-pub overflow_add-i : goal.overflow_add-i
-overflow_add-i c = omega (arith, c.loop-i-test.true)
-
-pub loop-i-smaller : goal.loop-i-smaller
-loop-i-smaller c = omega (arith, c.loop-i-test.true)
-
 pub loop-i-preserved : goal.loop-i-preserved
 loop-i-preserved c = let a = c.args in let q = c.requires in let l = c.loop-i in push_goes (store a.p.now a.w.now RAW-KEYS) (store a.p.now a.w.now ORDER) a.n a.top (omega (arith, q.on.1, length-store a.p.now a.w.now ORDER)) q.on.3 a.gaps.now l.gaps l.i l.count l.first l.invariant q.room c.loop-i-test.true c.raw_key-next.result c.raw_key-next.ensures.word _ _ c.push_gap-count.auto.gaps c.push_gap-count.ensures
 

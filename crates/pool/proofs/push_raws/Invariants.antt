@@ -4,11 +4,8 @@ use Rattle.raws.specs.Raws.{held_count}
 use Rattle.pool.specs.Starting.{RawsPushed}
 use lib.ListN.{length}
 use mathlib.Core.Path.{◌≡◌}
-use Prim.Native.Nat.{◌-◌, ◌≤◌}
+use Prim.Native.Nat.{◌≤◌}
 use Rattle.pool.proofs.push_raws.Given as goal
 
 abbrev pub invariant-loop-i : goal.invariant-loop-i
 invariant-loop-i l = (length l.w ≡ length l.initial.w) × (l.i ≤ held_count (store l.p l.initial.w)) × RawsPushed (store l.p l.initial.w) (store l.p l.w) l.i
-
-abbrev pub decreases-loop-i : goal.decreases-loop-i
-decreases-loop-i l = l.n - l.i

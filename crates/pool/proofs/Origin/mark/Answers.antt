@@ -1,7 +1,7 @@
--- `pool::mark_of` meets its contract. By cases. Assumes nothing.
+-- `pool::Origin::mark` meets its contract. By cases. Assumes nothing.
 use Rattle.pool.specs.Pooled.{mark_in}
 use borrow.Author.Rules.{rules}
-use Rattle.pool.proofs.mark_of.Goals as goal
+use Rattle.pool.proofs.Origin.mark.Goals as goal
 
 pub returns-in-Raw : goal.returns-in-Raw
 unfolding mark_in
@@ -14,7 +14,3 @@ returns-in-New c = (cc, search rules)
 pub returns-in-Old : goal.returns-in-Old
 unfolding mark_in
 returns-in-Old c = (cc, search rules)
-
-pub returns-in-Refused : goal.returns-in-Refused
-unfolding mark_in
-returns-in-Refused c = (cc, search rules)
