@@ -4,6 +4,7 @@
 ghost use Rattle.std.specs.Prelude.{◌≡◌, ◌+◌, ◌<◌, ltb, length};
 ghost use Rattle.definition.specs.Settings.{known};
 ghost use Rattle.definition.specs.Definitions.{tag_at};
+ghost use Rattle.refusal.specs.Numbers.{code_of};
 ghost use Rattle.store.specs.Store.{store, On};
 ghost use Rattle.store.specs.Regions.{Work};
 ghost use Rattle.store.specs.Words.{ENTRY};
@@ -13,28 +14,22 @@ ghost use Rattle.pool.specs.Pooled.{LiveIn, NodesThere};
 ghost use Rattle.building.specs.Built.{CanBuild, BuiltAll};
 ghost use Rattle.building.specs.Working.{Standing, Working, Owners, RawsSlotted, RowNumbered, Numbered, Finished, Judged, Drained};
 
-use pool::{
-    child_count, code_of, first_child, node_tag, pop_pending, refuse_at, slot_of, slots_of,
-};
+use pool::{child_count, first_child, node_tag, pop_pending, refuse_at, slot_of, slots_of};
+use refusal::Refusal;
 use rows::{index_of, is_bootstrap, raw_row, raw_rows, row_index};
 use slots::Gap;
 use store::{CHILDREN, COUNTS, ENTRY, PENDING_COUNT, load};
 
-// The raw bootstraps' children have slots from then on, by falling index, 0, or 14: `raw_rows`.
-fn slot_raw_rows(job: &[u8], w: &mut [u32], p: &[usize], gaps: &mut [Gap]) -> usize
+// The raw bootstraps' children have slots from then on, by falling index: `raw_rows`.
+fn slot_raw_rows(job: &[u8], w: &mut [u32], p: &[usize], gaps: &mut [Gap]) -> Result<(), Refusal>
     requires { On p.now (length w.old) × Work job.now p.now × Standing job.now p.now (store p.now w.old) × LiveIn (store p.now w.old) gaps.old }
-    ensures { RawsSlotted job.now (store p.now w.old) (store p.now w.new) gaps.old gaps.new result }
+    ensures { RawsSlotted job.now (store p.now w.old) (store p.now w.new) gaps.old gaps.new (code_of result) }
 {
-    let mut i = raw_rows(w, p);
-    while 0 < i {
-        i -= 1;
+    for i in (0..raw_rows(w, p)).rev() {
         let k = raw_row(w, p, i);
-        let code = slots_of(job, w, p, gaps, k);
-        if code != 0 {
-            return code;
-        }
+        slots_of(job, w, p, gaps, k)?;
     }
-    0
+    Ok(())
 }
 
 // Bootstrap node k has an index.
@@ -42,61 +37,61 @@ fn has_index(w: &[u32], p: &[usize], k: usize) -> bool
     requires { On p.now (length w.now) × RowRoom p.now × KidsIn p.now (store p.now w.now) × IsBootstrapIn p.now (store p.now w.now) k }
     ensures { result ≡ ltb 0 (index_word_lem p.now (store p.now w.now) k) }
 {
-    0 < index_of(w, p, k)
+    index_of(w, p, k).is_some()
 }
 
-// Bootstrap node k has an index from then on, its children having slots, 0, or 14 or 17: `node_number`.
-fn number_bootstrap(job: &[u8], w: &mut [u32], p: &[usize], gaps: &mut [Gap], k: usize) -> usize
+// Bootstrap node k has an index from then on, its children having slots: `node_number`.
+fn number_bootstrap(
+    job: &[u8],
+    w: &mut [u32],
+    p: &[usize],
+    gaps: &mut [Gap],
+    k: usize,
+) -> Result<(), Refusal>
     requires { On p.now (length w.old) × Work job.now p.now × Working job.now p.now (store p.now w.old) gaps.old × IsBootstrapIn p.now (store p.now w.old) k }
-    ensures { RowNumbered job.now p.now k (store p.now w.old) (store p.now w.new) gaps.old gaps.new result }
+    ensures { RowNumbered job.now p.now k (store p.now w.old) (store p.now w.new) gaps.old gaps.new (code_of result) }
 {
     if has_index(w, p, k) {
-        return 0;
+        return Ok(());
     }
-    let code = slots_of(job, w, p, gaps, k);
-    if code != 0 {
-        return code;
+    slots_of(job, w, p, gaps, k)?;
+    if let Err(refusal) = row_index(w, p, k) {
+        return Err(refuse_at(w, p, k, refusal));
     }
-    let code = row_index(w, p, k);
-    if code != 0 {
-        return refuse_at(w, p, k, code);
-    }
-    0
+    Ok(())
 }
 
-// A child has its number from then on, 0, or 14 or 17: `child_number`.
-fn number_child(job: &[u8], w: &mut [u32], p: &[usize], gaps: &mut [Gap], child: usize) -> usize
+// A child has its number from then on: `child_number`.
+fn number_child(
+    job: &[u8],
+    w: &mut [u32],
+    p: &[usize],
+    gaps: &mut [Gap],
+    child: usize,
+) -> Result<(), Refusal>
     requires { On p.now (length w.old) × Work job.now p.now × Working job.now p.now (store p.now w.old) gaps.old × (child < ENTRY + node_count (store p.now w.old)) }
-    ensures { Numbered job.now p.now child (store p.now w.old) (store p.now w.new) gaps.old gaps.new result }
+    ensures { Numbered job.now p.now child (store p.now w.old) (store p.now w.new) gaps.old gaps.new (code_of result) }
 {
     if is_bootstrap(w, p, child) {
         return number_bootstrap(job, w, p, gaps, child - ENTRY);
     }
-    let reply = slot_of(job, w, p, gaps, child, false);
-    let code = code_of(reply);
-    if code != 0 {
-        return refuse_at(w, p, child - ENTRY, code);
+    if let Err(refusal) = slot_of(job, w, p, gaps, child, false) {
+        return Err(refuse_at(w, p, child - ENTRY, refusal));
     }
-    0
+    Ok(())
 }
 
-// Node k's children have their numbers from then on, in field order, 0, or 14 or 17: `child_numbers`.
-fn finish(job: &[u8], w: &mut [u32], p: &[usize], gaps: &mut [Gap], k: usize) -> usize
+// Node k's children have their numbers from then on, in field order: `child_numbers`.
+fn finish(job: &[u8], w: &mut [u32], p: &[usize], gaps: &mut [Gap], k: usize) -> Result<(), Refusal>
     requires { On p.now (length w.old) × Work job.now p.now × Working job.now p.now (store p.now w.old) gaps.old × (k < node_count (store p.now w.old)) }
-    ensures { Finished job.now p.now k (store p.now w.old) (store p.now w.new) gaps.old gaps.new result }
+    ensures { Finished job.now p.now k (store p.now w.old) (store p.now w.new) gaps.old gaps.new (code_of result) }
 {
     let first = first_child(w, p, k);
-    let n = child_count(w, p, k);
-    let mut i = 0;
-    while i < n {
+    for i in 0..child_count(w, p, k) {
         let child = load(w, p, CHILDREN, first + i);
-        let code = number_child(job, w, p, gaps, child);
-        if code != 0 {
-            return code;
-        }
-        i += 1;
+        number_child(job, w, p, gaps, child)?;
     }
-    0
+    Ok(())
 }
 
 // A class version has this kind of constant (JVMS table 4.4-B): `known`.
@@ -128,7 +123,7 @@ fn has_kind(job: &[u8], w: &[u32], p: &[usize], version: usize, k: usize) -> boo
     is_known(version, node_tag(job, w, p, k))
 }
 
-// Node k, which came off the stack: 24 unless the version has its kind, then `finish`.
+// Node k, which came off the stack: refused unless the version has its kind, then `finish`.
 fn judge(
     job: &[u8],
     w: &mut [u32],
@@ -136,39 +131,45 @@ fn judge(
     gaps: &mut [Gap],
     version: usize,
     k: usize,
-) -> usize
+) -> Result<(), Refusal>
     requires { On p.now (length w.old) × Work job.now p.now × Working job.now p.now (store p.now w.old) gaps.old × (k < node_count (store p.now w.old)) }
-    ensures { Judged job.now p.now version k (store p.now w.old) (store p.now w.new) gaps.old gaps.new result }
+    ensures { Judged job.now p.now version k (store p.now w.old) (store p.now w.new) gaps.old gaps.new (code_of result) }
 {
     if has_kind(job, w, p, version, k) {
         return finish(job, w, p, gaps, k);
     }
-    refuse_at(w, p, k, 24)
+    Err(refuse_at(w, p, k, Refusal::KindTooNew))
 }
 
-// Takes from the building stack until it is empty, 0, or 24, 14 or 17: `drain`.
-fn drain(job: &[u8], w: &mut [u32], p: &[usize], gaps: &mut [Gap], version: usize) -> usize
+// Takes from the building stack until it is empty: `drain`.
+fn drain(
+    job: &[u8],
+    w: &mut [u32],
+    p: &[usize],
+    gaps: &mut [Gap],
+    version: usize,
+) -> Result<(), Refusal>
     requires { On p.now (length w.old) × Work job.now p.now × Working job.now p.now (store p.now w.old) gaps.old × Owners job.now p.now (store p.now w.old) }
-    ensures { Drained job.now p.now version (store p.now w.old) (store p.now w.new) gaps.old gaps.new result }
+    ensures { Drained job.now p.now version (store p.now w.old) (store p.now w.new) gaps.old gaps.new (code_of result) }
 {
     while 0 < load(w, p, COUNTS, PENDING_COUNT) {
         let k = pop_pending(w, p);
-        let code = judge(job, w, p, gaps, version, k);
-        if code != 0 {
-            return code;
-        }
+        judge(job, w, p, gaps, version, k)?;
     }
-    0
+    Ok(())
 }
 
-// Raw bootstraps, then the stack, constants held to the version, 0, or 24, 14 or 17: `build_all`.
-pub fn build_all(job: &[u8], w: &mut [u32], p: &[usize], gaps: &mut [Gap], version: usize) -> usize
+// Raw bootstraps, then the stack, constants held to the version: `build_all`.
+pub fn build_all(
+    job: &[u8],
+    w: &mut [u32],
+    p: &[usize],
+    gaps: &mut [Gap],
+    version: usize,
+) -> Result<(), Refusal>
     requires { On p.now (length w.old) × Work job.now p.now × CanBuild job.now p.now (store p.now w.old) gaps.old }
-    ensures { BuiltAll job.now p.now version (store p.now w.old) (store p.now w.new) gaps.old gaps.new result }
+    ensures { BuiltAll job.now p.now version (store p.now w.old) (store p.now w.new) gaps.old gaps.new (code_of result) }
 {
-    let code = slot_raw_rows(job, w, p, gaps);
-    if code != 0 {
-        return code;
-    }
+    slot_raw_rows(job, w, p, gaps)?;
     drain(job, w, p, gaps, version)
 }

@@ -26,6 +26,9 @@ module _ {T : Type 0} (x : Result T Refusal) where
   unfolding code_of
   code-bad r e = rw e (number-some r)
 
+  pub code-refused : (r : Refusal) → x ≡ Err r → code_of x ≡ 0 → ⊥
+  code-refused r e z = omega (arith, code-bad r e)
+
   -- the error that `?` passes on
   pub code-passed : {U : Type 0} (y : Result U Refusal) (r : Refusal) → x ≡ Err r → y ≡ Err r → code_of y ≡ code_of x
   unfolding code_of

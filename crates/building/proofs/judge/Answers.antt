@@ -1,7 +1,8 @@
 use Rattle.building.proofs.Lasting.{there_now}
 use Rattle.pool.proofs.Nodal.{record_asks}
 use Rattle.store.specs.Store.{store}
-use mathlib.Core.Path.{sym, ◌∙◌}
+use mathlib.Core.Path.{sym, ap, ◌∙◌}
+use Rattle.refusal.specs.Numbers.{number, code_of}
 use borrow.Author.Rules.{rules}
 use Rattle.building.proofs.judge.Goals as goal
 -- `building::judge` meets its contract. The kind that is asked for is the node's. Assumes nothing.
@@ -20,7 +21,7 @@ returns-then-has_kind c = let a = c.args in
     let p = a.p.now in
     let kind = c.has_kind.ensures in
     let finished = c.finish in
-    judged-so a.job.now p a.version a.k (store p a.w.now) a.gaps.now (store p finished.new.w) finished.new.gaps finished.result
+    judged-so a.job.now p a.version a.k (store p a.w.now) a.gaps.now (store p finished.new.w) finished.new.gaps (code_of finished.result)
     (sym kind ∙ c.if-has_kind.true)
     finished.ensures
 
@@ -32,11 +33,12 @@ refuse_at-requires c = let a = c.args in
     (search rules, asks.0, asks.1, asks.2)
 
 pub returns : goal.returns
+unfolding number code_of
 returns c = let a = c.args in
     let p = a.p.now in
     let told = c.refuse_at in
     judged-not a.job.now p a.version a.k (store p a.w.now) a.gaps.now c.requires.3
     (sym c.has_kind.ensures ∙ c.if-has_kind.false)
     (store p told.new.w)
-    told.result
-    told.ensures
+    (number told.result)
+    (ap number told.ensures.0, told.ensures.1)

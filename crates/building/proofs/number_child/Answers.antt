@@ -5,8 +5,9 @@ use Rattle.rows.proofs.Starting.{row_room}
 use Rattle.store.proofs.Stores.{length-store}
 use Rattle.store.specs.Regions.{NODES, INDEXES}
 use Rattle.store.specs.Store.{store}
-use mathlib.Core.Bool.{false}
-use Rattle.pool.proofs.Slotting.{slotted_code}
+use mathlib.Core.Path.{sym, ap, ◌∙◌}
+use Rattle.refusal.specs.Numbers.{number, code_of}
+use Rattle.pool.proofs.Codes.{code-bad, code-kept}
 use native.Mathlib.Omega.{arith}
 use borrow.Author.Rules.{rules}
 use Rattle.building.proofs.number_child.Goals as goal
@@ -23,27 +24,23 @@ pub number_bootstrap-requires : goal.number_bootstrap-requires
 number_bootstrap-requires c = let a = c.args in let q = c.requires in let s = a.job.now in let p = a.p.now in let t = store p a.w.now in (search rules, q.1, q.2, boot_is p t a.child c.is_bootstrap.result c.is_bootstrap.ensures c.if-is_bootstrap.true (row_room s p q.1) (kids_now s p t q.1 q.2.standing (length-store p a.w.now NODES)) q.3 (length-store p a.w.now INDEXES))
 
 pub returns-then-is_bootstrap : goal.returns-then-is_bootstrap
-returns-then-is_bootstrap c = let a = c.args in let q = c.requires in let s = a.job.now in let p = a.p.now in let t = store p a.w.now in let b = c.is_bootstrap in let x = c.number_bootstrap in child_bootstrap s p t a.gaps.now q.1 q.2 (length-store p a.w.now NODES) a.child q.3 (store p x.new.w) x.new.gaps x.result b.result b.ensures c.if-is_bootstrap.true (boot_node p t a.child b.result b.ensures c.if-is_bootstrap.true) x.ensures
+returns-then-is_bootstrap c = let a = c.args in let q = c.requires in let s = a.job.now in let p = a.p.now in let t = store p a.w.now in let b = c.is_bootstrap in let x = c.number_bootstrap in child_bootstrap s p t a.gaps.now q.1 q.2 (length-store p a.w.now NODES) a.child q.3 (store p x.new.w) x.new.gaps (code_of x.result) b.result b.ensures c.if-is_bootstrap.true (boot_node p t a.child b.result b.ensures c.if-is_bootstrap.true) x.ensures
 
-pub slot_of-reply-requires : goal.slot_of-reply-requires
-slot_of-reply-requires c = let a = c.args in let q = c.requires in let s = a.job.now in let p = a.p.now in (search rules, there_now s p (store p a.w.now) q.1 q.2.standing, q.2.live, q.3)
+pub slot_of-requires : goal.slot_of-requires
+slot_of-requires c = let a = c.args in let q = c.requires in let s = a.job.now in let p = a.p.now in (search rules, there_now s p (store p a.w.now) q.1 q.2.standing, q.2.live, q.3)
 
-pub code_of-code-requires : goal.code_of-code-requires
-code_of-code-requires c = tt
-
-pub overflow_sub-child-then-code-ne0 : goal.overflow_sub-child-then-code-ne0
-overflow_sub-child-then-code-ne0 c = let a = c.args in
+pub overflow_sub-child-in-Err : goal.overflow_sub-child-in-Err
+overflow_sub-child-in-Err c = let a = c.args in
     let q = c.requires in
     let s = a.job.now in
     let p = a.p.now in
     let t = store p a.w.now in
     let long = length-store p a.w.now NODES in
-    let x = c.slot_of-reply in
-    let y = c.code_of-code in
+    let x = c.slot_of in
     let u = store p x.new.w in
     let h = x.new.gaps in
-    let slotted = slotted_code s false a.child t a.gaps.now u h x.result y.result y.ensures x.ensures.0 in
-    (unslotted_tells s p t a.gaps.now q.1 q.2 long a.child q.3 u h y.result slotted (omega (arith, c.if-code-ne0.true))).0
+    let slotted = x.ensures.slotted in
+    (unslotted_tells s p t a.gaps.now q.1 q.2 long a.child q.3 u h (code_of x.result) slotted (code-bad x.result _ c.in-Err.is)).0
 
 pub refuse_at-requires : goal.refuse_at-requires
 refuse_at-requires c = let a = c.args in
@@ -52,35 +49,35 @@ refuse_at-requires c = let a = c.args in
     let p = a.p.now in
     let t = store p a.w.now in
     let long = length-store p a.w.now NODES in
-    let x = c.slot_of-reply in
-    let y = c.code_of-code in
+    let x = c.slot_of in
     let u = store p x.new.w in
     let h = x.new.gaps in
-    let slotted = slotted_code s false a.child t a.gaps.now u h x.result y.result y.ensures x.ensures.0 in
-    let asks = unslotted_tells s p t a.gaps.now q.1 q.2 long a.child q.3 u h y.result slotted (omega (arith, c.if-code-ne0.true)) in
+    let slotted = x.ensures.slotted in
+    let asks = unslotted_tells s p t a.gaps.now q.1 q.2 long a.child q.3 u h (code_of x.result) slotted (code-bad x.result _ c.in-Err.is) in
     (search rules, asks.1, asks.2, asks.3)
 
-pub returns-then-code-ne0 : goal.returns-then-code-ne0
-returns-then-code-ne0 c = let a = c.args in
+pub returns-in-Err : goal.returns-in-Err
+unfolding code_of
+returns-in-Err c = let a = c.args in
     let q = c.requires in
     let s = a.job.now in
     let p = a.p.now in
     let t = store p a.w.now in
     let long = length-store p a.w.now NODES in
     let b = c.is_bootstrap in
-    let x = c.slot_of-reply in
-    let y = c.code_of-code in
+    let x = c.slot_of in
     let u = store p x.new.w in
     let h = x.new.gaps in
-    let slotted = slotted_code s false a.child t a.gaps.now u h x.result y.result y.ensures x.ensures.0 in
+    let slotted = x.ensures.slotted in
     let told = c.refuse_at in
-    child_unslotted s p t a.gaps.now q.1 q.2 long a.child q.3 u h y.result b.result b.ensures c.if-is_bootstrap.false slotted
-    (omega (arith, c.if-code-ne0.true))
+    child_unslotted s p t a.gaps.now q.1 q.2 long a.child q.3 u h (code_of x.result) b.result b.ensures c.if-is_bootstrap.false slotted
+    (code-bad x.result _ c.in-Err.is)
     (store p told.new.w)
-    told.result
-    told.ensures
+    (number told.result)
+    (ap number told.ensures.0 ∙ sym (ap code_of c.in-Err.is), told.ensures.1)
 
 pub returns : goal.returns
+unfolding code_of
 returns c = let a = c.args in
     let q = c.requires in
     let s = a.job.now in
@@ -88,9 +85,8 @@ returns c = let a = c.args in
     let t = store p a.w.now in
     let long = length-store p a.w.now NODES in
     let b = c.is_bootstrap in
-    let x = c.slot_of-reply in
-    let y = c.code_of-code in
+    let x = c.slot_of in
     let u = store p x.new.w in
     let h = x.new.gaps in
-    let slotted = slotted_code s false a.child t a.gaps.now u h x.result y.result y.ensures x.ensures.0 in
-    child_slotted s p t a.gaps.now q.1 q.2 long a.child q.3 u h y.result b.result b.ensures c.if-is_bootstrap.false slotted c.if-code-ne0.false
+    let slotted = x.ensures.slotted in
+    child_slotted s p t a.gaps.now q.1 q.2 long a.child q.3 u h (code_of x.result) b.result b.ensures c.if-is_bootstrap.false slotted (code-kept x.result c.in_default.not-Err)
