@@ -8,6 +8,8 @@ use Prim.Native.Nat.{ℕ, ◌≤◌, ◌<◌}
 use native.Mathlib.Omega.{arith}
 use lib.ListN.{length, get_or, get_elem?}
 use lib.Seq.{get_or-set_same, get_or-set_other}
+use Rattle.std.specs.Prelude as std
+use Rattle.std.specs.Prelude.{IfNone, IfSome}
 use Rattle.definition.specs.Basics.{good, bad, position, lookup}
 use Rattle.definition.specs.Shapes.{is_wide}
 use Rattle.definition.specs.Definitions.{tag_at}
@@ -19,7 +21,7 @@ use Rattle.laws.specs.Gaps.{Apart}
 use Rattle.laws.proofs.Resolving.Interning.{interned}
 use Rattle.laws.proofs.Slots.Gaps.{apart_at}
 use Rattle.laws.proofs.Slots.SlotRequest.{width, slot-taken, allocate-new, allocate-old}
-use Rattle.slots.specs.Gaps.{GapTable, slots_at_lem}
+use Rattle.slots.specs.Gaps.{GapTable, slots_of}
 use Rattle.store.specs.Store.{Store, put, among, Kept}
 use Rattle.store.specs.Regions.{COUNTS, GIVEN, ODD, WIDE, PLAIN, NAME-SLOT}
 use Rattle.store.proofs.Keeping.{kept_put}
@@ -29,7 +31,7 @@ use Rattle.pool.specs.Pooled.{gaps_in, slots_in, PooledIn, GapsLive, Took}
 use Rattle.pool.proofs.Words.{word_none, word_some}
 use Rattle.pool.proofs.Giving.{SameGaps, slots_same, gaps_live_same}
 use Rattle.ending.specs.Ended.{name_in, name_of, Named}
-use Rattle.ending.specs.Naming.{Wants, KeptName, PoolNamed}
+use Rattle.ending.specs.Naming.{Wants, slot_or_0, KeptName, PoolNamed}
 use Rattle.ending.proofs.Counters.{among-last, gaps_set}
 
 -- THE DEFINITION
@@ -79,8 +81,27 @@ taken_low s after slot a e =
     omega (arith, r.2, t.enough, t.slot)
 
 gaps_apart : (counts : List ℕ) (g : GapTable) → Apart highest_slot 1 (gaps_in counts g) → Apart highest_slot 1 (slots_in counts g).gaps
-unfolding slots_at_lem
+unfolding slots_of
 gaps_apart counts g a = a
+
+-- a slot that was asked for, as a number
+found-met : (X : ℕ → Type 0) (r : std.Option ℕ) → IfSome r (λ n. (0 < n) × X n) → 0 < slot_or_0 r → X (slot_or_0 r)
+found-met X (std.Some n) h pos = h.1
+found-met X std.None h pos = absurd (omega arith)
+
+found-unmet : (P : Type 0) (X : ℕ → Type 0) (r : std.Option ℕ) → IfNone r P → IfSome r (λ n. (0 < n) × X n) → slot_or_0 r ≡ 0 → P
+found-unmet P X (std.Some n) unmet met z = absurd (omega (arith, met.0))
+found-unmet P X std.None unmet met z = unmet
+
+-- it is no higher than the highest, and no slot 0
+pub took-low : (t v : Store) (g h : GapTable) (found : std.Option ℕ) → GapsLive (t COUNTS) g → Took false false t v g h found → slot_or_0 found ≤ highest_slot
+took-low t v g h (std.Some n) live took =
+    taken_low (slots_in (t COUNTS) g) (slots_in (v COUNTS) h) n (gaps_apart (t COUNTS) g live.apart) took.met.1
+took-low t v g h std.None live took = omega arith
+
+pub took-some : (t v : Store) (g h : GapTable) (found : std.Option ℕ) → Took false false t v g h found → IfSome found (λ n. 0 < n)
+took-some t v g h (std.Some n) took = took.met.0
+took-some t v g h std.None took = tt
 
 -- THE WORDS with the name at a slot
 
@@ -199,27 +220,30 @@ module _ (s p : List ℕ) (t : Store) (g : GapTable) (live : GapsLive (t COUNTS)
 
     -- a new one, or none
     pub named_new :
-        own ≡ 0 → (v : Store) (h : GapTable) (slot : ℕ) → Took false false t v g h slot → NAME-SLOT < length (v COUNTS) → KeptName slot v u r →
-        PoolNamed s p t u g h r
-    named_new lacks v h slot took room kept =
-        named wants v u h slot r room kept took.live took.apart took.long took.counters took.kept
+        own ≡ 0 → (v : Store) (h : GapTable) (found : std.Option ℕ) → Took false false t v g h found → NAME-SLOT < length (v COUNTS) →
+        KeptName (slot_or_0 found) v u r → PoolNamed s p t u g h r
+    named_new lacks v h found took room kept =
+        named wants v u h (slot_or_0 found) r room kept took.live took.apart took.long took.counters took.kept
         (λ m q pos.
         record {
-          made = taken nodes m slot (slots_in (v COUNTS) h);
-          is = name_taken nodes m (free m q) slot (slots_in (v COUNTS) h) (rw (← q.slots) (took.met pos));
+          made = taken nodes m (slot_or_0 found) (slots_in (v COUNTS) h);
+          is = name_taken nodes m (free m q) (slot_or_0 found) (slots_in (v COUNTS) h) (rw (← q.slots) (met pos));
           slots = refl;
           rows = refl;
           owned = refl;
         })
-        (λ m q z. name_refused nodes m (free m q) (rw (← q.slots) (took.unmet z)))
+        (λ m q z. name_refused nodes m (free m q) (rw (← q.slots) (found-unmet _ _ found took.unmet took.met z)))
         (λ all.
         ⊎_elim
-        (λ (e : slot ≡ 0). omega arith)
-        (λ (e : slot ≡ 0 → ⊥). low (omega (arith, e)))
-        (equal slot 0))
+        (λ (e : slot_or_0 found ≡ 0). omega arith)
+        (λ (e : slot_or_0 found ≡ 0 → ⊥). low (omega (arith, e)))
+        (equal (slot_or_0 found) 0))
       where
+        met : 0 < slot_or_0 found → slot_for false false (slots_in (t COUNTS) g) ≡ some (slot_or_0 found, slots_in (v COUNTS) h)
+        met pos = found-met (λ n. slot_for false false (slots_in (t COUNTS) g) ≡ some (n, slots_in (v COUNTS) h)) found took.met pos
+
         free : (m : Made) → PooledIn m.pool t g → lookup at m.pool.given ≡ none
         free m q = q.given at ∙ word_none (get_or (t GIVEN) at 0) (sym is ∙ lacks)
 
-        low : 0 < slot → slot ≤ highest_slot
-        low pos = taken_low (slots_in (t COUNTS) g) (slots_in (v COUNTS) h) slot (gaps_apart (t COUNTS) g live.apart) (took.met pos)
+        low : 0 < slot_or_0 found → slot_or_0 found ≤ highest_slot
+        low pos = taken_low (slots_in (t COUNTS) g) (slots_in (v COUNTS) h) (slot_or_0 found) (gaps_apart (t COUNTS) g live.apart) (met pos)

@@ -1,5 +1,6 @@
 -- The name's slot, before the pool has its count. Assumes nothing.
-use Rattle.std.specs.Prelude.{Bool, false, List, [], ◌∷◌, ◌≡◌, ℕ, ◌+◌, ◌≤◌, ◌<◌, length, get_or, drop}
+use Rattle.std.specs.Prelude.{Bool, false, List, [], ◌∷◌, ◌≡◌, ℕ, ◌+◌, ◌≤◌, ◌<◌, length, get_or, drop, unwrap_or}
+use Rattle.std.specs.Prelude as std
 use Rattle.std.proofs.Math.Option.{some}
 use Rattle.definition.specs.Basics.{good, bad}
 use Rattle.definition.specs.Slots.{highest_slot}
@@ -21,6 +22,10 @@ BuildAt s t = read_build (drop (get_or (t COUNTS) AT 0 + 1) s) ≡ some ((job_in
 -- r tells whether it wants the name, for any rows that the words are
 abbrev pub Wants : List ℕ → List ℕ → Store → Bool → Type 0
 Wants s p t r = (rows : Rows) → RowedIn p rows t → r ≡ name_wanted (job_in s).build.name_byte (length (table_of rows))
+
+-- a slot, or 0 for none
+abbrev pub slot_or_0 : std.Option ℕ → ℕ
+slot_or_0 r = unwrap_or r 0
 
 -- the name has this slot, or there is none and r is the refusal's number
 pub record KeptName (slot : ℕ) (t u : Store) (r : ℕ) : Type 0 where
