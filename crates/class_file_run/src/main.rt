@@ -100,17 +100,18 @@ fn next_read(
 fn next_class(
     input: &mut impl Read,
     output: &mut impl Write,
-    line: &mut Line,
     bytes: &mut [u8; 262208],
     methods: &mut [u8; 131072],
     file: &mut [u8],
+    text: &mut [u8],
 ) -> Result<(), End> {
+    let mut line = Line::new(text);
     let mut kind = [0u8; 1];
     frames::read_part(input, &mut kind, 1)?;
     let read = if kind[0] == 0 {
-        next_write(input, line, bytes, methods, file)
+        next_write(input, &mut line, bytes, methods, file)
     } else {
-        next_read(input, line, bytes)
+        next_read(input, &mut line, bytes)
     };
     read.map_err(|e| e.inside())?;
     line.end(output)?;
@@ -127,18 +128,9 @@ fn run_stream(
     file: &mut [u8; 196608],
     text: &mut [u8; 524288],
 ) -> io::Result<()> {
-    let mut line = Line::new(text);
-    let mut classes: u64 = 0;
-    let end = loop {
-        if let Err(end) = next_class(input, output, &mut line, bytes, methods, file) {
-            break end;
-        }
-        if classes == u64::MAX {
-            break End::WriteFailed;
-        }
-        classes += 1;
-    };
-    frames::tell(errors, b"class_file_run", end, classes)
+    frames::answer_all(errors, b"class_file_run", || {
+        next_class(input, output, bytes, methods, file, text)
+    })
 }
 
 fn main(rt: HostRuntime) -> io::Result<()> {
