@@ -111,12 +111,9 @@ fn run_stream(
     given: &mut [u8; 196608],
     text: &mut [u8; 1048576],
 ) -> io::Result<()> {
-    for traces in 0..u64::MAX {
-        if let Err(end) = next_trace(input, output, pool, trace, given, text) {
-            return frames::tell(errors, b"trace_run", end, traces);
-        }
-    }
-    frames::tell(errors, b"trace_run", End::Whole, u64::MAX)
+    frames::answer_all(errors, b"trace_run", || {
+        next_trace(input, output, pool, trace, given, text)
+    })
 }
 
 fn main(rt: HostRuntime) -> io::Result<()> {
