@@ -181,7 +181,7 @@ fn put_outcome(
     }
 }
 
-// Runs a job over memory as `poolrun_lent` says.
+// Runs a job over memory as `poolrun_lent` says: seven parameters as in cpool::run, whose clause `Ran` names each.
 fn run_over(
     page: &mut Page,
     job: &[u8],

@@ -11,6 +11,7 @@ pub(crate) struct Page<'a> {
     at: usize,
 }
 
+// By hand, since put_hex's clause says the definition's digits; std's `{:x}` would have to be shown to be the same, which is no plainer.
 fn digit(n: u8) -> u8
     requires { n < 16 }
     ensures { result ≡ hex_digit n }
