@@ -211,7 +211,8 @@ fn add_worked(job: &[u8], w: &mut [u32], p: &[usize], at: usize) -> usize
     add_counted(job, w, p, at, CONSTANT_COUNT, 0)
 }
 
-// The definition at a place; the place behind it: `define_one`. The form pass has read what settings say.
+// The definition at a place; the place behind it: `define_one`. The form pass has read what settings say. The first bytes stay numbers, as
+// the document writes them: an enum of them would be made and matched here alone.
 fn define_one(
     job: &[u8],
     w: &mut [u32],

@@ -36,7 +36,7 @@ fn first_child(w: &[u32], p: &[usize], k: usize) -> usize
     load(w, p, FIRSTS, load(w, p, NODES, k))
 }
 
-// The slot of a child that has one: a raw number is itself.
+// The slot of a child that has one: a raw number is itself. A child is a word of lent memory: a raw number, or ENTRY + a node.
 pub fn child_slot(w: &[u32], p: &[usize], child: usize) -> usize
     requires { On p.now (length w.now) × (child < ENTRY + size p.now GIVEN) }
     ensures { (result ≡ child_slot (store p.now w.now GIVEN) child) × IsWord result }
@@ -134,7 +134,7 @@ fn same_row(w: &[u32], p: &[usize], k: usize, l: usize) -> bool
     true
 }
 
-// The place in INLINE of a row that is the same as node k's, of this hash.
+// The place in INLINE of a row that is the same as node k's, of this hash. A `while`: it follows links, and counts no index.
 fn find_row(w: &[u32], p: &[usize], k: usize, hash: usize) -> Option<usize>
     requires { On p.now (length w.now) × RowRoom p.now × KidsIn p.now (store p.now w.now) × RowWordsIn p.now (store p.now w.now) × (k < node_count (store p.now w.now)) × (hash ≡ hash_row (row_in (store p.now w.now) k)) × IsWord hash }
     ensures { Sought (λ i. row_in (store p.now w.now) (get_or (store p.now w.now INLINE) i 0) ≡ row_in (store p.now w.now) k) (inline_count (store p.now w.now)) (link_of result) }
@@ -150,7 +150,7 @@ fn find_row(w: &[u32], p: &[usize], k: usize, hash: usize) -> Option<usize>
     None
 }
 
-// Raw rows whose index is next are written.
+// Raw rows whose index is next are written. A `while`: the first raw row whose index isn't next ends it, and both counts are kept.
 fn write_raw(w: &mut [u32], p: &[usize])
     requires { On p.now (length w.old) × RowRoom p.now × RawsReadyIn p.now (store p.now w.old) × RowWordsIn p.now (store p.now w.old) }
     ensures { WroteRaws p.now (store p.now w.old) (store p.now w.new) }

@@ -48,7 +48,8 @@ pub fn reference_word(job: &[u8], p: &[usize], at: usize, bootstrap: bool) -> us
     }
 }
 
-// The hash of the name whose length byte stands at a place, of the kind that records of this first byte (41, 42) define.
+// The hash of the name whose length byte stands at a place, of the kind that records of this first byte (41, 42) define. The byte stays
+// as the job has it: it is compared with bytes of the job and hashed, and an enum would only be written back as it.
 fn hash_name(job: &[u8], at: usize, first: u8) -> usize
     requires { Stands short_name job.now at }
     ensures { (result ≡ hash_bytes first (label_at job.now at)) × IsWord result }
@@ -73,7 +74,7 @@ fn names_same(job: &[u8], naming: usize, at: usize, first: u8) -> bool
     job[naming + 2..naming + 2 + n] == job[at + 1..at + 1 + n]
 }
 
-// The name of this hash and first byte whose length byte stands at a place.
+// The name of this hash and first byte whose length byte stands at a place. A `while`: it follows links, and counts no index.
 fn find_name(job: &[u8], w: &[u32], p: &[usize], hash: usize, at: usize, first: u8) -> Option<usize>
     requires { On p.now (length w.now) × Work job.now p.now × NamesIn (size p.now NAME-HEADS) job.now (store p.now w.now) × Stands short_name job.now at × (hash ≡ hash_bytes first (label_at job.now at)) × IsWord hash }
     ensures { Sought (Named job.now first (label_at job.now at)) (name_count (store p.now w.now)) (link_of result) }
@@ -132,7 +133,7 @@ fn first_goal(job: &[u8], w: &[u32], p: &[usize], i: usize) -> usize
     }
     match find_symbol(job, w, p, target) {
         Some(i) => NAME + i,
-        None => REFUSED + 12,
+        None => REFUSED + Refusal::NameUndefined as usize,
     }
 }
 
@@ -182,12 +183,16 @@ fn jump_names(w: &mut [u32], p: &[usize]) -> usize
     left
 }
 
-// A word that still leads to a name is circular: 13.
+// A word that still leads to a name is circular. Refusals stand in lent memory as words, REFUSED + a number.
 fn ended(goal: usize) -> usize
     requires { IsWord goal }
     ensures { (result ≡ end_of goal) × IsWord result }
 {
-    if goal < NAME { goal } else { REFUSED + 13 }
+    if goal < NAME {
+        goal
+    } else {
+        REFUSED + Refusal::Circular as usize
+    }
 }
 
 // Every name that still leads to a name has the goal 13.
@@ -202,7 +207,7 @@ fn end_names(w: &mut [u32], p: &[usize])
     }
 }
 
-// Every name's goal.
+// Every name's goal. A `while`: the span doubles each round, so that no range goes over it.
 pub fn resolve_names(job: &[u8], w: &mut [u32], p: &[usize])
     requires { On p.now (length w.old) × Work job.now p.now × AllNames (size p.now NAME-HEADS) job.now (store p.now w.old) }
     ensures { NamesFollowed job.now (store p.now w.old) (store p.now w.new) }
@@ -229,7 +234,7 @@ pub fn goal_of(job: &[u8], w: &[u32], p: &[usize], reference: usize) -> usize
     }
     match find_symbol(job, w, p, reference) {
         Some(i) => load(w, p, NAME_GOALS, i),
-        None => REFUSED + 12,
+        None => REFUSED + Refusal::NameUndefined as usize,
     }
 }
 
