@@ -44,7 +44,8 @@ const NAME: [u8; 19] = [
     b'd', b's',
 ];
 
-// The pieces of a file: each returns the place behind what it wrote.
+// The pieces of a file: each returns the place behind what it wrote. Not a generic one over BigEndian, which has no law that a
+// number has as many bytes as its width: each call would have to show it.
 fn write_short(out: &mut [u8], at: usize, x: u16) -> usize
     requires { at + 2 ≤ length out.old }
     ensures { Wrote out.old at (bytes2 x) out.new result }

@@ -157,7 +157,8 @@ pub fn entry_length(tag: u8, literal: usize) -> usize
     }
 }
 
-// The pieces of an entry: each returns the place behind what it wrote.
+// The pieces of an entry: each returns the place behind what it wrote. Not a generic one over BigEndian, which has no law that a
+// number has as many bytes as its width: each call would have to show it.
 fn write_byte(out: &mut [u8], at: usize, x: u8) -> usize
     requires { at < length out.old }
     ensures { Wrote out.old at (x ∷ []) out.new result }
