@@ -1,6 +1,6 @@
 -- The folder's steps: what a part and two parts come to, at their places. Assumes nothing.
 use mathlib.Core.Path.{◌≡◌, refl, sym, ap, ◌∙◌, subst}
-use mathlib.Core.Bool.{Bool, true, false}
+use mathlib.Core.Bool.{Bool, true, false, ◌||◌}
 use mathlib.Core.List.{List, []}
 use mathlib.Core.Option.{Option, none, some}
 use Rattle.std.specs.Prelude as std
@@ -161,6 +161,20 @@ alike_same a b k e = go (eqb (tag_of a) (tag_of b)) refl e
     go true h i = (ap kind_there i, one_tag b a (sym (eqb-true (tag_of a) (tag_of b) h)) ∙ ap kind_there i)
     go false h i = absurd (let z : ◌≡◌ {A = ℕ} 0 1 = cc in omega arith)
 
+or_first : (z t : Bool) (y : Bool) → y ≡ true → (y || z || t) ≡ true
+or_first z t true e = refl
+or_first z t false e = absurd (let z : ◌≡◌ {A = ℕ} 0 1 = cc in omega arith)
+
+or_second : (z t : Bool) (y : Bool) → z ≡ true → (y || z || t) ≡ true
+or_second true t true e = refl
+or_second true t false e = refl
+or_second false t y e = absurd (let z : ◌≡◌ {A = ℕ} 0 1 = cc in omega arith)
+
+or_third : (z t : Bool) (y : Bool) → y ≡ false → z ≡ false → t ≡ (y || z || t)
+or_third false t false e f = refl
+or_third true t y e f = absurd (let z : ◌≡◌ {A = ℕ} 0 1 = cc in omega arith)
+or_third false t true e f = absurd (let z : ◌≡◌ {A = ℕ} 0 1 = cc in omega arith)
+
 comes_apply :
     (g : Sign) (a b : Expression) (v w x : Value) → Comes (number_of v) (value (number_of v) a) v → Comes (number_of w) (value (number_of w) b) w →
     Combined g v w x → Comes (number_of x) (value (number_of x) (apply g a b)) x
@@ -264,6 +278,29 @@ module _ (r : std.Option Opens) (x : ℕ) (e : opens r ≡ lookup x openings) wh
   unfolding opens
   opening_neither h = ap opens (sym h) ∙ e
 
--- at a depth that isn't 0
-pub up : (s : List ℕ) (at deep : ℕ) (r : std.Option Folded) → (deep ≡ 0 → ⊥) → Folds s at (suc (deep - 1)) r → Folds s at deep r
-up s at deep r any h = let e : suc (deep - 1) ≡ deep = omega arith in subst (λ d. Folds s at d r) e h
+module _ (s : List ℕ) (at deep : ℕ) (any : deep ≡ 0 → ⊥) where
+  up : (r : std.Option Folded) → Folds s at (suc (deep - 1)) r → Folds s at deep r
+  up r h = let e : suc (deep - 1) ≡ deep = omega arith in subst (λ d. Folds s at d r) e h
+
+  pub leaf_arm :
+      (kind : Number) → some (of_leaf kind) ≡ lookup (get_or s at 0) openings → (v : Value) → v ≡ of_number kind (bits_at kind s (at + 1)) → (n : ℕ) → n ≡ size_of kind →
+      Folds s at deep (Some (record { value = v; next = at + 1 + n }))
+  leaf_arm kind o v e n f = rw (e, f) (up (Some _) (folds_leaf s at (deep - 1) kind o))
+
+  pub neither_arm : none ≡ lookup (get_or s at 0) openings → Folds s at deep None
+  neither_arm o = up None (folds_neither s at (deep - 1) o)
+
+  module _ (g : Sign) (o : some (of_sign g) ≡ lookup (get_or s at 0) openings) where
+    pub first_arm : Folds s (at + 1) (deep - 1) None → Folds s at deep None
+    first_arm f = up None (first_refused s at (deep - 1) g o f)
+
+    module _ (v : Folded) (f : Folds s (at + 1) (deep - 1) (Some v)) where
+      pub second-arm : Folds s v.next (deep - 1) None → Folds s at deep None
+      second-arm f' = up None (second-refused s at (deep - 1) g o v f f')
+
+      pub mixed_arm : (w : Folded) → Folds s v.next (deep - 1) (Some w) → Combines g v.value w.value None → Folds s at deep None
+      mixed_arm w f' c = up None (folds_mixed s at (deep - 1) g o v f w f' c)
+
+      pub join_arm :
+          (w : Folded) → Folds s v.next (deep - 1) (Some w) → (x : Value) → Combines g v.value w.value (Some x) → Folds s at deep (Some (record { value = x; next = w.next }))
+      join_arm w f' x c = up (Some _) (folds_join s at (deep - 1) g o v f w f' x c)

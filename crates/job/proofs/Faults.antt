@@ -1,4 +1,6 @@
 -- The tests that a definition goes through, one by one, come to what is wrong with it. Assumes nothing.
+use Rattle.std.specs.Prelude as std
+use Rattle.std.specs.Prelude.{Some, None}
 use mathlib.Core.Bool.{Bool, true, false}
 use mathlib.Core.List.{List, [], ◌∷◌}
 use mathlib.Core.Path.{◌≡◌, refl, sym, ◌∙◌}
@@ -12,7 +14,19 @@ use Rattle.job.specs.declared.JobCounts.{JobCounts}
 use Rattle.job.specs.declared.Opening.{Opening}
 use Rattle.job.specs.declared.Opening.TheVariants.{Constant, Bootstrap, NamedConstant, NamedBootstrap, RawConstant, RawBootstrap, Version, Texts, Highest, Expression}
 use Rattle.job.specs.contracts.Opening.{the_type}
-use Rattle.job.specs.Forms.{is_plain, is_setting, number_opened, room_for, highest_fault, setting_fault, counted_as}
+use Rattle.job.specs.Forms.{is_plain, is_setting, number_opened, broken_with, room_for, highest_fault, setting_fault, counted_as}
+
+-- ---- a text that isn't one
+
+module _ (place : ℕ) (broken : Bool) where
+  pub broken_now : broken ≡ true → Some place ≡ broken_with place broken None
+  unfolding broken_with
+  broken_now h = rw h
+
+  pub broken_before : (earlier : std.Option ℕ) → (earlier ≡ None → broken ≡ false) → earlier ≡ broken_with place broken earlier
+  unfolding broken_with
+  broken_before None h = rw (h refl)
+  broken_before (Some earlier) h = refl
 
 -- ---- what opens neither a table's entry, nor a number; what is plain
 

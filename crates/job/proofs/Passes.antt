@@ -96,6 +96,10 @@ counted-left s next c v b = rw (← add-one c.definitions)
 
 -- ---- 25
 
+broken_first : (place : ℕ) → as_broken (Some place) ≡ some place
+unfolding as_broken
+broken_first place = refl
+
 held : (place : ℕ) (t : Bool) → t ≡ true → at_record place (unless t 25) ≡ good (tt {0})
 unfolding unless at_record
 held place true h = refl
@@ -113,6 +117,12 @@ module _ (c : JobCounts) where
   unfolding texts_hold texts_held as_broken
   texts_told None = refl
   texts_told (Some place) = refl
+
+  texts_good : (broken : std.Option ℕ) → texts_hold c.texts broken ≡ good (tt {0}) → texts_held (Holding c (as_broken broken)) ≡ good (tt {0})
+  texts_good broken h = texts_told broken ∙ h
+
+  texts_bad : (broken : std.Option ℕ) (refusal : Refusal) → texts_hold c.texts broken ≡ bad refusal → texts_held (Holding c (as_broken broken)) ≡ bad refusal
+  texts_bad broken refusal h = texts_told broken ∙ h
 
 module _ (s : List ℕ) (at : ℕ) (c : JobCounts) (b : Option ℕ) where
   pub definitions_none : length s ≤ at → DefinitionsLeft s at c b ≡ bad (record { code = 3; place = c.definitions })
@@ -182,14 +192,14 @@ module _ (s : List ℕ) (at : ℕ) (c : JobCounts) (low : at < length s) (small 
 
       pub definitions_held : texts_hold d.texts broken ≡ good (tt {0}) → DefinitionsLeft s at c (as_broken earlier) ≡ DefinitionsLeft s next d (as_broken broken)
       definitions_held holds =
-          definitions_next s at c (as_broken earlier) low small e next d m (rw broken_is (texts_told d broken ∙ holds))
+          definitions_next s at c (as_broken earlier) low small e next d m (rw broken_is (texts_good d broken holds))
           ∙ ap (DefinitionsLeft s next d) broken_is
 
       -- a record 48 and a text that isn't one
       pub definitions_broken : (refusal : Refusal) → texts_hold d.texts broken ≡ bad refusal → DefinitionsLeft s at c (as_broken earlier) ≡ bad refusal
       unfolding form_definitions at_record tallied
       definitions_broken refusal holds =
-          let b = rw m.count at (texts_told d broken ∙ holds) in
+          let b = rw m.count at (texts_bad d broken refusal holds) in
           definitions_here s at c (as_broken earlier) low small
           ∙ rw (ne_eqb (get_or s at 0) 0x50 e, form_definitions, read_here s at c (as_broken earlier) low small, m.read, tables_counted m.value c (as_broken earlier), broken_is, b)
 

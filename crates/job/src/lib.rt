@@ -266,23 +266,17 @@ fn skip_bootstrap(job: &[u8], at: usize, entries: usize) -> Option<Skipped>
     })
 }
 
-fn skip_constant(
-    job: &[u8],
-    at: usize,
-    shape: Option<Shape>,
-    constants: usize,
-    bootstraps: usize,
-) -> Option<Skipped>
+fn skip_constant(job: &[u8], at: usize, shape: Option<Shape>, counts: JobCounts) -> Option<Skipped>
     requires { at ≤ length job.now }
-    ensures { SkipsAfter constants bootstraps (entry_body (fields_of shape)) job.now at result }
+    ensures { SkipsAfter counts.constants counts.bootstraps (entry_body (fields_of shape)) job.now at result }
 {
     match shape? {
         Shape::Text => skip_text(job, at),
         Shape::Bits(n) => skip_bytes(job, at, n as usize),
-        Shape::One => skip_reference(job, at, constants),
-        Shape::Two => skip_pair(job, at, constants, constants),
-        Shape::KindOne => skip_handle(job, at, constants),
-        Shape::Dynamic => skip_pair(job, at, bootstraps, constants),
+        Shape::One => skip_reference(job, at, counts.constants),
+        Shape::Two => skip_pair(job, at, counts.constants, counts.constants),
+        Shape::KindOne => skip_handle(job, at, counts.constants),
+        Shape::Dynamic => skip_pair(job, at, counts.bootstraps, counts.constants),
     }
 }
 
@@ -321,23 +315,17 @@ fn skip_expression(job: &[u8], at: usize) -> Option<Skipped>
 }
 
 // A definition behind its first byte.
-fn skip_definition(
-    job: &[u8],
-    at: usize,
-    opening: Opening,
-    constants: usize,
-    bootstraps: usize,
-) -> Option<Skipped>
+fn skip_definition(job: &[u8], at: usize, opening: Opening, counts: JobCounts) -> Option<Skipped>
     requires { at ≤ length job.now }
-    ensures { SkipsAfter constants bootstraps (body_of opening) job.now at result }
+    ensures { SkipsAfter counts.constants counts.bootstraps (body_of opening) job.now at result }
 {
     match opening {
-        Opening::Constant(shape) => skip_constant(job, at, shape, constants, bootstraps),
-        Opening::Bootstrap => skip_bootstrap(job, at, constants),
-        Opening::NamedConstant => skip_naming(job, at, constants),
-        Opening::NamedBootstrap => skip_naming(job, at, bootstraps),
-        Opening::RawConstant => skip_placing(job, at, constants),
-        Opening::RawBootstrap => skip_placing(job, at, bootstraps),
+        Opening::Constant(shape) => skip_constant(job, at, shape, counts),
+        Opening::Bootstrap => skip_bootstrap(job, at, counts.constants),
+        Opening::NamedConstant => skip_naming(job, at, counts.constants),
+        Opening::NamedBootstrap => skip_naming(job, at, counts.bootstraps),
+        Opening::RawConstant => skip_placing(job, at, counts.constants),
+        Opening::RawBootstrap => skip_placing(job, at, counts.bootstraps),
         Opening::Version => skip_raw_slot(job, at),
         Opening::Texts => Some(bare(at)),
         Opening::Highest => skip_raw_slot(job, at),
@@ -400,13 +388,13 @@ fn first_alone(records: usize, number: usize) -> Result<(), Refusal>
 
 // The table that a definition so opened goes into isn't full.
 #[tactic(auto, unfolding(crate::specs::Forms::room_for))]
-fn has_room(opening: Opening, constants: usize, bootstraps: usize) -> bool
-    ensures { result ≡ room_for opening constants bootstraps }
+fn has_room(opening: Opening, counts: JobCounts) -> bool
+    ensures { result ≡ room_for opening counts.constants counts.bootstraps }
 {
     match opening {
-        Opening::Constant(_) => constants < TABLE_SIZE,
-        Opening::Bootstrap => bootstraps < TABLE_SIZE,
-        Opening::Expression => constants < TABLE_SIZE,
+        Opening::Constant(_) => counts.constants < TABLE_SIZE,
+        Opening::Bootstrap => counts.bootstraps < TABLE_SIZE,
+        Opening::Expression => counts.constants < TABLE_SIZE,
         _ => true,
     }
 }
@@ -522,12 +510,8 @@ fn form_entry(job: &[u8], at: usize, opening: Opening, counts: JobCounts) -> Res
     requires { (at < length job.now) × Bounded at counts × Opens job.now at opening × (is_plain opening ≡ true) }
     ensures { Steps (form_definition (tables_in counts)) (λ d. d ∷ []) 0 job.now at counts result }
 {
-    let constants = counts.constants;
-    let bootstraps = counts.bootstraps;
-    let entry = skip_definition(job, at + 1, opening, constants, bootstraps).ok_or(
-        Refusal::Malformed,
-    )?;
-    if !has_room(opening, constants, bootstraps) {
+    let entry = skip_definition(job, at + 1, opening, counts).ok_or(Refusal::Malformed)?;
+    if !has_room(opening, counts) {
         return Err(Refusal::TableFull);
     }
     if !entry.cited {
@@ -544,11 +528,7 @@ fn form_setting(job: &[u8], at: usize, opening: Opening, counts: JobCounts) -> R
     requires { (at < length job.now) × Bounded at counts × Opens job.now at opening × (is_setting opening ≡ true) }
     ensures { Steps (form_definition (tables_in counts)) (λ d. d ∷ []) 0 job.now at counts result }
 {
-    let constants = counts.constants;
-    let bootstraps = counts.bootstraps;
-    let setting = skip_definition(job, at + 1, opening, constants, bootstraps).ok_or(
-        Refusal::Malformed,
-    )?;
+    let setting = skip_definition(job, at + 1, opening, counts).ok_or(Refusal::Malformed)?;
     let number = setting_number(job, at + 1, opening);
     may_stand(opening, number, counts)?;
     Ok(Step {
@@ -562,12 +542,10 @@ fn form_worked(job: &[u8], at: usize, counts: JobCounts) -> Result<Step, Refusal
     requires { (at < length job.now) × Bounded at counts × Opens job.now at Expression }
     ensures { Steps (form_definition (tables_in counts)) (λ d. d ∷ []) 0 job.now at counts result }
 {
-    let constants = counts.constants;
-    let bootstraps = counts.bootstraps;
-    let expression = skip_definition(job, at + 1, Opening::Expression, constants, bootstraps).ok_or(
+    let expression = skip_definition(job, at + 1, Opening::Expression, counts).ok_or(
         Refusal::Malformed,
     )?;
-    if !has_room(Opening::Expression, constants, bootstraps) {
+    if !has_room(Opening::Expression, counts) {
         return Err(Refusal::TableFull);
     }
     folding::constant_at(job, at + 1)?;

@@ -1,6 +1,6 @@
 -- `folding::fold` meets its contract. Assumes nothing.
-use Rattle.std.specs.Prelude.{Some, None}
-use Rattle.folding.proofs.Folds.{read_low, leaf_read, folds_none, folds_neither, folds_leaf, first_reads, second_reads, first_refused, second-refused, folds_mixed, folds_join, opening_leaf, opening_sign, opening_neither, up}
+use Rattle.std.specs.Prelude.{Some}
+use Rattle.folding.proofs.Folds.{read_low, leaf_read, folds_none, first_reads, second_reads, opening_leaf, opening_sign, opening_neither, leaf_arm, neither_arm, first_arm, second-arm, mixed_arm, join_arm}
 use Rattle.folding.specs.Folding.{kind_of, sign_of}
 use lib.ListN.{get_or}
 use native.Mathlib.Omega.{arith}
@@ -19,7 +19,7 @@ returns-in_err-kind t c =
     let s = c.args.job.now in
     let at = c.args.at in
     let o = opening_neither _ (get_or s at 0) c.opens_of.ensures c.in_err-kind.was in
-    rw c.from_residual.ensures (up s at c.args.deep None c.if-deep-eq0.false (folds_neither s at (c.args.deep - 1) o))
+    rw c.from_residual.ensures (neither_arm s at c.args.deep c.if-deep-eq0.false o)
 
 pub overflow_add-at : goal.overflow_add-at
 overflow_add-at t c = let h = c.requires in omega (arith, read_low c.args.job.now c.args.at h.fuel h.what h.rest h.read)
@@ -60,7 +60,7 @@ returns-in_err-v-in-Parts t c =
     let at = c.args.at in
     let o = opening_sign _ (get_or s at 0) c.opens_of.ensures c.in-Parts.sign (c.in_ok-kind.was ∙ ap Some c.in-Parts.is) in
     rw c.from_residual-in_err-v-in-Parts.ensures
-    (up s at c.args.deep None c.if-deep-eq0.false (first_refused s at (c.args.deep - 1) (sign_of c.in-Parts.sign) o c.in_err-v-in-Parts.ensures))
+    (first_arm s at c.args.deep c.if-deep-eq0.false (sign_of c.in-Parts.sign) o c.in_err-v-in-Parts.ensures)
 
 pub fold-requires-in-Parts : goal.fold-requires-in-Parts
 fold-requires-in-Parts t c =
@@ -75,7 +75,7 @@ returns-in_err-w-in-Parts t c =
     let at = c.args.at in
     let o = opening_sign _ (get_or s at 0) c.opens_of.ensures c.in-Parts.sign (c.in_ok-kind.was ∙ ap Some c.in-Parts.is) in
     rw c.from_residual-in_err-w-in-Parts.ensures
-    (up s at c.args.deep None c.if-deep-eq0.false (second-refused s at (c.args.deep - 1) (sign_of c.in-Parts.sign) o c.in_ok-v-in-Parts.v c.in_ok-v-in-Parts.ensures c.in_err-w-in-Parts.ensures))
+    (second-arm s at c.args.deep c.if-deep-eq0.false (sign_of c.in-Parts.sign) o c.in_ok-v-in-Parts.v c.in_ok-v-in-Parts.ensures c.in_err-w-in-Parts.ensures)
 
 pub returns-in_err-combine-in-Parts : goal.returns-in_err-combine-in-Parts
 returns-in_err-combine-in-Parts t c =
@@ -83,19 +83,18 @@ returns-in_err-combine-in-Parts t c =
     let at = c.args.at in
     let o = opening_sign _ (get_or s at 0) c.opens_of.ensures c.in-Parts.sign (c.in_ok-kind.was ∙ ap Some c.in-Parts.is) in
     rw c.from_residual-in_err-combine-in-Parts.ensures
-    (up s at c.args.deep None c.if-deep-eq0.false (folds_mixed s at (c.args.deep - 1) (sign_of c.in-Parts.sign) o c.in_ok-v-in-Parts.v c.in_ok-v-in-Parts.ensures c.in_ok-w-in-Parts.w c.in_ok-w-in-Parts.ensures c.in_err-combine-in-Parts.ensures))
+    (mixed_arm s at c.args.deep c.if-deep-eq0.false (sign_of c.in-Parts.sign) o c.in_ok-v-in-Parts.v c.in_ok-v-in-Parts.ensures c.in_ok-w-in-Parts.w c.in_ok-w-in-Parts.ensures c.in_err-combine-in-Parts.ensures)
 
 pub returns-in-Leaf : goal.returns-in-Leaf
 returns-in-Leaf t c =
     let s = c.args.job.now in
     let at = c.args.at in
     let o = opening_leaf _ (get_or s at 0) c.opens_of.ensures c.in-Leaf.kind (c.in_ok-kind.was ∙ ap Some c.in-Leaf.is) in
-    rw (c.leaf_at.ensures, c.size_of.ensures)
-    (up s at c.args.deep (Some _) c.if-deep-eq0.false (folds_leaf s at (c.args.deep - 1) (kind_of c.in-Leaf.kind) o))
+    leaf_arm s at c.args.deep c.if-deep-eq0.false (kind_of c.in-Leaf.kind) o c.leaf_at.result c.leaf_at.ensures c.size_of.result c.size_of.ensures
 
 pub returns-in_ok-combine-in-Parts : goal.returns-in_ok-combine-in-Parts
 returns-in_ok-combine-in-Parts t c =
     let s = c.args.job.now in
     let at = c.args.at in
     let o = opening_sign _ (get_or s at 0) c.opens_of.ensures c.in-Parts.sign (c.in_ok-kind.was ∙ ap Some c.in-Parts.is) in
-    up s at c.args.deep (Some _) c.if-deep-eq0.false (folds_join s at (c.args.deep - 1) (sign_of c.in-Parts.sign) o c.in_ok-v-in-Parts.v c.in_ok-v-in-Parts.ensures c.in_ok-w-in-Parts.w c.in_ok-w-in-Parts.ensures c.in_ok-combine-in-Parts.field-0 c.in_ok-combine-in-Parts.ensures)
+    join_arm s at c.args.deep c.if-deep-eq0.false (sign_of c.in-Parts.sign) o c.in_ok-v-in-Parts.v c.in_ok-v-in-Parts.ensures c.in_ok-w-in-Parts.w c.in_ok-w-in-Parts.ensures c.in_ok-combine-in-Parts.field-0 c.in_ok-combine-in-Parts.ensures
