@@ -463,60 +463,34 @@ fn cut_everywhere(output: &mut impl Write, job: &[u8]) -> Result<()> {
     end_line(output)
 }
 
-// The same for that job alone: its length is in its type.
-fn refused_job(output: &mut impl Write, job: &[u8; 162], code: u32, place: usize) -> Result<()> {
-    refused(output, job, code, place)
-}
-
-fn counted_job(output: &mut impl Write, job: &[u8; 162]) -> Result<()> {
-    counted(output, job, [24, 17, 2, 22, 3, 1, 1, 3])
-}
-
-// The job with another byte at a place is refused with this number, at the record that has the byte.
-fn refused_with(
+// The job with another byte at a place is refused with this number, at the record that has the byte; with none it is still well formed, and
+// counts the same.
+fn told_with(
     output: &mut impl Write,
     job: [u8; 162],
     at: usize,
     byte: u8,
-    code: u32,
+    refusal: Option<u32>,
 ) -> Result<()> {
     let mut other = job;
     if at < 162 {
         other[at] = byte;
     }
-    refused_job(output, &other, code, record_at(at))
-}
-
-// The job with another byte at a place is still well formed, and counts the same.
-fn counted_with(output: &mut impl Write, job: [u8; 162], at: usize, byte: u8) -> Result<()> {
-    let mut other = job;
-    if at < 162 {
-        other[at] = byte;
+    match refusal {
+        Some(code) => refused(output, &other, code, record_at(at)),
+        None => counted(output, &other, [24, 17, 2, 22, 3, 1, 1, 3]),
     }
-    counted_job(output, &other)
 }
 
-fn refused_at_each(
+fn told_at_each(
     output: &mut impl Write,
     job: [u8; 162],
     places: &[usize],
     byte: u8,
-    code: u32,
+    refusal: Option<u32>,
 ) -> Result<()> {
     for at in places {
-        refused_with(output, job, *at, byte, code)?;
-    }
-    end_line(output)
-}
-
-fn counted_at_each(
-    output: &mut impl Write,
-    job: [u8; 162],
-    places: &[usize],
-    byte: u8,
-) -> Result<()> {
-    for at in places {
-        counted_with(output, job, *at, byte)?;
+        told_with(output, job, *at, byte, refusal)?;
     }
     end_line(output)
 }
@@ -566,8 +540,8 @@ const NUMBERS: [(usize, u8); 19] = [
 fn wrong_numbers(output: &mut impl Write, job: [u8; 162]) -> Result<()> {
     for (at, missing) in NUMBERS {
         if 0 < missing {
-            refused_with(output, job, at, missing, 4)?;
-            counted_with(output, job, at, missing - 1)?;
+            told_with(output, job, at, missing, Some(4))?;
+            told_with(output, job, at, missing - 1, None)?;
         }
     }
     end_line(output)
@@ -575,14 +549,14 @@ fn wrong_numbers(output: &mut impl Write, job: [u8; 162]) -> Result<()> {
 
 // Requests and 60 before 50, 50 and definitions after it.
 fn out_of_place(output: &mut impl Write, job: [u8; 162]) -> Result<()> {
-    refused_with(output, job, 33, 0x51, 3)?;
-    refused_with(output, job, 33, 0x60, 3)?;
-    refused_with(output, job, 144, 0x52, 3)?;
-    refused_with(output, job, 145, 0x50, 3)?;
-    refused_with(output, job, 149, 0x07, 3)?;
-    refused_with(output, job, 153, 0x41, 3)?;
-    counted_with(output, job, 158, 0)?;
-    counted_with(output, job, 158, 2)?;
+    told_with(output, job, 33, 0x51, Some(3))?;
+    told_with(output, job, 33, 0x60, Some(3))?;
+    told_with(output, job, 144, 0x52, Some(3))?;
+    told_with(output, job, 145, 0x50, Some(3))?;
+    told_with(output, job, 149, 0x07, Some(3))?;
+    told_with(output, job, 153, 0x41, Some(3))?;
+    told_with(output, job, 158, 0, None)?;
+    told_with(output, job, 158, 2, None)?;
     end_line(output)
 }
 
@@ -596,6 +570,7 @@ fn fill(job: &mut [u8], kind: u8, size: usize, end: usize)
 }
 
 // What stands behind 65,536 entries is refused at its record, 65,536.
+// Beside counted_behind: what the two expect is of two types, and one function of both is no plainer.
 fn refused_behind(
     output: &mut impl Write,
     job: &mut [u8],
@@ -761,10 +736,10 @@ fn main(rt: HostRuntime) -> Result<()> {
     counted(output, &job, [24, 17, 2, 22, 3, 1, 1, 3])?;
     end_line(output)?;
     cut_everywhere(output, &job)?;
-    refused_at_each(output, job, &STARTS, 0x15, 3)?;
-    refused_at_each(output, job, &FORMS, 3, 3)?;
-    refused_at_each(output, job, &LENGTHS, 0xff, 3)?;
-    counted_at_each(output, job, &FREE, 0xff)?;
+    told_at_each(output, job, &STARTS, 0x15, Some(3))?;
+    told_at_each(output, job, &FORMS, 3, Some(3))?;
+    told_at_each(output, job, &LENGTHS, 0xff, Some(3))?;
+    told_at_each(output, job, &FREE, 0xff, None)?;
     wrong_numbers(output, job)?;
     out_of_place(output, job)?;
     full_tables(output)?;

@@ -72,6 +72,7 @@ enum Opening {
 
 // A part of a record that was skipped: the place behind it, whether what it cites by number stands earlier, and how many references it adds
 // to an entry.
+// `cited` refuses nothing yet: a full table, 5, is told ahead of what isn't there, 4.
 #[derive(Clone, Copy)]
 struct Skipped {
     next: usize,
