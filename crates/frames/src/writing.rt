@@ -3,6 +3,7 @@ ghost use Rattle.std.specs.Prelude.{[], ◌∷◌, ◌≡◌, ◌≤◌, ◌<◌
 ghost use Rattle.definition.specs.Ascii.{ascii, decimal, hex};
 ghost use Rattle.frames.specs.Line.{standing, put, put_number};
 
+use printing::Printer;
 use std::io::{Error, Write};
 
 // Why a text isn't written.
@@ -32,6 +33,15 @@ pub fn write_part(output: &mut impl Write, text: &[u8], n: usize) -> Result<(), 
     }
     output.write_all(&text[..n])?;
     Ok(())
+}
+
+fn two_digits(b: u8) -> [u8; 2]
+    ensures { result ≡ hex (b ∷ []) }
+{
+    let mut digits = [0u8; 2];
+    let mut printer = Printer::new(&mut digits, 2);
+    printer.put_hex(b as usize, 2);
+    digits
 }
 
 // The words stand in the buffer one behind the other, each whole or not at all.
@@ -78,9 +88,7 @@ impl<'a> Line<'a> {
         ensures same_buffer { self.new.text.ghost_name ≡ self.old.text.ghost_name }
         ensures digits { standing self.new ≡ put (standing self.old) (hex (b ∷ [])) }
     {
-        let mut digits = [0u8; 2];
-        printing::put_hex(&mut digits, 2, 0, b as usize, 2);
-        self.put_word(&digits);
+        self.put_word(&two_digits(b));
     }
 
     // A number's decimal digits, behind a space.

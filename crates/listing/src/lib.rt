@@ -5,12 +5,14 @@ mod opening;
 mod words;
 
 ghost use Rattle.places.specs.Standing.{slot_of};
-ghost use Rattle.printing.specs.Printed.{CanPut, Printed};
+ghost use Rattle.std.specs.Prelude.{◌≡◌, ◌<◌, ◌≤◌, length};
+ghost use Rattle.printing.specs.Printed.{Printed, Ready, Prints};
 ghost use Rattle.listing.specs.Listing.{lines};
 ghost use Rattle.listing.specs.Views.{Views, finished};
 ghost use Rattle.listing.specs.Lists.{line_of, Lists};
 
 use opening::put_held;
+use printing::Printer;
 use refusal::Refusal;
 use words::put_kind;
 use writer::BigEndian;
@@ -22,27 +24,24 @@ fn put_line(
     count: u16,
     methods: &[u8],
     table: &[usize; 65536],
-    out: &mut [u8],
-    room: usize,
-    at: usize,
+    printer: &mut Printer,
     slot: u16,
-) -> usize
+)
     requires views { Views pool.now places.now count methods.now table.now }
-    requires can_put { CanPut out.old room at }
-    ensures { Printed out.old room at (line_of (finished pool.now count methods.now) slot (slot_of (finished pool.now count methods.now).slots slot)) out.new result }
+    requires ready { Ready printer.old }
+    ensures same_buffer { printer.new.out.ghost_name ≡ printer.old.out.ghost_name }
+    ensures text { Prints printer.old printer.new (line_of (finished pool.now count methods.now) slot (slot_of (finished pool.now count methods.now).slots slot)) }
 {
     let place = places[slot as usize];
     if place == 0 {
-        return at;
+        return;
     }
-    let end = printing::put_decimal(out, room, at, slot as usize);
-    let kind = printing::put(out, room, end, b' ');
-    let end = put_kind(out, room, kind, pool[place]);
-    let held = printing::put(out, room, end, b' ');
-    let end = put_held(
-        pool, places, count, methods, table, out, room, held, 7, slot,
-    );
-    printing::put(out, room, end, b'\n')
+    printer.put_decimal(slot as usize);
+    printer.put(b' ');
+    put_kind(printer, pool[place]);
+    printer.put(b' ');
+    put_held(pool, places, count, methods, table, printer, 7, slot);
+    printer.put(b'\n');
 }
 
 fn put_lines(
@@ -55,14 +54,14 @@ fn put_lines(
     room: usize,
 ) -> usize
     requires views { Views pool.now places.now count methods.now table.now }
-    requires can_put { CanPut out.old room 0 }
+    requires room { (length out.old ≤ room) × (room < 18446744073709551615) }
     ensures { Printed out.old room 0 (lines (finished pool.now count methods.now)) out.new result }
 {
-    let mut at = 0;
+    let mut printer = Printer::new(out, room);
     for slot in 1..u16::get(pool, 0) {
-        at = put_line(pool, places, count, methods, table, out, room, at, slot);
+        put_line(pool, places, count, methods, table, &mut printer, slot);
     }
-    at
+    printer.at()
 }
 
 // The text is counted, with no byte of `out` lent, before it is written.

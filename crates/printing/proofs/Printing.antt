@@ -9,7 +9,8 @@ use lib.ListN.{length, take, drop, set, get_or, length-append, length-set, drop_
 use lib.Seq.{paste, paste-zero, paste-suc, take-paste, drop-paste, take-length, drop-drop, drop-cons}
 use borrow.Author.Tests.{le-leb, lt-leb}
 use Rattle.facts.proofs.Lists.{order}
-use Rattle.printing.specs.Printed.{capped, CanPut, Printed}
+use Rattle.printing.specs.Printed.{capped, CanPut, Printed, Ready, Prints}
+use Rattle.printing.specs.declared.Printer.{Printer}
 
 pub capped-in : (room n : ℕ) → n ≤ room → capped room n ≡ n
 unfolding capped
@@ -155,3 +156,67 @@ next_of w i h = drop-cons w i 0 h ∙ ap (λ n. get_or w i 0 ∷ drop n w) (sym 
 
 pub end_of : (w : List ℕ) (i : ℕ) → length w ≤ i → drop i w ≡ []
 end_of w i h = drop_of_length-le w h
+
+-- ---- the same of a printer
+
+-- what a printer put, once its place and what is behind it are known
+pub prints :
+    {before after : Printer} {t : List ℕ} → Ready before → after.room ≡ before.room
+    → Printed before.out.now before.room before.at t after.out.now after.at → Prints before after t
+prints {before} {after} {t} can same p =
+    let can' = ready can p in
+    record { began = can; can = (omega (arith, can'), omega (arith, can'), omega (arith, can')); same_room = same; printed = p }
+
+pub nothing_printed : (p : Printer) → Ready p → Prints p p []
+nothing_printed p can = prints can refl (nothing p.out.now p.room p.at can)
+
+-- one text, then another
+pub both :
+    {a b c : Printer} {t u : List ℕ} → Prints a b t → Prints b c u → Prints a c (t ++ u)
+both {a} {b} {c} {t} {u} p q =
+    prints p.began (q.same_room ∙ p.same_room)
+    (then p.began p.printed (subst (λ r. Printed b.out.now r b.at u c.out.now c.at) p.same_room q.printed))
+
+pub in_words : {a b : Printer} {t u : List ℕ} → t ≡ u → Prints a b t → Prints a b u
+in_words {a} {b} e p = subst (Prints a b) e p
+
+-- past the room one text is as good as another, and none is
+pub any_printed : {a b : Printer} {t : List ℕ} (u : List ℕ) → a.room < a.at → Prints a b t → Prints a b u
+any_printed u h p = prints p.began p.same_room (any_past u p.began h p.printed)
+
+pub past_printed : (p : Printer) (t : List ℕ) → Ready p → p.room < p.at → Prints p p t
+past_printed p t can h = any_printed t h (nothing_printed p can)
+
+-- a part was put: what is left of the whole, put behind it, makes the whole
+pub record Rest (before : Printer) (whole : List ℕ) (mid : Printer) (rest : List ℕ) : Type 0 where
+  pub can : Ready mid
+  pub so : {after : Printer} → Prints mid after rest → Prints before after whole
+
+pub all_rest : (p : Printer) (whole : List ℕ) → Ready p → Rest p whole p whole
+all_rest p whole can = record { can = can; so = λ q. q }
+
+pub less_rest :
+    {before mid after : Printer} {whole t rest : List ℕ} → Rest before whole mid (t ++ rest) → Prints mid after t → Rest before whole after rest
+less_rest l p = record { can = p.can; so = λ q. l.so (both p q) }
+
+pub rest_as : {before mid : Printer} {whole t u : List ℕ} → t ≡ u → Rest before whole mid t → Rest before whole mid u
+rest_as {before} {mid} {whole} e l = subst (Rest before whole mid) e l
+
+pub none_rest : {before mid : Printer} {whole : List ℕ} → Rest before whole mid [] → Prints before mid whole
+none_rest {before} {mid} l = l.so (nothing_printed mid l.can)
+
+-- a printer that begins may put text
+pub begun :
+    {out : List ℕ} {room : ℕ} (p : Printer) → (length out ≤ room) × (room < 18446744073709551615) → (p.out.now ≡ out) × (p.room ≡ room) × (p.at ≡ 0) →
+    Ready p
+begun p low fresh = (omega (arith, ap length fresh.0), omega arith, omega arith)
+
+-- what it put and where it stands then is put from the start
+pub ended :
+    {out after text : List ℕ} {room end : ℕ} (p q : Printer) → (p.out.now ≡ out) × (p.room ≡ room) × (p.at ≡ 0) → Prints p q text →
+    after ≡ q.out.now → end ≡ q.at → Printed out room 0 text after end
+ended {out} {after} {text} {room} {end} p q fresh put is at =
+    subst (λ l. Printed out room 0 text l end) (sym is)
+    (subst (Printed out room 0 text q.out.now) (sym at)
+    (subst (λ l. Printed l room 0 text q.out.now q.at) fresh.0
+    (subst (λ r. Printed p.out.now r 0 text q.out.now q.at) fresh.1 (subst (λ n. Printed p.out.now p.room n text q.out.now q.at) fresh.2 put.printed))))

@@ -188,6 +188,17 @@ module _ (b : ℕ) (quote : b ≡ 0x22 → ⊥) (backslash : b ≡ 0x5c → ⊥)
 abbrev pub closed : List ℕ → List ℕ
 closed bytes = concat (map escaped bytes) ++ 0x22 ∷ []
 
+pub next_closed : (text : List ℕ) (i : ℕ) → i < length text → closed (drop i text) ≡ escaped (get_or text i 0) ++ closed (drop (i + 1) text)
+unfolding concat
+next_closed text i inside =
+    ap closed (next_of text i inside)
+    ∙ append_assoc (escaped (get_or text i 0)) (concat (map escaped (drop (i + 1) text))) (0x22 ∷ [])
+
+pub end_closed : (text : List ℕ) (i : ℕ) → length text ≤ i → 0x22 ∷ [] ≡ closed (drop i text)
+unfolding concat
+end_closed text i past = ap closed (sym (end_of text i past))
+
+-- the same of a part of a text
 pub closed_next :
     (text : List ℕ) (from size i : ℕ) → from + size ≤ length text → i < size
     → closed (drop i (take size (drop from text))) ≡ escaped (get_or text (from + i) 0) ++ closed (drop (i + 1) (take size (drop from text)))

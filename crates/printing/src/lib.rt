@@ -1,45 +1,9 @@
 // Texts and numbers as the listing of a pool shows them.
-//
-// A text is first counted and then written, by the same functions. They put bytes at `at` into `out`, as far as it reaches, and return where
-// they end, or one more than `room` where that is past it: `Printed`. While text is counted, `out` is empty.
 #![tactic(auto)]
 
-ghost use Rattle.std.specs.Prelude.{◌≡◌, [], ◌∷◌, ◌++◌, ◌+◌, ◌*◌, ◌/◌, ◌%◌, ◌<◌, ◌≤◌, length, take, drop};
+ghost use Rattle.std.specs.Prelude.{◌≡◌, [], ◌∷◌, ◌++◌, ◌+◌, ◌*◌, ◌/◌, ◌%◌, ◌<◌, ◌≤◌, ◌↔◌, IsTrue, length};
 ghost use Rattle.definition.specs.Ascii.{decimal, hex_digit};
-ghost use Rattle.printing.specs.Printed.{CanPut, Printed};
 ghost use Rattle.printing.specs.Numbers.{escaped, quoted, signed, hex_of, unit_of, fraction, power, scaled, magnitude, to_hex_string, float, double};
-
-pub fn put(out: &mut [u8], room: usize, at: usize, b: u8) -> usize
-    requires { CanPut out.old room at }
-    ensures { Printed out.old room at (b ∷ []) out.new result }
-{
-    if at < out.len() {
-        out[at] = b;
-    }
-    if at < room { at + 1 } else { room + 1 }
-}
-
-pub fn put_word(out: &mut [u8], room: usize, start: usize, word: &[u8]) -> usize
-    requires { CanPut out.old room start }
-    ensures { Printed out.old room start word.now out.new result }
-{
-    let mut at = start;
-    let mut i = 0;
-    while i < word.len() {
-        at = put(out, room, at, word[i]);
-        i += 1;
-    }
-    at
-}
-
-pub fn put_decimal(out: &mut [u8], room: usize, at: usize, n: usize) -> usize
-    requires { CanPut out.old room at }
-    ensures { Printed out.old room at (decimal n) out.new result }
-{
-    let mut digits = [0u8; 20];
-    let k = io::decimal(n as u64, &mut digits);
-    put_word(out, room, at, &digits[..k])
-}
 
 fn digit(n: usize) -> u8
     requires { n < 16 }
@@ -54,216 +18,242 @@ fn first_unit(count: usize) -> usize
     ensures { result ≡ unit_of count }
 {
     let mut unit = 1;
-    let mut i = 1;
-    while i < count {
+    for _digit in 1..count {
         unit *= 16;
-        i += 1;
     }
     unit
 }
 
-// The last so many hex digits of a number.
-pub fn put_hex(out: &mut [u8], room: usize, start: usize, n: usize, count: usize) -> usize
-    requires { CanPut out.old room start × (0 < count) × (count ≤ 16) }
-    ensures { Printed out.old room start (hex_of count n) out.new result }
-{
-    let mut at = start;
-    let mut unit = first_unit(count);
-    while 0 < unit {
-        at = put(out, room, at, digit(n / unit % 16));
-        unit /= 16;
-    }
-    at
-}
-
-pub fn put_int(out: &mut [u8], room: usize, at: usize, n: u32) -> usize
-    requires { CanPut out.old room at }
-    ensures { Printed out.old room at (signed 2147483648 n) out.new result }
-{
-    if n < 2147483648 {
-        return put_decimal(out, room, at, n as usize);
-    }
-    let digits = put(out, room, at, b'-');
-    put_decimal(out, room, digits, 4294967296 - n as usize)
-}
-
-pub fn put_long(out: &mut [u8], room: usize, at: usize, n: u64) -> usize
-    requires { CanPut out.old room at }
-    ensures { Printed out.old room at (signed 9223372036854775808 n) out.new result }
-{
-    if n < 9223372036854775808 {
-        return put_decimal(out, room, at, n as usize);
-    }
-    let digits = put(out, room, at, b'-');
-    put_decimal(out, room, digits, (u64::MAX - n + 1) as usize)
-}
-
-// Hex digits without the zeros behind the last that isn't one, but for one digit.
-fn put_fraction(out: &mut [u8], room: usize, at: usize, digits: usize, value: usize) -> usize
-    requires { CanPut out.old room at × (0 < digits) × (digits ≤ 16) }
-    ensures { Printed out.old room at (fraction digits value) out.new result }
-{
-    let mut m = value;
-    let mut count = digits;
-    while 1 < count && m % 16 == 0 {
-        m /= 16;
-        count -= 1;
-    }
-    put_hex(out, room, at, m, count)
-}
-
-fn put_power(out: &mut [u8], room: usize, at: usize, bias: usize, e: usize) -> usize
-    requires { CanPut out.old room at }
-    ensures { Printed out.old room at (power bias e) out.new result }
-{
-    if bias <= e {
-        return put_decimal(out, room, at, e - bias);
-    }
-    let digits = put(out, room, at, b'-');
-    put_decimal(out, room, digits, bias - e)
-}
-
-fn put_scaled(
-    out: &mut [u8],
+// Counts a text or writes it: it puts bytes at a place into `out`, as far as that reaches, and its place is then where they end, or one more
+// than the room where that is past it. While text is counted, `out` is empty.
+#[derive(Drop)]
+pub struct Printer<'a> {
+    out: &'a mut [u8],
     room: usize,
     at: usize,
-    bias: usize,
-    digits: usize,
-    e: usize,
-    m: usize,
-) -> usize
-    requires { CanPut out.old room at × (0 < digits) × (digits ≤ 16) }
-    ensures { Printed out.old room at (scaled bias digits e m) out.new result }
-{
-    let end = put_fraction(out, room, at, digits, m);
-    let power = put(out, room, end, b'p');
-    put_power(out, room, power, bias, e)
 }
 
-fn put_magnitude(
-    out: &mut [u8],
-    room: usize,
-    at: usize,
-    bias: usize,
-    digits: usize,
-    e: usize,
-    m: usize,
-) -> usize
-    requires { CanPut out.old room at × (0 < digits) × (digits ≤ 16) × (bias < 65536) }
-    ensures { Printed out.old room at (magnitude bias digits e m) out.new result }
-{
-    if e == 2 * bias + 1 {
-        return put_word(out, room, at, b"Infinity");
-    }
-    if 0 < e {
-        let one = put_word(out, room, at, b"0x1.");
-        return put_scaled(out, room, one, bias, digits, e, m);
-    }
-    if m == 0 {
-        return put_word(out, room, at, b"0x0.0p0");
-    }
-    let zero = put_word(out, room, at, b"0x0.");
-    put_scaled(out, room, zero, bias, digits, 1, m)
-}
+impl<'a> Printer<'a> {
+    ghost use Rattle.printing.specs.Printed.{Ready, Prints};
 
-// As Java's to_hex_string writes a float or a double: its sign, its exponent and its fraction of so many hex digits.
-fn put_hex_string(
-    out: &mut [u8],
-    room: usize,
-    at: usize,
-    bias: usize,
-    digits: usize,
-    sign: usize,
-    e: usize,
-    m: usize,
-) -> usize
-    requires { CanPut out.old room at × (0 < digits) × (digits ≤ 16) × (bias < 65536) }
-    ensures { Printed out.old room at (to_hex_string bias digits sign e m) out.new result }
-{
-    if e == 2 * bias + 1 {
-        if 0 < m {
-            return put_word(out, room, at, b"NaN");
+    pub fn new(out: &'a mut [u8], room: usize) -> Printer<'a>
+        requires { (length out.old ≤ room) × (room < 18446744073709551615) }
+        ensures same_buffer { result.out.ghost_name ≡ out.entry.ghost_name }
+        ensures begins { (result.out.now ≡ out.old) × (result.room ≡ room) × (result.at ≡ 0) }
+    {
+        Printer { out, room, at: 0 }
+    }
+
+    // Where the text ends, one more than the room where it is too long for that.
+    pub fn at(&self) -> usize
+        ensures { result ≡ self.now.at }
+    {
+        self.at
+    }
+
+    // Nothing that is put now would stand in the room.
+    pub fn is_past(&self) -> bool
+        ensures { IsTrue result ↔ (self.now.room < self.now.at) }
+    {
+        self.room < self.at
+    }
+
+    pub fn put(&mut self, b: u8)
+        requires { Ready self.old }
+        ensures same_buffer { self.new.out.ghost_name ≡ self.old.out.ghost_name }
+        ensures text { Prints self.old self.new (b ∷ []) }
+    {
+        if self.at < self.out.len() {
+            self.out[self.at] = b;
+        }
+        self.at = if self.at < self.room {
+            self.at + 1
+        } else {
+            self.room + 1
+        };
+    }
+
+    pub fn put_word(&mut self, word: &[u8])
+        requires { Ready self.old }
+        ensures same_buffer { self.new.out.ghost_name ≡ self.old.out.ghost_name }
+        ensures text { Prints self.old self.new word.now }
+    {
+        for &b in word {
+            self.put(b);
         }
     }
-    if sign == 0 {
-        return put_magnitude(out, room, at, bias, digits, e, m);
+
+    pub fn put_decimal(&mut self, n: usize)
+        requires { Ready self.old }
+        ensures same_buffer { self.new.out.ghost_name ≡ self.old.out.ghost_name }
+        ensures text { Prints self.old self.new (decimal n) }
+    {
+        let mut digits = [0u8; 20];
+        let k = io::decimal(n as u64, &mut digits);
+        self.put_word(&digits[..k]);
     }
-    let number = put(out, room, at, b'-');
-    put_magnitude(out, room, number, bias, digits, e, m)
-}
 
-// A Float's bits in hex, and its value.
-pub fn put_float(out: &mut [u8], room: usize, at: usize, bits: u32) -> usize
-    requires { CanPut out.old room at }
-    ensures { Printed out.old room at (hex_of 8 bits ++ 0x20 ∷ float bits) out.new result }
-{
-    let n = bits as usize;
-    let end = put_hex(out, room, at, n, 8);
-    let text = put(out, room, end, b' ');
-    put_hex_string(
-        out,
-        room,
-        text,
-        127,
-        6,
-        n / 2147483648,
-        n / 8388608 % 256,
-        2 * (n % 8388608),
-    )
-}
-
-pub fn put_double(out: &mut [u8], room: usize, at: usize, bits: u64) -> usize
-    requires { CanPut out.old room at }
-    ensures { Printed out.old room at (hex_of 16 bits ++ 0x20 ∷ double bits) out.new result }
-{
-    let n = bits as usize;
-    let end = put_hex(out, room, at, n, 16);
-    let text = put(out, room, end, b' ');
-    put_hex_string(
-        out,
-        room,
-        text,
-        1023,
-        13,
-        n / 9223372036854775808,
-        n / 4503599627370496 % 2048,
-        n % 4503599627370496,
-    )
-}
-
-// A byte as it stands in quotes.
-fn put_escaped(out: &mut [u8], room: usize, at: usize, b: u8) -> usize
-    requires { CanPut out.old room at }
-    ensures { Printed out.old room at (escaped b) out.new result }
-{
-    match b {
-        0x22 => put_word(out, room, at, b"\\\""),
-        0x5c => put_word(out, room, at, b"\\\\"),
-        0x20..=0x7e => put(out, room, at, b),
-        _ => {
-            let digits = put_word(out, room, at, b"\\x");
-            put_hex(out, room, digits, b as usize, 2)
+    // The last so many hex digits of a number.
+    pub fn put_hex(&mut self, n: usize, count: usize)
+        requires { Ready self.old × (0 < count) × (count ≤ 16) }
+        ensures same_buffer { self.new.out.ghost_name ≡ self.old.out.ghost_name }
+        ensures text { Prints self.old self.new (hex_of count n) }
+    {
+        let mut unit = first_unit(count);
+        while 0 < unit {
+            self.put(digit(n / unit % 16));
+            unit /= 16;
         }
     }
-}
 
-// So many bytes of a text, from a place on, in quotes.
-pub fn put_quoted(
-    out: &mut [u8],
-    room: usize,
-    start: usize,
-    text: &[u8],
-    from: usize,
-    size: usize,
-) -> usize
-    requires { CanPut out.old room start × (from + size ≤ length text.now) }
-    ensures { Printed out.old room start (quoted (take size (drop from text.now))) out.new result }
-{
-    let mut at = put(out, room, start, b'"');
-    let mut i = 0;
-    while i < size && at <= room {
-        at = put_escaped(out, room, at, text[from + i]);
-        i += 1;
+    // A number of two's complement, of which half are below `half`.
+    pub fn put_signed(&mut self, n: u64, half: u64)
+        requires { Ready self.old × (n < 2 * half) × (half ≤ 9223372036854775808) }
+        ensures same_buffer { self.new.out.ghost_name ≡ self.old.out.ghost_name }
+        ensures text { Prints self.old self.new (signed half n) }
+    {
+        if n < half {
+            self.put_decimal(n as usize);
+        } else {
+            self.put(b'-');
+            self.put_decimal((half - (n - half)) as usize);
+        }
     }
-    put(out, room, at, b'"')
+
+    // Hex digits without the zeros behind the last that isn't one, but for one digit.
+    fn put_fraction(&mut self, digits: usize, value: usize)
+        requires { Ready self.old × (0 < digits) × (digits ≤ 16) }
+        ensures same_buffer { self.new.out.ghost_name ≡ self.old.out.ghost_name }
+        ensures text { Prints self.old self.new (fraction digits value) }
+    {
+        let mut m = value;
+        let mut count = digits;
+        while 1 < count && m % 16 == 0 {
+            m /= 16;
+            count -= 1;
+        }
+        self.put_hex(m, count);
+    }
+
+    fn put_power(&mut self, bias: usize, e: usize)
+        requires { Ready self.old }
+        ensures same_buffer { self.new.out.ghost_name ≡ self.old.out.ghost_name }
+        ensures text { Prints self.old self.new (power bias e) }
+    {
+        if bias <= e {
+            self.put_decimal(e - bias);
+        } else {
+            self.put(b'-');
+            self.put_decimal(bias - e);
+        }
+    }
+
+    fn put_scaled(&mut self, bias: usize, digits: usize, e: usize, m: usize)
+        requires { Ready self.old × (0 < digits) × (digits ≤ 16) }
+        ensures same_buffer { self.new.out.ghost_name ≡ self.old.out.ghost_name }
+        ensures text { Prints self.old self.new (scaled bias digits e m) }
+    {
+        self.put_fraction(digits, m);
+        self.put(b'p');
+        self.put_power(bias, e);
+    }
+
+    fn put_magnitude(&mut self, bias: usize, digits: usize, e: usize, m: usize)
+        requires { Ready self.old × (0 < digits) × (digits ≤ 16) × (bias < 65536) }
+        ensures same_buffer { self.new.out.ghost_name ≡ self.old.out.ghost_name }
+        ensures text { Prints self.old self.new (magnitude bias digits e m) }
+    {
+        if e == 2 * bias + 1 {
+            return self.put_word(b"Infinity");
+        }
+        if 0 < e {
+            self.put_word(b"0x1.");
+            return self.put_scaled(bias, digits, e, m);
+        }
+        if m == 0 {
+            return self.put_word(b"0x0.0p0");
+        }
+        self.put_word(b"0x0.");
+        self.put_scaled(bias, digits, 1, m);
+    }
+
+    // As Java's to_hex_string writes a float or a double: its sign, its exponent and its fraction of so many hex digits.
+    fn put_hex_string(&mut self, bias: usize, digits: usize, sign: usize, e: usize, m: usize)
+        requires { Ready self.old × (0 < digits) × (digits ≤ 16) × (bias < 65536) }
+        ensures same_buffer { self.new.out.ghost_name ≡ self.old.out.ghost_name }
+        ensures text { Prints self.old self.new (to_hex_string bias digits sign e m) }
+    {
+        if e == 2 * bias + 1 {
+            if 0 < m {
+                return self.put_word(b"NaN");
+            }
+        }
+        if sign == 0 {
+            return self.put_magnitude(bias, digits, e, m);
+        }
+        self.put(b'-');
+        self.put_magnitude(bias, digits, e, m);
+    }
+
+    // A Float's bits in hex, and its value. One function for this and `put_double` would take seven constants: no plainer.
+    pub fn put_float(&mut self, bits: u32)
+        requires { Ready self.old }
+        ensures same_buffer { self.new.out.ghost_name ≡ self.old.out.ghost_name }
+        ensures text { Prints self.old self.new (hex_of 8 bits ++ 0x20 ∷ float bits) }
+    {
+        let n = bits as usize;
+        self.put_hex(n, 8);
+        self.put(b' ');
+        self.put_hex_string(127, 6, n / 2147483648, n / 8388608 % 256, 2 * (n % 8388608));
+    }
+
+    pub fn put_double(&mut self, bits: u64)
+        requires { Ready self.old }
+        ensures same_buffer { self.new.out.ghost_name ≡ self.old.out.ghost_name }
+        ensures text { Prints self.old self.new (hex_of 16 bits ++ 0x20 ∷ double bits) }
+    {
+        let n = bits as usize;
+        self.put_hex(n, 16);
+        self.put(b' ');
+        self.put_hex_string(
+            1023,
+            13,
+            n / 9223372036854775808,
+            n / 4503599627370496 % 2048,
+            n % 4503599627370496,
+        );
+    }
+
+    // A byte as it stands in quotes.
+    fn put_escaped(&mut self, b: u8)
+        requires { Ready self.old }
+        ensures same_buffer { self.new.out.ghost_name ≡ self.old.out.ghost_name }
+        ensures text { Prints self.old self.new (escaped b) }
+    {
+        match b {
+            0x22 => self.put_word(b"\\\""),
+            0x5c => self.put_word(b"\\\\"),
+            0x20..=0x7e => self.put(b),
+            _ => {
+                self.put_word(b"\\x");
+                self.put_hex(b as usize, 2)
+            }
+        }
+    }
+
+    // A text in quotes.
+    pub fn put_quoted(&mut self, text: &[u8])
+        requires { Ready self.old }
+        ensures same_buffer { self.new.out.ghost_name ≡ self.old.out.ghost_name }
+        ensures text { Prints self.old self.new (quoted text.now) }
+    {
+        self.put(b'"');
+        for &b in text {
+            if self.is_past() {
+                break;
+            }
+            self.put_escaped(b);
+        }
+        self.put(b'"');
+    }
 }

@@ -18,7 +18,7 @@ pub slice_bounds-put_lines-end-2 : goal.slice_bounds-put_lines-end-2
 slice_bounds-put_lines-end-2 c = refl
 
 pub put_lines-end-requires : goal.put_lines-end-requires
-put_lines-end-requires c = record { views = c.requires; can_put = (omega arith, omega arith, omega arith) }
+put_lines-end-requires c = record { views = c.requires; room = (omega arith, omega arith) }
 
 pub shape_of-out-then-room-end : goal.shape_of-out-then-room-end
 shape_of-out-then-room-end c = let p = c.put_lines-end in
@@ -33,7 +33,7 @@ returns-then-room-end c = let a = c.args in
 pub put_lines-requires : goal.put_lines-requires
 put_lines-requires c = let p = c.put_lines-end in
     let same = ap length (none_lent p.new.out c.args.out.now p.ensures.same) in
-    record { views = c.requires; can_put = (omega arith, omega arith, omega arith) }
+    record { views = c.requires; room = (omega arith, omega arith) }
 
 pub shape_of-out : goal.shape_of-out
 shape_of-out c = let p = c.put_lines-end in

@@ -1,6 +1,8 @@
 -- `listing::put_lines` meets its contract. The loop keeps: the lines from its slot on are left. Assumes nothing.
+use mathlib.Core.Path.{refl, ◌∙◌}
 use native.Mathlib.Omega.{arith}
-use Rattle.printing.proofs.Printing.{all_left, less_left, left_as, none_left}
+use borrow.Author.Rules.{rules}
+use Rattle.printing.proofs.Printing.{begun, ended, all_rest, less_rest, rest_as, none_rest}
 use Rattle.listing.specs.Listing.{lines}
 use Rattle.listing.specs.Views.{finished}
 use Rattle.listing.proofs.Lines.{line-next, lines_end, lines-all, counted}
@@ -13,13 +15,11 @@ get-slot-end-requires c = let a = c.args in
 
 pub loop-slot-init : goal.loop-slot-init
 loop-slot-init c = let a = c.args in
-    let v = c.requires.views in
     let f = finished a.pool.now a.count a.methods.now in
-    let many = (counted a.pool.now f.slots v.pool_read).1 in
-    left_as (lines-all f) (all_left a.out.now a.room 0 (lines f) c.requires.can_put)
+    (refl, rest_as (lines-all f) (all_rest c.new-printer.result (lines f) (begun c.new-printer.result c.requires.room c.new-printer.ensures.begins)))
 
-pub put_line-at-requires : goal.put_line-at-requires
-put_line-at-requires c = record { views = c.requires.views; can_put = c.loop-slot.invariant.can }
+pub put_line-requires : goal.put_line-requires
+put_line-requires c = record { views = c.requires.views; ready = c.loop-slot.invariant.1.can }
 
 pub loop-slot-preserved : goal.loop-slot-preserved
 loop-slot-preserved c = let a = c.args in
@@ -28,10 +28,7 @@ loop-slot-preserved c = let a = c.args in
     let f = finished a.pool.now a.count a.methods.now in
     let many = (counted a.pool.now f.slots v.pool_read).1 in
     let next = line-next f l.slot (omega arith) (omega (arith, c.get-slot-end.ensures)) in
-    less_left (left_as next l.invariant) c.put_line-at.ensures
-
-pub shape_of-out : goal.shape_of-out
-shape_of-out c = c.loop-slot.invariant.same
+    (c.put_line.ensures.same_buffer ∙ l.invariant.0, less_rest (rest_as next l.invariant.1) c.put_line.ensures.text)
 
 pub returns : goal.returns
 returns c = let a = c.args in
@@ -39,4 +36,5 @@ returns c = let a = c.args in
     let l = c.loop-slot in
     let f = finished a.pool.now a.count a.methods.now in
     let many = (counted a.pool.now f.slots v.pool_read).1 in
-    none_left (left_as (lines_end f l.slot (omega (arith, c.get-slot-end.ensures))) l.invariant)
+    let all = none_rest (rest_as (lines_end f l.slot (omega (arith, c.get-slot-end.ensures))) l.invariant.1) in
+    ended c.new-printer.result l.printer c.new-printer.ensures.begins all (search rules) c.at.ensures

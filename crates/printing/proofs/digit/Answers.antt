@@ -1,6 +1,5 @@
 -- `printing::digit` meets its contract. Assumes nothing.
 use native.Mathlib.Omega.{arith}
-use borrow.Author.Rules.{rules}
 use Rattle.printing.proofs.Decimals.{hex-low, hex-high}
 use Rattle.printing.proofs.digit.Goals as goal
 

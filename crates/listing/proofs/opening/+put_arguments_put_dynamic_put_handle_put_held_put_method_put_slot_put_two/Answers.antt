@@ -1,7 +1,7 @@
 -- `put_slot`, `put_method` and what they call meet their contracts: what each puts is what the definition opens there, piece by piece. Assumes
 -- nothing.
 use mathlib.Core.List.{◌++◌}
-use mathlib.Core.Path.{refl, sym, ap, ◌∙◌}
+use mathlib.Core.Path.{◌≡◌, refl, sym, ap, ◌∙◌}
 use Prim.Native.Nat.{◌+◌, ◌-◌}
 use native.Mathlib.Nat.{pos_of_ne-zero}
 use native.Mathlib.Omega.{arith}
@@ -9,7 +9,8 @@ use lib.ListN.{take, drop, get_or}
 use Rattle.std.specs.Prelude.{Some}
 use Rattle.definition.specs.Ascii.{ascii}
 use Rattle.printing.specs.Numbers.{quoted}
-use Rattle.printing.proofs.Printing.{all_left, less_left, left_as, none_left, then, ready, reworded, past}
+use Rattle.writer.specs.Numbers.{number2}
+use Rattle.printing.proofs.Printing.{all_rest, less_rest, rest_as, none_rest, both, in_words, past_printed}
 use Rattle.listing.specs.Listing.{slot, opened}
 use Rattle.listing.specs.Views.{finished}
 use Rattle.listing.specs.Opening.{arguments_at, comma}
@@ -22,10 +23,10 @@ pub put_arguments-loop-k-init : goal.put_arguments-loop-k-init
 put_arguments-loop-k-init t c = let a = c.args in
     let show = opened (finished a.pool.now a.count a.methods.now) a.left in
     let whole = arguments_at show a.methods.now a.p in
-    left_as (all_remaining show a.methods.now a.p c.get-size.result c.get-size.ensures) (all_left a.out.now a.room a.start whole c.requires.can_put)
+    (refl, rest_as (all_remaining show a.methods.now a.p c.get-size.result c.get-size.ensures) (all_rest a.printer.now whole c.requires.ready))
 
-pub put_arguments-put_slot-at-requires : goal.put_arguments-put_slot-at-requires
-put_arguments-put_slot-at-requires t c = (omega (arith, c.decreases), (c.requires.views, ready c.loop-k.invariant.can c.put_comma_before-at.ensures))
+pub put_arguments-put_slot-requires : goal.put_arguments-put_slot-requires
+put_arguments-put_slot-requires t c = (omega (arith, c.decreases), (c.requires.views, c.put_comma_before.ensures.text.can))
 
 pub put_arguments-loop-k-preserved : goal.put_arguments-loop-k-preserved
 put_arguments-loop-k-preserved t c = let a = c.args in
@@ -33,57 +34,46 @@ put_arguments-loop-k-preserved t c = let a = c.args in
     let l = c.loop-k in
     let size = c.get-size.result in
     let next = next-remaining show a.methods.now (a.p + 4) size l.k (omega arith) in
-    let here = ap (λ i. comma l.k ++ (show (slot i) ++ Remaining show a.methods.now (a.p + 4) size (l.k + 1))) (sym c.get-i.ensures) in
-    less_left (less_left (left_as (next ∙ here) l.invariant) c.put_comma_before-at.ensures) c.put_slot-at.ensures
+    let here = ap (λ i. comma l.k ++ (show (slot i) ++ Remaining show a.methods.now (a.p + 4) size (l.k + 1))) (sym c.get-i.ensures) in (
+      c.put_slot.ensures.same_buffer ∙ c.put_comma_before.ensures.same_buffer ∙ l.invariant.0,
+      less_rest (less_rest (rest_as (next ∙ here) l.invariant.1) c.put_comma_before.ensures.text) c.put_slot.ensures.text,
+    )
 
-pub put_arguments-returns-then-room-at : goal.put_arguments-returns-then-room-at
-put_arguments-returns-then-room-at t c = let l = c.loop-k in
-    l.invariant.so l.out l.at (past l.out c.args.room l.at _ l.invariant.can c.if-room-at.true)
+pub put_arguments-returns-then-is_past-clause-text : goal.put_arguments-returns-then-is_past-clause-text
+put_arguments-returns-then-is_past-clause-text t c = let l = c.loop-k in
+    l.invariant.1.so (past_printed l.printer _ l.invariant.1.can (c.is_past.ensures.0 c.if-is_past.true))
 
-pub put_arguments-returns : goal.put_arguments-returns
-put_arguments-returns t c = let a = c.args in
+pub put_arguments-returns-clause-text : goal.put_arguments-returns-clause-text
+put_arguments-returns-clause-text t c = let a = c.args in
     let show = opened (finished a.pool.now a.count a.methods.now) a.left in
     let l = c.loop-k in
-    none_left (left_as (none-remaining show a.methods.now (a.p + 4) c.get-size.result l.k c.loop-k-test.false) l.invariant)
-
-pub put_dynamic-put_between-to-requires : goal.put_dynamic-put_between-to-requires
-put_dynamic-put_between-to-requires t c = ready c.requires.can_put c.put_slot-end.ensures
+    none_rest (rest_as (none-remaining show a.methods.now (a.p + 4) c.get-size.result l.k c.loop-k-test.false) l.invariant.1)
 
 pub put_dynamic-put_method-requires : goal.put_dynamic-put_method-requires
-put_dynamic-put_method-requires t c = (omega (arith, c.decreases), (c.requires.views, ready (ready c.requires.can_put c.put_slot-end.ensures) c.put_between-to.ensures))
+put_dynamic-put_method-requires t c = (omega (arith, c.decreases), (c.requires.views, c.put_between.ensures.text.can))
 
-pub put_dynamic-returns : goal.put_dynamic-returns
-put_dynamic-returns t c = let a = c.args in
+pub put_dynamic-returns-clause-text : goal.put_dynamic-returns-clause-text
+put_dynamic-returns-clause-text t c = let a = c.args in
     let show = opened (finished a.pool.now a.count a.methods.now) a.left in
-    let can = c.requires.can_put in
-    let both = then can (then can c.put_slot-end.ensures c.put_between-to.ensures) c.put_method.ensures in
-    reworded (dynamic_is show a.pool.now a.p _ _ _ refl c.get-j.ensures c.get-i.ensures) both
+    let shown = both (both c.put_slot.ensures.text c.put_between.ensures.text) c.put_method.ensures.text in
+    in_words (dynamic_is show a.pool.now a.p _ _ _ refl c.get-j.ensures c.get-i.ensures) shown
 
-pub put_two-put_between-to-requires : goal.put_two-put_between-to-requires
-put_two-put_between-to-requires t c = ready c.requires.can_put c.put_slot-end.ensures
+pub put_two-put_slot-requires-2 : goal.put_two-put_slot-requires-2
+put_two-put_slot-requires-2 t c = (omega (arith, c.decreases), (c.requires.views, c.put_between.ensures.text.can))
 
-pub put_two-put_slot-requires : goal.put_two-put_slot-requires
-put_two-put_slot-requires t c = (omega (arith, c.decreases), (c.requires.views, ready (ready c.requires.can_put c.put_slot-end.ensures) c.put_between-to.ensures))
-
-pub put_two-returns : goal.put_two-returns
-put_two-returns t c = let a = c.args in
+pub put_two-returns-clause-text : goal.put_two-returns-clause-text
+put_two-returns-clause-text t c = let a = c.args in
     let show = opened (finished a.pool.now a.count a.methods.now) a.left in
-    let can = c.requires.can_put in
-    let both = then can (then can c.put_slot-end.ensures c.put_between-to.ensures) c.put_slot.ensures in
-    reworded (two_is show a.pool.now a.p _ _ _ refl c.get-i.ensures c.get-j.ensures) both
-
-pub put_handle-put-to-requires : goal.put_handle-put-to-requires
-put_handle-put-to-requires t c = ready c.requires.can_put c.put_reference_kind-space.ensures
+    let shown = both (both c.put_slot.ensures.text c.put_between.ensures.text) c.put_slot-2.ensures.text in
+    in_words (two_is show a.pool.now a.p _ _ _ refl c.get-i.ensures c.get-j.ensures) shown
 
 pub put_handle-put_slot-requires : goal.put_handle-put_slot-requires
-put_handle-put_slot-requires t c = (omega (arith, c.decreases), (c.requires.views, ready (ready c.requires.can_put c.put_reference_kind-space.ensures) c.put-to.ensures))
+put_handle-put_slot-requires t c = (omega (arith, c.decreases), (c.requires.views, c.put.ensures.text.can))
 
-pub put_handle-returns : goal.put_handle-returns
-put_handle-returns t c = let a = c.args in
+pub put_handle-returns-clause-text : goal.put_handle-returns-clause-text
+put_handle-returns-clause-text t c = let a = c.args in
     let show = opened (finished a.pool.now a.count a.methods.now) a.left in
-    let can = c.requires.can_put in
-    let kind = c.put_reference_kind-space.ensures in
-    reworded (handle_is show a.pool.now a.p _ _ refl c.get-i.ensures) (then can kind (then (ready can kind) c.put-to.ensures c.put_slot.ensures))
+    in_words (handle_is show a.pool.now a.p _ _ refl c.get-i.ensures) (both c.put_reference_kind.ensures.text (both c.put.ensures.text c.put_slot.ensures.text))
 
 pub put_held-bounds-pool-p : goal.put_held-bounds-pool-p
 put_held-bounds-pool-p t c = slot-inside c.requires.views c.args.n c.requires.nonzero
@@ -94,8 +84,8 @@ put_held-overflow_add-p t c = let a = c.args in
     let shown = shown_at_lem c.requires.views show a.n c.requires.nonzero c.shape_of.ensures (c.in-Some-Text.is ∙ ap Some c.in-Some-Text.field-0-is) in
     omega (arith, shown.1)
 
-pub put_held-get-size-requires : goal.put_held-get-size-requires
-put_held-get-size-requires t c = let a = c.args in
+pub put_held-get-requires : goal.put_held-get-requires
+put_held-get-requires t c = let a = c.args in
     let show = opened (finished a.pool.now a.count a.methods.now) a.left in
     let shown = shown_at_lem c.requires.views show a.n c.requires.nonzero c.shape_of.ensures (c.in-Some-Text.is ∙ ap Some c.in-Some-Text.field-0-is) in
     omega (arith, shown.1)
@@ -118,11 +108,29 @@ put_held-get-i-requires t c = let a = c.args in
     let shown = shown_at_lem c.requires.views show a.n c.requires.nonzero c.shape_of.ensures (c.in-Some-One.is ∙ ap Some c.in-Some-One.field-0-is) in
     omega (arith, shown.1)
 
+pub put_held-overflow_add-end : goal.put_held-overflow_add-end
+put_held-overflow_add-end t c = let a = c.args in
+    let show = opened (finished a.pool.now a.count a.methods.now) a.left in
+    let shown = shown_at_lem c.requires.views show a.n c.requires.nonzero c.shape_of.ensures (c.in-Some-Text.is ∙ ap Some c.in-Some-Text.field-0-is) in
+    omega (arith, shown.1)
+
+pub put_held-overflow_add-end-in-Some-Text : goal.put_held-overflow_add-end-in-Some-Text
+put_held-overflow_add-end-in-Some-Text t c = let a = c.args in
+    let show = opened (finished a.pool.now a.count a.methods.now) a.left in
+    let shown = shown_at_lem c.requires.views show a.n c.requires.nonzero c.shape_of.ensures (c.in-Some-Text.is ∙ ap Some c.in-Some-Text.field-0-is) in
+    omega (arith, shown.1, c.get.ensures)
+
+pub put_held-slice_bounds-put_quoted-end : goal.put_held-slice_bounds-put_quoted-end
+put_held-slice_bounds-put_quoted-end t c = let a = c.args in
+    let show = opened (finished a.pool.now a.count a.methods.now) a.left in
+    let shown = shown_at_lem c.requires.views show a.n c.requires.nonzero c.shape_of.ensures (c.in-Some-Text.is ∙ ap Some c.in-Some-Text.field-0-is) in
+    omega (arith, shown.1, c.get.ensures)
+
 pub put_held-put_quoted-requires : goal.put_held-put_quoted-requires
 put_held-put_quoted-requires t c = let a = c.args in
     let show = opened (finished a.pool.now a.count a.methods.now) a.left in
     let shown = shown_at_lem c.requires.views show a.n c.requires.nonzero c.shape_of.ensures (c.in-Some-Text.is ∙ ap Some c.in-Some-Text.field-0-is) in
-    (c.requires.can_put, omega (arith, shown.1, c.get-size.ensures))
+    c.requires.ready
 
 pub put_held-put_number-requires-clause-sized : goal.put_held-put_number-requires-clause-sized
 put_held-put_number-requires-clause-sized t c = let a = c.args in
@@ -134,119 +142,109 @@ pub put_held-put_two-requires : goal.put_held-put_two-requires
 put_held-put_two-requires t c = let a = c.args in
     let show = opened (finished a.pool.now a.count a.methods.now) a.left in
     let shown = shown_at_lem c.requires.views show a.n c.requires.nonzero c.shape_of.ensures (c.in-Some-Two.is ∙ ap Some c.in-Some-Two.field-0-is) in
-    (omega (arith, c.decreases), (c.requires.views, (c.requires.can_put, shown.1)))
+    (omega (arith, c.decreases), (c.requires.views, (c.requires.ready, shown.1)))
 
 pub put_held-put_dynamic-requires : goal.put_held-put_dynamic-requires
 put_held-put_dynamic-requires t c = let a = c.args in
     let show = opened (finished a.pool.now a.count a.methods.now) a.left in
     let shown = shown_at_lem c.requires.views show a.n c.requires.nonzero c.shape_of.ensures (c.in-Some-Dynamic.is ∙ ap Some c.in-Some-Dynamic.field-0-is) in
-    (omega (arith, c.decreases), (c.requires.views, (c.requires.can_put, shown.1)))
+    (omega (arith, c.decreases), (c.requires.views, (c.requires.ready, shown.1)))
 
 pub put_held-put_handle-requires : goal.put_held-put_handle-requires
 put_held-put_handle-requires t c = let a = c.args in
     let show = opened (finished a.pool.now a.count a.methods.now) a.left in
     let shown = shown_at_lem c.requires.views show a.n c.requires.nonzero c.shape_of.ensures (c.in-Some-KindOne.is ∙ ap Some c.in-Some-KindOne.field-0-is) in
-    (omega (arith, c.decreases), (c.requires.views, (c.requires.can_put, shown.1)))
+    (omega (arith, c.decreases), (c.requires.views, (c.requires.ready, shown.1)))
 
-pub put_held-returns-in-Some-Text : goal.put_held-returns-in-Some-Text
-put_held-returns-in-Some-Text t c = let a = c.args in
+pub put_held-returns-in-Some-Text-clause-text : goal.put_held-returns-in-Some-Text-clause-text
+put_held-returns-in-Some-Text-clause-text t c = let a = c.args in
     let show = opened (finished a.pool.now a.count a.methods.now) a.left in
     let shown = shown_at_lem c.requires.views show a.n c.requires.nonzero c.shape_of.ensures (c.in-Some-Text.is ∙ ap Some c.in-Some-Text.field-0-is) in
-    reworded (ap (λ n. quoted (take n (drop (get_or a.places.now a.n 0 + 3) a.pool.now))) c.get-size.ensures ∙ sym shown.0) c.put_quoted.ensures
+    let p = get_or a.places.now a.n 0 in
+    let size : p + 3 + c.get.result - (p + 3) ≡ number2 a.pool.now (p + 1) = omega (arith, c.get.ensures) in
+    in_words (ap (λ n. quoted (take n (drop (p + 3) a.pool.now))) size ∙ sym shown.0) c.put_quoted.ensures.text
 
-pub put_held-returns-in-Some-Bits : goal.put_held-returns-in-Some-Bits
-put_held-returns-in-Some-Bits t c = let a = c.args in
+pub put_held-returns-in-Some-Bits-clause-text : goal.put_held-returns-in-Some-Bits-clause-text
+put_held-returns-in-Some-Bits-clause-text t c = let a = c.args in
     let show = opened (finished a.pool.now a.count a.methods.now) a.left in
     let shown = shown_at_lem c.requires.views show a.n c.requires.nonzero c.shape_of.ensures (c.in-Some-Bits.is ∙ ap Some c.in-Some-Bits.field-0-is) in
-    reworded (sym shown.0) c.put_number.ensures
+    in_words (sym shown.0) c.put_number.ensures.text
 
-pub put_held-returns-in-Some-One : goal.put_held-returns-in-Some-One
-put_held-returns-in-Some-One t c = let a = c.args in
+pub put_held-returns-in-Some-One-clause-text : goal.put_held-returns-in-Some-One-clause-text
+put_held-returns-in-Some-One-clause-text t c = let a = c.args in
     let show = opened (finished a.pool.now a.count a.methods.now) a.left in
     let shown = shown_at_lem c.requires.views show a.n c.requires.nonzero c.shape_of.ensures (c.in-Some-One.is ∙ ap Some c.in-Some-One.field-0-is) in
-    reworded (ap (λ n. show (slot n)) c.get-i.ensures ∙ sym shown.0) c.put_slot.ensures
+    in_words (ap (λ n. show (slot n)) c.get-i.ensures ∙ sym shown.0) c.put_slot.ensures.text
 
-pub put_held-returns-in-Some-Two : goal.put_held-returns-in-Some-Two
-put_held-returns-in-Some-Two t c = let a = c.args in
+pub put_held-returns-in-Some-Two-clause-text : goal.put_held-returns-in-Some-Two-clause-text
+put_held-returns-in-Some-Two-clause-text t c = let a = c.args in
     let show = opened (finished a.pool.now a.count a.methods.now) a.left in
     let shown = shown_at_lem c.requires.views show a.n c.requires.nonzero c.shape_of.ensures (c.in-Some-Two.is ∙ ap Some c.in-Some-Two.field-0-is) in
-    reworded (sym shown.0) c.put_two.ensures
+    in_words (sym shown.0) c.put_two.ensures.text
 
-pub put_held-returns-in-Some-Dynamic : goal.put_held-returns-in-Some-Dynamic
-put_held-returns-in-Some-Dynamic t c = let a = c.args in
+pub put_held-returns-in-Some-Dynamic-clause-text : goal.put_held-returns-in-Some-Dynamic-clause-text
+put_held-returns-in-Some-Dynamic-clause-text t c = let a = c.args in
     let show = opened (finished a.pool.now a.count a.methods.now) a.left in
     let shown = shown_at_lem c.requires.views show a.n c.requires.nonzero c.shape_of.ensures (c.in-Some-Dynamic.is ∙ ap Some c.in-Some-Dynamic.field-0-is) in
-    reworded (sym shown.0) c.put_dynamic.ensures
+    in_words (sym shown.0) c.put_dynamic.ensures.text
 
-pub put_held-returns-in-Some-KindOne : goal.put_held-returns-in-Some-KindOne
-put_held-returns-in-Some-KindOne t c = let a = c.args in
+pub put_held-returns-in-Some-KindOne-clause-text : goal.put_held-returns-in-Some-KindOne-clause-text
+put_held-returns-in-Some-KindOne-clause-text t c = let a = c.args in
     let show = opened (finished a.pool.now a.count a.methods.now) a.left in
     let shown = shown_at_lem c.requires.views show a.n c.requires.nonzero c.shape_of.ensures (c.in-Some-KindOne.is ∙ ap Some c.in-Some-KindOne.field-0-is) in
-    reworded (sym shown.0) c.put_handle.ensures
+    in_words (sym shown.0) c.put_handle.ensures.text
 
-pub put_held-returns-in-None : goal.put_held-returns-in-None
-put_held-returns-in-None t c = let a = c.args in
+pub put_held-returns-in-None-clause-text : goal.put_held-returns-in-None-clause-text
+put_held-returns-in-None-clause-text t c = let a = c.args in
     let show = opened (finished a.pool.now a.count a.methods.now) a.left in
     let shown = shown_at_lem c.requires.views show a.n c.requires.nonzero c.shape_of.ensures c.in-None.is in
     absurd shown
 
-pub put_method-returns-then-room-at : goal.put_method-returns-then-room-at
-put_method-returns-then-room-at t c = past c.args.out.now c.args.room c.args.at _ c.requires.can_put c.if-room-at.true
+pub put_method-returns-then-is_past-clause-text : goal.put_method-returns-then-is_past-clause-text
+put_method-returns-then-is_past-clause-text t c = past_printed c.args.printer.now _ c.requires.ready (c.is_past.ensures.0 c.if-is_past.true)
 
-pub put_method-returns-then-levels-eq0 : goal.put_method-returns-then-levels-eq0
-put_method-returns-then-levels-eq0 t c = let a = c.args in
+pub put_method-returns-then-levels-eq0-clause-text : goal.put_method-returns-then-levels-eq0-clause-text
+put_method-returns-then-levels-eq0-clause-text t c = let a = c.args in
     let f = finished a.pool.now a.count a.methods.now in
-    reworded (closed f a.levels a.n c.if-levels-eq0.true).1 c.put_bracketed.ensures
+    in_words (closed f a.levels a.n c.if-levels-eq0.true).1 c.put_bracketed.ensures.text
 
-pub put_slot-returns-then-room-at : goal.put_slot-returns-then-room-at
-put_slot-returns-then-room-at t c = past c.args.out.now c.args.room c.args.at _ c.requires.can_put c.if-room-at.true
+pub put_slot-returns-then-is_past-clause-text : goal.put_slot-returns-then-is_past-clause-text
+put_slot-returns-then-is_past-clause-text t c = past_printed c.args.printer.now _ c.requires.ready (c.is_past.ensures.0 c.if-is_past.true)
 
-pub put_slot-returns-then-levels-eq0 : goal.put_slot-returns-then-levels-eq0
-put_slot-returns-then-levels-eq0 t c = let a = c.args in
+pub put_slot-returns-then-levels-eq0-clause-text : goal.put_slot-returns-then-levels-eq0-clause-text
+put_slot-returns-then-levels-eq0-clause-text t c = let a = c.args in
     let f = finished a.pool.now a.count a.methods.now in
-    reworded (closed f a.levels a.n c.if-levels-eq0.true).0 c.put_bracketed.ensures
+    in_words (closed f a.levels a.n c.if-levels-eq0.true).0 c.put_bracketed.ensures.text
 
-pub put_method-returns-then-count-n : goal.put_method-returns-then-count-n
-put_method-returns-then-count-n t c = reworded (bare_method c.requires.views c.args.levels c.args.n c.if-levels-eq0.false c.if-count-n.true) c.put_decimal.ensures
+pub put_method-returns-then-count-n-clause-text : goal.put_method-returns-then-count-n-clause-text
+put_method-returns-then-count-n-clause-text t c = in_words (bare_method c.requires.views c.args.levels c.args.n c.if-levels-eq0.false c.if-count-n.true) c.put_decimal.ensures.text
 
 pub put_method-get-i-requires : goal.put_method-get-i-requires
 put_method-get-i-requires t c = let room = (open_at c.requires.views c.args.levels c.args.n c.if-levels-eq0.false c.if-count-n.false).1 in
     omega arith
 
-pub put_method-put_word-to-requires : goal.put_method-put_word-to-requires
-put_method-put_word-to-requires t c = ready c.requires.can_put c.put_slot-end.ensures
+pub put_method-put_arguments-requires : goal.put_method-put_arguments-requires
+put_method-put_arguments-requires t c = (omega (arith, c.decreases), (c.requires.views, (c.put_word.ensures.text.can, (open_at c.requires.views c.args.levels c.args.n c.if-levels-eq0.false c.if-count-n.false).1)))
 
-pub put_method-put_arguments-end-requires : goal.put_method-put_arguments-end-requires
-put_method-put_arguments-end-requires t c = (omega (arith, c.decreases), (c.requires.views, (ready (ready c.requires.can_put c.put_slot-end.ensures) c.put_word-to.ensures, (open_at c.requires.views c.args.levels c.args.n c.if-levels-eq0.false c.if-count-n.false).1)))
-
-pub put_method-put-requires : goal.put_method-put-requires
-put_method-put-requires t c = ready (ready (ready c.requires.can_put c.put_slot-end.ensures) c.put_word-to.ensures) c.put_arguments-end.ensures
-
-pub put_method-returns : goal.put_method-returns
+pub put_method-returns-clause-text : goal.put_method-returns-clause-text
 unfolding ascii
-put_method-returns t c = let a = c.args in
+put_method-returns-clause-text t c = let a = c.args in
     let show = opened (finished a.pool.now a.count a.methods.now) (a.levels - 1) in
-    let can = c.requires.can_put in
     let handle = ap (λ i. show (slot i) ++ ascii " (" ++ arguments_at show a.methods.now (get_or a.table.now a.n 0) ++ ascii ")") c.get-i.ensures in
-    let args = then can (then can (then can c.put_slot-end.ensures c.put_word-to.ensures) c.put_arguments-end.ensures) c.put.ensures in
-    reworded (handle ∙ (open_at c.requires.views c.args.levels c.args.n c.if-levels-eq0.false c.if-count-n.false).0) args
+    let args = both (both (both c.put_slot.ensures.text c.put_word.ensures.text) c.put_arguments.ensures.text) c.put.ensures.text in
+    in_words (handle ∙ (open_at c.requires.views c.args.levels c.args.n c.if-levels-eq0.false c.if-count-n.false).0) args
 
-pub put_slot-returns-then-place-eq0 : goal.put_slot-returns-then-place-eq0
-put_slot-returns-then-place-eq0 t c = reworded (bare_slot c.requires.views c.args.levels c.args.n c.if-levels-eq0.false c.if-place-eq0.true) c.put_decimal.ensures
+pub put_slot-returns-then-place-eq0-clause-text : goal.put_slot-returns-then-place-eq0-clause-text
+put_slot-returns-then-place-eq0-clause-text t c = in_words (bare_slot c.requires.views c.args.levels c.args.n c.if-levels-eq0.false c.if-place-eq0.true) c.put_decimal.ensures.text
 
 pub put_slot-bounds-pool-place : goal.put_slot-bounds-pool-place
 put_slot-bounds-pool-place t c = slot-inside c.requires.views c.args.n (pos_of_ne-zero c.if-place-eq0.false)
 
-pub put_slot-returns-then-tag-eq1 : goal.put_slot-returns-then-tag-eq1
-put_slot-returns-then-tag-eq1 t c = reworded (text_slot c.requires.views c.args.levels c.args.n c.if-levels-eq0.false (pos_of_ne-zero c.if-place-eq0.false) c.if-tag-eq1.true) c.put_held.ensures
-
-pub put_slot-put-to-requires : goal.put_slot-put-to-requires
-put_slot-put-to-requires t c = ready c.requires.can_put c.put_kind-space.ensures
+pub put_slot-returns-then-tag-eq1-clause-text : goal.put_slot-returns-then-tag-eq1-clause-text
+put_slot-returns-then-tag-eq1-clause-text t c = in_words (text_slot c.requires.views c.args.levels c.args.n c.if-levels-eq0.false (pos_of_ne-zero c.if-place-eq0.false) c.if-tag-eq1.true) c.put_held.ensures.text
 
 pub put_slot-put_held-requires-2 : goal.put_slot-put_held-requires-2
-put_slot-put_held-requires-2 t c = (omega (arith, c.decreases), (c.requires.views, (ready (ready c.requires.can_put c.put_kind-space.ensures) c.put-to.ensures, pos_of_ne-zero c.if-place-eq0.false)))
+put_slot-put_held-requires-2 t c = (omega (arith, c.decreases), (c.requires.views, (c.put.ensures.text.can, pos_of_ne-zero c.if-place-eq0.false)))
 
-pub put_slot-returns : goal.put_slot-returns
-put_slot-returns t c = let can = c.requires.can_put in
-    let kind = c.put_kind-space.ensures in
-    reworded (named-slot c.requires.views c.args.levels c.args.n c.if-levels-eq0.false (pos_of_ne-zero c.if-place-eq0.false) c.if-tag-eq1.false) (then can kind (then (ready can kind) c.put-to.ensures c.put_held-2.ensures))
+pub put_slot-returns-clause-text : goal.put_slot-returns-clause-text
+put_slot-returns-clause-text t c = in_words (named-slot c.requires.views c.args.levels c.args.n c.if-levels-eq0.false (pos_of_ne-zero c.if-place-eq0.false) c.if-tag-eq1.false) (both c.put_kind.ensures.text (both c.put.ensures.text c.put_held-2.ensures.text))

@@ -1,7 +1,8 @@
 -- Levels fall from a slot or a method to what its constant holds or its arguments; at one level the measure falls from `put_held` to what opens
 -- its references, and from there to `put_slot`. Assumes nothing.
 use Rattle.std.proofs.Common.{◌+◌, ◌*◌}
-use Rattle.printing.proofs.Printing.{Left}
+use mathlib.Core.Path.{◌≡◌}
+use Rattle.printing.proofs.Printing.{Rest}
 use Rattle.listing.specs.Listing.{opened}
 use Rattle.listing.specs.Views.{finished}
 use Rattle.listing.specs.Opening.{arguments_at}
@@ -32,4 +33,5 @@ decreases-put_two l = 3 * l.left + 1
 abbrev pub invariant-put_arguments-loop-k : goal.invariant-put_arguments-loop-k
 invariant-put_arguments-loop-k l =
     let show = opened (finished l.pool l.count l.methods) l.left in
-    Left l.initial.out l.room l.start (arguments_at show l.methods l.p) l.out l.at (Remaining show l.methods (l.p + 4) l.size l.k)
+    (l.printer.out.ghost_name ≡ l.initial.printer.out.ghost_name)
+    × Rest l.initial.printer (arguments_at show l.methods l.p) l.printer (Remaining show l.methods (l.p + 4) l.size l.k)

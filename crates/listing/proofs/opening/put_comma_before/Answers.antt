@@ -1,17 +1,11 @@
 -- `listing::opening::put_comma_before` meets its contract. Assumes nothing.
-use Rattle.printing.proofs.Printing.{nothing, reworded}
+use native.Mathlib.Omega.{arith}
+use Rattle.printing.proofs.Printing.{nothing_printed, in_words}
 use Rattle.listing.proofs.Arguments.{no_comma, a_comma}
 use Rattle.listing.proofs.opening.put_comma_before.Goals as goal
 
-pub put_comma-requires : goal.put_comma-requires
-put_comma-requires c = c.requires
+pub returns-then-k-gt0-clause-text : goal.returns-then-k-gt0-clause-text
+returns-then-k-gt0-clause-text c = in_words (a_comma c.args.k (λ e. omega arith)) c.put_comma.ensures.text
 
-pub returns-then-k-eq0 : goal.returns-then-k-eq0
-returns-then-k-eq0 c = let a = c.args in
-    reworded (no_comma a.k c.if-k-eq0.true) (nothing a.out.now a.room a.at c.requires)
-
-pub shape_of-out : goal.shape_of-out
-shape_of-out c = c.put_comma.ensures.same
-
-pub returns-else-k-eq0 : goal.returns-else-k-eq0
-returns-else-k-eq0 c = reworded (a_comma c.args.k c.if-k-eq0.false) c.put_comma.ensures
+pub returns-else-k-gt0-clause-text : goal.returns-else-k-gt0-clause-text
+returns-else-k-gt0-clause-text c = in_words (no_comma c.args.k (omega arith)) (nothing_printed c.args.printer.now c.requires)

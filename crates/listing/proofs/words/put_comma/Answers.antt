@@ -2,12 +2,6 @@
 use Rattle.definition.specs.Ascii.{ascii}
 use Rattle.listing.proofs.words.put_comma.Goals as goal
 
-pub put_word-requires : goal.put_word-requires
-put_word-requires c = c.requires
-
-pub shape_of-out : goal.shape_of-out
-shape_of-out c = c.put_word.ensures.same
-
-pub returns : goal.returns
+pub returns-clause-text : goal.returns-clause-text
 unfolding ascii
-returns c = c.put_word.ensures
+returns-clause-text c = c.put_word.ensures.text
