@@ -1,5 +1,5 @@
 -- `building::has_index` meets its contract: the index's word is above 0 where there is one. Assumes nothing.
-use Rattle.std.specs.Prelude.{Bool, ◌≡◌, ℕ, Option, Some, None, ltb, is_some, refl}
+use Rattle.std.specs.Prelude.{◌≡◌, ℕ, Option, Some, None, ltb, is_some, refl}
 use borrow.Author.Tests.{lt-ltb}
 use Rattle.std.proofs.Common.{◌+◌, arith, sym, ap, ◌∙◌}
 use Rattle.store.specs.Chains.{link_of}

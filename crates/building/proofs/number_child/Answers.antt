@@ -8,7 +8,6 @@ use Rattle.store.specs.Store.{store}
 use mathlib.Core.Path.{sym, ap, ◌∙◌}
 use Rattle.refusal.specs.Numbers.{number, code_of}
 use Rattle.pool.proofs.Codes.{code-bad, code-kept}
-use native.Mathlib.Omega.{arith}
 use borrow.Author.Rules.{rules}
 use Rattle.building.proofs.number_child.Goals as goal
 -- `building::number_child` meets its contract. Assumes nothing.

@@ -1,4 +1,4 @@
-use mathlib.Core.Path.{sym, ap, ◌∙◌}
+use mathlib.Core.Path.{ap, ◌∙◌}
 use Rattle.store.proofs.Stores.{length-store}
 use Rattle.store.proofs.Laying.{work-sizes}
 use Rattle.store.specs.Store.{size, store}

@@ -1,9 +1,8 @@
-use mathlib.Core.Bool.{false}
-use mathlib.Core.Path.{refl, sym, ap, ◌∙◌}
+use mathlib.Core.Path.{sym, ap, ◌∙◌}
 use Rattle.store.proofs.Stores.{length-store}
 use Rattle.store.specs.Store.{store}
 use Rattle.store.specs.Regions.{NODES}
-use Rattle.pool.proofs.Children.{slotting_begin, slotting_end, slotting_refused, slotting_next, kids_count, kids_room, child_is, child_asks, child_tells}
+use Rattle.pool.proofs.Children.{slotting_end, slotting_refused, slotting_next, kids_count, kids_room, child_is, child_asks, child_tells}
 use Rattle.refusal.specs.Numbers.{number, code_of}
 use Rattle.pool.proofs.Codes.{code-bad, code-kept}
 use Rattle.pool.proofs.Nodal.{node_place_lem, entry_places}
