@@ -255,7 +255,7 @@ impl From<Result<usize, Refused>> for Numbers {
     }
 }
 
-// read_blocks for Rust and C: returns the number, and writes the place and the job's length.
+// read_blocks for Rust and C: returns the number, as the C interface has it, and writes the place and the job's length.
 #[unsafe(no_mangle)]
 pub extern "C" fn blocks_read(
     file: &[u8],

@@ -32,6 +32,7 @@ fn six_bits(bytes: &[u8], at: usize) -> Option<u16>
     }
 }
 
+// Forms of two bytes and of three have a function each: a loop over the bytes that follow would be no plainer than their sums.
 fn two_bytes(bytes: &[u8]) -> Option<Form>
     requires { (0 < length bytes.now) × (0xc0 ≤ get_or bytes.now 0 0) × (get_or bytes.now 0 0 < 0xe0) }
     ensures { MatchOption result (unit bytes.now ≡ none) (λ form. Begins bytes.now form.unit form.size) }
@@ -139,6 +140,7 @@ fn form_size(unit: u16) -> usize
     if unit < 0x800 { 2 } else { 3 }
 }
 
+// For the same reason a form of two bytes and one of three are written by a function each.
 fn put_two(text: &mut [u8], at: usize, unit: u16)
     requires { (unit < 0x800) × (at + 2 ≤ length text.old) }
     ensures { text.new ≡ paste text.old at (in_two unit) 2 }
@@ -230,7 +232,7 @@ fn tell(answer: Result<usize, Refusal>, size: &mut usize) -> u32
     }
 }
 
-// read_text for Rust and C: returns the number, and writes how many units there are.
+// read_text for Rust and C: returns the number, as the C interface has it, and writes how many units there are.
 #[unsafe(no_mangle)]
 pub extern "C" fn texts_read(text: &[u8], units: &mut [u16], size: &mut usize) -> u32
     ensures { Told (read_text (length units.old) text.now)
