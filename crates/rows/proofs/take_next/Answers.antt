@@ -1,1 +1,0 @@
--- `rows::take_next` meets its contract. The stores in turn. Assumes nothing.
