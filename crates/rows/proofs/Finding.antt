@@ -1,15 +1,16 @@
 -- A walk along a chain of inline rows finds the row of a node. Assumes nothing.
+use Rattle.std.specs.Prelude.{Some}
 use mathlib.Core.Bool.{Bool, true, false}
 use mathlib.Core.List.{List}
 use mathlib.Core.Path.{◌≡◌, sym, ap, ◌∙◌}
-use Prim.Native.Nat.{ℕ, ◌-◌, ◌≤◌, ◌<◌}
+use Prim.Native.Nat.{ℕ, ◌+◌, ◌-◌, ◌≤◌, ◌<◌}
 use native.Mathlib.Omega.{arith}
 use lib.ListN.{length, get_or}
 use Rattle.definition.specs.Basics.{same}
 use Rattle.facts.proofs.Lists.{same_true, same_refl}
 use Rattle.interner.specs.Nodes.{node_count}
 use Rattle.store.specs.Store.{Store, size}
-use Rattle.store.specs.Chains.{head_of, Sought}
+use Rattle.store.specs.Chains.{head_of, link_of, Sought}
 use Rattle.store.specs.Regions.{INDEXES, ROW-HEADS, ROW-LINKS, INLINE}
 use Rattle.store.proofs.Hashing.{head_lt}
 use Rattle.store.proofs.Walking.{both, Down, walk_start, walk_on}
@@ -64,6 +65,10 @@ module _ (p : List ℕ) (t : Store) (k : ℕ) (g : RowWordsIn p t) where
         pub looking_hit : r ≡ true → Sought (Is t k) (inline_count t) link
         looking_hit hit =
             record { low = d.below; hit = λ _. rw is at (sym (same_true (row_in t k) (row_in t x) (sym told ∙ hit))); miss = λ end. absurd (omega arith) }
+
+        -- the item is told
+        pub looking-found : r ≡ true → Sought (Is t k) (inline_count t) (link_of (Some (link - 1)))
+        looking-found hit = let again : link - 1 + 1 ≡ link = omega arith in rw again (looking_hit hit)
 
         module _ (miss : r ≡ false) where
           not-here : Is t k (link - 1) → ⊥

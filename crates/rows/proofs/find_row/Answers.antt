@@ -1,11 +1,9 @@
 -- `rows::find_row` meets its contract. No row from the link on, along the chain, is the one sought. Assumes nothing.
 use native.Mathlib.Omega.{arith}
-use mathlib.Core.Path.{◌≡◌}
-use Prim.Native.Nat.{◌+◌, ◌-◌}
 use Rattle.store.specs.Regions.{INDEXES, ROW-HEADS}
 use Rattle.store.specs.Store.{store}
 use Rattle.store.proofs.Stores.{length-store}
-use Rattle.rows.proofs.Finding.{looking_start, looking_low, looking_node, looking_hit, looking_on, looking_less, looking_miss}
+use Rattle.rows.proofs.Finding.{looking_start, looking_low, looking_node, looking-found, looking_on, looking_less, looking_miss}
 use Rattle.rows.proofs.find_row.Goals as goal
 
 pub loop-link-init : goal.loop-link-init
@@ -18,7 +16,7 @@ pub same_row-requires : goal.same_row-requires
 same_row-requires c = let a = c.args in let q = c.requires in (q.0, q.1, q.2, q.4, looking_node a.p.now (store a.p.now a.w.now) a.k q.3 c.loop-link.link c.loop-link-test.true c.loop-link.invariant c.load.result c.load.ensures.word)
 
 pub returns-then-same_row : goal.returns-then-same_row
-returns-then-same_row c = let a = c.args in let q = c.requires in let again : c.loop-link.link - 1 + 1 ≡ c.loop-link.link = omega (arith, c.loop-link-test.true) in rw again (looking_hit a.p.now (store a.p.now a.w.now) a.k q.3 c.loop-link.link c.loop-link-test.true c.loop-link.invariant c.load.result c.load.ensures.word c.same_row.result c.same_row.ensures c.if-same_row.true)
+returns-then-same_row c = let a = c.args in let q = c.requires in looking-found a.p.now (store a.p.now a.w.now) a.k q.3 c.loop-link.link c.loop-link-test.true c.loop-link.invariant c.load.result c.load.ensures.word c.same_row.result c.same_row.ensures c.if-same_row.true
 
 pub load-link-requires : goal.load-link-requires
 load-link-requires c = let a = c.args in let q = c.requires in (q.0, omega (arith, looking_low a.p.now (store a.p.now a.w.now) a.k q.3 c.loop-link.link c.loop-link-test.true c.loop-link.invariant (length-store a.p.now a.w.now INDEXES), q.1.links))
