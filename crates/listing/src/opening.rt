@@ -96,9 +96,9 @@ fn put_number(pool: &[u8], printer: &mut Printer, place: usize)
     ensures text { Prints printer.old printer.new (number_at pool.now place) }
 {
     match pool[place] {
-        3 => printer.put_signed(u32::get(pool, place + 1) as u64, 1 << 31),
+        3 => printer.put_int(u32::get(pool, place + 1)),
         4 => printer.put_float(u32::get(pool, place + 1)),
-        5 => printer.put_signed(u64::get(pool, place + 1), 1 << 63),
+        5 => printer.put_long(u64::get(pool, place + 1)),
         _ => printer.put_double(u64::get(pool, place + 1)),
     }
 }

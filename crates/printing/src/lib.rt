@@ -107,7 +107,7 @@ impl<'a> Printer<'a> {
     }
 
     // A number of two's complement, of which half are below `half`.
-    pub fn put_signed(&mut self, n: u64, half: u64)
+    fn put_signed(&mut self, n: u64, half: u64)
         requires { Ready self.old × (n < 2 * half) × (half ≤ 9223372036854775808) }
         ensures same_buffer { self.new.out.ghost_name ≡ self.old.out.ghost_name }
         ensures text { Prints self.old self.new (signed half n) }
@@ -118,6 +118,22 @@ impl<'a> Printer<'a> {
             self.put(b'-');
             self.put_decimal((half - (n - half)) as usize);
         }
+    }
+
+    pub fn put_int(&mut self, n: u32)
+        requires { Ready self.old }
+        ensures same_buffer { self.new.out.ghost_name ≡ self.old.out.ghost_name }
+        ensures text { Prints self.old self.new (signed 2147483648 n) }
+    {
+        self.put_signed(n as u64, 1 << 31);
+    }
+
+    pub fn put_long(&mut self, n: u64)
+        requires { Ready self.old }
+        ensures same_buffer { self.new.out.ghost_name ≡ self.old.out.ghost_name }
+        ensures text { Prints self.old self.new (signed 9223372036854775808 n) }
+    {
+        self.put_signed(n, 1 << 63);
     }
 
     // Hex digits without the zeros behind the last that isn't one, but for one digit.

@@ -24,7 +24,7 @@ get-requires-in_default c = let r = c.in_default.in_default-own.rest in
 pub returns-in-3-clause-text : goal.returns-in-3-clause-text
 unfolding lookup or_none numbers
 returns-in-3-clause-text c = let a = c.args in
-    in_words (number_is a.pool.now a.place 3 c.in-3.is _ (ap (signed 2147483648) c.get.ensures)) c.put_signed.ensures.text
+    in_words (number_is a.pool.now a.place 3 c.in-3.is _ (ap (signed 2147483648) c.get.ensures)) c.put_int.ensures.text
 
 pub returns-in-4-clause-text : goal.returns-in-4-clause-text
 unfolding lookup or_none numbers
@@ -34,7 +34,7 @@ returns-in-4-clause-text c = let a = c.args in
 pub returns-in-5-clause-text : goal.returns-in-5-clause-text
 unfolding lookup or_none numbers
 returns-in-5-clause-text c = let a = c.args in
-    in_words (number_is a.pool.now a.place 5 c.in-5.is _ (ap (signed 9223372036854775808) c.get-in-5.ensures)) c.put_signed-in-5.ensures.text
+    in_words (number_is a.pool.now a.place 5 c.in-5.is _ (ap (signed 9223372036854775808) c.get-in-5.ensures)) c.put_long.ensures.text
 
 pub returns-in_default-clause-text : goal.returns-in_default-clause-text
 unfolding lookup or_none numbers
