@@ -24,7 +24,7 @@ use Rattle.laws.specs.Statements.{IsBytes}
 use Rattle.laws.proofs.Form.EntryShapes.{Short}
 use Rattle.laws.proofs.Reading.PoolReadBack.{Fits}
 use Rattle.laws.proofs.Reading.PoolContents.{spelled, content_holds, content_behind}
-use Rattle.slots.specs.Gaps.{GapTable, slots_at_lem}
+use Rattle.slots.specs.Gaps.{GapTable, slots_of}
 use Rattle.store.specs.Store.{Store, over, Kept}
 use Rattle.store.specs.JobIn.{job_in, definitions_in}
 use Rattle.store.specs.Regions.{COUNTS, OWNER-HEADS, OWNER-LINKS, ANSWERS, ORIGINS, PLACE, VISITS, NAME-SLOT, Work}
@@ -107,7 +107,7 @@ module _
   shows = shown-same s p v h d ready asked m after are work f
 
   counted : pool_count v ≡ count_from (top_of (job_in s)) after.pool.slots.gaps
-  unfolding slots_at_lem
+  unfolding slots_of
   counted = f.count ∙ ap (λ (x : Slots). count_from (top_of (job_in s)) x.gaps) f.named.slots
 
   pool_is : pool_in s v ≡ (render all (layout_in s v asked m after)).pool
