@@ -1,6 +1,7 @@
 -- How the records of a job, the form pass and a whole run end: what they give out and leave. Assumes nothing.
 use mathlib.Core.Bool.{true, false}
 use mathlib.Core.List.{List, ◌∷◌, map}
+use mathlib.Core.Logic.{◌⊎◌, inl, inr}
 use mathlib.Core.Path.{◌≡◌, refl, sym, ap, subst, ◌∙◌}
 use Prim.Native.Nat.{ℕ, zero, suc, ◌+◌, ◌*◌, ◌/◌, ◌≤◌, ◌<◌}
 use lib.Dec.{eqb}
@@ -17,7 +18,6 @@ use Rattle.facts.proofs.Lists.{clash}
 use Rattle.laws.specs.Statements.{IsBytes}
 use Rattle.laws.proofs.Runs.FuelLasts.{fuel_lasts}
 use Rattle.job.specs.declared.JobCounts.{JobCounts}
-use Rattle.job.specs.declared.Formed.TheVariants as formed
 use Rattle.job.specs.Forms.{counts_of, formed_of}
 use Rattle.store.specs.Store.{Store}
 use Rattle.store.specs.JobIn.{WellFormed, job_in, definitions_in, counts_in}
@@ -25,9 +25,12 @@ use Rattle.store.proofs.Bounds.{formed_job}
 use Rattle.definitions.specs.Defining.{place_count}
 use Rattle.slots.specs.Gaps.{gap_of, no_gap}
 use Rattle.builder.specs.Rendered.{Rendered}
-use Rattle.cpool.specs.declared.Outcome.{Outcome}
-use Rattle.cpool.specs.declared.Outcome.TheVariants as outcome
-use Rattle.cpool.specs.Ran.{Slices, memory_of, result_of, Ran, told, numbers, is_good, listed, Told}
+use Rattle.std.specs.Prelude.{Ok, Err}
+use Rattle.refusal.specs.declared.Refused.{Refused}
+use Rattle.refusal.specs.declared.Refusal as refusals
+use Rattle.refusal.specs.declared.Refusal.TheVariants as refusal
+use Rattle.refusal.specs.Numbers.{number}
+use Rattle.cpool.specs.Ran.{Outcome, Slices, memory_of, result_of, Ran, told, numbers, is_good, listed, Told}
 use Rattle.cpool.specs.Stages.{Outputs, outputs, room_of, fitted, onward, Tells, Gave}
 use Rattle.cpool.proofs.Running.{too_long, too_short, goes_on, not-formed, not-laid, laid, onward-room}
 use Rattle.cpool.proofs.Telling.{tells_refused}
@@ -41,7 +44,7 @@ module _ (s : List ℕ) where
   job_is job e = rw (e, job_in)
 
   counts_go :
-      (x : Result Refusal (Job (List ℕ))) (c : JobCounts) → form s ≡ x → formed.Counts c ≡ formed_of x → length s ≤ longest_job →
+      (x : Result Refusal (Job (List ℕ))) (c : JobCounts) → form s ≡ x → good c ≡ formed_of x → length s ≤ longest_job →
       WellFormed s × (c ≡ counts_in s)
   unfolding formed_of WellFormed counts_in definitions_in
   counts_go (good job) c e h short =
@@ -49,21 +52,18 @@ module _ (s : List ℕ) where
       (((job, e), short), is ∙ ap (λ (x : Job (List ℕ)). counts_of x.definitions (length x.requests)) (sym (job_is job e)))
   counts_go (bad x) c e h short = clash (cc)
 
-  pub counted : (c : JobCounts) → formed.Counts c ≡ formed_of (form s) → length s ≤ longest_job → WellFormed s × (c ≡ counts_in s)
+  pub counted : (c : JobCounts) → good c ≡ formed_of (form s) → length s ≤ longest_job → WellFormed s × (c ≡ counts_in s)
   counted c h short = counts_go (form s) c refl h short
 
-  refused_go : (x : Result Refusal (Job (List ℕ))) (code place : ℕ) → formed.Refused code place ≡ formed_of x → x ≡ bad (record { code = code; place = place })
+  refused_go : (x : Result Refusal (Job (List ℕ))) (r : Refusal) → bad r ≡ formed_of x → x ≡ bad r
   unfolding formed_of
-  refused_go (good job) code place h = clash (cc)
-  refused_go (bad x) code place h =
-      let ec : code ≡ x.code = cc in
-      let ep : place ≡ x.place = cc in
-      λ i. bad (record { code = sym ec i; place = sym ep i })
+  refused_go (good job) r h = clash (cc)
+  refused_go (bad x) r h = let e : r ≡ x = cc in ap bad (sym e)
 
   pub gave_unformed :
-      (o : Outputs) (code place : ℕ) → formed.Refused code place ≡ formed_of (form s) → Gave (onward (room_of o) s) o o (outcome.Refused code place)
-  gave_unformed o code place h =
-      gave_refused _ o _ _ (not-formed (room_of o) s _ (refused_go (form s) code place h)) (tells_refused code place)
+      (o : Outputs) (r : Refused) → bad (record { code = number r.refusal; place = r.place }) ≡ formed_of (form s) → Gave (onward (room_of o) s) o o (Err r)
+  gave_unformed o r h =
+      gave_refused _ o _ _ (not-formed (room_of o) s _ (refused_go (form s) _ h)) (tells_refused r.refusal r.place)
 
 -- the records in turn: a refusal, or what is given out
 module _ (s : List ℕ) (well : WellFormed s) (o : Outputs) (r : Outcome) where
@@ -118,9 +118,9 @@ module _ (s : List ℕ) (m : Slices) where
         rows = rw e (sym (cleared_left no_gap (bad x) m.rows u));
       }
 
-  pub ran_long : longest_job < length s → Ran s m m (outcome.Refused 1 0)
-  unfolding untouched result_of
-  ran_long h = ran_untouched _ _ (too_long _ s h) refl (tells_refused 1 0)
+  pub ran_long : longest_job < length s → Ran s m m (Err (record { refusal = refusal.JobTooLong; place = 0 }))
+  unfolding untouched result_of number
+  ran_long h = ran_untouched _ _ (too_long _ s h) refl (tells_refused refusal.JobTooLong 0)
 
   -- the table's rows are as many as its gaps
   words_few : length m.work < 6 * length s + 1024 → enough (length s) (lent_of (memory_of m)) ≡ false
@@ -137,15 +137,15 @@ module _ (s : List ℕ) (m : Slices) where
   all_enough w h =
       rw (le-leb (6 * length s + 1024) (length m.work) w, length-map m.rows gap_of) (le-leb (length s / 5 + 2) (length m.rows) h)
 
-  ran_short : length s ≤ longest_job → enough (length s) (lent_of (memory_of m)) ≡ false → Ran s m m (outcome.Refused 2 0)
-  unfolding untouched result_of
-  ran_short h e = ran_untouched _ _ (too_short _ s h e) refl (tells_refused 2 0)
+  ran_short : length s ≤ longest_job → enough (length s) (lent_of (memory_of m)) ≡ false → Ran s m m (Err (record { refusal = refusal.LentTooShort; place = 0 }))
+  unfolding untouched result_of number
+  ran_short h e = ran_untouched _ _ (too_short _ s h e) refl (tells_refused refusal.LentTooShort 0)
 
-  pub ran_few_words : length s ≤ longest_job → length m.work < 6 * length s + 1024 → Ran s m m (outcome.Refused 2 0)
+  pub ran_few_words : length s ≤ longest_job → length m.work < 6 * length s + 1024 → Ran s m m (Err (record { refusal = refusal.LentTooShort; place = 0 }))
   ran_few_words h w = ran_short h (words_few w)
 
   pub ran_few_gaps :
-      length s ≤ longest_job → 6 * length s + 1024 ≤ length m.work → length m.rows < length s / 5 + 2 → Ran s m m (outcome.Refused 2 0)
+      length s ≤ longest_job → 6 * length s + 1024 ≤ length m.work → length m.rows < length s / 5 + 2 → Ran s m m (Err (record { refusal = refusal.LentTooShort; place = 0 }))
   ran_few_gaps h w g = ran_short h (gaps_few w g)
 
   -- every other ending clears work and gaps
@@ -194,6 +194,11 @@ module _ (s : List ℕ) (m : Slices) where
   built_is (good b) code are e n = eq-eqb code 0 n
   built_is (bad x) code are e n = ne_eqb code 0 (λ z. fuel_lasts s (lent_of (memory_of m)) x are e (sym n ∙ z))
 
+  told_known : (r : Outcome) (code : ℕ) → code ≡ (told r).code → (code ≡ 0) ⊎ ((n : refusals.Refusal) × (code ≡ number n))
+  unfolding told
+  told_known (Ok b) code e = inl e
+  told_known (Err r) code e = inr (r.refusal, e)
+
   pub told-run :
       (after : Slices) (r : Outcome) (code : ℕ) (written : List ℕ) → IsBytes s → Ran s m after r → code ≡ (told r).code →
       written ≡ listed (told r) → Told s m after code written
@@ -202,6 +207,7 @@ module _ (s : List ℕ) (m : Slices) where
       record {
         number = number;
         case = built_is (result_of s m) code are refl number;
+        known = told_known r code ec;
         written = ew ∙ ap listed h.numbers;
         memory = h.memory;
         rows = h.rows;

@@ -14,12 +14,13 @@ use Rattle.store.specs.Store.{size, store}
 use Rattle.store.specs.Regions.{ANSWERS, ORIGINS, Work}
 use Rattle.store.proofs.Stores.{length-store}
 use Rattle.store.proofs.Laying.{work-sizes}
+use Rattle.std.specs.Prelude.{Option as Maybe}
 use Rattle.output.specs.declared.ClassName.{ClassName}
 use Rattle.output.specs.Contents.{pool_in}
 use Rattle.output.specs.Rows.{rows_in, constants_for}
 use Rattle.output.specs.Names.{NameIs, class_in}
 use Rattle.builder.specs.Rendered.{Rendered}
-use Rattle.cpool.specs.declared.Outcome.{Outcome}
+use Rattle.cpool.specs.Ran.{Outcome}
 use Rattle.cpool.specs.Stages.{Outputs, room_of, fitted, Tells, Gave}
 
 -- one test of room behind the other
@@ -82,7 +83,7 @@ module _ (s p w : List ℕ) (b : Built) (h : Rendered s p (store p w) b) where
   rows_are n e = e ∙ ap length h.bootstraps
 
   -- so is the class name
-  pub name_is : (c : ClassName) → NameIs s c (class_in s (store p w)) → NameIs s c b.class
+  pub name_is : (c : Maybe ClassName) → NameIs s c (class_in s (store p w)) → NameIs s c b.class
   name_is c n = subst (λ o. NameIs s c o) h.class n
 
   pub class_is : (n : ℕ) → n ≡ length (class_out (class_in s (store p w))) → n ≡ length (class_out b.class)

@@ -11,8 +11,7 @@ use Rattle.definition.specs.Basics.{Result, good, bad, Refusal}
 use Rattle.definition.specs.Run.{Built, Memory, lent_of, refusal_of, returned, class_out, overwrite, output_after, memory_after}
 use Rattle.facts.proofs.Lists.{true≢false}
 use Rattle.laws.proofs.Building.MarksOfAnswers.{as_many-marks}
-use Rattle.cpool.specs.declared.Outcome.{Outcome}
-use Rattle.cpool.specs.Ran.{Numbers, told, is_built, class_given, class_size, numbers, is_good, Slices, memory_of, result_of, Ran}
+use Rattle.cpool.specs.Ran.{Outcome, Numbers, told, is_built, class_given, class_size, numbers, is_good, Slices, memory_of, result_of, Ran}
 use Rattle.cpool.specs.Promises.{handed}
 
 take-overwrite : (new before after : List ℕ) (n : ℕ) → after ≡ overwrite new before → n ≡ length new → take n after ≡ new

@@ -1,6 +1,7 @@
 -- Definitions in another order: `run` and its form for Rust and C build both jobs or neither, and hand the same. Assumes nothing.
 use mathlib.Core.Bool.{true, false}
 use mathlib.Core.List.{List}
+use mathlib.Core.Logic.{⊎_elim}
 use mathlib.Core.Option.{Option, none, some}
 use mathlib.Core.Path.{◌≡◌, refl, sym, ap, ◌∙◌}
 use Prim.Native.Nat.{ℕ}
@@ -9,14 +10,14 @@ use lib.ListN.{length, take}
 use borrow.Author.Tests.{eqb-true, eq-eqb}
 use Rattle.definition.specs.Basics.{Result, good, bad, Refusal}
 use Rattle.definition.specs.Run.{Built, lent_of, run, refusal_of, returned}
-use Rattle.facts.proofs.Lists.{tests_agree}
+use Rattle.facts.proofs.Lists.{tests_agree, true≢false}
 use Rattle.order.specs.OrderStatement.{job_of}
 use Rattle.order.proofs.Order.{order}
-use Rattle.cpool.specs.declared.ClassLength.{ClassLength}
-use Rattle.cpool.specs.declared.ClassLength.TheVariants as classLength
-use Rattle.cpool.specs.declared.Outcome.{Outcome}
-use Rattle.cpool.specs.declared.Outcome.TheVariants as outcome
-use Rattle.cpool.specs.Ran.{Numbers, given, bytes_of, told, is_built, class_given, class_size, numbers, is_good, Slices, memory_of, result_of, Ran, listed, Told}
+use Rattle.std.specs.Prelude.{Ok, Err, Some, None, Option as Maybe}
+use Rattle.refusal.specs.declared.Refusal as refusal
+use Rattle.refusal.specs.declared.Refusal.TheVariants.{JobTooLong}
+use Rattle.refusal.specs.Numbers.{number}
+use Rattle.cpool.specs.Ran.{Outcome, Numbers, given, bytes_of, told, is_built, class_given, class_size, numbers, is_good, Slices, memory_of, result_of, Ran, listed, Told}
 use Rattle.cpool.specs.Promises.{handed, CodeOrder, CallsRun, CallOrder}
 use Rattle.cpool.proofs.Handed.{handed-is, built_result}
 
@@ -44,15 +45,23 @@ code_order rs₁ rs₂ rest before₁ after₁ before₂ after₂ r₁ r₂ reco
 
 -- FOR RUST AND C
 
--- the outcome that tells a result
-unfoldable class_of : Option (List ℕ) → ClassLength
-class_of none = classLength.None
-class_of (some l) = classLength.Bytes (length l)
+-- the outcome that tells a result, where r is what it is refused for
+unfoldable class_of : Option (List ℕ) → Maybe ℕ
+class_of none = None
+class_of (some l) = Some (length l)
 
-unfoldable outcome_of : Result Refusal Built → Outcome
-outcome_of (good b) =
-    outcome.Built (length b.answers) (length b.pool) b.bootstrap_count (length b.bootstraps) b.name (class_of b.class) b.visits
-outcome_of (bad q) = outcome.Refused q.code q.place
+unfoldable outcome_of : Result Refusal Built → refusal.Refusal → Outcome
+outcome_of (good b) r =
+    Ok (record {
+      answers = length b.answers;
+      pool = length b.pool;
+      bootstrap_count = b.bootstrap_count;
+      bootstraps = length b.bootstraps;
+      name = b.name;
+      class_name = class_of b.class;
+      visits = b.visits;
+    })
+outcome_of (bad q) r = Err (record { refusal = r; place = q.place })
 
 class_given_lem : (o : Option (List ℕ)) → given (class_of o) ≡ class_given o
 unfolding given class_of class_given
@@ -64,9 +73,9 @@ unfolding bytes_of class_of class_size
 class_bytes_lem none = refl
 class_bytes_lem (some l) = refl
 
-outcome-told : (x : Result Refusal Built) → told (outcome_of x) ≡ numbers x
-unfolding told outcome_of numbers refusal_of returned
-outcome-told (good b) =
+outcome-told : (x : Result Refusal Built) (r : refusal.Refusal) → (is_good x ≡ false → (numbers x).code ≡ number r) → told (outcome_of x r) ≡ numbers x
+unfolding told outcome_of numbers refusal_of returned is_good
+outcome-told (good b) r h =
     λ i. record {
       code = 0;
       place = 0;
@@ -79,21 +88,41 @@ outcome-told (good b) =
       class_bytes = class_bytes_lem b.class i;
       visits = b.visits;
     }
-outcome-told (bad q) = refl
+outcome-told (bad q) r h = λ i. record {
+  code = sym (h refl) i;
+  place = q.place;
+  answers = 0;
+  pool = 0;
+  bootstrap_count = 0;
+  bootstraps = 0;
+  name = 0;
+  class = 0;
+  class_bytes = 0;
+  visits = 0;
+}
 
-outcome-built : (x : Result Refusal Built) → is_built (outcome_of x) ≡ is_good x
+outcome-built : (x : Result Refusal Built) (r : refusal.Refusal) → is_built (outcome_of x r) ≡ is_good x
 unfolding is_built outcome_of is_good
-outcome-built (good b) = refl
-outcome-built (bad q) = refl
+outcome-built (good b) r = refl
+outcome-built (bad q) r = refl
 
 pub calls_run : CallsRun
 calls_run job before after code others t =
-    let x = result_of job before in (
-      outcome_of x,
-      record { case = outcome-built x; numbers = outcome-told x; memory = t.memory; rows = t.rows },
-      ap (λ (n : Numbers). n.code) (outcome-told x) ∙ sym t.number,
-      ap listed (outcome-told x) ∙ sym t.written,
-    )
+    ⊎_elim
+    (λ (z : code ≡ 0). by JobTooLong (λ bad. absurd (true≢false (sym (eq-eqb code 0 z) ∙ t.case ∙ bad))))
+    (λ (known : (r : refusal.Refusal) × (code ≡ number r)). by known.0 (λ bad. sym t.number ∙ known.1))
+    t.known
+  where
+    by :
+        (r : refusal.Refusal) → (is_good (result_of job before) ≡ false → (numbers (result_of job before)).code ≡ number r) →
+        (o : Outcome) × Ran job before after o × ((told o).code ≡ code) × (listed (told o) ≡ others)
+    by r named =
+        let x = result_of job before in (
+          outcome_of x r,
+          record { case = outcome-built x r; numbers = outcome-told x r named; memory = t.memory; rows = t.rows },
+          ap (λ (n : Numbers). n.code) (outcome-told x r named) ∙ sym t.number,
+          ap listed (outcome-told x r named) ∙ sym t.written,
+        )
 
 -- what is handed goes by the numbers told
 same-told : (r r' : Outcome) (after : Slices) → told r ≡ told r' → handed r after ≡ handed r' after

@@ -26,8 +26,7 @@ use Rattle.causes.proofs.CausedRuns.{no_cause}
 use Rattle.laws.specs.ShapeStatement.{PoolsAlike, ClassesAlike}
 use Rattle.laws.proofs.Runs.FuelLasts.{fuel_lasts}
 use Rattle.slots.specs.Gaps.{no_gap}
-use Rattle.cpool.specs.declared.Outcome.{Outcome}
-use Rattle.cpool.specs.Ran.{Numbers, told, is_built, numbers, is_good, Slices, memory_of, result_of, Ran}
+use Rattle.cpool.specs.Ran.{Outcome, Numbers, told, is_built, numbers, is_good, Slices, memory_of, result_of, Ran}
 use Rattle.cpool.specs.Promises.{handed, PrefixOnly, BuiltRun, RefusedRun, EveryJob, CodeReads, CodeHolds, CodeShared, CodeMarks, CodeCause, CodeShape}
 use Rattle.cpool.proofs.Refusals.{code-high, late_cleared}
 use Rattle.cpool.proofs.Telling.{class_size_lem}

@@ -1,40 +1,53 @@
 -- No second outcome, and no second contents of a lent buffer, meets the contract of `run` or of its form for Rust and C. `Learnt` is the
 -- contract in src/lib.rt as it stands: what it says of the arguments a, the result r and the parameters s as they are left. Assumes nothing.
-use mathlib.Core.Bool.{Bool, true, false}
+use mathlib.Core.Bool.{true, false}
 use mathlib.Core.List.{List}
 use mathlib.Core.Path.{◌≡◌, refl, sym, ap, ◌∙◌}
 use Prim.Native.Nat.{ℕ}
 use lib.Dec.{eqb}
 use contract.Lifetimes.{Lfts}
-use Rattle.cpool.specs.declared.ClassLength.{ClassLength}
-use Rattle.cpool.specs.declared.ClassLength.TheVariants as classLength
-use Rattle.cpool.specs.declared.Outcome.{Outcome}
-use Rattle.cpool.specs.declared.Outcome.TheVariants as outcome
-use Rattle.cpool.specs.Ran.{Numbers, Slices, given, bytes_of, told, is_built, memory_of, Ran, Told}
+use Rattle.std.specs.Prelude.{Ok, Err, Some, None, Option as Maybe}
+use Rattle.refusal.proofs.Numbers.{number-injective}
+use Rattle.cpool.specs.declared.Built as code
+use Rattle.cpool.specs.Ran.{Outcome, Numbers, Slices, given, bytes_of, told, is_built, memory_of, Ran, Told}
 use Rattle.cpool.proofs.run.Reads as run
 use Rattle.cpool.proofs.cpool_run.Reads as cpool_run
 
 -- AN OUTCOME IS KNOWN BY ITS CASE AND ITS NUMBERS
 
-abbrev class_for : ℕ → ℕ → ClassLength
-class_for is bytes = elim (eqb is 0) [ true ↦ classLength.None | false ↦ classLength.Bytes bytes ]
+abbrev class_for : ℕ → ℕ → Maybe ℕ
+class_for is bytes = elim (eqb is 0) [ true ↦ None | false ↦ Some bytes ]
 
-class_back : (c : ClassLength) → class_for (given c) (bytes_of c) ≡ c
+class_back : (c : Maybe ℕ) → class_for (given c) (bytes_of c) ≡ c
 unfolding given bytes_of
-class_back classLength.None = refl
-class_back (classLength.Bytes n) = refl
+class_back None = refl
+class_back (Some n) = refl
 
-abbrev outcome_for : Bool → Numbers → Outcome
-outcome_for built n =
-    elim built [
-      | true ↦ outcome.Built n.answers n.pool n.bootstrap_count n.bootstraps n.name (class_for n.class n.class_bytes) n.visits
-      | false ↦ outcome.Refused n.code n.place
-    ]
+abbrev built_for : Numbers → code.Built
+built_for n =
+    record {
+      answers = n.answers;
+      pool = n.pool;
+      bootstrap_count = n.bootstrap_count;
+      bootstraps = n.bootstraps;
+      name = n.name;
+      class_name = class_for n.class n.class_bytes;
+      visits = n.visits;
+    }
 
-outcome-back : (r : Outcome) → outcome_for (is_built r) (told r) ≡ r
+built_back : (b : code.Built) → built_for (told (Ok b)) ≡ b
+unfolding told
+built_back b = λ i. record b { class_name = class_back b.class_name i }
+
+outcome-back : (r r' : Outcome) → is_built r ≡ is_built r' → told r ≡ told r' → r ≡ r'
 unfolding is_built told
-outcome-back (outcome.Built answers pool count rows name class visits) = ap (λ c. outcome.Built answers pool count rows name c visits) (class_back class)
-outcome-back (outcome.Refused code place) = refl
+outcome-back (Ok b) (Ok b') case numbers = ap Ok (sym (built_back b) ∙ ap built_for numbers ∙ built_back b')
+outcome-back (Err r) (Err r') case numbers =
+    let named : r.refusal ≡ r'.refusal = number-injective r.refusal r'.refusal (ap (λ n. n.code) numbers) in
+    let placed : r.place ≡ r'.place = ap (λ n. n.place) numbers in
+    λ i. Err (record { refusal = named i; place = placed i })
+outcome-back (Ok b) (Err r) case numbers = absurd (cc)
+outcome-back (Err r) (Ok b) case numbers = absurd (cc)
 
 -- THE MEMORY
 
@@ -63,9 +76,7 @@ same_memory m m' e rows =
 
 one-run : (job : List ℕ) (before after after' : Slices) (r r' : Outcome) → Ran job before after r → Ran job before after' r' → (r ≡ r') × Same after after'
 one-run job before after after' r r' h h' = (
-  sym (outcome-back r)
-      ∙ (λ i. outcome_for ((h.case ∙ sym h'.case) i) ((h.numbers ∙ sym h'.numbers) i))
-      ∙ outcome-back r',
+  outcome-back r r' (h.case ∙ sym h'.case) (h.numbers ∙ sym h'.numbers),
   same_memory after after' (h.memory ∙ sym h'.memory) (h.rows ∙ sym h'.rows),
 )
 

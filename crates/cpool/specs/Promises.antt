@@ -21,8 +21,7 @@ use Rattle.laws.specs.MarksStatement.{MarkedBy}
 use Rattle.causes.specs.CauseStatement.{CauseOf}
 use Rattle.order.specs.OrderStatement.{IsRecord, job_of, Moved, WellFormed}
 use Rattle.slots.specs.Gaps.{no_gap}
-use Rattle.cpool.specs.declared.Outcome.{Outcome}
-use Rattle.cpool.specs.Ran.{Numbers, told, is_built, Slices, memory_of, Ran, listed, Told}
+use Rattle.cpool.specs.Ran.{Outcome, Numbers, told, is_built, Slices, memory_of, Ran, listed, Told}
 
 -- what the caller has once a job is built: of each buffer as much as the numbers tell
 unfoldable pub handed : Outcome → Slices → Built

@@ -1,13 +1,13 @@
 -- What `run` promises: it ends as the definition's `run` does, tells its numbers, and leaves all lent memory as it says. Assumes nothing.
-use Rattle.std.specs.Prelude.{Bool, true, false, List, [], ◌∷◌, map, ◌≡◌, ℕ, eqb, length}
+use Rattle.std.specs.Prelude.{Bool, true, false, List, [], ◌∷◌, map, ◌≡◌, ℕ, eqb, length, ◌⊎◌, Ok, Err, Some, None, Result as Answer, Option as Maybe}
 use Rattle.std.proofs.Math.Option.{Option, none, some}
 use Rattle.definition.specs.Basics.{Result, good, bad, Refusal}
 use Rattle.definition.specs.Run.{Built, Memory, lent_of, run, refusal_of, returned, cleared_after, memory_after}
 use Rattle.slots.specs.Gaps.{GapTable, gap_of, no_gap}
-use Rattle.cpool.specs.declared.ClassLength.{ClassLength}
-use Rattle.cpool.specs.declared.ClassLength.TheVariants as classLength
-use Rattle.cpool.specs.declared.Outcome.{Outcome}
-use Rattle.cpool.specs.declared.Outcome.TheVariants as outcome
+use Rattle.refusal.specs.declared.Refused.{Refused}
+use Rattle.refusal.specs.declared.Refusal as refusal
+use Rattle.refusal.specs.Numbers.{number as refusal_number}
+use Rattle.cpool.specs.declared.Built as code
 
 -- the numbers of document 01 that a run returns: a refusal's number and record; how many answers, each with its mark, and how many
 -- bytes of pool, bootstraps and class name, were written; the number of bootstraps; the name's slot; whether there is a class name (1) or none (0);
@@ -26,34 +26,38 @@ pub record Numbers : Type 0 where
 
 -- OF THE CODE'S OUTCOME
 
--- whether there is a class name, and its length, 0 where there is none
-unfoldable pub given : ClassLength → ℕ
-given classLength.None = 0
-given (classLength.Bytes n) = 1
+-- what a run answers
+abbrev pub Outcome : Type 0
+Outcome = Answer code.Built Refused
 
-unfoldable pub bytes_of : ClassLength → ℕ
-bytes_of classLength.None = 0
-bytes_of (classLength.Bytes n) = n
+-- whether there is a class name, and its length, 0 where there is none
+unfoldable pub given : Maybe ℕ → ℕ
+given None = 0
+given (Some n) = 1
+
+unfoldable pub bytes_of : Maybe ℕ → ℕ
+bytes_of None = 0
+bytes_of (Some n) = n
 
 -- the numbers of each case: no refusal beside what is built, and every other number 0 beside a refusal
 unfoldable pub told : Outcome → Numbers
-told (outcome.Built answers pool bootstrap_count bootstraps name class visits) =
+told (Ok b) =
     record {
       code = 0;
       place = 0;
-      answers = answers;
-      pool = pool;
-      bootstrap_count = bootstrap_count;
-      bootstraps = bootstraps;
-      name = name;
-      class = given class;
-      class_bytes = bytes_of class;
-      visits = visits;
+      answers = b.answers;
+      pool = b.pool;
+      bootstrap_count = b.bootstrap_count;
+      bootstraps = b.bootstraps;
+      name = b.name;
+      class = given b.class_name;
+      class_bytes = bytes_of b.class_name;
+      visits = b.visits;
     }
-told (outcome.Refused code place) =
+told (Err r) =
     record {
-      code = code;
-      place = place;
+      code = refusal_number r.refusal;
+      place = r.place;
       answers = 0;
       pool = 0;
       bootstrap_count = 0;
@@ -65,8 +69,8 @@ told (outcome.Refused code place) =
     }
 
 unfoldable pub is_built : Outcome → Bool
-is_built (outcome.Built answers pool bootstrap_count bootstraps name class visits) = true
-is_built (outcome.Refused code place) = false
+is_built (Ok b) = true
+is_built (Err r) = false
 
 -- OF THE DEFINITION'S RESULT
 
@@ -156,10 +160,12 @@ listed n =
     ∷ n.visits
     ∷ []
 
--- the same promise: the number returned is the definition's, 0 exactly if the job is built; so are those written, and the memory
+-- the same promise: the number returned is the definition's, 0 exactly if the job is built, and else a refusal's; so are those written,
+-- and the memory
 pub record Told (job : List ℕ) (before after : Slices) (code : ℕ) (others : List ℕ) : Type 0 where
   pub number : code ≡ (numbers (result_of job before)).code
   pub case : eqb code 0 ≡ is_good (result_of job before)
+  pub known : (code ≡ 0) ⊎ ((r : refusal.Refusal) × (code ≡ refusal_number r))
   pub written : others ≡ listed (numbers (result_of job before))
   pub memory : memory_of after ≡ memory_after (result_of job before) (memory_of before)
   pub rows : after.rows ≡ cleared_after no_gap (result_of job before) before.rows

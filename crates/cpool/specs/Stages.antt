@@ -1,11 +1,9 @@
 -- What the stages of a run behind refusals 1 and 2 leave. Assumes nothing.
-use Rattle.std.specs.Prelude.{List, ◌≡◌, ℕ, length}
+use Rattle.std.specs.Prelude.{List, ◌≡◌, ℕ, length, Option as Maybe}
 use Rattle.std.proofs.Math.Option.{Option}
 use Rattle.definition.specs.Basics.{Result, good, Refusal, ◌>>=◌, at_record, unless}
 use Rattle.definition.specs.Run.{Built, Lent, build, fits, class_out, output_after}
-use Rattle.cpool.specs.declared.ClassLength.{ClassLength}
-use Rattle.cpool.specs.declared.Outcome.{Outcome}
-use Rattle.cpool.specs.Ran.{given, bytes_of, told, is_built, class_given, class_size, numbers, is_good}
+use Rattle.cpool.specs.Ran.{Outcome, given, bytes_of, told, is_built, class_given, class_size, numbers, is_good}
 
 -- the five outputs
 pub record Outputs : Type 0 where
@@ -40,7 +38,7 @@ unfoldable pub onward : Lent → List ℕ → Result Refusal Built
 onward lent bytes = build bytes >>= λ r. fitted lent r.0 r.1
 
 -- a class name's length, as it is told
-pub record ClassTold (name : Option (List ℕ)) (r : ClassLength) : Type 0 where
+pub record ClassTold (name : Option (List ℕ)) (r : Maybe ℕ) : Type 0 where
   pub given_is : given r ≡ class_given name
   pub bytes-are : bytes_of r ≡ class_size name
 

@@ -1,10 +1,11 @@
 // The pool builder of document 01.
 #![tactic(auto)]
 
-ghost use Rattle.std.specs.Prelude.{◌&&◌, List, ◌≡◌, ℕ, ◌+◌, ◌*◌, ◌/◌, ◌≤◌, ◌<◌, leb, length};
+ghost use Rattle.std.specs.Prelude.{Ok, Err, ◌&&◌, List, ◌≡◌, ℕ, ◌+◌, ◌*◌, ◌/◌, ◌≤◌, ◌<◌, leb, length};
 ghost use Rattle.std.proofs.Math.Option.{Option};
 ghost use Rattle.definition.specs.Basics.{good, bad};
-ghost use Rattle.definition.specs.Run.{Built, longest_job};
+ghost use Rattle.refusal.specs.Numbers.{number};
+ghost use Rattle.definition.specs.Run.{Built as BuiltJob, longest_job};
 ghost use Rattle.store.specs.Store.{store, size, On, IsWord};
 ghost use Rattle.store.specs.JobIn.{WellFormed, counts_in};
 ghost use Rattle.store.specs.Regions.{COUNTS, PLACE, Work};
@@ -12,69 +13,54 @@ ghost use Rattle.definitions.specs.Defining.{place_count};
 ghost use Rattle.output.specs.Rows.{RowsReady};
 ghost use Rattle.output.specs.Names.{NameIs};
 ghost use Rattle.builder.specs.Rendered.{Rendered};
-ghost use Rattle.cpool.specs.Ran.{given, bytes_of, told, Ran, slices, listed, Told};
+ghost use Rattle.cpool.specs.Ran.{told, Ran, slices, listed, Told};
 ghost use Rattle.cpool.specs.Stages.{outputs, room_of, fitted, onward, ClassTold, Tells, Gave};
 
-use job::{Formed, JobCounts};
+use job::JobCounts;
 use output::ClassName;
+use refusal::{Refusal, Refused};
 use slots::Gap;
 use store::{ANSWERS, COUNTS, NAME_SLOT, PLACE, VISITS, load, size_of};
 
 const LONGEST_JOB: usize = 1048576;
 
-// A class name's length, if there is one.
-#[derive(Clone, Copy)]
-pub enum ClassLength {
-    None,
-    Bytes(usize),
+// How much of each output a run wrote, a mark for each answer, and its other numbers.
+#[derive(Clone, Copy, Debug, PartialEq, Eq)]
+pub struct Built {
+    pub answers: usize,
+    pub pool: usize,
+    pub bootstrap_count: usize,
+    pub bootstraps: usize,
+    pub name: usize,
+    pub class_name: Option<usize>,
+    pub visits: usize,
 }
 
-// How a run ends: how much of each output was written (a mark for each answer) and the other numbers, or a refusal.
-#[derive(Clone, Copy)]
-pub enum Outcome {
-    Built {
-        answers: usize,
-        pool: usize,
-        bootstrap_count: usize,
-        bootstraps: usize,
-        name: usize,
-        class_name: ClassLength,
-        visits: usize,
-    },
-    Refused {
-        code: u32,
-        place: usize,
-    },
-}
-
-// What is told of a class name.
-fn class_told(c: ClassName) -> ClassLength
+// What is told of a class name: its length.
+fn class_told(c: Option<ClassName>) -> Option<usize>
     ensures { (s : List ℕ) (o : Option (List ℕ)) → NameIs s c o → ClassTold o result }
 {
-    match c {
-        ClassName::None => ClassLength::None,
-        ClassName::Bytes { start: _, size } => ClassLength::Bytes(size),
-        ClassName::Attribute => ClassLength::Bytes(16),
-    }
+    let name = c?;
+    Some(output::class_length(Some(name)))
 }
 
 // A refusal met at the record in turn: `at_record`.
-fn refused(w: &[u32], p: &[usize], code: usize) -> Outcome
-    requires { On p.now (length w.now) × (PLACE < size p.now COUNTS) × IsWord code }
-    ensures { Tells (bad (record { code = code; place = place_count (store p.now w.now) })) result }
+fn refused(w: &[u32], p: &[usize], refusal: Refusal) -> Refused
+    requires { On p.now (length w.now) × (PLACE < size p.now COUNTS) }
+    ensures { Tells (bad (record { code = number refusal; place = place_count (store p.now w.now) })) (Err result) }
 {
-    Outcome::Refused {
-        code: code as u32,
+    Refused {
+        refusal,
         place: load(w, p, COUNTS, PLACE),
     }
 }
 
 // All that is told of a job whose outputs take so much: `render`.
-fn built(w: &[u32], p: &[usize], pool: usize, rows: usize, class: ClassName) -> Outcome
+fn built_of(w: &[u32], p: &[usize], pool: usize, rows: usize, class: Option<ClassName>) -> Built
     requires { On p.now (length w.now) × RowsReady p.now (store p.now w.now) }
-    ensures { (s : List ℕ) (b : Built) → Rendered s p.now (store p.now w.now) b → pool ≡ length b.pool → rows ≡ length b.bootstraps → NameIs s class b.class → Tells (good b) result }
+    ensures { (s : List ℕ) (b : BuiltJob) → Rendered s p.now (store p.now w.now) b → pool ≡ length b.pool → rows ≡ length b.bootstraps → NameIs s class b.class → Tells (good b) (Ok result) }
 {
-    Outcome::Built {
+    Built {
         answers: size_of(p, ANSWERS),
         pool,
         bootstrap_count: output::row_count(w, p),
@@ -99,19 +85,11 @@ fn fits(
 ) -> bool
     ensures { result ≡ (leb asked (length answers.now) && (leb asked (length marks.now) && (leb pool_size (length pool.now) && (leb rows_size (length bootstraps.now) && leb class_size (length class_name.now))))) }
 {
-    if answers.len() < asked {
-        return false;
-    }
-    if marks.len() < asked {
-        return false;
-    }
-    if pool.len() < pool_size {
-        return false;
-    }
-    if bootstraps.len() < rows_size {
-        return false;
-    }
-    class_size <= class_name.len()
+    asked <= answers.len()
+        && asked <= marks.len()
+        && pool_size <= pool.len()
+        && rows_size <= bootstraps.len()
+        && class_size <= class_name.len()
 }
 
 // Measures the outputs, 18, then writes them: `fits`, `render`.
@@ -124,9 +102,9 @@ fn give_out(
     pool: &mut [u8],
     bootstraps: &mut [u8],
     class_name: &mut [u8],
-) -> Outcome
-    requires { On p.now (length w.now) × Work job.now p.now × ((b : Built) × Rendered job.now p.now (store p.now w.now) b) }
-    ensures { (b : Built) → Rendered job.now p.now (store p.now w.now) b → Gave (fitted (room_of (outputs answers.old marks.old pool.old bootstraps.old class_name.old)) (place_count (store p.now w.now)) b)
+) -> Result<Built, Refused>
+    requires { On p.now (length w.now) × Work job.now p.now × ((b : BuiltJob) × Rendered job.now p.now (store p.now w.now) b) }
+    ensures { (b : BuiltJob) → Rendered job.now p.now (store p.now w.now) b → Gave (fitted (room_of (outputs answers.old marks.old pool.old bootstraps.old class_name.old)) (place_count (store p.now w.now)) b)
         (outputs answers.old marks.old pool.old bootstraps.old class_name.old)
         (outputs answers.new marks.new pool.new bootstraps.new class_name.new) result }
 {
@@ -138,14 +116,14 @@ fn give_out(
     if !fits(
         answers, marks, pool, bootstraps, class_name, asked, pool_size, rows_size, class_size,
     ) {
-        return refused(w, p, 18);
+        return Err(refused(w, p, Refusal::OutputTooShort));
     }
     output::write_answers(answers, w, p);
     output::write_marks(marks, w, p);
     output::write_pool(pool, job, w, p);
     output::write_rows(bootstraps, w, p);
     output::write_class(class_name, job, class);
-    built(w, p, pool_size, rows_size, class)
+    Ok(built_of(w, p, pool_size, rows_size, class))
 }
 
 // A job that is well formed, with memory enough: the records in turn, then 18: `build`, `fits`.
@@ -159,18 +137,17 @@ fn build(
     pool: &mut [u8],
     bootstraps: &mut [u8],
     class_name: &mut [u8],
-) -> Outcome
+) -> Result<Built, Refused>
     requires { WellFormed job.now × (c ≡ counts_in job.now) × (6 * length job.now + 1024 ≤ length w.old) × (length job.now / 5 + 2 ≤ length gaps.old) }
     ensures { Gave (onward (room_of (outputs answers.old marks.old pool.old bootstraps.old class_name.old)) job.now)
         (outputs answers.old marks.old pool.old bootstraps.old class_name.old)
         (outputs answers.new marks.new pool.new bootstraps.new class_name.new) result }
 {
     let mut p = [0usize; 33];
-    let code = builder::lay_out(job, w, &mut p, gaps, c);
-    if code != 0 {
-        return refused(w, &p, code);
+    match builder::lay_out(job, w, &mut p, gaps, c) {
+        Ok(()) => give_out(job, w, &p, answers, marks, pool, bootstraps, class_name),
+        Err(refusal) => Err(refused(w, &p, refusal)),
     }
-    give_out(job, w, &p, answers, marks, pool, bootstraps, class_name)
 }
 
 // Form over the whole job, then the records in turn.
@@ -183,18 +160,16 @@ fn run_formed(
     pool: &mut [u8],
     bootstraps: &mut [u8],
     class_name: &mut [u8],
-) -> Outcome
+) -> Result<Built, Refused>
     requires { (length job.now ≤ longest_job) × (6 * length job.now + 1024 ≤ length w.old) × (length job.now / 5 + 2 ≤ length gaps.old) }
     ensures { Gave (onward (room_of (outputs answers.old marks.old pool.old bootstraps.old class_name.old)) job.now)
         (outputs answers.old marks.old pool.old bootstraps.old class_name.old)
         (outputs answers.new marks.new pool.new bootstraps.new class_name.new) result }
 {
-    match job::form(job) {
-        Formed::Counts(c) => build(
-            job, w, gaps, c, answers, marks, pool, bootstraps, class_name,
-        ),
-        Formed::Refused { code, place } => Outcome::Refused { code, place },
-    }
+    let c = job::form(job)?;
+    build(
+        job, w, gaps, c, answers, marks, pool, bootstraps, class_name,
+    )
 }
 
 // The whole run: 1, 2, form, the records in turn, 18; then work and gaps are cleared: `run`, `memory_after`.
@@ -207,19 +182,28 @@ pub fn run(
     pool: &mut [u8],
     bootstraps: &mut [u8],
     class_name: &mut [u8],
-) -> Outcome
+) -> Result<Built, Refused>
     ensures { Ran job.now
         (slices work.old gaps.old answers.old marks.old pool.old bootstraps.old class_name.old)
         (slices work.new gaps.new answers.new marks.new pool.new bootstraps.new class_name.new) result }
 {
     if LONGEST_JOB < job.len() {
-        return Outcome::Refused { code: 1, place: 0 };
+        return Err(Refused {
+            refusal: Refusal::JobTooLong,
+            place: 0,
+        });
     }
     if work.len() < 6 * job.len() + 1024 {
-        return Outcome::Refused { code: 2, place: 0 };
+        return Err(Refused {
+            refusal: Refusal::LentTooShort,
+            place: 0,
+        });
     }
     if gaps.len() < job.len() / 5 + 2 {
-        return Outcome::Refused { code: 2, place: 0 };
+        return Err(Refused {
+            refusal: Refusal::LentTooShort,
+            place: 0,
+        });
     }
     let outcome = run_formed(
         job, work, gaps, answers, marks, pool, bootstraps, class_name,
@@ -229,57 +213,30 @@ pub fn run(
     outcome
 }
 
-// Whether there is a class name, 1 or 0, and its length, 0 where there is none.
-fn class_given(c: ClassLength) -> usize
-    ensures { result ≡ given c }
-{
-    match c {
-        ClassLength::None => 0,
-        ClassLength::Bytes(_) => 1,
-    }
-}
-
-fn class_bytes(c: ClassLength) -> usize
-    ensures { result ≡ bytes_of c }
-{
-    match c {
-        ClassLength::None => 0,
-        ClassLength::Bytes(n) => n,
-    }
-}
-
 // Writes an outcome's numbers, and returns the refusal's, 0 if there is none.
-fn tell(outcome: Outcome, numbers: &mut [usize; 9]) -> u32
+fn tell(outcome: Result<Built, Refused>, numbers: &mut [usize; 9]) -> u32
     ensures { (result ≡ (told outcome).code) × (numbers.new ≡ listed (told outcome)) }
 {
     match outcome {
-        Outcome::Built {
-            answers,
-            pool,
-            bootstrap_count,
-            bootstraps,
-            name,
-            class_name,
-            visits,
-        } => {
-            let given = class_given(class_name);
-            let bytes = class_bytes(class_name);
+        Ok(b) => {
+            let given = usize::from(b.class_name.is_some());
+            let bytes = b.class_name.unwrap_or(0);
             *numbers = [
                 0,
-                answers,
-                pool,
-                bootstrap_count,
-                bootstraps,
-                name,
+                b.answers,
+                b.pool,
+                b.bootstrap_count,
+                b.bootstraps,
+                b.name,
                 given,
                 bytes,
-                visits,
+                b.visits,
             ];
             0
         }
-        Outcome::Refused { code, place } => {
-            *numbers = [place, 0, 0, 0, 0, 0, 0, 0, 0];
-            code
+        Err(r) => {
+            *numbers = [r.place, 0, 0, 0, 0, 0, 0, 0, 0];
+            u32::from(r.refusal)
         }
     }
 }

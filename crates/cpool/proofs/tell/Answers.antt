@@ -1,15 +1,11 @@
 -- `cpool::tell` meets its contract. By cases on the outcome. Assumes nothing.
-use Rattle.cpool.proofs.Telling.{listed-built, listed-refused}
+use mathlib.Core.Path.{ap, ◌∙◌}
+use mir.Val.{bool_byte}
+use Rattle.cpool.proofs.Telling.{given_some, bytes_or, listed-built, listed-refused}
 use Rattle.cpool.proofs.tell.Goals as goal
 
-pub class_given-given-requires : goal.class_given-given-requires
-class_given-given-requires c = tt
+pub returns-in-Ok : goal.returns-in-Ok
+returns-in-Ok c = let l = c.in-Ok.b.class_name in listed-built c.args.outcome c.in-Ok.b _ _ c.in-Ok.is (c.from-given.ensures ∙ ap bool_byte c.is_some.ensures ∙ given_some l) (c.unwrap_or-bytes.ensures ∙ bytes_or l)
 
-pub class_bytes-bytes-requires : goal.class_bytes-bytes-requires
-class_bytes-bytes-requires c = tt
-
-pub returns-in-Built : goal.returns-in-Built
-returns-in-Built c = listed-built c.args.outcome _ _ _ _ _ _ _ _ _ c.in-Built.is c.class_given-given.ensures c.class_bytes-bytes.ensures
-
-pub returns-in-Refused : goal.returns-in-Refused
-returns-in-Refused c = listed-refused c.args.outcome _ _ c.in-Refused.is
+pub returns-in-Err : goal.returns-in-Err
+returns-in-Err c = listed-refused c.args.outcome c.in-Err.r _ c.in-Err.is c.from.ensures
