@@ -26,6 +26,7 @@ ghost use Rattle.pool.specs.Replying.{RequestAt, WhatRequest, goal_for, LeadsTo,
 use raws::{raw_entry, raw_key};
 use refusal::Refusal;
 use resolver::node_of;
+use rows::child_slot;
 use slots::{Gap, Positions};
 use store::{
     ANSWERS, AT, CHILDREN, COUNTS, ENTRY, FIRSTS, GAP_COUNT, GIVEN, HALF, HELD_COUNT, NODES, ODD,
@@ -51,18 +52,6 @@ impl Origin {
             Origin::New => 1,
             Origin::Old => 2,
         }
-    }
-}
-
-// The slot of a child that has one: a raw number is itself.
-pub fn child_slot(w: &[u32], p: &[usize], child: usize) -> usize
-    requires { On p.now (length w.now) × (child < ENTRY + size p.now GIVEN) }
-    ensures { (result ≡ child_slot (store p.now w.now GIVEN) child) × IsWord result }
-{
-    if child < ENTRY {
-        child
-    } else {
-        load(w, p, GIVEN, child - ENTRY)
     }
 }
 
