@@ -173,6 +173,7 @@ fn run_formed(
 }
 
 // The whole run: 1, 2, form, the records in turn, 18; then work and gaps are cleared: `run`, `memory_after`.
+// What is lent are parameters one by one, as the clause `Ran` and the theorem `single` name them.
 pub fn run(
     job: &[u8],
     work: &mut [u32],

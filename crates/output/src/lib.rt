@@ -493,7 +493,7 @@ pub fn write_answers(answers: &mut [u16], w: &[u32], p: &[usize])
     }
 }
 
-// Writes how each answer was come by: `marks`.
+// Writes how each answer was come by: `marks`. One function for both would take the cast as a closure with its law, and be longer.
 pub fn write_marks(marks: &mut [u8], w: &[u32], p: &[usize])
     requires { On p.now (length w.now) × (size p.now ORIGINS ≤ length marks.old) × ((i : ℕ) → i < size p.now ORIGINS → get_or (store p.now w.now ORIGINS) i 0 < 256) }
     ensures { marks.new ≡ overwrite (store p.now w.now ORIGINS) marks.old }
