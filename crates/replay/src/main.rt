@@ -71,6 +71,30 @@ fn run_all(
     Ok(())
 }
 
+fn run_over(
+    input: &mut impl Read,
+    text: &mut impl Write,
+    job: &mut [u8; 1114112],
+    work: &mut [u32; 1201024],
+    gaps: &mut [Gap; 40002],
+    answers: &mut [u16; 65536],
+    marks: &mut [u8; 65536],
+    pool: &mut [u8; 65536],
+    bootstraps: &mut [u8; 65536],
+    class_name: &mut [u8; 65536],
+) -> io::Result<()> {
+    let mut memory = Memory {
+        work,
+        gaps,
+        answers,
+        marks,
+        pool,
+        bootstraps,
+        class_name,
+    };
+    run_all(input, text, job, &mut memory)
+}
+
 fn main(rt: HostRuntime) -> io::Result<()> {
     let mut job = [0u8; 1114112];
     let mut work = [0u32; 1201024];
@@ -80,15 +104,17 @@ fn main(rt: HostRuntime) -> io::Result<()> {
     let mut pool = [0u8; 65536];
     let mut bootstraps = [0u8; 65536];
     let mut class_name = [0u8; 65536];
-    let mut memory = Memory {
-        work: &mut work,
-        gaps: &mut gaps,
-        answers: &mut answers,
-        marks: &mut marks,
-        pool: &mut pool,
-        bootstraps: &mut bootstraps,
-        class_name: &mut class_name,
-    };
     let mut text = BufWriter::with_capacity(rt.alloc(), WAITING, rt.stdout())?;
-    run_all(&mut rt.stdin(), &mut text, &mut job, &mut memory)
+    run_over(
+        &mut rt.stdin(),
+        &mut text,
+        &mut job,
+        &mut work,
+        &mut gaps,
+        &mut answers,
+        &mut marks,
+        &mut pool,
+        &mut bootstraps,
+        &mut class_name,
+    )
 }
