@@ -14,7 +14,8 @@ ghost use Rattle.pool.specs.Pooled.{LiveIn, NodesThere};
 ghost use Rattle.building.specs.Built.{CanBuild, BuiltAll};
 ghost use Rattle.building.specs.Working.{Standing, Working, Owners, RawsSlotted, RowNumbered, Numbered, Finished, Judged, Drained};
 
-use pool::{child_count, first_child, node_tag, pop_pending, refuse_at, slot_of, slots_of};
+use interner::{child_count, first_child};
+use pool::{node_tag, pop_pending, refuse_at, slot_of, slots_of};
 use refusal::Refusal;
 use rows::{index_of, is_bootstrap, raw_row, raw_rows, row_index};
 use slots::Gap;

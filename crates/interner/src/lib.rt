@@ -9,11 +9,11 @@ ghost use Rattle.definition.specs.Numbering.{attribute_name, same_literal};
 ghost use Rattle.definition.specs.Resolving.{same_node};
 ghost use Rattle.definition.specs.Building.{attribute_text};
 ghost use Rattle.job.specs.Stored.{EntryStands, WhatEntry, is_worked};
-ghost use Rattle.store.specs.Store.{size, store, On, IsWord};
+ghost use Rattle.store.specs.Store.{size, store, On, IsWord, Read};
 ghost use Rattle.store.specs.Chains.{link_of, Sought};
 ghost use Rattle.store.specs.JobIn.{entries_in};
 ghost use Rattle.store.specs.Entries.{WordsAt};
-ghost use Rattle.store.specs.Regions.{NODE-HEADS, CHILDREN, NODES, VALUES, Work};
+ghost use Rattle.store.specs.Regions.{NODE-HEADS, OFFSETS, FIRSTS, SIZES, CHILDREN, NODES, VALUES, Work};
 ghost use Rattle.store.specs.Words.{cut};
 ghost use Rattle.interner.specs.Nodes.{hash_bytes, hash_words, hash_in, node_in_lem, node_count, nodes_in, EnteredIn, NodesIn, Lowers, Interned};
 
@@ -228,6 +228,38 @@ pub fn intern(job: &[u8], w: &mut [u32], p: &[usize], e: usize) -> usize
     save(w, p, NODES, k, e);
     push_link(w, p, NODE_HEADS, hash, k);
     k
+}
+
+// The word of a region that belongs to the entry that node k is kept as.
+fn node_word(w: &[u32], p: &[usize], region: usize, k: usize) -> usize
+    requires { On p.now (length w.now) × (k < size p.now NODES) × (get_or (store p.now w.now NODES) k 0 < size p.now region) }
+    ensures { Read (store p.now w.now) region (get_or (store p.now w.now NODES) k 0) result }
+{
+    load(w, p, region, load(w, p, NODES, k))
+}
+
+// Where the record of a node's entry stands.
+pub fn node_at(w: &[u32], p: &[usize], k: usize) -> usize
+    requires { On p.now (length w.now) × (k < size p.now NODES) × (get_or (store p.now w.now NODES) k 0 < size p.now OFFSETS) }
+    ensures { Read (store p.now w.now) OFFSETS (get_or (store p.now w.now NODES) k 0) result }
+{
+    node_word(w, p, OFFSETS, k)
+}
+
+// How many children a node has.
+pub fn child_count(w: &[u32], p: &[usize], k: usize) -> usize
+    requires { On p.now (length w.now) × (k < size p.now NODES) × (get_or (store p.now w.now NODES) k 0 < size p.now SIZES) }
+    ensures { Read (store p.now w.now) SIZES (get_or (store p.now w.now NODES) k 0) result }
+{
+    node_word(w, p, SIZES, k)
+}
+
+// Where in CHILDREN they begin.
+pub fn first_child(w: &[u32], p: &[usize], k: usize) -> usize
+    requires { On p.now (length w.now) × (k < size p.now NODES) × (get_or (store p.now w.now NODES) k 0 < size p.now FIRSTS) }
+    ensures { Read (store p.now w.now) FIRSTS (get_or (store p.now w.now NODES) k 0) result }
+{
+    node_word(w, p, FIRSTS, k)
 }
 
 // The text that the bootstrap attribute's name needs.

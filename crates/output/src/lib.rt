@@ -22,6 +22,7 @@ ghost use Rattle.output.specs.Contents.{child_number, ChildThere, child_count, f
 ghost use Rattle.output.specs.Names.{IsClass, text_of, class_slot_in, class_in, NameIs, ClassAt};
 ghost use Rattle.output.specs.Rows.{slots_from, row_in, Slotted, RowReady, raw_rows, raw_index_in, inline_index_in, raw_node_in, row_count_in, reached_at, passed, row_node_in, rows_in, constants_for, RowsReady};
 
+use interner::{child_count, first_child, node_at};
 use raw_const::Entry as RawEntry;
 use store::{
     ANSWERS, AT, CHILDREN, COUNTS, ENTRY, FIRSTS, GIVEN, HALF, HELD_COUNT, INDEXES, INLINE,
@@ -63,30 +64,6 @@ struct SlotWalk {
 struct RowWalk {
     inline: usize,
     raws: usize,
-}
-
-// Where the record of a node's entry stands.
-fn node_at(w: &[u32], p: &[usize], k: usize) -> usize
-    requires { On p.now (length w.now) × (k < size p.now NODES) × (get_or (store p.now w.now NODES) k 0 < size p.now OFFSETS) }
-    ensures { Read (store p.now w.now) OFFSETS (get_or (store p.now w.now NODES) k 0) result }
-{
-    load(w, p, OFFSETS, load(w, p, NODES, k))
-}
-
-// How many children a node has.
-fn child_count(w: &[u32], p: &[usize], k: usize) -> usize
-    requires { On p.now (length w.now) × (k < size p.now NODES) × (get_or (store p.now w.now NODES) k 0 < size p.now SIZES) }
-    ensures { Read (store p.now w.now) SIZES (get_or (store p.now w.now NODES) k 0) result }
-{
-    load(w, p, SIZES, load(w, p, NODES, k))
-}
-
-// Where in CHILDREN they begin.
-fn first_child(w: &[u32], p: &[usize], k: usize) -> usize
-    requires { On p.now (length w.now) × (k < size p.now NODES) × (get_or (store p.now w.now NODES) k 0 < size p.now FIRSTS) }
-    ensures { Read (store p.now w.now) FIRSTS (get_or (store p.now w.now NODES) k 0) result }
-{
-    load(w, p, FIRSTS, load(w, p, NODES, k))
 }
 
 // The slot of a child that has one: `slot_of`.

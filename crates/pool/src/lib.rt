@@ -23,6 +23,7 @@ ghost use Rattle.sym_refs.specs.Leading.{AllNames};
 ghost use Rattle.resolver.specs.Resolved.{visits_owed};
 ghost use Rattle.pool.specs.Replying.{RequestAt, WhatRequest, goal_for, LeadsTo, low, KeptAnswer, Asking, Replied, RequestsAt, RepliedAll};
 
+use interner::{child_count, first_child, node_at};
 use raws::{raw_entry, raw_key};
 use refusal::Refusal;
 use resolver::node_of;
@@ -55,14 +56,6 @@ impl Origin {
     }
 }
 
-// Where the record of a node's entry stands.
-fn node_at(w: &[u32], p: &[usize], k: usize) -> usize
-    requires { On p.now (length w.now) × (k < size p.now NODES) × (get_or (store p.now w.now NODES) k 0 < size p.now OFFSETS) }
-    ensures { Read (store p.now w.now) OFFSETS (get_or (store p.now w.now NODES) k 0) result }
-{
-    load(w, p, OFFSETS, load(w, p, NODES, k))
-}
-
 // The tag of a node.
 pub fn node_tag(job: &[u8], w: &[u32], p: &[usize], k: usize) -> u8
     requires { On p.now (length w.now) × NodesThere job.now p.now (store p.now w.now) × (k < node_count (store p.now w.now)) }
@@ -77,22 +70,6 @@ pub fn node_is_wide(job: &[u8], w: &[u32], p: &[usize], k: usize) -> bool
     ensures { result ≡ is_wide (tag_at (nodes_in job.now (store p.now w.now)) k) }
 {
     raw_const::is_long(node_tag(job, w, p, k))
-}
-
-// How many children a node has.
-pub fn child_count(w: &[u32], p: &[usize], k: usize) -> usize
-    requires { On p.now (length w.now) × (k < size p.now NODES) × (get_or (store p.now w.now NODES) k 0 < size p.now SIZES) }
-    ensures { Read (store p.now w.now) SIZES (get_or (store p.now w.now NODES) k 0) result }
-{
-    load(w, p, SIZES, load(w, p, NODES, k))
-}
-
-// Where in CHILDREN they begin.
-pub fn first_child(w: &[u32], p: &[usize], k: usize) -> usize
-    requires { On p.now (length w.now) × (k < size p.now NODES) × (get_or (store p.now w.now NODES) k 0 < size p.now FIRSTS) }
-    ensures { Read (store p.now w.now) FIRSTS (get_or (store p.now w.now NODES) k 0) result }
-{
-    load(w, p, FIRSTS, load(w, p, NODES, k))
 }
 
 // The positions as the counters have them.

@@ -12,6 +12,7 @@ ghost use Rattle.store.specs.Regions.{MARKS, GIVEN, INDEXES, FIRSTS, SIZES, NODE
 ghost use Rattle.store.specs.Words.{ENTRY, child_slot};
 ghost use Rattle.rows.specs.Rowed.{hash_row, constants_of, raw_rows, raw_index, raw_node, row_in, RowRoom, KidsIn, RawsReadyIn, RowWordsIn, RowedIn, IsBootstrapIn, index_word_lem, inline_count, Nth, Reached, WroteRaws, with_inline, with_index, NewRow, Indexed, inline_index, InTable, RowNode, table_of, is_bootstrap, number_of, HasNumber};
 
+use interner::{child_count, first_child};
 use raws::{raw_entry, raw_key};
 use refusal::Refusal;
 use store::{
@@ -19,22 +20,6 @@ use store::{
     NODES, RAW_COUNT, ROW_COUNT, ROW_HEADS, ROW_LINKS, SIZES, WRITTEN_COUNT, constants, first_link,
     load, mix, next_count, push_link, save,
 };
-
-// How many children a node has.
-fn child_count(w: &[u32], p: &[usize], k: usize) -> usize
-    requires { On p.now (length w.now) × RowRoom p.now × KidsIn p.now (store p.now w.now) × (k < node_count (store p.now w.now)) }
-    ensures { Read (store p.now w.now) SIZES (get_or (store p.now w.now NODES) k 0) result }
-{
-    load(w, p, SIZES, load(w, p, NODES, k))
-}
-
-// Where in CHILDREN they begin.
-fn first_child(w: &[u32], p: &[usize], k: usize) -> usize
-    requires { On p.now (length w.now) × RowRoom p.now × KidsIn p.now (store p.now w.now) × (k < node_count (store p.now w.now)) }
-    ensures { Read (store p.now w.now) FIRSTS (get_or (store p.now w.now NODES) k 0) result }
-{
-    load(w, p, FIRSTS, load(w, p, NODES, k))
-}
 
 // The slot of a child that has one: a raw number is itself. A child is a word of lent memory: a raw number, or ENTRY + a node.
 pub fn child_slot(w: &[u32], p: &[usize], child: usize) -> usize

@@ -4,8 +4,14 @@ use mathlib.Core.Path.{refl}
 use lib.ListN.{length}
 use Rattle.store.specs.Store.{store}
 use Rattle.rows.proofs.Slotting.{folding_begin, folding_next, folding_end, hashed_row}
-use Rattle.rows.proofs.Reading.{kid_place, kid_add, kid_small}
+use Rattle.rows.proofs.Reading.{node_place_lem, size-place, first_place_lem, kid_place, kid_add, kid_small}
 use Rattle.rows.proofs.hash_row.Goals as goal
+
+pub child_count-n-requires : goal.child_count-n-requires
+child_count-n-requires c = let a = c.args in let q = c.requires in let t = store a.p.now a.w.now in (q.0, node_place_lem a.p.now t q.1 q.2 a.k q.3, size-place a.p.now t q.1 q.2 a.k q.3 _ refl)
+
+pub first_child-first-requires : goal.first_child-first-requires
+first_child-first-requires c = let a = c.args in let q = c.requires in let t = store a.p.now a.w.now in (q.0, node_place_lem a.p.now t q.1 q.2 a.k q.3, first_place_lem a.p.now t q.1 q.2 a.k q.3 _ refl)
 
 pub loop-i-init : goal.loop-i-init
 loop-i-init c = folding_begin _ _ _ c.child_count-n.ensures.small

@@ -4,8 +4,20 @@ use mathlib.Core.Path.{refl}
 use lib.ListN.{length}
 use Rattle.store.specs.Store.{store}
 use Rattle.rows.proofs.Slotting.{matching_begin, matching_next, rows_differ, rows_unlike, rows_alike}
-use Rattle.rows.proofs.Reading.{kid_place, kid_add, kid_small}
+use Rattle.rows.proofs.Reading.{node_place_lem, size-place, first_place_lem, kid_place, kid_add, kid_small}
 use Rattle.rows.proofs.same_row.Goals as goal
+
+pub child_count-n-requires : goal.child_count-n-requires
+child_count-n-requires c = let a = c.args in let q = c.requires in let t = store a.p.now a.w.now in (q.0, node_place_lem a.p.now t q.1 q.2 a.k q.3, size-place a.p.now t q.1 q.2 a.k q.3 _ refl)
+
+pub child_count-requires : goal.child_count-requires
+child_count-requires c = let a = c.args in let q = c.requires in let t = store a.p.now a.w.now in (q.0, node_place_lem a.p.now t q.1 q.2 a.l q.4, size-place a.p.now t q.1 q.2 a.l q.4 _ refl)
+
+pub first_child-a-requires : goal.first_child-a-requires
+first_child-a-requires c = let a = c.args in let q = c.requires in let t = store a.p.now a.w.now in (q.0, node_place_lem a.p.now t q.1 q.2 a.k q.3, first_place_lem a.p.now t q.1 q.2 a.k q.3 _ refl)
+
+pub first_child-b-requires : goal.first_child-b-requires
+first_child-b-requires c = let a = c.args in let q = c.requires in let t = store a.p.now a.w.now in (q.0, node_place_lem a.p.now t q.1 q.2 a.l q.4, first_place_lem a.p.now t q.1 q.2 a.l q.4 _ refl)
 
 pub returns-then-child_count-n : goal.returns-then-child_count-n
 returns-then-child_count-n c = rows_differ _ _ _ _ _ _ _ c.child_count-n.ensures.word c.child_count.result c.child_count.ensures.word c.if-child_count-n.true
