@@ -24,11 +24,12 @@ ghost use Rattle.output.specs.Rows.{slots_from, row_in, Slotted, RowReady, raw_r
 
 use interner::{child_count, first_child, node_at};
 use raw_const::Entry as RawEntry;
+use rows::child_slot;
 use store::{
-    ANSWERS, AT, CHILDREN, COUNTS, ENTRY, FIRSTS, GIVEN, HALF, HELD_COUNT, INDEXES, INLINE,
-    INLINE_COUNT, NAME_SLOT, NODE_COUNT, NODES, OFFSETS, ORIGINS, OWNER_HEADS, POOL_COUNT,
-    RAW_COUNT, RAW_ENTRIES, RAW_HEADS, RAW_KEYS, ROW_COUNT, SIZES, VALUES, WRITTEN_COUNT,
-    constants, find_number, load, push_link, size_of,
+    ANSWERS, AT, CHILDREN, COUNTS, ENTRY, GIVEN, HALF, HELD_COUNT, INDEXES, INLINE, INLINE_COUNT,
+    NAME_SLOT, NODE_COUNT, NODES, ORIGINS, OWNER_HEADS, POOL_COUNT, RAW_COUNT, RAW_ENTRIES,
+    RAW_HEADS, RAW_KEYS, ROW_COUNT, VALUES, WRITTEN_COUNT, constants, find_number, load, push_link,
+    size_of,
 };
 use writer::BigEndian;
 
@@ -64,17 +65,6 @@ struct SlotWalk {
 struct RowWalk {
     inline: usize,
     raws: usize,
-}
-
-// The slot of a child that has one: `slot_of`.
-fn child_slot(w: &[u32], p: &[usize], child: usize) -> usize
-    requires { On p.now (length w.now) × (child < ENTRY + size p.now GIVEN) }
-    ensures { result ≡ child_slot (store p.now w.now GIVEN) child }
-{
-    if child < ENTRY {
-        return child;
-    }
-    load(w, p, GIVEN, child - ENTRY)
 }
 
 // The index of the bootstrap that is node k, made from entry e.

@@ -30,9 +30,8 @@ use resolver::node_of;
 use rows::child_slot;
 use slots::{Gap, Positions};
 use store::{
-    ANSWERS, AT, CHILDREN, COUNTS, ENTRY, FIRSTS, GAP_COUNT, GIVEN, HALF, HELD_COUNT, NODES, ODD,
-    OFFSETS, ORIGINS, PENDING, PENDING_COUNT, PLACE, PLAIN, RECORDS, SIZES, WIDE, load, next_count,
-    save, size_of,
+    ANSWERS, AT, CHILDREN, COUNTS, ENTRY, GAP_COUNT, GIVEN, HALF, HELD_COUNT, NODES, ODD, ORIGINS,
+    PENDING, PENDING_COUNT, PLACE, PLAIN, RECORDS, WIDE, load, next_count, save, size_of,
 };
 
 // How a child comes by its slot: it is a raw number, or it gets the slot now, or it was given earlier.

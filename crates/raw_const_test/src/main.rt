@@ -7,7 +7,7 @@ ghost use Rattle.definition.specs.Basics.{lookup};
 ghost use Rattle.definition.specs.Shapes.{shapes};
 ghost use Rattle.raw_const.specs.Entries.{LiteralFits};
 
-use raw_const::{Entry, Extent, Shape};
+use raw_const::{Entry, Shape};
 use std::io::Result;
 
 fn say(rt: &impl Print, name: &str, ok: bool) -> Result<()> {

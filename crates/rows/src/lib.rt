@@ -16,9 +16,9 @@ use interner::{child_count, first_child};
 use raws::{raw_entry, raw_key};
 use refusal::Refusal;
 use store::{
-    CHILDREN, COUNTS, DONE, ENTRY, FIRSTS, GIVEN, HELD_COUNT, INDEXES, INLINE, INLINE_COUNT, MARKS,
-    NODES, RAW_COUNT, ROW_COUNT, ROW_HEADS, ROW_LINKS, SIZES, WRITTEN_COUNT, constants, first_link,
-    load, mix, next_count, push_link, save,
+    CHILDREN, COUNTS, DONE, ENTRY, GIVEN, HELD_COUNT, INDEXES, INLINE, INLINE_COUNT, MARKS, NODES,
+    RAW_COUNT, ROW_COUNT, ROW_HEADS, ROW_LINKS, WRITTEN_COUNT, constants, first_link, load, mix,
+    next_count, push_link, save,
 };
 
 // The slot of a child that has one: a raw number is itself. A child is a word of lent memory: a raw number, or ENTRY + a node.

@@ -19,4 +19,4 @@ pub overflow_add-first : goal.overflow_add-first
 overflow_add-first c = let a = c.args in omega (arith, (in_words a.p.now (length a.w.now) CHILDREN (a.first + c.loop-i.i) c.requires.0 (omega (arith, c.requires.1, c.loop-i-test.true))).1)
 
 pub loop-i-preserved : goal.loop-i-preserved
-loop-i-preserved c = let a = c.args in let l = c.loop-i in let t = store a.p.now a.w.now in let e : a.start + 2 * l.i + 2 ≡ a.start + 2 * (l.i + 1) = omega arith in subst (λ m. Wrote a.out.now a.start (shorts (slots_from (t GIVEN) (t CHILDREN) a.first (l.i + 1))) c.put.new.d m) e (slots-more (t GIVEN) (t CHILDREN) a.first l.i c.child_slot-slot.result (omega (arith, c.requires.3, c.loop-i-test.true)) (c.child_slot-slot.ensures ∙ ap (child_slot (t GIVEN)) c.load.ensures.word) l.invariant c.put.ensures)
+loop-i-preserved c = let a = c.args in let l = c.loop-i in let t = store a.p.now a.w.now in let e : a.start + 2 * l.i + 2 ≡ a.start + 2 * (l.i + 1) = omega arith in subst (λ m. Wrote a.out.now a.start (shorts (slots_from (t GIVEN) (t CHILDREN) a.first (l.i + 1))) c.put.new.d m) e (slots-more (t GIVEN) (t CHILDREN) a.first l.i c.child_slot-slot.result (omega (arith, c.requires.3, c.loop-i-test.true)) (c.child_slot-slot.ensures.0 ∙ ap (child_slot (t GIVEN)) c.load.ensures.word) l.invariant c.put.ensures)
