@@ -78,17 +78,9 @@ fn run_stream(
     methods: &mut [u8; 131072],
     text: &mut [u8; 4194304],
 ) -> io::Result<()> {
-    let mut pools: u64 = 0;
-    let end = loop {
-        if let Err(end) = next_pool(input, output, pool, methods, text) {
-            break end;
-        }
-        if pools == u64::MAX {
-            break End::WriteFailed;
-        }
-        pools += 1;
-    };
-    frames::tell(errors, b"poollist", end, pools)
+    frames::answer_all(errors, b"poollist", || {
+        next_pool(input, output, pool, methods, text)
+    })
 }
 
 fn main(rt: HostRuntime) -> io::Result<()> {

@@ -9,7 +9,6 @@ mod line;
 mod packed;
 
 use cpool::Built;
-use frames::ReadError;
 use packed::{Lent, next_packed};
 use refusal::Refused;
 use slots::Gap;
@@ -60,10 +59,8 @@ fn run_all(
     memory: &mut Memory,
 ) -> io::Result<()> {
     for _ in 0..u64::MAX {
-        let (size, lent) = match next_packed(input, job) {
-            Ok(packed) => packed,
-            Err(ReadError::Failed(error)) => return Err(error),
-            Err(_) => break,
+        let Some((size, lent)) = next_packed(input, job)? else {
+            break;
         };
         let outcome = run_lent(&job[..size.min(job.len())], lent, memory);
         line::print_outcome(text, outcome, memory)?;

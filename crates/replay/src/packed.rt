@@ -3,6 +3,7 @@
 // places in it and a step (two bytes each), the pattern. Each time, the two-byte numbers at both places grow by the step; there is no
 // place 65535.
 use frames::{ReadError, read_part};
+use std::io;
 use std::io::Read;
 use writer::BigEndian;
 
@@ -46,52 +47,59 @@ fn grow(pattern: &mut [u8; 65536], place: u16, step: u16) {
     }
 }
 
-// Puts a pattern into the job once; where it ends.
-fn put_once(job: &mut [u8], at: usize, pattern: &[u8]) -> Result<usize, ReadError> {
+// Puts a pattern into the job once; where it ends, if it fits.
+fn put_once(job: &mut [u8], at: usize, pattern: &[u8]) -> Option<usize> {
     let n = pattern.len();
     if job.len() < at || job.len() - at < n {
-        return Err(ReadError::Cut);
+        return None;
     }
     writer::copy(pattern, 0, job, at, n);
-    Ok(at + n)
+    Some(at + n)
 }
 
-fn repeat(
-    job: &mut [u8],
-    start: usize,
-    pattern: &mut [u8; 65536],
-    part: Part,
-) -> Result<usize, ReadError> {
+fn repeat(job: &mut [u8], start: usize, pattern: &mut [u8; 65536], part: Part) -> Option<usize> {
     let mut at = start;
     for _ in 0..part.times {
         at = put_once(job, at, &pattern[..part.size as usize])?;
         grow(pattern, part.first, part.step);
         grow(pattern, part.second, part.step);
     }
-    Ok(at)
+    Some(at)
 }
 
-fn next_part(
-    input: &mut impl Read,
-    job: &mut [u8],
-    at: usize,
-    pattern: &mut [u8; 65536],
-) -> Result<usize, ReadError> {
-    let mut head = [0u8; 12];
-    read_part(input, &mut head, 12)?;
-    let part = part_of(&head);
-    read_part(input, pattern, part.size as usize)?;
-    repeat(job, at, pattern, part)
-}
-
-// Unpacks a job of so many parts; its length.
-fn unpack(input: &mut impl Read, job: &mut [u8], parts: u8) -> Result<usize, ReadError> {
-    let mut pattern = [0u8; 65536];
-    let mut at = 0;
-    for _ in 0..parts {
-        at = next_part(input, job, at, &mut pattern)?;
+// Reads the first n bytes; whether all of them came.
+fn has_come(input: &mut impl Read, s: &mut [u8], n: usize) -> io::Result<bool> {
+    match read_part(input, s, n) {
+        Ok(()) => Ok(true),
+        Err(ReadError::Failed(error)) => Err(error),
+        Err(_) => Ok(false),
     }
-    Ok(at)
+}
+
+fn next_part(input: &mut impl Read, pattern: &mut [u8; 65536]) -> io::Result<Option<Part>> {
+    let mut head = [0u8; 12];
+    if !has_come(input, &mut head, 12)? {
+        return Ok(None);
+    }
+    let part = part_of(&head);
+    if !has_come(input, pattern, part.size as usize)? {
+        return Ok(None);
+    }
+    Ok(Some(part))
+}
+
+// Unpacks a job of so many parts; its length. All of them are read, also behind one that isn't there or doesn't fit.
+fn unpack(input: &mut impl Read, job: &mut [u8], parts: u8) -> io::Result<Option<usize>> {
+    let mut pattern = [0u8; 65536];
+    let mut size = Some(0);
+    for _ in 0..parts {
+        let part = next_part(input, &mut pattern)?;
+        size = match (part, size) {
+            (Some(part), Some(at)) => repeat(job, at, &mut pattern, part),
+            _ => None,
+        };
+    }
+    Ok(size)
 }
 
 fn lent_of(head: &[u8; 25]) -> Lent {
@@ -105,13 +113,15 @@ fn lent_of(head: &[u8; 25]) -> Lent {
     }
 }
 
-// Reads the next job: its length, and how much it is lent.
+// Reads the next job, if there is one that can be unpacked: its length, and how much it is lent.
 pub(crate) fn next_packed(
     input: &mut impl Read,
     job: &mut [u8],
-) -> Result<(usize, Lent), ReadError> {
+) -> io::Result<Option<(usize, Lent)>> {
     let mut head = [0u8; 25];
-    read_part(input, &mut head, 25)?;
+    if !has_come(input, &mut head, 25)? {
+        return Ok(None);
+    }
     let size = unpack(input, job, head[0])?;
-    Ok((size, lent_of(&head)))
+    Ok(size.map(|size| (size, lent_of(&head))))
 }
