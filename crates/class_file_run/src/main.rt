@@ -56,7 +56,10 @@ fn next_write(
 ) -> Result<(), ReadError> {
     let mut head = [0u8; 14];
     frames::read_part(input, &mut head, 14)?;
-    let n = frames::next_block(input, &mut pool[..LONGEST_POOL])?;
+    let n = frames::next_block(input, pool)?;
+    if LONGEST_POOL < n {
+        return Err(ReadError::Cut);
+    }
     let size = frames::next_block(input, methods)?;
     let parts = parts_of(&head, &pool[..n], &methods[..size]);
     let written = class_file::write_class(&parts, file);
