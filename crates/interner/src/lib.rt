@@ -281,8 +281,8 @@ fn is_attribute(job: &[u8], at: usize) -> bool
     job[s.start..s.end] == attribute_name()[..]
 }
 
-// The node of the text "BootstrapMethods", the number of nodes if there is none: `position` of the definition, whose number a caller
-// looks up among the slots of nodes.
+// The node of the text "BootstrapMethods", the number of nodes if there is none: `position` of the definition. No `Option`: ending's
+// contract looks this number up among the slots given, and asks of no caller that there is none at the number of nodes.
 pub fn find_attribute(job: &[u8], w: &[u32], p: &[usize]) -> usize
     requires { On p.now (length w.now) × Work job.now p.now × EnteredIn job.now (store p.now w.now) × NodesIn (size p.now NODE-HEADS) job.now (store p.now w.now) }
     ensures { result ≡ position (same_node attribute_text) (nodes_in job.now (store p.now w.now)) }
