@@ -74,14 +74,14 @@ fn names_same(job: &[u8], naming: usize, at: usize, first: u8) -> bool
     job[naming + 2..naming + 2 + n] == job[at + 1..at + 1 + n]
 }
 
-// The name of this hash and first byte whose length byte stands at a place. A `while`: it follows links, and counts no index.
+// The name of this hash and first byte whose length byte stands at a place. A `while`: it follows links, and counts no index. Why the walk
+// stands here a second time: interner's find_node.
 fn find_name(job: &[u8], w: &[u32], p: &[usize], hash: usize, at: usize, first: u8) -> Option<usize>
     requires { On p.now (length w.now) × Work job.now p.now × NamesIn (size p.now NAME-HEADS) job.now (store p.now w.now) × Stands short_name job.now at × (hash ≡ hash_bytes first (label_at job.now at)) × IsWord hash }
     ensures { Sought (Named job.now first (label_at job.now at)) (name_count (store p.now w.now)) (link_of result) }
 {
     let mut link = first_link(w, p, NAME_HEADS, hash);
-    while 0 < link {
-        let i = link - 1;
+    while let Some(i) = link.checked_sub(1) {
         if names_same(job, load(w, p, NAME_PLACES, i), at, first) {
             return Some(i);
         }
@@ -132,7 +132,7 @@ fn first_goal(job: &[u8], w: &[u32], p: &[usize], i: usize) -> usize
         return target;
     }
     match find_symbol(job, w, p, target) {
-        Some(i) => NAME + i,
+        Some(next) => NAME + next,
         None => REFUSED + Refusal::NameUndefined as usize,
     }
 }

@@ -8,8 +8,8 @@ use Rattle.sym_refs.specs.Leading.{Named}
 use Rattle.sym_refs.specs.Names.{hash_name, name_count}
 use Rattle.sym_refs.proofs.find_name.Given as goal
 
-abbrev pub invariant-loop-link : goal.invariant-loop-link
-invariant-loop-link l = Down (λ i. head_of (size l.p NAME-HEADS) (hash_name l.job i)) (Named l.job l.first (label_at l.job l.at)) (head_of (size l.p NAME-HEADS) l.hash) (name_count (store l.p l.w)) l.link
+abbrev pub invariant-loop-i : goal.invariant-loop-i
+invariant-loop-i l = Down (λ i. head_of (size l.p NAME-HEADS) (hash_name l.job i)) (Named l.job l.first (label_at l.job l.at)) (head_of (size l.p NAME-HEADS) l.hash) (name_count (store l.p l.w)) l.link
 
-abbrev pub decreases-loop-link : goal.decreases-loop-link
-decreases-loop-link l = l.link
+abbrev pub decreases-loop-i : goal.decreases-loop-i
+decreases-loop-i l = l.link

@@ -31,4 +31,4 @@ pub returns-in-None : goal.returns-in-None
 returns-in-None c = let a = c.args in first_undefined a.job.now a.p.now (store a.p.now a.w.now) c.requires.1 c.requires.2 a.i c.load-at.result c.requires.3 c.load-at.ensures.word c.name_at.result c.name_at.ensures _ refl c.reference_word-target.result c.reference_word-target.ensures 0 c.in-None.ensures c.if-target-lt-SYM.false refl
 
 pub returns-in-Some : goal.returns-in-Some
-returns-in-Some c = let a = c.args in first_named a.job.now a.p.now (store a.p.now a.w.now) c.requires.1 c.requires.2 a.i c.load-at.result c.requires.3 c.load-at.ensures.word c.name_at.result c.name_at.ensures _ refl c.reference_word-target.result c.reference_word-target.ensures _ c.in-Some.ensures c.in-Some.i refl
+returns-in-Some c = let a = c.args in first_named a.job.now a.p.now (store a.p.now a.w.now) c.requires.1 c.requires.2 a.i c.load-at.result c.requires.3 c.load-at.ensures.word c.name_at.result c.name_at.ensures _ refl c.reference_word-target.result c.reference_word-target.ensures _ c.in-Some.ensures c.in-Some.next refl
