@@ -20,7 +20,7 @@ ghost use Rattle.store.specs.Entries.{WordsAt};
 ghost use Rattle.interner.specs.Nodes.{node_count};
 ghost use Rattle.output.specs.Contents.{child_number, ChildThere, child_count, finished_in, Made, KidsNumbered, ShortChild, text_entry, shown_in, wide_in, IsContent, raw_word_lem, link_word, link_of, NoneAbove, owner_in, name_slot, pool_count, wide_at, content_in, Searched, Owned, held_in_lem, HeldOrder, Sweep, OwnersMade, pool_in, Finished};
 ghost use Rattle.output.specs.Names.{IsClass, text_of, class_slot_in, class_in, NameIs, ClassAt};
-ghost use Rattle.output.specs.Rows.{slots_from, row_in, Slotted, RowReady, raw_rows, raw_index_in, inline_index_in, raw_node_in, row_count_in, reached_at, passed, row_node_in, rows_in, constants_for, RowsReady};
+ghost use Rattle.output.specs.Rows.{slots_from, row_in, Slotted, RowReady, raw_rows, raw_index_in, inline_index_in, raw_node_in, row_count_in, row_node_in, rows_in, constants_for, RowsReady};
 
 use interner::{child_count, first_child, node_at};
 use raw_const::Entry as RawEntry;
@@ -33,7 +33,7 @@ use store::{
 };
 use writer::BigEndian;
 
-// What a slot holds: a node, nothing, the empty text, or the text "BootstrapMethods".
+// What a slot holds: a node, nothing, the empty text, or the text "BootstrapMethods". It is `pub` since proofs of builder name it.
 #[derive(Clone, Copy, Debug, PartialEq, Eq)]
 pub enum Content {
     Node(usize),
@@ -125,7 +125,7 @@ fn content_length(job: &[u8], w: &[u32], p: &[usize], content: Content) -> usize
     }
 }
 
-// The number of child i of n that stand from `first` on; 0 where there is none.
+// The number of child i of n that stand from `first` on; 0 where there is none, as an entry's field without one is written.
 fn number_at(w: &[u32], p: &[usize], first: usize, n: usize, i: usize) -> u16
     requires { On p.now (length w.now) × (first + n ≤ size p.now CHILDREN) × (i < n → ShortChild p.now (store p.now w.now) (get_or (store p.now w.now CHILDREN) (first + i) 0)) }
     ensures { result ≡ get_or (map (child_number (size p.now MARKS - size p.now INDEXES) (store p.now w.now GIVEN) (store p.now w.now INDEXES) (store p.now w.now NODES)) (cut (store p.now w.now CHILDREN) first n)) i 0 }
@@ -349,7 +349,7 @@ fn content_of(job: &[u8], w: &[u32], p: &[usize], slot: usize) -> Content
     owner_of(w, p, slot, wide_before(job, w, p, slot))
 }
 
-// The raw slot i by rising slot, if there is one.
+// The raw slot i by rising slot, if there is one. The clause says 65536 for none, as `raw_index` below does.
 fn held_slot(w: &[u32], p: &[usize], i: usize) -> Option<usize>
     requires { On p.now (length w.now) × HeldOrder p.now (store p.now w.now) }
     ensures { unwrap_or result 65536 ≡ held_in_lem (store p.now w.now) i }
@@ -511,10 +511,9 @@ fn node_text(job: &[u8], w: &[u32], p: &[usize], k: usize) -> Option<ClassName>
         return None;
     }
     let s = job::literal_at(job, at);
-    let start = s.start;
     Some(ClassName::Bytes {
-        start,
-        size: s.end - start,
+        start: s.start,
+        size: s.end - s.start,
     })
 }
 
@@ -572,10 +571,8 @@ pub fn class_length(c: Option<ClassName>) -> usize
 {
     match c {
         None => 0,
-        Some(name) => match name {
-            ClassName::Bytes { start: _, size } => size,
-            ClassName::Attribute => 16,
-        },
+        Some(ClassName::Bytes { start: _, size }) => size,
+        Some(ClassName::Attribute) => 16,
     }
 }
 
@@ -586,15 +583,13 @@ pub fn write_class(out: &mut [u8], job: &[u8], c: Option<ClassName>)
 {
     match c {
         None => {}
-        Some(name) => match name {
-            ClassName::Bytes { start, size } => {
-                writer::copy(job, start, out, 0, size);
-            }
-            ClassName::Attribute => {
-                let text = interner::attribute_name();
-                writer::copy(&text, 0, out, 0, 16);
-            }
-        },
+        Some(ClassName::Bytes { start, size }) => {
+            writer::copy(job, start, out, 0, size);
+        }
+        Some(ClassName::Attribute) => {
+            let text = interner::attribute_name();
+            writer::copy(&text, 0, out, 0, 16);
+        }
     }
 }
 
@@ -606,7 +601,8 @@ fn raw_rows(w: &[u32], p: &[usize]) -> usize
     load(w, p, COUNTS, RAW_COUNT) - load(w, p, COUNTS, HELD_COUNT)
 }
 
-// The index of raw bootstrap i by rising index, if there is one.
+// The index of raw bootstrap i by rising index, if there is one. The clause says 65536 for none, past every index, since `passed` compares
+// indexes as numbers.
 fn raw_index(w: &[u32], p: &[usize], i: usize) -> Option<usize>
     requires { On p.now (length w.now) × RowsReady p.now (store p.now w.now) }
     ensures { unwrap_or result 65536 ≡ raw_index_in (store p.now w.now) i }
@@ -629,7 +625,7 @@ fn raw_row(w: &[u32], p: &[usize], i: usize) -> usize
     )
 }
 
-// The index of inline row i, if there is one.
+// The index of inline row i, if there is one: 65536 for none, as in `raw_index`.
 fn inline_index(w: &[u32], p: &[usize], i: usize) -> Option<usize>
     requires { On p.now (length w.now) × RowsReady p.now (store p.now w.now) }
     ensures { unwrap_or result 65536 ≡ inline_index_in (constants_for p.now) (store p.now w.now) i }

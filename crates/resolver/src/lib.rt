@@ -1,7 +1,7 @@
 // A stack of items turns the entries reached into nodes: `resolve` of Krakatau's sym_ref_resolver.rs.
 #![tactic(auto)]
 
-ghost use Rattle.std.specs.Prelude.{map, ◌≡◌, ℕ, ◌⊎◌, suc, ◌+◌, ◌<◌, ◌≤◌, length, get_or};
+ghost use Rattle.std.specs.Prelude.{map, ◌≡◌, ◌⊎◌, suc, ◌+◌, ◌<◌, length, get_or};
 ghost use Rattle.definition.specs.Resolving.{child_of};
 ghost use Rattle.store.specs.Store.{size, store, On, IsWord};
 ghost use Rattle.store.specs.JobIn.{entries_in};

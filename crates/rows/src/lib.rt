@@ -85,7 +85,8 @@ fn set_index(w: &mut [u32], p: &[usize], k: usize, x: usize)
     save(w, p, INDEXES, e - constants(p), x);
 }
 
-// The hash of the row of bootstrap node k: a function of its slots.
+// The hash of the row of bootstrap node k: a function of its slots. It is interner's walk over a node's children, but each child goes
+// through its slot.
 fn hash_row(w: &[u32], p: &[usize], k: usize) -> usize
     requires { On p.now (length w.now) × RowRoom p.now × KidsIn p.now (store p.now w.now) × (k < node_count (store p.now w.now)) }
     ensures { (result ≡ hash_row (row_in (store p.now w.now) k)) × IsWord result }
@@ -99,7 +100,7 @@ fn hash_row(w: &[u32], p: &[usize], k: usize) -> usize
     hash
 }
 
-// The rows of two bootstrap nodes are the same.
+// The rows of two bootstrap nodes are the same: each child goes through its slot, as in `hash_row`.
 fn same_row(w: &[u32], p: &[usize], k: usize, l: usize) -> bool
     requires { On p.now (length w.now) × RowRoom p.now × KidsIn p.now (store p.now w.now) × (k < node_count (store p.now w.now)) × (l < node_count (store p.now w.now)) }
     ensures { result ≡ same (row_in (store p.now w.now) k) (row_in (store p.now w.now) l) }
@@ -119,14 +120,13 @@ fn same_row(w: &[u32], p: &[usize], k: usize, l: usize) -> bool
     true
 }
 
-// The place in INLINE of a row that is the same as node k's, of this hash. A `while`: it follows links, and counts no index.
+// The place in INLINE of a row that is the same as node k's, of this hash. Its walk stands here for the reason beside interner's `find_node`.
 fn find_row(w: &[u32], p: &[usize], k: usize, hash: usize) -> Option<usize>
     requires { On p.now (length w.now) × RowRoom p.now × KidsIn p.now (store p.now w.now) × RowWordsIn p.now (store p.now w.now) × (k < node_count (store p.now w.now)) × (hash ≡ hash_row (row_in (store p.now w.now) k)) × IsWord hash }
     ensures { Sought (λ i. row_in (store p.now w.now) (get_or (store p.now w.now INLINE) i 0) ≡ row_in (store p.now w.now) k) (inline_count (store p.now w.now)) (link_of result) }
 {
     let mut link = first_link(w, p, ROW_HEADS, hash);
-    while 0 < link {
-        let i = link - 1;
+    while let Some(i) = link.checked_sub(1) {
         if same_row(w, p, k, load(w, p, INLINE, i)) {
             return Some(i);
         }

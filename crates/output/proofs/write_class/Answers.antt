@@ -1,5 +1,5 @@
 -- `output::write_class` meets its contract: each arm writes the bytes that the name is. Assumes nothing.
-use mathlib.Core.Path.{ap, ◌∙◌}
+use mathlib.Core.Path.{◌≡◌, ap, ◌∙◌}
 use native.Mathlib.Omega.{arith}
 use lib.ListN.{length}
 use Rattle.std.specs.Prelude.{Some}
@@ -8,16 +8,16 @@ use Rattle.output.proofs.Classes.{name_bytes, bytes-length, attribute-long, wrot
 use Rattle.output.proofs.write_class.Goals as goal
 
 pub copy-requires : goal.copy-requires
-copy-requires c = let a = c.args in let q = c.requires in let x = c.in-Bytes in let e = c.in-Some.is ∙ ap Some x.is in record { n_in_bounds = (name_bytes a.job.now a.c q.0 q.1 x.start x.size e).0; n_in_bounds_2 = omega (arith, bytes-length a.job.now a.c q.0 q.1 x.start x.size e, q.2) }
+copy-requires c = let a = c.args in let q = c.requires in let x = c.in-Some-Bytes in let told : a.c ≡ Some x.field-0 = x.is in let e = told ∙ ap Some (rw told at x.field-0-is) in record { n_in_bounds = (name_bytes a.job.now a.c q.0 q.1 x.start x.size e).0; n_in_bounds_2 = omega (arith, bytes-length a.job.now a.c q.0 q.1 x.start x.size e, q.2) }
 
-pub copy-requires-in-Attribute : goal.copy-requires-in-Attribute
-copy-requires-in-Attribute c = let a = c.args in let q = c.requires in record { n_in_bounds = omega (arith, ap length c.attribute_name-text.ensures, name_length); n_in_bounds_2 = omega (arith, attribute-long a.job.now a.c q.0 q.1 (c.in-Some.is ∙ ap Some c.in-Attribute.is), q.2) }
+pub copy-requires-in-Some-Attribute : goal.copy-requires-in-Some-Attribute
+copy-requires-in-Some-Attribute c = let a = c.args in let q = c.requires in let x = c.in-Some-Attribute in let told : a.c ≡ Some x.field-0 = x.is in record { n_in_bounds = omega (arith, ap length c.attribute_name-text.ensures, name_length); n_in_bounds_2 = omega (arith, attribute-long a.job.now a.c q.0 q.1 (told ∙ ap Some (rw told at x.field-0-is)), q.2) }
 
 pub returns-in-None : goal.returns-in-None
 returns-in-None c = let a = c.args in λ o h. wrote_none a.job.now a.c o h a.out.now c.in-None.is
 
-pub returns-in-Bytes : goal.returns-in-Bytes
-returns-in-Bytes c = let a = c.args in let x = c.in-Bytes in λ o h. wrote_name a.job.now a.c o h a.out.now c.copy.new.dst x.start x.size (c.in-Some.is ∙ ap Some x.is) c.copy.ensures
+pub returns-in-Some-Bytes : goal.returns-in-Some-Bytes
+returns-in-Some-Bytes c = let a = c.args in let x = c.in-Some-Bytes in let told : a.c ≡ Some x.field-0 = x.is in λ o h. wrote_name a.job.now a.c o h a.out.now c.copy.new.dst x.start x.size (told ∙ ap Some (rw told at x.field-0-is)) c.copy.ensures
 
-pub returns-in-Attribute : goal.returns-in-Attribute
-returns-in-Attribute c = let a = c.args in λ o h. wrote_attribute a.job.now a.c o h a.out.now c.copy-in-Attribute.new.dst c.attribute_name-text.result c.attribute_name-text.ensures (c.in-Some.is ∙ ap Some c.in-Attribute.is) c.copy-in-Attribute.ensures
+pub returns-in-Some-Attribute : goal.returns-in-Some-Attribute
+returns-in-Some-Attribute c = let a = c.args in let x = c.in-Some-Attribute in let told : a.c ≡ Some x.field-0 = x.is in λ o h. wrote_attribute a.job.now a.c o h a.out.now c.copy-in-Some-Attribute.new.dst c.attribute_name-text.result c.attribute_name-text.ensures (told ∙ ap Some (rw told at x.field-0-is)) c.copy-in-Some-Attribute.ensures

@@ -3,8 +3,8 @@ use Rattle.store.specs.Store.{store}
 use Rattle.rows.proofs.Finding.{Looking}
 use Rattle.rows.proofs.find_row.Given as goal
 
-abbrev pub invariant-loop-link : goal.invariant-loop-link
-invariant-loop-link l = Looking l.p (store l.p l.w) l.k l.link
+abbrev pub invariant-loop-i : goal.invariant-loop-i
+invariant-loop-i l = Looking l.p (store l.p l.w) l.k l.link
 
-abbrev pub decreases-loop-link : goal.decreases-loop-link
-decreases-loop-link l = l.link
+abbrev pub decreases-loop-i : goal.decreases-loop-i
+decreases-loop-i l = l.link
