@@ -9,7 +9,7 @@ ghost use Rattle.refusal.specs.Numbers.{code_of};
 ghost use Rattle.job.specs.Stored.{Found, ReferenceStands, WhatReference, EntryStands, any_definition, is_worked, first_place};
 ghost use Rattle.store.specs.Store.{size, store, put, On, IsWord};
 ghost use Rattle.store.specs.JobIn.{WellFormed, definitions_in, counts_in};
-ghost use Rattle.store.specs.Regions.{Work, COUNTS, RECORDS, OFFSETS, FIRSTS, SIZES, GOALS, PLACE, REFERENCE-COUNT, NODE-HEADS, ORDER, RAW-ENTRIES};
+ghost use Rattle.store.specs.Regions.{Work, COUNTS, RECORDS, OFFSETS, FIRSTS, SIZES, GOALS, REFERENCE-COUNT, NODE-HEADS, ORDER, RAW-ENTRIES};
 ghost use Rattle.sym_refs.specs.Names.{kind_byte};
 ghost use Rattle.raws.specs.Raws.{raw_count};
 ghost use Rattle.resolver.specs.Resolved.{Table, AtRest, visits_owed};
@@ -164,7 +164,8 @@ fn after_naming(job: &[u8], at: usize) -> usize
     job::after_reference(job, job::name_at(job, at + 1).end)
 }
 
-// A name: `named`. The place behind it.
+// A name: `named`. The place behind it. It and the next two stay three: each reads other fields and calls another function that may
+// refuse, so that one for all of them would match on the first byte a second time.
 fn add_sym_def(job: &[u8], w: &mut [u32], p: &[usize], at: usize) -> Result<usize, Refusal>
     requires { On p.now (length w.old) × Work job.now p.now × ((top : ℕ) × SomePlace p.now top job.now (store p.now w.old) at) × ((kind : Kind) × (get_or job.now at 0 ≡ kind_byte kind)) }
     ensures { (top : ℕ) → SomePlace p.now top job.now (store p.now w.old) at → Stepped p.now top job.now (store p.now w.old) (store p.now w.new) result }
