@@ -8,7 +8,9 @@ use Prim.Native.Nat.{ℕ, ◌+◌, ◌-◌, ◌≤◌, ◌<◌}
 use native.Mathlib.Omega.{arith}
 use lib.ListN.{length, get_or}
 use borrow.Author.Tests.{lt-ltb, le-ltb}
-use Rattle.std.specs.Prelude.{Option, Some, None}
+use Rattle.std.specs.Prelude.{Option, Some, None, Result, Ok, Err, IfOk, ltb}
+use Rattle.refusal.specs.declared.Refusal.{Refusal}
+use Rattle.refusal.specs.Numbers.{code_of}
 use Rattle.definition.specs.Basics.{good, lookup}
 use Rattle.definition.specs.Shapes.{is_wide}
 use Rattle.definition.specs.Definitions.{tag_at}
@@ -25,7 +27,9 @@ use Rattle.store.proofs.Bounds.{small}
 use Rattle.store.proofs.Laying.{work-sizes, work-formed, entries-counted}
 use Rattle.interner.specs.Nodes.{node_count, nodes_in}
 use Rattle.pool.specs.Pooled.{Has, Lacks, slots_in, PooledIn, LiveIn, pending_count, with_pending, NodesThere, Took, mark_in, Marked, Slotted}
+use Rattle.pool.specs.declared.Origin.{Origin}
 use Rattle.pool.specs.declared.Origin.TheVariants as origin
+use Rattle.pool.proofs.Codes.{code-refused}
 use Rattle.pool.proofs.Words.{child_raw, child_node, word_none, word_some, zeros-some}
 use Rattle.pool.proofs.Giving.{goes_not, goes_then, goes_took, pooled_took, goes_gave, pooled_gave, gave_slot}
 
@@ -203,3 +207,64 @@ module _ (child : ℕ) (t : Store) (g : GapTable) where
   pub marked_new : Lacks (t GIVEN) child → Marked child t g origin.New
   unfolding mark_in mark_of
   marked_new lacks pool q = ap mark_of (sym (origin_new child pool lacks.0 (q.given (child - ENTRY) ∙ word_none _ lacks.1)))
+
+-- AS `slot_of` ANSWERS: a child that needs no slot; one that was given one, or refused
+
+unfoldable pub kept_reply : ℕ → Result Origin Refusal
+kept_reply child = Ok (elim (ltb child ENTRY) [ true ↦ origin.Raw | false ↦ origin.Old ])
+
+unfoldable pub new_reply : {T : Type 0} → Result T Refusal → Result Origin Refusal
+new_reply (Ok v) = Ok origin.New
+new_reply (Err r) = Err r
+
+pub kept_raw : (child : ℕ) → child < ENTRY → kept_reply child ≡ Ok origin.Raw
+unfolding kept_reply
+kept_raw child h = rw (lt-ltb child ENTRY h, kept_reply)
+
+pub kept_old : (child : ℕ) → ENTRY ≤ child → kept_reply child ≡ Ok origin.Old
+unfolding kept_reply
+kept_old child h = rw (le-ltb child ENTRY h, kept_reply)
+
+module _ {T : Type 0} where
+  pub new_given : (x : Result T Refusal) → code_of x ≡ 0 → new_reply x ≡ Ok origin.New
+  unfolding new_reply
+  new_given (Ok v) e = refl
+  new_given (Err r) e = absurd (code-refused {T = T} (Err r) r refl e)
+
+  pub new_refused : (x : Result T Refusal) (r : Refusal) → x ≡ Err r → new_reply x ≡ Err r
+  unfolding new_reply
+  new_refused x r e = rw e
+
+  new_code : (x : Result T Refusal) → code_of (new_reply x) ≡ code_of x
+  unfolding code_of new_reply
+  new_code (Ok v) = refl
+  new_code (Err r) = refl
+
+module _ (s : List ℕ) (ldc : Bool) (child : ℕ) (t : Store) (g : GapTable) where
+  -- no slot was needed
+  kept_code : Has (t GIVEN) child → code_of (kept_reply child) ≡ 0
+  unfolding code_of kept_reply
+  kept_code has = refl
+
+  kept_mark : Has (t GIVEN) child → IfOk (kept_reply child) (Marked child t g)
+  kept_mark (inl h) = rw (kept_raw child h) (marked_raw child t g h)
+  kept_mark (inr (h, l)) = rw (kept_old child h) (marked_old child t g h l)
+
+  pub kept_told : Has (t GIVEN) child → (r : Result Origin Refusal) → r ≡ kept_reply child → Slotted s ldc child t t g g (code_of r) × IfOk r (Marked child t g)
+  kept_told has r is = rw is (rw (kept_code has) (slotted_old s ldc child t g has), kept_mark has)
+
+  -- one was given, or there is none
+  module _ {T : Type 0} where
+    new_mark : Lacks (t GIVEN) child → (x : Result T Refusal) → IfOk (new_reply x) (Marked child t g)
+    unfolding new_reply
+    new_mark lacks (Ok v) = marked_new child t g lacks
+    new_mark lacks (Err r) = tt
+
+    pub new_told :
+        Lacks (t GIVEN) child → (u : Store) (h : GapTable) (x : Result T Refusal) → Slotted s ldc child t u g h (code_of x) →
+        (r : Result Origin Refusal) → r ≡ new_reply x → Slotted s ldc child t u g h (code_of r) × IfOk r (Marked child t g)
+    new_told lacks u h x slotted r is = rw is (rw (new_code x) slotted, new_mark lacks x)
+
+  -- as callers have it
+  pub slotted_code : (u : Store) (h : GapTable) (r : Result Origin Refusal) (code : ℕ) → code ≡ code_of r → Slotted s ldc child t u g h (code_of r) → Slotted s ldc child t u g h code
+  slotted_code u h r code e slotted = rw e slotted

@@ -174,8 +174,8 @@ module _ (t : Store) (g : GapTable) (live : GapsLive (t COUNTS) g) (size : PLAIN
 
 pub slot-asks :
     (counts : List ℕ) (g : GapTable) (count : ℕ) → GapsLive counts g → count ≡ get_or counts GAP-COUNT 0 →
-    AtMost highest_slot (ends (gaps_at g count))
-slot-asks counts g count live e = rw e (live_most counts g live)
+    (count ≤ length g) × AtMost highest_slot (ends (gaps_at g count))
+slot-asks counts g count live e = rw e (live.inside, live_most counts g live)
 
 module _
     (t : Store) (g lent : GapTable) (wide ldc : Bool) (live : GapsLive (t COUNTS) g) (before : Positions) (count : ℕ) (found : Option ℕ)

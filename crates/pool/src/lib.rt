@@ -10,8 +10,8 @@ ghost use Rattle.definition.specs.Building.{no_slot};
 ghost use Rattle.refusal.specs.Numbers.{number, code_of};
 ghost use Rattle.job.specs.Stored.{Stands, WhatStands, any_request};
 ghost use Rattle.slots.specs.Gaps.{AtMost, Written};
-ghost use Rattle.store.specs.Store.{size, store, put, On, IsWord, Read};
-ghost use Rattle.store.specs.Regions.{COUNTS, GIVEN, NAME-HEADS, NAME-GOALS, RAW-KEYS, RAW-ENTRIES, ORDER, PENDING, ANSWERS, ORIGINS, NODES, RECORDS, OFFSETS, FIRSTS, SIZES, PLACE, AT, HELD-COUNT, PLAIN, PENDING-COUNT, Work};
+ghost use Rattle.store.specs.Store.{size, store, put, On, IsWord};
+ghost use Rattle.store.specs.Regions.{COUNTS, GIVEN, NAME-HEADS, NAME-GOALS, RAW-KEYS, RAW-ENTRIES, ORDER, PENDING, ANSWERS, ORIGINS, NODES, RECORDS, PLACE, AT, PLAIN, PENDING-COUNT, Work};
 ghost use Rattle.store.specs.JobIn.{job_in};
 ghost use Rattle.store.specs.Words.{ENTRY, child_slot};
 ghost use Rattle.interner.specs.Nodes.{node_count, nodes_in, record_in};
@@ -161,7 +161,7 @@ pub fn slot_of(
 }
 
 // A refusal met while building is told at node k's record, not at the build record: PLACE has it from then on.
-pub fn refuse_at(w: &mut [u32], p: &[usize], k: usize, refusal: Refusal) -> Refusal
+pub fn refuse_at<T>(w: &mut [u32], p: &[usize], k: usize, refusal: T) -> T
     requires { On p.now (length w.old) × (PLACE < size p.now COUNTS) × (k < size p.now NODES) × (get_or (store p.now w.old NODES) k 0 < size p.now RECORDS) }
     ensures { (result ≡ refusal) × (place_count (store p.now w.new) ≡ record_in (store p.now w.old) k) }
 {

@@ -8,7 +8,7 @@ use Rattle.pool.proofs.Nodal.{place_told}
 use Rattle.pool.proofs.refuse_at.Goals as goal
 
 pub returns : goal.returns
-returns c = let a = c.args in
+returns g c = let a = c.args in
     let p = a.p.now in
     let t = store p a.w.now in
     let entry = c.load in

@@ -10,7 +10,7 @@ use Rattle.pool.proofs.take_slot.Goals as goal
 pub take_slot-found-requires : goal.take_slot-found-requires
 take_slot-found-requires c =
     let a = c.args in
-    slot-asks (store a.p.now a.w.now COUNTS) a.gaps.now c.load-count.result c.requires.2 c.load-count.ensures.word
+    (slot-asks (store a.p.now a.w.now COUNTS) a.gaps.now c.load-count.result c.requires.2 c.load-count.ensures.word).1
 
 pub save_positions-requires : goal.save_positions-requires
 save_positions-requires c =
