@@ -30,11 +30,8 @@ module _ (s p : List ℕ) (top : ℕ) (t v : Store) (g h : GapTable) (r : ℕ) (
 
   module _ (count : ℕ) (is : count ≡ get_or (v COUNTS) GAP-COUNT 0) where
     -- what the count asks
-    pub count_inside : count ≤ length h
-    count_inside = rw is named.live.inside
-
-    pub count_asks : Rising 0 top (ends (gaps_at h count)) × (top ≤ 65535)
-    count_asks = rw is (apart_ends top 0 (gaps_in (v COUNTS) h) apart, omega (arith, can.few))
+    pub count_asks : (count ≤ length h) × Rising 0 top (ends (gaps_at h count)) × (top ≤ 65535)
+    count_asks = rw is (named.live.inside, apart_ends top 0 (gaps_in (v COUNTS) h) apart, omega (arith, can.few))
 
     module _ (n : ℕ) (counted : n ≡ count_from top (gaps_at h count)) where
       number : n ≡ count_from top (gaps_in (v COUNTS) h)

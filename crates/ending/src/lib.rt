@@ -6,7 +6,7 @@ ghost use Rattle.definition.specs.Basics.{position};
 ghost use Rattle.definition.specs.Resolving.{same_node};
 ghost use Rattle.definition.specs.Building.{attribute_text};
 ghost use Rattle.refusal.specs.Numbers.{code_of};
-ghost use Rattle.store.specs.Store.{size, store, put, On, IsWord};
+ghost use Rattle.store.specs.Store.{size, store, On, IsWord};
 ghost use Rattle.store.specs.Regions.{COUNTS, GIVEN, NAME-SLOT, Work};
 ghost use Rattle.interner.specs.Nodes.{nodes_in};
 ghost use Rattle.rows.specs.Rowed.{RawsReadyIn};

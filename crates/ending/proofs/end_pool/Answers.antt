@@ -19,7 +19,7 @@ pub overflow_cast-top : goal.overflow_cast-top
 overflow_cast-top c = omega (arith, c.requires.1.few)
 
 pub pool_count-n-requires : goal.pool_count-n-requires
-pool_count-n-requires c = let a = c.args in let q = c.requires.1 in let v = store a.p.now c.name_slot-named.new.w in let h = c.name_slot-named.new.gaps in count_asks a.job.now a.p.now a.top (store a.p.now a.w.now) v a.gaps.now h (code_of c.name_slot-named.result) q c.name_slot-named.ensures c.load-count.result c.load-count.ensures.word
+pool_count-n-requires c = let a = c.args in let q = c.requires.1 in let v = store a.p.now c.name_slot-named.new.w in let h = c.name_slot-named.new.gaps in let asks = count_asks a.job.now a.p.now a.top (store a.p.now a.w.now) v a.gaps.now h (code_of c.name_slot-named.result) q c.name_slot-named.ensures c.load-count.result c.load-count.ensures.word in (asks.1, asks.2)
 
 pub overflow_cast-n : goal.overflow_cast-n
 overflow_cast-n c = omega arith
