@@ -2,7 +2,7 @@
 use mathlib.Core.Bool.{Bool, true, false, ◌&&◌, not}
 use mathlib.Core.List.{List, [], ◌∷◌}
 use mathlib.Core.Option.{Option, none, some}
-use mathlib.Core.Path.{◌≡◌, refl, sym, ap, ◌∙◌}
+use mathlib.Core.Path.{◌≡◌, refl, sym, ap, subst, ◌∙◌}
 use Prim.Native.Nat.{ℕ, zero, suc, ◌+◌, ◌-◌, ◌≤◌, ◌<◌}
 use native.Mathlib.Nat.{add-zero, add-suc}
 use native.Mathlib.Numerals.{add-one}
@@ -22,7 +22,10 @@ use Rattle.definition.specs.Numbering.{entries, constants_of, bootstraps_of}
 use Rattle.definition.specs.Definitions.{same_kind_lem}
 use Rattle.job.specs.declared.JobCounts.{JobCounts}
 use Rattle.std.specs.Prelude as std
-use Rattle.std.specs.Prelude.{Some, None}
+use Rattle.std.specs.Prelude.{Some, None, Ok, Err}
+use Rattle.std.specs.Result.{MatchResult, IfOk, IsErrAnd}
+use Rattle.refusal.specs.declared.Refusal as refusals
+use Rattle.refusal.specs.declared.Refused.{Refused}
 use Rattle.job.specs.Forms.{is_version, is_holding, is_broken, as_broken, broken_with, broken_at, references_in, version_from, highest_from, counts_of, more, texts_hold, tables_in, Moved, Holding, DefinitionsLeft, tallied, place_of, formed_requests, formed_build}
 use Rattle.job.specs.Stored.{Found, any_definition}
 use Rattle.job.proofs.Expressions.{formed_stands}
@@ -30,6 +33,23 @@ use Rattle.job.proofs.Laws.{one_at}
 use Rattle.job.proofs.Settling.{broken_there, text_within}
 use Rattle.job.proofs.Blind.{definition_blind}
 use Rattle.job.proofs.Counting.{more-none, more-cons, in_table, one-constant, one-bootstrap}
+
+-- ---- a refusal that is given its place, by `map_err`
+
+module _ {T : Type 0} (r : std.Result T refusals.Refusal) (s : std.Result T Refused) (place : ℕ) (mapped : MatchResult r (λ x. s ≡ Ok x) (λ e. IsErrAnd s (λ q. q ≡ record { refusal = e; place = place }))) where
+  pub placed_good : (x : T) → s ≡ Ok x → r ≡ Ok x
+  placed_good x is = ways r mapped
+    where
+      ways : (r : std.Result T refusals.Refusal) → MatchResult r (λ x. s ≡ Ok x) (λ e. IsErrAnd s (λ q. q ≡ record { refusal = e; place = place })) → r ≡ Ok x
+      ways (Ok y) h = ap Ok (subst (λ z. IfOk z (λ v. v ≡ x)) (sym is ∙ h) refl)
+      ways (Err e) h = absurd (rw is at h)
+
+  pub placed_bad : (q : Refused) → s ≡ Err q → (e : refusals.Refusal) × (r ≡ Err e) × (q ≡ record { refusal = e; place = place })
+  placed_bad q is = ways r mapped
+    where
+      ways : (r : std.Result T refusals.Refusal) → MatchResult r (λ x. s ≡ Ok x) (λ e. IsErrAnd s (λ q. q ≡ record { refusal = e; place = place })) → (e : refusals.Refusal) × (r ≡ Err e) × (q ≡ record { refusal = e; place = place })
+      ways (Ok y) h = absurd (subst (λ z. IsErrAnd z (λ _. Unit {0})) (sym is ∙ h) tt)
+      ways (Err e) h = (e, refl, rw is at h)
 
 -- ---- the definitions
 

@@ -434,48 +434,19 @@ fn counted(counts: JobCounts, opening: Opening, references: usize, number: usize
     c.definitions += 1;
     c.references += references;
     match opening {
-        Opening::Constant(_) => {
-            c.constants += 1;
-            c
-        }
-        Opening::Bootstrap => {
-            c.bootstraps += 1;
-            c
-        }
-        Opening::NamedConstant => {
-            c.names += 1;
-            c
-        }
-        Opening::NamedBootstrap => {
-            c.names += 1;
-            c
-        }
-        Opening::RawConstant => {
-            c.raw_constants += 1;
-            c
-        }
-        Opening::RawBootstrap => {
-            c.raw_bootstraps += 1;
-            c
-        }
+        Opening::Constant(_) | Opening::Expression => c.constants += 1,
+        Opening::Bootstrap => c.bootstraps += 1,
+        Opening::NamedConstant | Opening::NamedBootstrap => c.names += 1,
+        Opening::RawConstant => c.raw_constants += 1,
+        Opening::RawBootstrap => c.raw_bootstraps += 1,
         Opening::Version => {
             c.versions += 1;
             c.version = number;
-            c
         }
-        Opening::Texts => {
-            c.texts += 1;
-            c
-        }
-        Opening::Highest => {
-            c.highest = number;
-            c
-        }
-        Opening::Expression => {
-            c.constants += 1;
-            c
-        }
+        Opening::Texts => c.texts += 1,
+        Opening::Highest => c.highest = number,
     }
+    c
 }
 
 // 25 at a text that isn't one, where a record 48 stands.
@@ -606,10 +577,11 @@ fn next_definition(job: &[u8], so_far: Step) -> Result<Option<Step>, Refused>
     if job[so_far.next] == 0x50 {
         return Ok(None);
     }
-    match form_definition(job, so_far.next, so_far.counts) {
-        Ok(step) => Ok(Some(step)),
-        Err(refusal) => Err(Refused { refusal, place }),
-    }
+    let step = form_definition(job, so_far.next, so_far.counts).map_err(|refusal| Refused {
+        refusal,
+        place,
+    })?;
+    Ok(Some(step))
 }
 
 // The definitions and 50 of a job with a record 48; 25 as soon as it and a text that isn't one stand, at that text.
@@ -745,18 +717,10 @@ fn form_requests(job: &[u8], start: usize, defined: JobCounts) -> Result<JobCoun
         if job[at] == 0x60 {
             return form_build(job, at + 1, counts);
         }
-        match form_request(job, at, counts) {
-            Ok(step) => {
-                at = step.next;
-                counts = step.counts;
-            }
-            Err(refusal) => {
-                return Err(Refused {
-                    refusal,
-                    place: place_of(counts),
-                });
-            }
-        }
+        let place = place_of(counts);
+        let step = form_request(job, at, counts).map_err(|refusal| Refused { refusal, place })?;
+        at = step.next;
+        counts = step.counts;
     }
     Err(Refused {
         refusal: Refusal::Malformed,
