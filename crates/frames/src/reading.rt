@@ -1,5 +1,5 @@
 // Parts and blocks that are read, or why they aren't there.
-ghost use Rattle.std.specs.Prelude.{◌≡◌, ◌≢◌, ◌≤◌, ◌<◌, length, is_ok, Ok, Err, IfOk};
+ghost use Rattle.std.specs.Prelude.{◌≡◌, ◌≢◌, ℕ, ◌≤◌, ◌<◌, length, is_ok, Ok, Err, IfOk, Some};
 ghost use Rattle.frames.specs.Stream.{no_more, too_long_lem, inside_frame, size_of, skipped_of, PartRead, BlockRead};
 
 use std::io;
@@ -121,6 +121,7 @@ pub fn next_or_skipped(input: &mut impl Read, s: &mut [u8]) -> Result<Option<usi
     requires { 0 < length s.old }
     ensures block { skipped_of result < too_long_lem → BlockRead s.old s.new (skipped_of result) }
     ensures size { skipped_of result ≤ too_long_lem }
+    ensures value { (n : ℕ) → result ≡ Ok (Some n) → n < no_more }
     ensures len { length s.new ≡ length s.old }
 {
     let n = next_length(input)?;

@@ -39,7 +39,7 @@ fn two_digits(b: u8) -> [u8; 2]
     ensures { result ≡ hex (b ∷ []) }
 {
     let mut digits = [0u8; 2];
-    let mut printer = Printer::new(&mut digits, 2);
+    let mut printer = Printer::new(&mut digits, 2, 0);
     printer.put_hex(b as usize, 2);
     digits
 }
@@ -57,7 +57,23 @@ impl<'a> Line<'a> {
         ensures same_buffer { result.text.ghost_name ≡ text.entry.ghost_name }
         ensures empty { standing result ≡ (text.old, 0) }
     {
-        Line { text, at: 0 }
+        Line::behind(text, 0)
+    }
+
+    // A line whose next word begins at any place.
+    pub fn behind(text: &'a mut [u8], at: usize) -> Line<'a>
+        ensures same_buffer { result.text.ghost_name ≡ text.entry.ghost_name }
+        ensures place { standing result ≡ (text.old, at) }
+    {
+        Line { text, at }
+    }
+
+    // Where the next word begins.
+    pub fn at(&self) -> usize
+        ensures { result ≡ self.now.at }
+    {
+        let end = self.at;
+        end
     }
 
     // Puts a word, whole or not at all.

@@ -18,6 +18,8 @@ use words::put_kind;
 use writer::BigEndian;
 
 // The line of a slot; there is none where no constant begins. A constant stands eight levels above the numbers that aren't opened.
+// (pool, places, count, methods, table) are no struct, here as in `opening`: it was tried, and the check of the cycle of seven functions
+// there had no answer in five minutes, where it takes 25 seconds as it stands.
 fn put_line(
     pool: &[u8],
     places: &[usize; 65536],
@@ -57,7 +59,7 @@ fn put_lines(
     requires room { (length out.old ≤ room) × (room < 18446744073709551615) }
     ensures { Printed out.old room 0 (lines (finished pool.now count methods.now)) out.new result }
 {
-    let mut printer = Printer::new(out, room);
+    let mut printer = Printer::new(out, room, 0);
     for slot in 1..u16::get(pool, 0) {
         put_line(pool, places, count, methods, table, &mut printer, slot);
     }

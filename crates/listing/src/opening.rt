@@ -2,6 +2,9 @@
 //
 // Opened out, a pool of a few hundred bytes can have more than 2^64 bytes of text. So nothing is opened at a place that is past the room
 // already, and time goes by the room.
+//
+// (pool, places, count, methods, table) are no struct: it was tried, and the check of the cycle of seven functions had no answer in five
+// minutes, where it takes 25 seconds as it stands.
 ghost use Rattle.std.specs.Prelude.{◌≡◌, ◌+◌, ◌*◌, ◌<◌, ◌≤◌, length, get_or};
 ghost use Rattle.writer.specs.Numbers.{number2};
 ghost use Rattle.places.specs.Standing.{slot_of};

@@ -207,16 +207,15 @@ none_rest {before} {mid} l = l.so (nothing_printed mid l.can)
 
 -- a printer that begins may put text
 pub begun :
-    {out : List ℕ} {room : ℕ} (p : Printer) → (length out ≤ room) × (room < 18446744073709551615) → (p.out.now ≡ out) × (p.room ≡ room) × (p.at ≡ 0) →
-    Ready p
-begun p low fresh = (omega (arith, ap length fresh.0), omega arith, omega arith)
+    {out : List ℕ} {room at : ℕ} (p : Printer) → CanPut out room at → (p.out.now ≡ out) × (p.room ≡ room) × (p.at ≡ at) → Ready p
+begun p can fresh = (omega (arith, ap length fresh.0, can), omega (arith, can), omega (arith, can))
 
--- what it put and where it stands then is put from the start
+-- what it put and where it stands then is put from its place on
 pub ended :
-    {out after text : List ℕ} {room end : ℕ} (p q : Printer) → (p.out.now ≡ out) × (p.room ≡ room) × (p.at ≡ 0) → Prints p q text →
-    after ≡ q.out.now → end ≡ q.at → Printed out room 0 text after end
-ended {out} {after} {text} {room} {end} p q fresh put is at =
-    subst (λ l. Printed out room 0 text l end) (sym is)
-    (subst (Printed out room 0 text q.out.now) (sym at)
-    (subst (λ l. Printed l room 0 text q.out.now q.at) fresh.0
-    (subst (λ r. Printed p.out.now r 0 text q.out.now q.at) fresh.1 (subst (λ n. Printed p.out.now p.room n text q.out.now q.at) fresh.2 put.printed))))
+    {out after text : List ℕ} {room at end : ℕ} (p q : Printer) → (p.out.now ≡ out) × (p.room ≡ room) × (p.at ≡ at) → Prints p q text →
+    after ≡ q.out.now → end ≡ q.at → Printed out room at text after end
+ended {out} {after} {text} {room} {at} {end} p q fresh put is stands =
+    subst (λ l. Printed out room at text l end) (sym is)
+    (subst (Printed out room at text q.out.now) (sym stands)
+    (subst (λ l. Printed l room at text q.out.now q.at) fresh.0
+    (subst (λ r. Printed p.out.now r at text q.out.now q.at) fresh.1 (subst (λ n. Printed p.out.now p.room n text q.out.now q.at) fresh.2 put.printed))))

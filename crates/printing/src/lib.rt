@@ -5,6 +5,7 @@ ghost use Rattle.std.specs.Prelude.{◌≡◌, [], ◌∷◌, ◌++◌, ◌+◌,
 ghost use Rattle.definition.specs.Ascii.{decimal, hex_digit};
 ghost use Rattle.printing.specs.Numbers.{escaped, quoted, signed, hex_of, unit_of, fraction, power, scaled, magnitude, to_hex_string, float, double};
 
+// By hand, since put_hex's clause says the definition's digits; std's `{:x}` would have to be shown to be the same, which is no plainer.
 fn digit(n: usize) -> u8
     requires { n < 16 }
     ensures { result ≡ hex_digit n }
@@ -34,21 +35,23 @@ pub struct Printer<'a> {
 }
 
 impl<'a> Printer<'a> {
-    ghost use Rattle.printing.specs.Printed.{Ready, Prints};
+    ghost use Rattle.printing.specs.Printed.{CanPut, Ready, Prints};
 
-    pub fn new(out: &'a mut [u8], room: usize) -> Printer<'a>
-        requires { (length out.old ≤ room) × (room < 18446744073709551615) }
+    // Begins at a place, which is behind what `out` holds already.
+    pub fn new(out: &'a mut [u8], room: usize, at: usize) -> Printer<'a>
+        requires { CanPut out.old room at }
         ensures same_buffer { result.out.ghost_name ≡ out.entry.ghost_name }
-        ensures begins { (result.out.now ≡ out.old) × (result.room ≡ room) × (result.at ≡ 0) }
+        ensures begins { (result.out.now ≡ out.old) × (result.room ≡ room) × (result.at ≡ at) }
     {
-        Printer { out, room, at: 0 }
+        Printer { out, room, at }
     }
 
     // Where the text ends, one more than the room where it is too long for that.
     pub fn at(&self) -> usize
         ensures { result ≡ self.now.at }
     {
-        self.at
+        let end = self.at;
+        end
     }
 
     // Nothing that is put now would stand in the room.

@@ -16,7 +16,7 @@ get-slot-end-requires c = let a = c.args in
 pub loop-slot-init : goal.loop-slot-init
 loop-slot-init c = let a = c.args in
     let f = finished a.pool.now a.count a.methods.now in
-    (refl, rest_as (lines-all f) (all_rest c.new-printer.result (lines f) (begun c.new-printer.result c.requires.room c.new-printer.ensures.begins)))
+    (refl, rest_as (lines-all f) (all_rest c.new-printer.result (lines f) (begun c.new-printer.result (c.requires.room.0, c.requires.room.1, omega arith) c.new-printer.ensures.begins)))
 
 pub put_line-requires : goal.put_line-requires
 put_line-requires c = record { views = c.requires.views; ready = c.loop-slot.invariant.1.can }
