@@ -1,4 +1,5 @@
 -- Which node has the row at an index, by the tests that the code makes, and the walk over the rows. Assumes nothing.
+use Rattle.std.specs.Prelude.{Option, unwrap_or}
 use mathlib.Core.List.{List, [], ◌++◌}
 use mathlib.Core.Logic.{⊎_elim}
 use mathlib.Core.Path.{◌≡◌, refl, sym, ap, subst, ◌∙◌}
@@ -14,7 +15,8 @@ use Rattle.raw_const.specs.Entries.{Wrote, RowTakes}
 use Rattle.raw_const.proofs.Writes.{wrote_then, wrote_nothing}
 use Rattle.store.specs.Store.{Store, On}
 use Rattle.raws.specs.Raws.{held_count}
-use Rattle.store.specs.Regions.{GIVEN, FIRSTS, SIZES, CHILDREN, ORDER, NODES}
+use Rattle.raws.specs.Indexes.{RowsCounted, IndexAt, NthIndex}
+use Rattle.store.specs.Regions.{GIVEN, FIRSTS, SIZES, CHILDREN, RAW-KEYS, ORDER, NODES}
 use Rattle.store.proofs.Stores.{in_words}
 use Rattle.store.specs.Words.{child_slot}
 use Rattle.output.specs.Contents.{child_count}
@@ -182,3 +184,23 @@ wrote_start f d = rw (joined-start f) (wrote_nothing d 0)
 -- a place of the order behind the raw slots is one of the words
 pub raw_place : (p : List ℕ) (t : Store) (words i : ℕ) → On p words → RowsReady p t → i < raw_rows t → held_count t + i < words
 raw_place p t words i on ready h = omega (arith, (in_words p words ORDER (held_count t + i) on (omega (arith, ready.order_room))).1)
+
+-- THE RAW BOOTSTRAPS, as raws reads them
+
+pub rows_counted : (p : List ℕ) (t : Store) → RowsReady p t → RowsCounted p t
+rows_counted p t ready = record { counts = omega (arith, ready.counters); held = ready.held_low_lem }
+
+pub index_there : (p : List ℕ) (t : Store) → RowsReady p t → (i : ℕ) → i < raw_rows t → IndexAt p t i
+index_there p t ready i h =
+    let r = ready.raws (held_count t + i) (omega arith) (omega arith) in
+    record { place = omega (arith, ready.order_room); item = r.key; key = r.low }
+
+-- past every index where there is none
+pub index_or : (t : Store) (i : ℕ) (r : Option ℕ) → NthIndex t i r → unwrap_or r 65536 ≡ raw_index_in t i
+index_or t i r is =
+    ⊎_elim
+    (λ (h : i < raw_rows t).
+    ap (λ (o : Option ℕ). unwrap_or o 65536) (is.there h) ∙ sym (raw_index-there (t RAW-KEYS) (t ORDER) (held_count t) (raw_rows t) i h))
+    (λ (h : raw_rows t ≤ i).
+    ap (λ (o : Option ℕ). unwrap_or o 65536) (is.past h) ∙ sym (raw_index-past (t RAW-KEYS) (t ORDER) (held_count t) (raw_rows t) i h))
+    (compare i (raw_rows t))

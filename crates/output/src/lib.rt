@@ -27,9 +27,8 @@ use raw_const::Entry as RawEntry;
 use rows::child_slot;
 use store::{
     ANSWERS, AT, CHILDREN, COUNTS, ENTRY, GIVEN, HALF, HELD_COUNT, INDEXES, INLINE, INLINE_COUNT,
-    NAME_SLOT, NODE_COUNT, NODES, ORIGINS, OWNER_HEADS, POOL_COUNT, RAW_COUNT, RAW_ENTRIES,
-    RAW_HEADS, RAW_KEYS, ROW_COUNT, VALUES, WRITTEN_COUNT, constants, find_number, load, push_link,
-    size_of,
+    NAME_SLOT, NODE_COUNT, NODES, ORIGINS, OWNER_HEADS, POOL_COUNT, RAW_ENTRIES, RAW_HEADS,
+    RAW_KEYS, ROW_COUNT, VALUES, WRITTEN_COUNT, constants, find_number, load, push_link, size_of,
 };
 use writer::BigEndian;
 
@@ -349,7 +348,7 @@ fn content_of(job: &[u8], w: &[u32], p: &[usize], slot: usize) -> Content
     owner_of(w, p, slot, wide_before(job, w, p, slot))
 }
 
-// The raw slot i by rising slot, if there is one. The clause says 65536 for none, as `raw_index` below does.
+// The raw slot i by rising slot, if there is one. The clause says 65536 for none, past every slot, as `inline_index` does.
 fn held_slot(w: &[u32], p: &[usize], i: usize) -> Option<usize>
     requires { On p.now (length w.now) × HeldOrder p.now (store p.now w.now) }
     ensures { unwrap_or result 65536 ≡ held_in_lem (store p.now w.now) i }
@@ -593,27 +592,7 @@ pub fn write_class(out: &mut [u8], job: &[u8], c: Option<ClassName>)
     }
 }
 
-// How many raw bootstraps there are: `length indexes`.
-fn raw_rows(w: &[u32], p: &[usize]) -> usize
-    requires { On p.now (length w.now) × RowsReady p.now (store p.now w.now) }
-    ensures { result ≡ raw_rows (store p.now w.now) }
-{
-    load(w, p, COUNTS, RAW_COUNT) - load(w, p, COUNTS, HELD_COUNT)
-}
-
-// The index of raw bootstrap i by rising index, if there is one. The clause says 65536 for none, past every index, since `passed` compares
-// indexes as numbers.
-fn raw_index(w: &[u32], p: &[usize], i: usize) -> Option<usize>
-    requires { On p.now (length w.now) × RowsReady p.now (store p.now w.now) }
-    ensures { unwrap_or result 65536 ≡ raw_index_in (store p.now w.now) i }
-{
-    if raw_rows(w, p) <= i {
-        return None;
-    }
-    Some(raws::raw_key(w, p, load(w, p, COUNTS, HELD_COUNT) + i) - ENTRY)
-}
-
-// Its node: `index_nodes`.
+// The node of raw bootstrap i by rising index: `index_nodes`.
 fn raw_row(w: &[u32], p: &[usize], i: usize) -> usize
     requires { On p.now (length w.now) × RowsReady p.now (store p.now w.now) × (i < raw_rows (store p.now w.now)) }
     ensures { result ≡ raw_node_in (store p.now w.now) i }
@@ -625,7 +604,8 @@ fn raw_row(w: &[u32], p: &[usize], i: usize) -> usize
     )
 }
 
-// The index of inline row i, if there is one: 65536 for none, as in `raw_index`.
+// The index of inline row i, if there is one. The clause says 65536 for none, past every index, since `passed` compares indexes as
+// numbers.
 fn inline_index(w: &[u32], p: &[usize], i: usize) -> Option<usize>
     requires { On p.now (length w.now) × RowsReady p.now (store p.now w.now) }
     ensures { unwrap_or result 65536 ≡ inline_index_in (constants_for p.now) (store p.now w.now) i }
@@ -642,9 +622,9 @@ pub fn row_count(w: &[u32], p: &[usize]) -> usize
     requires { On p.now (length w.now) × RowsReady p.now (store p.now w.now) }
     ensures { result ≡ row_count_in (store p.now w.now) }
 {
-    let n = raw_rows(w, p);
+    let n = raws::raw_rows(w, p);
     if load(w, p, COUNTS, WRITTEN_COUNT) < n {
-        return raw_index(w, p, n - 1).unwrap() + 1;
+        return raws::raw_index(w, p, n - 1).unwrap() + 1;
     }
     load(w, p, COUNTS, ROW_COUNT)
 }
@@ -670,7 +650,7 @@ impl RowWalk {
     {
         let k = self.node(w, p, index);
         self.inline += usize::from(inline_index(w, p, self.inline) == Some(index));
-        self.raws += usize::from(raw_index(w, p, self.raws) == Some(index));
+        self.raws += usize::from(raws::raw_index(w, p, self.raws) == Some(index));
         k
     }
 }

@@ -1,1 +1,2 @@
 pub mod Raws
+pub mod Indexes

@@ -1,6 +1,6 @@
 -- The places that the code reads at are there. Assumes nothing.
 use Rattle.std.specs.Prelude.{Option, None, Some}
-use Rattle.std.specs.Option.{SomeIff, option_eq}
+use Rattle.std.specs.Option.{SomeIff, IsSome, option_eq}
 use mathlib.Core.Bool.{true, false}
 use mathlib.Core.List.{List}
 use mathlib.Core.Logic.{⊎_elim}
@@ -12,6 +12,7 @@ use lib.ListN.{get_or}
 use borrow.Author.Tests.{eqb-true, eqb-false}
 use Rattle.interner.specs.Nodes.{node_count}
 use Rattle.raws.specs.Raws.{raw_count, held_count}
+use Rattle.raws.specs.Indexes.{RowsCounted, IndexAt}
 use Rattle.store.specs.Store.{Store, size, store, On}
 use Rattle.store.specs.Regions.{COUNTS, MARKS, GIVEN, INDEXES, FIRSTS, SIZES, CHILDREN, RAW-KEYS, RAW-ENTRIES, ORDER, NODES}
 use Rattle.store.specs.Chains.{link_of}
@@ -113,6 +114,13 @@ module _ (p : List ℕ) (t : Store) (ready : RawsReadyIn p t) where
   unfolding RawsReady
   raw_rise i j l h = omega (arith, ready.2 i j l h, (raw_at i (omega arith)).low)
 
+  -- as raws reads them
+  pub raws_counted_lem : RowRoom p → RowsCounted p t
+  raws_counted_lem room = record { counts = counter p room _ (omega arith); held = raws_held }
+
+  pub index_there : (i : ℕ) → i < raw_rows t → IndexAt p t i
+  index_there i h = let r = raw_at i h in record { place = r.place; item = r.item; key = r.low }
+
   raw_far : (i : ℕ) → i < raw_rows t → i ≤ raw_index t i
   raw_far zero h = omega arith
   raw_far (suc i) h = omega (arith, raw_far i (omega arith), raw_rise i (suc i) (omega arith) h)
@@ -154,3 +162,14 @@ module _ (p : List ℕ) (t : Store) (ready : RawsReadyIn p t) where
 
         pub nth_there : Nth (raw_index t) (raw_rows t) i (Some (key - ENTRY))
         nth_there = nth-there less (key - ENTRY) key-index
+
+-- THE LAST RAW BOOTSTRAP
+
+module _
+    (p : List ℕ) (t : Store) (ready : RawsReadyIn p t) (n : ℕ) (all : n ≡ raw_rows t) (some : 0 < n) (r : Option ℕ)
+    (is : Nth (raw_index t) (raw_rows t) (n - 1) r) where
+  pub last_there : IsSome r
+  last_there = subst (λ (o : Option ℕ). IsSome o) (sym (is.there (omega arith))) refl
+
+  pub last_index : (x : ℕ) → r ≡ Some x → x ≡ raw_index t (n - 1)
+  last_index x e = some_same x (raw_index t (n - 1)) (sym e ∙ is.there (omega arith))

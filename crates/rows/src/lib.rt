@@ -8,17 +8,18 @@ ghost use Rattle.interner.specs.Nodes.{node_count};
 ghost use Rattle.store.specs.Store.{size, store, put, On, IsWord, Read};
 ghost use Rattle.refusal.specs.Numbers.{code_of};
 ghost use Rattle.store.specs.Chains.{Sought, link_of};
-ghost use Rattle.store.specs.Regions.{MARKS, GIVEN, INDEXES, FIRSTS, SIZES, NODES, INLINE};
+ghost use Rattle.store.specs.Regions.{GIVEN, INDEXES, FIRSTS, SIZES, NODES, INLINE};
 ghost use Rattle.store.specs.Words.{ENTRY, child_slot};
 ghost use Rattle.rows.specs.Rowed.{hash_row, constants_of, raw_rows, raw_index, raw_node, row_in, RowRoom, KidsIn, RawsReadyIn, RowWordsIn, RowedIn, IsBootstrapIn, index_word_lem, inline_count, Nth, Reached, WroteRaws, with_inline, with_index, NewRow, Indexed, inline_index, InTable, RowNode, table_of, is_bootstrap, number_of, HasNumber};
 
 use interner::{child_count, first_child};
-use raws::{raw_entry, raw_key};
+use raws::raw_entry;
 use refusal::Refusal;
+use resolver::node_of;
 use store::{
-    CHILDREN, COUNTS, DONE, ENTRY, GIVEN, HELD_COUNT, INDEXES, INLINE, INLINE_COUNT, MARKS, NODES,
-    RAW_COUNT, ROW_COUNT, ROW_HEADS, ROW_LINKS, WRITTEN_COUNT, constants, first_link, load, mix,
-    next_count, push_link, save,
+    CHILDREN, COUNTS, ENTRY, GIVEN, HELD_COUNT, INDEXES, INLINE, INLINE_COUNT, NODES, ROW_COUNT,
+    ROW_HEADS, ROW_LINKS, WRITTEN_COUNT, constants, first_link, load, mix, next_count, push_link,
+    save,
 };
 
 // The slot of a child that has one: a raw number is itself. A child is a word of lent memory: a raw number, or ENTRY + a node.
@@ -38,26 +39,15 @@ pub fn raw_rows(w: &[u32], p: &[usize]) -> usize
     requires { On p.now (length w.now) × RowRoom p.now × RawsReadyIn p.now (store p.now w.now) }
     ensures { result ≡ raw_rows (store p.now w.now) }
 {
-    load(w, p, COUNTS, RAW_COUNT) - load(w, p, COUNTS, HELD_COUNT)
+    raws::raw_rows(w, p)
 }
 
-// The index of raw bootstrap i by rising index.
-fn nth_raw_index(w: &[u32], p: &[usize], i: usize) -> usize
-    requires { On p.now (length w.now) × RowRoom p.now × RawsReadyIn p.now (store p.now w.now) × (i < raw_rows (store p.now w.now)) }
-    ensures { result ≡ raw_index (store p.now w.now) i }
-{
-    raw_key(w, p, load(w, p, COUNTS, HELD_COUNT) + i) - ENTRY
-}
-
-// The same, if there are so many.
+// The index of raw bootstrap i by rising index, if there are so many.
 pub fn raw_index(w: &[u32], p: &[usize], i: usize) -> Option<usize>
     requires { On p.now (length w.now) × RowRoom p.now × RawsReadyIn p.now (store p.now w.now) }
     ensures { Nth (raw_index (store p.now w.now)) (raw_rows (store p.now w.now)) i result }
 {
-    if raw_rows(w, p) <= i {
-        return None;
-    }
-    Some(nth_raw_index(w, p, i))
+    raws::raw_index(w, p, i)
 }
 
 // The word of bootstrap node k in INDEXES: 1 + its index, 0 while it has none.
@@ -200,14 +190,6 @@ pub fn row_index(w: &mut [u32], p: &[usize], k: usize) -> Result<(), Refusal>
     }
 }
 
-// The node that entry e became.
-fn node_of(w: &[u32], p: &[usize], e: usize) -> usize
-    requires { On p.now (length w.now) × (e < size p.now MARKS) × (2 ≤ get_or (store p.now w.now MARKS) e 0) }
-    ensures { result ≡ get_or (store p.now w.now MARKS) e 0 - 2 }
-{
-    load(w, p, MARKS, e) - DONE
-}
-
 // The node of raw bootstrap i by rising index.
 pub fn raw_row(w: &[u32], p: &[usize], i: usize) -> usize
     requires { On p.now (length w.now) × RowRoom p.now × RawsReadyIn p.now (store p.now w.now) × (i < raw_rows (store p.now w.now)) }
@@ -245,7 +227,7 @@ pub fn row_count(w: &[u32], p: &[usize]) -> usize
 {
     let n = raw_rows(w, p);
     if load(w, p, COUNTS, WRITTEN_COUNT) < n {
-        return nth_raw_index(w, p, n - 1) + 1;
+        return raw_index(w, p, n - 1).unwrap() + 1;
     }
     load(w, p, COUNTS, ROW_COUNT)
 }

@@ -1,7 +1,9 @@
 -- `rows::raw_row` meets its contract. The entry of a raw bootstrap became a node. Assumes nothing.
 use native.Mathlib.Omega.{arith}
-use mathlib.Core.Path.{refl}
-use lib.ListN.{length}
+use mathlib.Core.Path.{◌≡◌, refl}
+use lib.ListN.{length, get_or}
+use Prim.Native.Nat.{◌-◌}
+use Rattle.store.specs.Regions.{MARKS}
 use Rattle.store.specs.Store.{store}
 use Rattle.rows.specs.Rowed.{raw_rows}
 use Rattle.rows.proofs.Ending.{raw_mark, raw_done_lem, raw_node_lem}
@@ -21,4 +23,4 @@ pub node_of-requires : goal.node_of-requires
 node_of-requires c = let a = c.args in let q = c.requires in let t = store a.p.now a.w.now in (q.0, raw_mark a.p.now t q.2 a.i q.3 c.load.result c.load.ensures.word c.raw_entry.result c.raw_entry.ensures.word, raw_done_lem a.p.now t q.2 a.i q.3 c.load.result c.load.ensures.word c.raw_entry.result c.raw_entry.ensures.word _ refl)
 
 pub returns : goal.returns
-returns c = let a = c.args in let q = c.requires in let t = store a.p.now a.w.now in rw c.node_of.ensures (raw_node_lem a.p.now t q.2 a.i q.3 c.load.result c.load.ensures.word c.raw_entry.result c.raw_entry.ensures.word _ refl)
+returns c = let a = c.args in let q = c.requires in let t = store a.p.now a.w.now in let k : c.node_of.result ≡ get_or (t MARKS) c.raw_entry.result 0 - 2 = omega (arith, c.node_of.ensures) in rw k (raw_node_lem a.p.now t q.2 a.i q.3 c.load.result c.load.ensures.word c.raw_entry.result c.raw_entry.ensures.word _ refl)
