@@ -3,6 +3,7 @@ use Rattle.std.specs.Prelude.{List, ◌≡◌, ℕ, length, Option as Maybe}
 use Rattle.std.proofs.Math.Option.{Option}
 use Rattle.definition.specs.Basics.{Result, good, Refusal, ◌>>=◌, at_record, unless}
 use Rattle.definition.specs.Run.{Built, Lent, build, fits, class_out, output_after}
+use Rattle.cpool.specs.declared.Outputs as code
 use Rattle.cpool.specs.Ran.{Outcome, given, bytes_of, told, is_built, class_given, class_size, numbers, is_good}
 
 -- the five outputs
@@ -16,6 +17,18 @@ pub record Outputs : Type 0 where
 abbrev pub outputs : List ℕ → List ℕ → List ℕ → List ℕ → List ℕ → Outputs
 outputs answers marks pool bootstraps class =
     record { answers = answers; marks = marks; pool = pool; bootstraps = bootstraps; class = class }
+
+-- those that the code is lent, and two of it stand in the same buffers
+abbrev pub lent : code.Outputs → Outputs
+lent o = outputs o.answers.now o.marks.now o.pool.now o.bootstraps.now o.class_name.now
+
+abbrev pub SameBuffers : code.Outputs → code.Outputs → Type 0
+SameBuffers before after =
+    (after.answers.ghost_name ≡ before.answers.ghost_name)
+    × (after.marks.ghost_name ≡ before.marks.ghost_name)
+    × (after.pool.ghost_name ≡ before.pool.ghost_name)
+    × (after.bootstraps.ghost_name ≡ before.bootstraps.ghost_name)
+    × (after.class_name.ghost_name ≡ before.class_name.ghost_name)
 
 -- how much of each is lent; work and gaps are no question any more
 unfoldable pub room_of : Outputs → Lent

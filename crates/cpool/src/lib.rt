@@ -6,7 +6,7 @@ ghost use Rattle.std.proofs.Math.Option.{Option};
 ghost use Rattle.definition.specs.Basics.{good, bad};
 ghost use Rattle.refusal.specs.Numbers.{number};
 ghost use Rattle.definition.specs.Run.{Built as BuiltJob, longest_job};
-ghost use Rattle.store.specs.Store.{store, size, On, IsWord};
+ghost use Rattle.store.specs.Store.{store, size, On};
 ghost use Rattle.store.specs.JobIn.{WellFormed, counts_in};
 ghost use Rattle.store.specs.Regions.{COUNTS, PLACE, Work};
 ghost use Rattle.definitions.specs.Defining.{place_count};
@@ -14,7 +14,7 @@ ghost use Rattle.output.specs.Rows.{RowsReady};
 ghost use Rattle.output.specs.Names.{NameIs};
 ghost use Rattle.builder.specs.Rendered.{Rendered};
 ghost use Rattle.cpool.specs.Ran.{told, Ran, slices, listed, Told};
-ghost use Rattle.cpool.specs.Stages.{outputs, room_of, fitted, onward, ClassTold, Tells, Gave};
+ghost use Rattle.cpool.specs.Stages.{lent, SameBuffers, room_of, fitted, onward, ClassTold, Tells, Gave};
 
 use job::JobCounts;
 use output::ClassName;
@@ -71,58 +71,48 @@ fn built_of(w: &[u32], p: &[usize], pool: usize, rows: usize, class: Option<Clas
     }
 }
 
-// Every output has room for so much: `fits`.
-fn fits(
-    answers: &[u16],
-    marks: &[u8],
-    pool: &[u8],
-    bootstraps: &[u8],
-    class_name: &[u8],
-    asked: usize,
-    pool_size: usize,
-    rows_size: usize,
-    class_size: usize,
-) -> bool
-    ensures { result ≡ (leb asked (length answers.now) && (leb asked (length marks.now) && (leb pool_size (length pool.now) && (leb rows_size (length bootstraps.now) && leb class_size (length class_name.now))))) }
-{
-    asked <= answers.len()
-        && asked <= marks.len()
-        && pool_size <= pool.len()
-        && rows_size <= bootstraps.len()
-        && class_size <= class_name.len()
+// The outputs that a run is lent.
+#[derive(Drop)]
+struct Outputs<'a> {
+    answers: &'a mut [u16],
+    marks: &'a mut [u8],
+    pool: &'a mut [u8],
+    bootstraps: &'a mut [u8],
+    class_name: &'a mut [u8],
+}
+
+impl<'a> Outputs<'a> {
+    // Every output has room for so much: `fits`.
+    fn fits(&self, asked: usize, pool_size: usize, rows_size: usize, class_size: usize) -> bool
+        ensures { result ≡ (leb asked (length self.now.answers.now) && (leb asked (length self.now.marks.now) && (leb pool_size (length self.now.pool.now) && (leb rows_size (length self.now.bootstraps.now) && leb class_size (length self.now.class_name.now))))) }
+    {
+        asked <= self.answers.len()
+            && asked <= self.marks.len()
+            && pool_size <= self.pool.len()
+            && rows_size <= self.bootstraps.len()
+            && class_size <= self.class_name.len()
+    }
 }
 
 // Measures the outputs, 18, then writes them: `fits`, `render`.
-fn give_out(
-    job: &[u8],
-    w: &[u32],
-    p: &[usize],
-    answers: &mut [u16],
-    marks: &mut [u8],
-    pool: &mut [u8],
-    bootstraps: &mut [u8],
-    class_name: &mut [u8],
-) -> Result<Built, Refused>
+fn give_out(job: &[u8], w: &[u32], p: &[usize], outputs: &mut Outputs) -> Result<Built, Refused>
     requires { On p.now (length w.now) × Work job.now p.now × ((b : BuiltJob) × Rendered job.now p.now (store p.now w.now) b) }
-    ensures { (b : BuiltJob) → Rendered job.now p.now (store p.now w.now) b → Gave (fitted (room_of (outputs answers.old marks.old pool.old bootstraps.old class_name.old)) (place_count (store p.now w.now)) b)
-        (outputs answers.old marks.old pool.old bootstraps.old class_name.old)
-        (outputs answers.new marks.new pool.new bootstraps.new class_name.new) result }
+    ensures same_buffers { SameBuffers outputs.old outputs.new }
+    ensures given { (b : BuiltJob) → Rendered job.now p.now (store p.now w.now) b → Gave (fitted (room_of (lent outputs.old)) (place_count (store p.now w.now)) b) (lent outputs.old) (lent outputs.new) result }
 {
     let asked = size_of(p, ANSWERS);
     let pool_size = output::pool_length(job, w, p);
     let rows_size = output::rows_length(w, p);
     let class = output::class_name(job, w, p);
     let class_size = output::class_length(class);
-    if !fits(
-        answers, marks, pool, bootstraps, class_name, asked, pool_size, rows_size, class_size,
-    ) {
+    if !outputs.fits(asked, pool_size, rows_size, class_size) {
         return Err(refused(w, p, Refusal::OutputTooShort));
     }
-    output::write_answers(answers, w, p);
-    output::write_marks(marks, w, p);
-    output::write_pool(pool, job, w, p);
-    output::write_rows(bootstraps, w, p);
-    output::write_class(class_name, job, class);
+    output::write_answers(outputs.answers, w, p);
+    output::write_marks(outputs.marks, w, p);
+    output::write_pool(outputs.pool, job, w, p);
+    output::write_rows(outputs.bootstraps, w, p);
+    output::write_class(outputs.class_name, job, class);
     Ok(built_of(w, p, pool_size, rows_size, class))
 }
 
@@ -132,20 +122,15 @@ fn build(
     w: &mut [u32],
     gaps: &mut [Gap],
     c: JobCounts,
-    answers: &mut [u16],
-    marks: &mut [u8],
-    pool: &mut [u8],
-    bootstraps: &mut [u8],
-    class_name: &mut [u8],
+    outputs: &mut Outputs,
 ) -> Result<Built, Refused>
     requires { WellFormed job.now × (c ≡ counts_in job.now) × (6 * length job.now + 1024 ≤ length w.old) × (length job.now / 5 + 2 ≤ length gaps.old) }
-    ensures { Gave (onward (room_of (outputs answers.old marks.old pool.old bootstraps.old class_name.old)) job.now)
-        (outputs answers.old marks.old pool.old bootstraps.old class_name.old)
-        (outputs answers.new marks.new pool.new bootstraps.new class_name.new) result }
+    ensures same_buffers { SameBuffers outputs.old outputs.new }
+    ensures given { Gave (onward (room_of (lent outputs.old)) job.now) (lent outputs.old) (lent outputs.new) result }
 {
     let mut p = [0usize; 33];
     match builder::lay_out(job, w, &mut p, gaps, c) {
-        Ok(()) => give_out(job, w, &p, answers, marks, pool, bootstraps, class_name),
+        Ok(()) => give_out(job, w, &p, outputs),
         Err(refusal) => Err(refused(w, &p, refusal)),
     }
 }
@@ -155,21 +140,14 @@ fn run_formed(
     job: &[u8],
     w: &mut [u32],
     gaps: &mut [Gap],
-    answers: &mut [u16],
-    marks: &mut [u8],
-    pool: &mut [u8],
-    bootstraps: &mut [u8],
-    class_name: &mut [u8],
+    outputs: &mut Outputs,
 ) -> Result<Built, Refused>
     requires { (length job.now ≤ longest_job) × (6 * length job.now + 1024 ≤ length w.old) × (length job.now / 5 + 2 ≤ length gaps.old) }
-    ensures { Gave (onward (room_of (outputs answers.old marks.old pool.old bootstraps.old class_name.old)) job.now)
-        (outputs answers.old marks.old pool.old bootstraps.old class_name.old)
-        (outputs answers.new marks.new pool.new bootstraps.new class_name.new) result }
+    ensures same_buffers { SameBuffers outputs.old outputs.new }
+    ensures given { Gave (onward (room_of (lent outputs.old)) job.now) (lent outputs.old) (lent outputs.new) result }
 {
     let c = job::form(job)?;
-    build(
-        job, w, gaps, c, answers, marks, pool, bootstraps, class_name,
-    )
+    build(job, w, gaps, c, outputs)
 }
 
 // The whole run: 1, 2, form, the records in turn, 18; then work and gaps are cleared: `run`, `memory_after`.
@@ -206,9 +184,14 @@ pub fn run(
             place: 0,
         });
     }
-    let outcome = run_formed(
-        job, work, gaps, answers, marks, pool, bootstraps, class_name,
-    );
+    let mut outputs = Outputs {
+        answers,
+        marks,
+        pool,
+        bootstraps,
+        class_name,
+    };
+    let outcome = run_formed(job, work, gaps, &mut outputs);
     writer::clear_words(work);
     slots::clear_gaps(gaps);
     outcome
