@@ -110,13 +110,15 @@ impl BigEndian for u64 {
     }
 }
 
-// Copies n bytes of src, from a place, to a place of dst.
+// Copies n bytes of src, from a place, to a place of dst. No `copy_from_slice`: the archives for C would need `memmove` from outside for it.
 pub fn copy(src: &[u8], from: usize, dst: &mut [u8], at: usize, n: usize)
     requires n_in_bounds { from + n ≤ length src.now }
     requires n_in_bounds_2 { at + n ≤ length dst.old }
     ensures { dst.new ≡ paste dst.old at (drop from src.now) n }
 {
-    dst[at..at + n].copy_from_slice(&src[from..from + n]);
+    for i in 0..n {
+        dst[at + i] = src[from + i];
+    }
 }
 
 pub fn clear_words(w: &mut [u32])
