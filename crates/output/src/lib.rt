@@ -48,8 +48,8 @@ pub enum ClassName {
     Attribute,
 }
 
-// A walk over the slots from 1 on: the name's slot, the highest that a node has been given, how many raw slots are behind, the next of
-// them, and whether the slot before holds a wide constant.
+// A walk over the slots from 1 on: the name's slot, a slot above which none is the name's or a node's, how many raw slots are behind, the
+// next of them, and whether the slot before holds a wide constant.
 #[derive(Clone, Copy)]
 struct SlotWalk {
     name: usize,
@@ -377,46 +377,40 @@ impl SlotWalk {
 
     fn begin(w: &[u32], p: &[usize]) -> SlotWalk
         requires { On p.now (length w.now) × ((s : List ℕ) × Finished s p.now (store p.now w.now)) }
-        ensures { (s : List ℕ) → Finished s p.now (store p.now w.now) → Walks s (store p.now w.now) 1 result }
+        ensures { ((s : List ℕ) → Finished s p.now (store p.now w.now) → Walks s (store p.now w.now) 1 result) × (result.name ≤ result.last) }
     {
+        let name = load(w, p, COUNTS, NAME_SLOT);
         SlotWalk {
-            name: load(w, p, COUNTS, NAME_SLOT),
-            last: last_given(w, p),
+            name,
+            last: last_given(w, p).max(name),
             raws: 0,
             held: held_slot(w, p, 0),
             wide: false,
         }
     }
 
-    // What the slot in turn holds: `content_of`.
-    fn content(self, w: &[u32], p: &[usize], slot: usize) -> Content
-        requires { On p.now (length w.now) × Searched p.now (store p.now w.now) × HeldOrder p.now (store p.now w.now) × Sweep (store p.now w.now) slot self.raws (unwrap_or self.held 65536) × (self.name ≡ name_slot (store p.now w.now)) × (0 < slot) × (slot < 65536) × NoneAbove (store p.now w.now GIVEN) (node_count (store p.now w.now)) self.last }
-        ensures { result ≡ owner_in (store p.now w.now) slot self.wide }
+    // What the slot in turn holds: `content_of`. A raw slot is passed at once: a test for one after the content would stand between that and
+    // its use. The caller sets `wide`.
+    fn content(&mut self, w: &[u32], p: &[usize], slot: usize) -> Content
+        requires { On p.now (length w.now) × Searched p.now (store p.now w.now) × HeldOrder p.now (store p.now w.now) × Sweep (store p.now w.now) slot self.old.raws (unwrap_or self.old.held 65536) × (self.old.name ≡ name_slot (store p.now w.now)) × (0 < slot) × (slot < 65536) × NoneAbove (store p.now w.now GIVEN) (node_count (store p.now w.now)) self.old.last × (self.old.name ≤ self.old.last) }
+        ensures { (result ≡ owner_in (store p.now w.now) slot self.old.wide) × Sweep (store p.now w.now) (slot + 1) self.new.raws (unwrap_or self.new.held 65536) × (self.new.name ≡ self.old.name) × (self.new.last ≡ self.old.last) }
     {
-        if slot == self.name {
-            return Content::Attribute;
-        }
         if self.held == Some(slot) {
-            return raw_content(w, p, raws::raw_entry(w, p, self.raws));
+            let e = raws::raw_entry(w, p, self.raws);
+            self.raws += 1;
+            self.held = held_slot(w, p, self.raws);
+            if slot == self.name {
+                return Content::Attribute;
+            }
+            return raw_content(w, p, e);
         }
         if self.last < slot {
             return unowned(self.wide);
         }
-        given_content(w, p, slot, self.wide)
-    }
-
-    // The same, and the walk goes on behind the slot.
-    fn next(&mut self, job: &[u8], w: &[u32], p: &[usize], slot: usize) -> Content
-        requires { On p.now (length w.now) × Work job.now p.now × Finished job.now p.now (store p.now w.now) × Walks job.now (store p.now w.now) slot self.old × (slot < pool_count (store p.now w.now)) }
-        ensures { (result ≡ content_in job.now (store p.now w.now) slot) × Walks job.now (store p.now w.now) (slot + 1) self.new }
-    {
-        let holds = self.content(w, p, slot);
-        if self.held == Some(slot) {
-            self.raws += 1;
-            self.held = held_slot(w, p, self.raws);
+        if slot == self.name {
+            return Content::Attribute;
         }
-        self.wide = is_wide(job, w, p, holds);
-        holds
+        given_content(w, p, slot, self.wide)
     }
 }
 
@@ -428,8 +422,9 @@ pub fn pool_length(job: &[u8], w: &[u32], p: &[usize]) -> usize
     let mut walk = SlotWalk::begin(w, p);
     let mut size = 2;
     for slot in 1..load(w, p, COUNTS, POOL_COUNT) {
-        let holds = walk.next(job, w, p, slot);
+        let holds = walk.content(w, p, slot);
         size += content_length(job, w, p, holds);
+        walk.wide = is_wide(job, w, p, holds);
     }
     size
 }
@@ -444,8 +439,9 @@ pub fn write_pool(pool: &mut [u8], job: &[u8], w: &[u32], p: &[usize])
     let mut walk = SlotWalk::begin(w, p);
     let mut at = 2;
     for slot in 1..end {
-        let holds = walk.next(job, w, p, slot);
+        let holds = walk.content(w, p, slot);
         at = write_content(pool, at, job, w, p, holds);
+        walk.wide = is_wide(job, w, p, holds);
     }
 }
 
