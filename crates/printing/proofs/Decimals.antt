@@ -8,7 +8,8 @@ use native.Mathlib.Omega.{arith}
 use lib.Pow.{pow-add}
 use borrow.Author.Tests.{lt-ltb, le-ltb}
 use Rattle.io.specs.Digits.{hex_digit_ascii, last_digits as ioDigits, IsDigitCount}
-use Rattle.definition.specs.Ascii.{digits, decimal, hex_digit}
+use lib.ListN.{get_or}
+use Rattle.definition.specs.Ascii.{ascii, digits, decimal, hex_digit}
 use Rattle.facts.proofs.Lists.{order}
 
 -- a number below 10 is one digit, whatever the fuel
@@ -88,3 +89,24 @@ hex-low n h = rw (lt-ltb n 10 h, hex_digit) refl
 pub hex-high : (n : ℕ) → 10 ≤ n → 87 + n ≡ hex_digit n
 unfolding hex_digit
 hex-high n h = rw (le-ltb n 10 h, hex_digit) refl
+
+-- the hex digits as a text has each at its place
+pub hex_digits : (n : ℕ) → n < 16 → get_or (ascii "0123456789abcdef") n 0 ≡ hex_digit n
+unfolding ascii hex_digit
+hex_digits zero h = refl
+hex_digits (suc zero) h = refl
+hex_digits (suc (suc zero)) h = refl
+hex_digits (suc (suc (suc zero))) h = refl
+hex_digits (suc (suc (suc (suc zero)))) h = refl
+hex_digits (suc (suc (suc (suc (suc zero))))) h = refl
+hex_digits (suc (suc (suc (suc (suc (suc zero)))))) h = refl
+hex_digits (suc (suc (suc (suc (suc (suc (suc zero))))))) h = refl
+hex_digits (suc (suc (suc (suc (suc (suc (suc (suc zero)))))))) h = refl
+hex_digits (suc (suc (suc (suc (suc (suc (suc (suc (suc zero))))))))) h = refl
+hex_digits (suc (suc (suc (suc (suc (suc (suc (suc (suc (suc zero)))))))))) h = refl
+hex_digits (suc (suc (suc (suc (suc (suc (suc (suc (suc (suc (suc zero))))))))))) h = refl
+hex_digits (suc (suc (suc (suc (suc (suc (suc (suc (suc (suc (suc (suc zero)))))))))))) h = refl
+hex_digits (suc (suc (suc (suc (suc (suc (suc (suc (suc (suc (suc (suc (suc zero))))))))))))) h = refl
+hex_digits (suc (suc (suc (suc (suc (suc (suc (suc (suc (suc (suc (suc (suc (suc zero)))))))))))))) h = refl
+hex_digits (suc (suc (suc (suc (suc (suc (suc (suc (suc (suc (suc (suc (suc (suc (suc zero))))))))))))))) h = refl
+hex_digits (suc (suc (suc (suc (suc (suc (suc (suc (suc (suc (suc (suc (suc (suc (suc (suc n)))))))))))))))) h = absurd (omega arith)

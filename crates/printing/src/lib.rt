@@ -3,6 +3,7 @@
 
 ghost use Rattle.std.specs.Prelude.{◌≡◌, [], ◌∷◌, ◌++◌, ◌+◌, ◌*◌, ◌/◌, ◌%◌, ◌<◌, ◌≤◌, ◌↔◌, IsTrue, length};
 ghost use Rattle.definition.specs.Ascii.{decimal, hex_digit};
+ghost use Rattle.printing.specs.Printed.{CanPut, Printed};
 ghost use Rattle.printing.specs.Numbers.{escaped, quoted, signed, hex_of, unit_of, fraction, power, scaled, magnitude, to_hex_string, float, double};
 
 // By hand, since put_hex's clause says the definition's digits; std's `{:x}` would have to be shown to be the same, which is no plainer.
@@ -10,7 +11,7 @@ fn digit(n: usize) -> u8
     requires { n < 16 }
     ensures { result ≡ hex_digit n }
 {
-    if n < 10 { 48 + n as u8 } else { 87 + n as u8 }
+    b"0123456789abcdef"[n]
 }
 
 // The unit of the first of so many hex digits.
@@ -25,6 +26,72 @@ fn first_unit(count: usize) -> usize
     unit
 }
 
+// These put text as a Printer does, at a place of `out`, and return where it ends: a loop keeps a place by value in a register, and would load
+// and store a printer's for each byte.
+fn byte_at(out: &mut [u8], room: usize, at: usize, b: u8) -> usize
+    requires { CanPut out.old room at }
+    ensures { Printed out.old room at (b ∷ []) out.new result }
+{
+    if at < out.len() {
+        out[at] = b;
+    }
+    if at < room { at + 1 } else { room + 1 }
+}
+
+fn word_at(out: &mut [u8], room: usize, start: usize, word: &[u8]) -> usize
+    requires { CanPut out.old room start }
+    ensures { Printed out.old room start word.now out.new result }
+{
+    let mut at = start;
+    for &b in word {
+        at = byte_at(out, room, at, b);
+    }
+    at
+}
+
+fn hex_at(out: &mut [u8], room: usize, start: usize, n: usize, count: usize) -> usize
+    requires { CanPut out.old room start × (0 < count) × (count ≤ 16) }
+    ensures { Printed out.old room start (hex_of count n) out.new result }
+{
+    let mut at = start;
+    let mut unit = first_unit(count);
+    while 0 < unit {
+        at = byte_at(out, room, at, digit(n / unit % 16));
+        unit /= 16;
+    }
+    at
+}
+
+// A byte as it stands in quotes.
+fn escaped_at(out: &mut [u8], room: usize, at: usize, b: u8) -> usize
+    requires { CanPut out.old room at }
+    ensures { Printed out.old room at (escaped b) out.new result }
+{
+    match b {
+        0x22 => word_at(out, room, at, b"\\\""),
+        0x5c => word_at(out, room, at, b"\\\\"),
+        0x20..=0x7e => byte_at(out, room, at, b),
+        _ => {
+            let digits = word_at(out, room, at, b"\\x");
+            hex_at(out, room, digits, b as usize, 2)
+        }
+    }
+}
+
+fn quoted_at(out: &mut [u8], room: usize, start: usize, text: &[u8]) -> usize
+    requires { CanPut out.old room start }
+    ensures { Printed out.old room start (quoted text.now) out.new result }
+{
+    let mut at = byte_at(out, room, start, b'"');
+    for &b in text {
+        if room < at {
+            break;
+        }
+        at = escaped_at(out, room, at, b);
+    }
+    byte_at(out, room, at, b'"')
+}
+
 // Counts a text or writes it: it puts bytes at a place into `out`, as far as that reaches, and its place is then where they end, or one more
 // than the room where that is past it. While text is counted, `out` is empty.
 #[derive(Drop)]
@@ -35,7 +102,7 @@ pub struct Printer<'a> {
 }
 
 impl<'a> Printer<'a> {
-    ghost use Rattle.printing.specs.Printed.{CanPut, Ready, Prints};
+    ghost use Rattle.printing.specs.Printed.{Ready, Prints};
 
     // Begins at a place, which is behind what `out` holds already.
     pub fn new(out: &'a mut [u8], room: usize, at: usize) -> Printer<'a>
@@ -66,14 +133,7 @@ impl<'a> Printer<'a> {
         ensures same_buffer { self.new.out.ghost_name ≡ self.old.out.ghost_name }
         ensures text { Prints self.old self.new (b ∷ []) }
     {
-        if self.at < self.out.len() {
-            self.out[self.at] = b;
-        }
-        self.at = if self.at < self.room {
-            self.at + 1
-        } else {
-            self.room + 1
-        };
+        self.at = byte_at(self.out, self.room, self.at, b);
     }
 
     pub fn put_word(&mut self, word: &[u8])
@@ -81,9 +141,7 @@ impl<'a> Printer<'a> {
         ensures same_buffer { self.new.out.ghost_name ≡ self.old.out.ghost_name }
         ensures text { Prints self.old self.new word.now }
     {
-        for &b in word {
-            self.put(b);
-        }
+        self.at = word_at(self.out, self.room, self.at, word);
     }
 
     pub fn put_decimal(&mut self, n: usize)
@@ -102,11 +160,7 @@ impl<'a> Printer<'a> {
         ensures same_buffer { self.new.out.ghost_name ≡ self.old.out.ghost_name }
         ensures text { Prints self.old self.new (hex_of count n) }
     {
-        let mut unit = first_unit(count);
-        while 0 < unit {
-            self.put(digit(n / unit % 16));
-            unit /= 16;
-        }
+        self.at = hex_at(self.out, self.room, self.at, n, count);
     }
 
     // A number of two's complement, of which half are below `half`.
@@ -243,36 +297,12 @@ impl<'a> Printer<'a> {
         );
     }
 
-    // A byte as it stands in quotes.
-    fn put_escaped(&mut self, b: u8)
-        requires { Ready self.old }
-        ensures same_buffer { self.new.out.ghost_name ≡ self.old.out.ghost_name }
-        ensures text { Prints self.old self.new (escaped b) }
-    {
-        match b {
-            0x22 => self.put_word(b"\\\""),
-            0x5c => self.put_word(b"\\\\"),
-            0x20..=0x7e => self.put(b),
-            _ => {
-                self.put_word(b"\\x");
-                self.put_hex(b as usize, 2)
-            }
-        }
-    }
-
     // A text in quotes.
     pub fn put_quoted(&mut self, text: &[u8])
         requires { Ready self.old }
         ensures same_buffer { self.new.out.ghost_name ≡ self.old.out.ghost_name }
         ensures text { Prints self.old self.new (quoted text.now) }
     {
-        self.put(b'"');
-        for &b in text {
-            if self.is_past() {
-                break;
-            }
-            self.put_escaped(b);
-        }
-        self.put(b'"');
+        self.at = quoted_at(self.out, self.room, self.at, text);
     }
 }

@@ -1,10 +1,8 @@
--- `printing::digit` meets its contract. Assumes nothing.
-use native.Mathlib.Omega.{arith}
-use Rattle.printing.proofs.Decimals.{hex-low, hex-high}
+-- `printing::digit` meets its contract: the text has each digit at its place. Assumes nothing.
+use Rattle.definition.specs.Ascii.{ascii}
+use Rattle.printing.proofs.Decimals.{hex_digits}
 use Rattle.printing.proofs.digit.Goals as goal
 
-pub returns-then-n-lt10 : goal.returns-then-n-lt10
-returns-then-n-lt10 c = hex-low c.args.n (omega arith)
-
-pub returns-else-n-lt10 : goal.returns-else-n-lt10
-returns-else-n-lt10 c = hex-high c.args.n (omega arith)
+pub returns : goal.returns
+unfolding ascii
+returns c = hex_digits c.args.n c.requires
