@@ -6,6 +6,15 @@ use refusal::Refused;
 use std::io;
 use std::io::Write;
 
+fn digit(n: u8) -> u8 {
+    if n < 10 { n + b'0' } else { n % 16 + 87 }
+}
+
+// A byte in hex, by hand: a pool has very many, and `write!` sets its formatting up anew for each.
+fn put_byte(text: &mut impl Write, b: u8) -> io::Result<()> {
+    text.write_all(&[digit(b / 16), digit(b % 16)])
+}
+
 // The first n bytes in hex behind their number; no bytes are a dash.
 fn put_bytes(text: &mut impl Write, s: &[u8], n: usize) -> io::Result<()> {
     write!(text, " {n} ")?;
@@ -13,7 +22,7 @@ fn put_bytes(text: &mut impl Write, s: &[u8], n: usize) -> io::Result<()> {
         return text.write_all(b"-");
     }
     for b in s.iter().take(n) {
-        write!(text, "{b:02x}")?;
+        put_byte(text, *b)?;
     }
     Ok(())
 }
