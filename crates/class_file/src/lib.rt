@@ -1,7 +1,7 @@
 // A class file around a finished pool, both ways (document 02, No. 7; JVMS 4.1, 4.7.23).
 #![tactic(auto)]
 
-ghost use Rattle.std.specs.Prelude.{◌≡◌, ◌↔◌, List, ◌+◌, ◌<◌, ◌≤◌, leb, length, take, drop, IsTrue, IfOk};
+ghost use Rattle.std.specs.Prelude.{◌≡◌, ◌↔◌, List, ◌+◌, ◌-◌, ◌<◌, ◌≤◌, leb, length, take, drop, IsTrue, IfOk};
 ghost use Rattle.std.proofs.Math.Option.{some};
 ghost use Rattle.definition.specs.Basics.{same};
 ghost use Rattle.refusal.specs.Numbers.{answer_of};
@@ -36,6 +36,23 @@ pub struct Parts<'a> {
     // num_bootstrap_methods, and the bytes of bootstrap_methods.
     pub count: u16,
     pub bootstraps: &'a [u8],
+}
+
+// Parts that were read, as places in their file.
+impl<'a> Parts<'a> {
+    // Where the pool ends: it stands behind the magic number and the versions.
+    pub fn pool_end(&self) -> usize
+        ensures { result ≡ 8 + length self.now.pool.now }
+    {
+        8 + self.pool.len()
+    }
+
+    // Where the bootstrap methods begin: nothing stands behind them.
+    pub fn bootstraps_at(&self, file: &[u8]) -> usize
+        ensures { result ≡ length file.now - length self.now.bootstraps.now }
+    {
+        file.len().saturating_sub(self.bootstraps.len())
+    }
 }
 
 // CONSTANT_Utf8 of "BootstrapMethods": its tag, its length and its bytes.

@@ -7,8 +7,6 @@
 // `refused CODE`.
 #![tactic(auto)]
 
-ghost use Rattle.std.specs.Prelude.{◌+◌, ◌≤◌, length};
-
 use class_file::Parts;
 use frames::{End, Line, ReadError};
 use refusal::Refusal;
@@ -23,8 +21,8 @@ fn put_written(line: &mut Line, written: Result<usize, Refusal>, file: &[u8]) {
     match written {
         Ok(n) => {
             line.put_word(b"file ");
-            for b in file.iter().take(n) {
-                line.put_hex(*b);
+            for &b in &file[..file.len().min(n)] {
+                line.put_hex(b);
             }
         }
         Err(refusal) => line.put_refusal(u32::from(refusal)),
@@ -67,21 +65,18 @@ fn next_write(
     Ok(())
 }
 
-// Where the pool ends and where the bootstrap methods begin, of the parts of a file: magic number and versions stand in front of the
-// pool, and nothing behind the bootstrap methods.
-fn put_parts(line: &mut Line, parts: &Parts, file: &[u8])
-    requires { 8 + length parts.now.pool.now + length parts.now.bootstraps.now ≤ length file.now }
-{
+// The parts of a file, its pool and its bootstrap methods as places in it.
+fn put_parts(line: &mut Line, parts: &Parts, file: &[u8]) {
     line.put_word(b"parts");
     line.put_number(parts.minor as usize);
     line.put_number(parts.major as usize);
-    line.put_number(8 + parts.pool.len());
+    line.put_number(parts.pool_end());
     line.put_number(parts.access_flags as usize);
     line.put_number(parts.this_class as usize);
     line.put_number(parts.super_class as usize);
     line.put_number(parts.name as usize);
     line.put_number(parts.count as usize);
-    line.put_number(file.len() - parts.bootstraps.len());
+    line.put_number(parts.bootstraps_at(file));
 }
 
 // Reads a frame's file.
