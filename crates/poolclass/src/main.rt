@@ -9,6 +9,7 @@
 
 use class_file::Parts;
 use cpool::Built;
+use frames::WriteError;
 use refusal::Refused;
 use std::io;
 use std::io::{Read, Write};
@@ -86,11 +87,14 @@ fn put_file(
 ) -> io::Result<()> {
     match written {
         Ok(n) => {
-            let put = output.write_all(&file[..n.min(file.len())]);
+            let put = frames::write_part(output, file, n);
             if put.is_err() {
                 errors.write_all(b"poolclass: the output can't be written\n")?;
             }
-            put
+            match put {
+                Err(WriteError::Failed(error)) => Err(error),
+                _ => Ok(()),
+            }
         }
         Err(refused) => {
             let code = u32::from(refused.refusal);
