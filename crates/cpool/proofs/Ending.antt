@@ -194,11 +194,6 @@ module _ (s : List ℕ) (m : Slices) where
   built_is (good b) code are e n = eq-eqb code 0 n
   built_is (bad x) code are e n = ne_eqb code 0 (λ z. fuel_lasts s (lent_of (memory_of m)) x are e (sym n ∙ z))
 
-  told_known : (r : Outcome) (code : ℕ) → code ≡ (told r).code → (code ≡ 0) ⊎ ((n : refusals.Refusal) × (code ≡ number n))
-  unfolding told
-  told_known (Ok b) code e = inl e
-  told_known (Err r) code e = inr (r.refusal, e)
-
   pub told-run :
       (after : Slices) (r : Outcome) (code : ℕ) (written : List ℕ) → IsBytes s → Ran s m after r → code ≡ (told r).code →
       written ≡ listed (told r) → Told s m after code written
@@ -207,7 +202,6 @@ module _ (s : List ℕ) (m : Slices) where
       record {
         number = number;
         case = built_is (result_of s m) code are refl number;
-        known = told_known r code ec;
         written = ew ∙ ap listed h.numbers;
         memory = h.memory;
         rows = h.rows;

@@ -6,4 +6,5 @@ pub mod Ending
 pub mod Single
 pub mod Handed
 pub mod Promises
+pub mod KnownNumbers
 pub mod Order

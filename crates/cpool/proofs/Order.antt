@@ -20,6 +20,7 @@ use Rattle.refusal.specs.Numbers.{number}
 use Rattle.cpool.specs.Ran.{Outcome, Numbers, given, bytes_of, told, is_built, class_given, class_size, numbers, is_good, Slices, memory_of, result_of, Ran, listed, Told}
 use Rattle.cpool.specs.Promises.{handed, CodeOrder, CallsRun, CallOrder}
 use Rattle.cpool.proofs.Handed.{handed-is, built_result}
+use Rattle.cpool.proofs.KnownNumbers.{known_numbers}
 
 built_by : (job : List ℕ) (before after : Slices) (r : Outcome) → Ran job before after r → (b : Built) → result_of job before ≡ good b → is_built r ≡ true
 unfolding is_good
@@ -111,7 +112,7 @@ calls_run job before after code others t =
     ⊎_elim
     (λ (z : code ≡ 0). by JobTooLong (λ bad. absurd (true≢false (sym (eq-eqb code 0 z) ∙ t.case ∙ bad))))
     (λ (known : (r : refusal.Refusal) × (code ≡ number r)). by known.0 (λ bad. sym t.number ∙ known.1))
-    t.known
+    (known_numbers job before after code others t)
   where
     by :
         (r : refusal.Refusal) → (is_good (result_of job before) ≡ false → (numbers (result_of job before)).code ≡ number r) →

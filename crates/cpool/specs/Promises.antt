@@ -20,6 +20,8 @@ use Rattle.laws.specs.SharedStatement.{SharedBy}
 use Rattle.laws.specs.MarksStatement.{MarkedBy}
 use Rattle.causes.specs.CauseStatement.{CauseOf}
 use Rattle.order.specs.OrderStatement.{IsRecord, job_of, Moved, WellFormed}
+use Rattle.refusal.specs.declared.Refusal as refusal
+use Rattle.refusal.specs.Numbers.{number}
 use Rattle.slots.specs.Gaps.{no_gap}
 use Rattle.cpool.specs.Ran.{Outcome, Numbers, told, is_built, Slices, memory_of, Ran, listed, Told}
 
@@ -156,6 +158,12 @@ CodeOrder =
     (is_built r₁ ≡ is_built r₂) × (is_built r₁ ≡ true → (told r₁ ≡ told r₂) × (handed r₁ after₁ ≡ handed r₂ after₂))
 
 -- FOR RUST AND C
+
+-- NUMBERS. A call returns 0 or the number of a refusal
+abbrev pub KnownNumbers : Type 0
+KnownNumbers =
+    (job : List ℕ) (before after : Slices) (code : ℕ) (others : List ℕ) → Told job before after code others →
+    (code ≡ 0) ⊎ ((r : refusal.Refusal) × (code ≡ number r))
 
 -- CALLS. A call keeps `run`'s promise, of an outcome that has the number returned and the numbers written; so what is promised above of every
 -- run is promised of every call

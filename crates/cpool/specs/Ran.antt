@@ -1,11 +1,10 @@
 -- What `run` promises: it ends as the definition's `run` does, tells its numbers, and leaves all lent memory as it says. Assumes nothing.
-use Rattle.std.specs.Prelude.{Bool, true, false, List, [], ◌∷◌, map, ◌≡◌, ℕ, eqb, length, ◌⊎◌, Ok, Err, Some, None, Result as Answer, Option as Maybe}
+use Rattle.std.specs.Prelude.{Bool, true, false, List, [], ◌∷◌, map, ◌≡◌, ℕ, eqb, length, Ok, Err, Some, None, Result as Answer, Option as Maybe}
 use Rattle.std.proofs.Math.Option.{Option, none, some}
 use Rattle.definition.specs.Basics.{Result, good, bad, Refusal}
 use Rattle.definition.specs.Run.{Built, Memory, lent_of, run, refusal_of, returned, cleared_after, memory_after}
 use Rattle.slots.specs.Gaps.{GapTable, gap_of, no_gap}
 use Rattle.refusal.specs.declared.Refused.{Refused}
-use Rattle.refusal.specs.declared.Refusal as refusal
 use Rattle.refusal.specs.Numbers.{number as refusal_number}
 use Rattle.cpool.specs.declared.Built as code
 
@@ -160,12 +159,11 @@ listed n =
     ∷ n.visits
     ∷ []
 
--- the same promise: the number returned is the definition's, 0 exactly if the job is built, and else a refusal's; so are those written,
--- and the memory
+-- the same promise: the number returned is the definition's, 0 exactly if the job is built; so are those written, and the memory. That it is
+-- 0 or a refusal's follows: `KnownNumbers`
 pub record Told (job : List ℕ) (before after : Slices) (code : ℕ) (others : List ℕ) : Type 0 where
   pub number : code ≡ (numbers (result_of job before)).code
   pub case : eqb code 0 ≡ is_good (result_of job before)
-  pub known : (code ≡ 0) ⊎ ((r : refusal.Refusal) × (code ≡ refusal_number r))
   pub written : others ≡ listed (numbers (result_of job before))
   pub memory : memory_of after ≡ memory_after (result_of job before) (memory_of before)
   pub rows : after.rows ≡ cleared_after no_gap (result_of job before) before.rows

@@ -9,6 +9,7 @@ pub mod StepsOfRuns
 pub mod StepsOfBuilding
 pub mod RunRefused
 pub mod StepRefusals
+pub mod RunNumbers
 pub mod RowsOccur
 pub mod IndexOccurs
 pub mod SlotOccurs

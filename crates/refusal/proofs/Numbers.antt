@@ -39,7 +39,7 @@ number_tag NotClassFile = refl
 number_tag BadTrace = refl
 
 -- the refusal of a number
-of_number : ℕ → Refusal
+unfoldable pub of_number : ℕ → Refusal
 of_number n = slice_index_or (JobTooLong ∷ LentTooShort ∷ Malformed ∷ NotThere ∷ TableFull ∷ RawSlotOutside ∷ RawSlotTaken ∷ RawConstantTwice ∷ RawBootstrapOutside ∷ RawBootstrapTwice ∷ NameTwice ∷ NameUndefined ∷ Circular ∷ NoSlot ∷ NoSlotForLdc ∷ OutOfReachOfLdc ∷ NoBootstrapIndex ∷ OutputTooShort ∷ BadBlock ∷ NotBlocks ∷ NotPool ∷ BadExpression ∷ DividesByZero ∷ KindTooNew ∷ NotText ∷ BadHighestSlot ∷ NotClassFile ∷ BadTrace ∷ []) (n - 1) JobTooLong
 
 of_number-number : (r : Refusal) → of_number (number r) ≡ r

@@ -1,4 +1,4 @@
--- What the form pass refuses has a number up to 13 or above 21. Assumes nothing.
+-- What the form pass refuses has a number up to 13 or from 22 to 26. Assumes nothing.
 use mathlib.Core.Bool.{Bool, true, false}
 use mathlib.Core.List.{List, [], ◌∷◌}
 use mathlib.Core.Option.{Option, none, some}
@@ -29,7 +29,7 @@ may_stand-ends z late n (named kind s r) = well tt
 may_stand-ends z late n (placed kind at number) = well tt
 may_stand-ends z late n (setting (version v)) = unless-ends _ 3 (z 3 tt tt)
 may_stand-ends z late n (setting texts) = unless-ends _ 3 (z 3 tt tt)
-may_stand-ends z late n (setting (highest top)) = next _ (unless-ends _ 3 (z 3 tt tt)) λ _ _. unless-ends _ 26 (late 26 tt)
+may_stand-ends z late n (setting (highest top)) = next _ (unless-ends _ 3 (z 3 tt tt)) λ _ _. unless-ends _ 26 (late 26 tt tt)
 
 -- 25
 pub texts_held-ends : {Z : ℕ → Type 0} → Late Z → (n : Counts) → Ends (λ e. Z e.code) Anything (texts_held n)
@@ -38,7 +38,7 @@ texts_held-ends {Z} late n = go n.broken refl
   where
     go : (o : Option ℕ) → n.broken ≡ o → Ends (λ e. Z e.code) Anything (texts_held n)
     go none e = rw (e, texts_held) (well tt)
-    go (some place) e = rw (e, texts_held) (at_record-ends place (unless-ends _ 25 (late 25 tt)))
+    go (some place) e = rw (e, texts_held) (at_record-ends place (unless-ends _ 25 (late 25 tt tt)))
 
 -- 23
 integer-ends : {Z : ℕ → Type 0} → Late Z → (m : ℕ) (s : Sign) (a b : ℕ) → Ends Z Anything (integer m s a b)
@@ -49,7 +49,7 @@ integer-ends late m times a b = well tt
 integer-ends {Z} late m over a b = go (eqb b 0) refl
   where
     go : (t : Bool) → eqb b 0 ≡ t → Ends Z Anything (integer m over a b)
-    go true e = rw (e, integer) (refused (late 23 tt))
+    go true e = rw (e, integer) (refused (late 23 tt tt))
     go false e = rw (e, integer) (well tt)
 
 computed-ends : {Z : ℕ → Type 0} → Late Z → (kind : Number) (s : Sign) (a b : ℕ) → Ends Z Anything (computed kind s a b)
@@ -68,12 +68,12 @@ value-ends late kind (apply s a b) =
 -- 22 or 23
 one_kind-ends : {Z : ℕ → Type 0} → Late Z → (o : Option Number) → Ends Z Anything (one_kind o)
 unfolding one_kind
-one_kind-ends late none = refused (late 22 tt)
+one_kind-ends late none = refused (late 22 tt tt)
 one_kind-ends late (some kind) = well tt
 
 folded-ends : {Z : ℕ → Type 0} → Late Z → (o : Option Expression) → Ends Z Anything (folded o)
 unfolding folded
-folded-ends late none = refused (late 22 tt)
+folded-ends late none = refused (late 22 tt tt)
 folded-ends late (some e) =
     next _ (one_kind-ends late (kind_within 32 e)) λ kind _. next _ (value-ends late kind e) λ b _. well tt
 

@@ -113,7 +113,7 @@ module _ (top : ℕ) (job : Job ℕ) where
 
 -- where a run is refused: for length, work, room or form, or in its layout
 pub data RunRefused (bytes : List ℕ) (code : ℕ) : Type 0 where
-  outside : (code < 14) ⊎ (17 < code) → RunRefused bytes code
+  outside : (code < 14) ⊎ ((17 < code) × (code < 27)) → RunRefused bytes code
   in_layout : (job : Job (List ℕ)) → form bytes ≡ good job → LayoutRefused (top_of job) (numbered job) code → RunRefused bytes code
 
 -- RUN REFUSED: every refusal of a run is one of these
@@ -125,7 +125,7 @@ run_refused lent bytes r ran = when_bad all ran
     z code t u = outside (inl (ltb→lt code 14 u))
 
     late : Late (RunRefused bytes)
-    late code t = let h = ltb→lt 21 code t in outside (inr (omega arith))
+    late code t u = let h = ltb→lt 21 code t in let k = ltb→lt code 27 u in outside (inr (omega arith, omega arith))
 
     laid : (job : Job (List ℕ)) → form bytes ≡ good job → Ends (λ e. RunRefused bytes e.code) Anything (layout (top_of job) (numbered job))
     laid job formed = weaker (λ e h. in_layout job formed h) (λ l h. h) (layout-steps (top_of job) (numbered job))
@@ -136,4 +136,4 @@ run_refused lent bytes r ran = when_bad all ran
         next _ (at_record-ends 0 (unless-ends (enough (length bytes) lent) 2 (z 2 tt tt))) λ _ _.
         next {P = Anything} _
         (next _ (known-good (form bytes) (form-early z late (outside (inl (omega arith))) bytes)) λ job k. next _ (laid job k.1) λ l _. well tt) λ b _.
-        next _ (at_record-ends b.0 (unless-ends (fits b.1 lent) 18 (outside (inr (omega arith))))) λ _ _. well tt
+        next _ (at_record-ends b.0 (unless-ends (fits b.1 lent) 18 (outside (inr (omega arith, omega arith))))) λ _ _. well tt

@@ -49,5 +49,5 @@ seventeen_met lent bytes r ran is = go (run_refused lent bytes r ran)
 
     go : RunRefused bytes r.code → RowMet bytes
     go (outside (inl h)) = absurd (omega (arith, h, is))
-    go (outside (inr h)) = absurd (omega (arith, h, is))
+    go (outside (inr h)) = absurd (omega (arith, h.0, is))
     go (in_layout job formed h) = laid job formed h

@@ -70,5 +70,5 @@ slot_met lent bytes r are ran is = go (run_refused lent bytes r ran)
 
     go : RunRefused bytes r.code → SlotMet bytes r.code
     go (outside (inl h)) = absurd (omega (arith, h, (low is).0))
-    go (outside (inr h)) = absurd (omega (arith, h, (low is).1))
+    go (outside (inr h)) = absurd (omega (arith, h.0, (low is).1))
     go (in_layout job formed h) = laid job formed h
