@@ -12,7 +12,7 @@ use Rattle.facts.proofs.Each.{Each}
 use Rattle.facts.proofs.Results.{at_record-good}
 use Rattle.facts.proofs.Outcomes.{Ends, well, refused, next, known, Anything, at_record-ends}
 use Rattle.laws.specs.Statements.{IsBytes}
-use Rattle.laws.proofs.Form.RefusalNumbers.{non_zero_lem, early_non_zero, late_non_zero, Coded}
+use Rattle.laws.proofs.Form.RefusalNumbers.{non_zero_lem, early_non_zero, added_non_zero, Coded}
 use Rattle.laws.proofs.Form.ParsersYield.{Byte, each_byte}
 use Rattle.laws.proofs.Form.FormedJobs.{formed_definition_lem, formed_request, form-formed}
 use Rattle.laws.proofs.Form.RawNumbersLow.{JobLow, formed_low}
@@ -46,9 +46,9 @@ form_definitions-ends (suc fuel) c place (first ∷ bytes) w = go (eqb first 0x5
         rw
         (e, form_definitions)
         (next _
-        (known (at_record place (form_definition c first bytes)) (at_record-ends place (form_definition-ends early_non_zero late_non_zero c first bytes))
+        (known (at_record place (form_definition c first bytes)) (at_record-ends place (form_definition-ends early_non_zero added_non_zero c first bytes))
         (λ r g. formed_definition_lem c first bytes r w.1.1 (at_record-good place (form_definition c first bytes) r g))) λ r h.
-        next _ (texts_held-ends late_non_zero (counted r.0 c)) λ _ _.
+        next _ (texts_held-ends added_non_zero (counted r.0 c)) λ _ _.
         next _ (ih (counted r.0 c) (suc place) r.1 (omega (arith, w.0, h.2), h.1)) λ d k. well (roomier fuel (suc fuel) d.rest (omega arith) k))
 
 form_requests-ends :

@@ -17,7 +17,7 @@ use Rattle.definition.specs.Building.{allocate, Made, build_all, attribute_text,
 use Rattle.definition.specs.Layout.{Ready, end_definitions, answer, answer_all, build_layout, layout}
 use Rattle.definition.specs.Run.{build, Lent, longest_job, enough, fits, run}
 use Rattle.facts.proofs.Outcomes.{Ends, well, next, weaker, when_bad, ended, known-good, Anything, at_record-ends, unless-ends}
-use Rattle.laws.proofs.Form.RefusalNumbers.{Early, Late}
+use Rattle.laws.proofs.Form.RefusalNumbers.{Early, Added}
 use Rattle.laws.proofs.Form.FormRefusals.{form-early}
 use Rattle.laws.proofs.Definitions.DefinitionRefusals.{define_all-ends}
 use Rattle.laws.proofs.Resolving.ResolvingRefusals.{TableRefused, goal_of-early, linked-early, resolve-early, end_definitions-early}
@@ -124,8 +124,8 @@ run_refused lent bytes r ran = when_bad all ran
     z : Early (RunRefused bytes)
     z code t u = outside (inl (ltb→lt code 14 u))
 
-    late : Late (RunRefused bytes)
-    late code t u = let h = ltb→lt 21 code t in let k = ltb→lt code 27 u in outside (inr (omega arith, omega arith))
+    added : Added (RunRefused bytes)
+    added code t u = let h = ltb→lt 21 code t in let k = ltb→lt code 27 u in outside (inr (omega arith, omega arith))
 
     laid : (job : Job (List ℕ)) → form bytes ≡ good job → Ends (λ e. RunRefused bytes e.code) Anything (layout (top_of job) (numbered job))
     laid job formed = weaker (λ e h. in_layout job formed h) (λ l h. h) (layout-steps (top_of job) (numbered job))
@@ -135,5 +135,5 @@ run_refused lent bytes r ran = when_bad all ran
         next _ (at_record-ends 0 (unless-ends (leb (length bytes) longest_job) 1 (z 1 tt tt))) λ _ _.
         next _ (at_record-ends 0 (unless-ends (enough (length bytes) lent) 2 (z 2 tt tt))) λ _ _.
         next {P = Anything} _
-        (next _ (known-good (form bytes) (form-early z late (outside (inl (omega arith))) bytes)) λ job k. next _ (laid job k.1) λ l _. well tt) λ b _.
+        (next _ (known-good (form bytes) (form-early z added (outside (inl (omega arith))) bytes)) λ job k. next _ (laid job k.1) λ l _. well tt) λ b _.
         next _ (at_record-ends b.0 (unless-ends (fits b.1 lent) 18 (outside (inr (omega arith, omega arith))))) λ _ _. well tt
