@@ -1,7 +1,6 @@
 -- How the records of a job, the form pass and a whole run end: what they give out and leave. Assumes nothing.
 use mathlib.Core.Bool.{true, false}
 use mathlib.Core.List.{List, ◌∷◌, map}
-use mathlib.Core.Logic.{◌⊎◌, inl, inr}
 use mathlib.Core.Path.{◌≡◌, refl, sym, ap, subst, ◌∙◌}
 use Prim.Native.Nat.{ℕ, zero, suc, ◌+◌, ◌*◌, ◌/◌, ◌≤◌, ◌<◌}
 use lib.Dec.{eqb}
@@ -25,9 +24,8 @@ use Rattle.store.proofs.Bounds.{formed_job}
 use Rattle.definitions.specs.Defining.{place_count}
 use Rattle.slots.specs.Gaps.{gap_of, no_gap}
 use Rattle.builder.specs.Rendered.{Rendered}
-use Rattle.std.specs.Prelude.{Ok, Err}
+use Rattle.std.specs.Prelude.{Err}
 use Rattle.refusal.specs.declared.Refused.{Refused}
-use Rattle.refusal.specs.declared.Refusal as refusals
 use Rattle.refusal.specs.declared.Refusal.TheVariants as refusal
 use Rattle.refusal.specs.Numbers.{number}
 use Rattle.cpool.specs.Ran.{Outcome, Slices, memory_of, result_of, Ran, told, numbers, is_good, listed, Told}

@@ -1,5 +1,5 @@
 -- What a call of the form for Rust and C returns is 0 or the number of a refusal. Assumes nothing.
-use mathlib.Core.Bool.{Bool, true, false, ◌&&◌}
+use mathlib.Core.Bool.{Bool, true, ◌&&◌}
 use mathlib.Core.List.{List}
 use mathlib.Core.Logic.{◌⊎◌, inl, inr, ⊎_elim}
 use mathlib.Core.Path.{◌≡◌, refl, sym, subst}
@@ -8,7 +8,7 @@ use native.Mathlib.Omega.{arith}
 use lib.Dec.{eqb}
 use borrow.Author.Tests.{eqb-true, eqb-false}
 use Rattle.definition.specs.Basics.{Result, good, bad, Refusal}
-use Rattle.definition.specs.Run.{Built, Lent, lent_of, run, refusal_of, returned}
+use Rattle.definition.specs.Run.{Built, Lent, lent_of, run, refusal_of}
 use Rattle.facts.proofs.Lists.{both_true, order}
 use Rattle.laws.proofs.Runs.RunNumbers.{run_number}
 use Rattle.refusal.specs.declared.Refusal as refusal
